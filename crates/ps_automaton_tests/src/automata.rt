@@ -1,4 +1,4 @@
-//! Automata of texts: the lassos that they accept, and the truths of labels.
+//! Tests of automata: the lassos that they accept, and the letters at which labels are true.
 
 use ps_automaton::Automaton;
 use std::alloc::Global;
@@ -10,7 +10,7 @@ fn automaton_of(alloc: Global, text: &str) -> Result<Automaton, Fail> {
     Ok(Automaton::build(alloc, &file)?)
 }
 
-/// Two states: a request must be granted before the next letter without a mark.
+/// Two states. Each request must be granted, at once or later. State 1 means that a request is pending.
 const TWO_STATES: &str = "HOA: v1
 States: 2
 Start: 0
@@ -27,7 +27,7 @@ State: 1
 --END--
 ";
 
-/// Whether two lassos over two propositions are accepted.
+/// Whether each of two lassos over two propositions is accepted.
 fn verdicts(automaton: &Automaton) -> Result<[bool; 2], Fail> {
     if automaton.names().len() != 2 {
         return Ok([false; 2]);
@@ -38,7 +38,7 @@ fn verdicts(automaton: &Automaton) -> Result<[bool; 2], Fail> {
     ])
 }
 
-/// The same for the automaton of a text.
+/// Whether the automaton of a text accepts each of the two lassos.
 fn verdicts_of(alloc: Global, text: &str) -> Result<[bool; 2], Fail> {
     let automaton = automaton_of(alloc, text)?;
     verdicts(&automaton)
@@ -50,7 +50,7 @@ fn lassos_are_accepted(rt: HostRuntime) -> Result<(), Fail> {
     Ok(())
 }
 
-/// States with one edge each, with random labels.
+/// States with one edge each, whose labels are random.
 const DRAWN: &str =
     "HOA: v1 Start: 0 AP: 4 \"a\" \"b\" \"c\" \"d\" controllable-AP: Acceptance: 0 t --BODY--
     State: 0 [!!0&(1|3|0)|!!1&(1&1&f|!f|3&1&1)&((3&1)&0&3)] 32
@@ -87,15 +87,14 @@ const DRAWN: &str =
     State: 31 [!(!2&3&1&1&1&1)|(!(2|2|2)&(1&!3))|(!3&2&3&1&0&(!3&!3&!0))] 32
     --END--";
 
-/// For each of these states the truths of its label, as another program computed them: bit k is the truth at the letter
-/// k.
+/// The truth table of each state's label, as another program computed it: bit k is the truth value at the letter k.
 const TRUTHS: [u16; 32] = [
     0xAAAA, 0x0202, 0xFFFE, 0x3333, 0x0500, 0xF5FF, 0x5555, 0x0F0F, 0xF0F0, 0x80C0, 0xCC44, 0xE5A0,
     0xCCC0, 0x00FF, 0x77FF, 0xFFBF, 0x0070, 0xCCCC, 0xAA00, 0xCFCF, 0x3330, 0xFBFB, 0x8888, 0xFDFC,
     0x0400, 0x4040, 0x8800, 0xA0AA, 0x1F1F, 0x4450, 0xFFDD, 0xF3FF,
 ];
 
-/// The truths of the label of a state's edge, which leads to the state 32.
+/// The truth table of the label of a state's edge, which leads to the state 32.
 fn truths(automaton: &Automaton, state: u32) -> u16 {
     let mut truths = 0;
     if state <= automaton.states() {
@@ -108,7 +107,7 @@ fn truths(automaton: &Automaton, state: u32) -> u16 {
     truths
 }
 
-/// The first state of the text whose label has other truths.
+/// The first state of the text whose label has another truth table.
 fn first_wrong(alloc: Global) -> Result<Option<u32>, Fail> {
     let automaton = automaton_of(alloc, DRAWN)?;
     Ok((0..32).find(|state| truths(&automaton, *state) != TRUTHS[*state as usize]))

@@ -1,4 +1,4 @@
-//! Each call on diagrams that takes memory, with ample memory.
+//! Tests that make each call on diagrams that allocates memory, while memory is ample.
 
 use indexmap::IndexSet;
 use ps_diagram::{OverlayError, Store};
@@ -6,7 +6,7 @@ use ps_label::{Label, Labels};
 use std::alloc::{AllocError, Global};
 use std::test::Fail;
 
-/// What each rule makes of the leaf 2, or of no leaf.
+/// The values after a relabelling, a guard and a fill, each applied to the leaf 2 or to the diagram without leaves.
 fn changed(store: &mut Store) -> Result<[Option<u64>; 3], AllocError> {
     let two = store.leaf(2)?;
     let relabelled = store.relabel(two, &[4, 5, 6])?;
@@ -20,7 +20,7 @@ fn changed(store: &mut Store) -> Result<[Option<u64>; 3], AllocError> {
     ])
 }
 
-/// What a new store makes of the leaf 2 of another one.
+/// The value after the leaf 2 of another store is relabelled into a new store.
 fn relabelled_from(alloc: Global, store: &mut Store) -> Result<Option<u64>, AllocError> {
     if store.propositions() != 2 {
         return Ok(None);
@@ -44,7 +44,7 @@ fn clashes(store: &mut Store) -> Result<bool, AllocError> {
     ))
 }
 
-/// The least letter that leads to the leaf of a label.
+/// The smallest letter that leads to the leaf of a label.
 fn least_letter(alloc: Global, store: &mut Store) -> Result<Option<u64>, AllocError> {
     if store.propositions() != 2 {
         return Ok(None);
@@ -53,7 +53,7 @@ fn least_letter(alloc: Global, store: &mut Store) -> Result<Option<u64>, AllocEr
     store.path_to(node, 1)
 }
 
-/// How many leaves the diagram of a letter has, and how many classes its inputs have.
+/// The number of leaves of a letter's diagram, and the number of classes of its inputs.
 fn leaves_and_classes(alloc: Global, store: &mut Store) -> Result<(usize, usize), AllocError> {
     if store.propositions() != 2 {
         return Ok((0, 0));
@@ -65,8 +65,8 @@ fn leaves_and_classes(alloc: Global, store: &mut Store) -> Result<(usize, usize)
     Ok((leaves, classes.list.len()))
 }
 
-/// The leaf 4 where the first proposition is true, and else 5; and the negation of that proposition: each at the
-/// letters 1 and 0.
+/// The values of two diagrams, each at the letters 1 and 0. The first diagram has the leaf 4 where the first
+/// proposition is true, and otherwise the leaf 5. The second diagram is the negation of the first proposition.
 fn chosen(store: &mut Store) -> Result<[Option<u64>; 4], AllocError> {
     if store.propositions() != 2 {
         return Ok([None; 4]);
@@ -84,7 +84,8 @@ fn chosen(store: &mut Store) -> Result<[Option<u64>; 4], AllocError> {
     ])
 }
 
-/// The places of the pairs of 1, or none, and 7, at the letters 1 and 0, and how many pairs there are.
+/// The diagram whose leaves are pairs, made from the first proposition's diagram and the leaf 7. The results are the
+/// indices of its pairs at the letters 1 and 0, and the number of pairs.
 fn paired(alloc: Global, store: &mut Store) -> Result<([Option<u64>; 2], usize), AllocError> {
     if store.propositions() != 2 {
         return Ok(([None; 2], 0));
@@ -96,7 +97,7 @@ fn paired(alloc: Global, store: &mut Store) -> Result<([Option<u64>; 2], usize),
     Ok(([store.eval(paired, 1), store.eval(paired, 0)], pairs.len()))
 }
 
-/// What the calls answer, over two propositions.
+/// The results of all calls, over two propositions.
 #[derive(Debug, Drop, PartialEq, Eq)]
 struct Answered {
     changed: [Option<u64>; 3],
@@ -109,7 +110,7 @@ struct Answered {
     copied_propositions: u32,
 }
 
-/// The answers of a store.
+/// The results of all calls on a store.
 fn answers_of(alloc: Global, store: &mut Store) -> Result<Answered, AllocError> {
     Ok(Answered {
         changed: changed(store)?,
@@ -123,8 +124,8 @@ fn answers_of(alloc: Global, store: &mut Store) -> Result<Answered, AllocError> 
     })
 }
 
-/// The answers of a new store. If an allocation failed, which `rt try --test --fail-alloc N` does, the same store is
-/// asked once more.
+/// The results of all calls on a new store. If an allocation failed, as in a run of `rt try --test --fail-alloc N`, the
+/// calls are repeated on the same store.
 fn answers(alloc: Global) -> Result<Answered, AllocError> {
     let mut store = Store::new(alloc, 2);
     match answers_of(alloc, &mut store) {

@@ -1,10 +1,10 @@
-//! Labels.
+//! Tests of labels.
 
 use ps_label::{Label, Labels};
 use std::alloc::{AllocError, Global};
 use std::test::Fail;
 
-/// Whether the alias of the second proposition is true at a letter.
+/// Whether an alias of the second proposition is true at a letter.
 fn alias_is_true(alloc: Global, letter: u64) -> Result<bool, AllocError> {
     let mut labels = Labels::new(alloc);
     labels.push(Label::Atom(1))?;

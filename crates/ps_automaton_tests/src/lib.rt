@@ -1,5 +1,6 @@
-//! Tests of labels, of the reader of automata, of diagrams and of automata: what no clause says, and each call once
-//! with ample memory. What the program shows of them is in `examples/rows/libraries-automata.toml`.
+//! Tests of labels, of the parser of automata, of diagrams and of automata. The tests check what no contract states,
+//! and make each call once with ample memory. What the program prints about the same things is tested in
+//! `examples/rows/libraries-automata.toml`.
 #![tactic(auto)]
 
 #[cfg(test)]

@@ -1,4 +1,4 @@
-//! Tokens of the Hanoi Omega-Automata format.
+//! Tests of the tokens of the Hanoi Omega-Automata format.
 
 use ps_hoa::{Kind, Tokens};
 

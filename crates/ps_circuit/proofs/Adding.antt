@@ -1,7 +1,8 @@
--- What the lines of one kind add to what was read before them.
---     LineKind X      the literals that items define, and those that they read
---     AddsItem kind c d x      d has one item more than c, which is x
---     Added kind before read d      after what was defined and read before, d has what its items define and read
+-- The definitions and readings that the lines of one kind add to those of the earlier lines.
+--     LineKind X      for a kind of lines: the literals that items define, and the literals that items read
+--     AddsItem kind c d x      d has one item more than c, the item x
+--     Added kind before read d      d has the definitions in `before` and the readings in `read`, followed by those of
+--               its items
 --     input_kind, latch_kind, output_kind, gate_kind      the four kinds of lines
 use Rattle.std.proofs.Common.{arith, ◌≡◌, ℕ, List, [], ◌∷◌, ◌++◌, map, flat_map, refl, rules, append_assoc}
 use Rattle.std.proofs.lemmas.List.{map-append}
@@ -32,12 +33,12 @@ pub record Added {X : Type 0} (kind : LineKind X) (before read : List ℕ) (d : 
   pub defined : d.defined ≡ map variable (before ++ kind.defines d.items)
   pub readings : values d.readings ≡ read ++ kind.reads d.items
 
--- nothing is added yet
+-- before the first item, nothing is added
 pub none_more : {X : Type 0} (of : List X → List ℕ) → of [] ≡ [] → (front : List ℕ) {items : List X} → items ≡ [] →
     front ≡ front ++ of items
 none_more of none front e = search rules
 
--- one item more
+-- after one more item
 pub one_more : {X : Type 0} (of : List X → List ℕ) → ((xs ys : List X) → of (xs ++ ys) ≡ of xs ++ of ys) →
     (front : List ℕ) (old : List X) {new : List X} (x : X) → new ≡ old ++ x ∷ [] →
     (front ++ of old) ++ of (x ∷ []) ≡ front ++ of new
@@ -96,7 +97,7 @@ gate_kind = record {
   reads_both = flat_map-append (λ g. g.first ∷ g.second ∷ []);
 }
 
--- ## One line more
+-- ## One more line
 
 pub adds_input : (c : Lines ℕ) (l : Number) {x : ℕ} → l.value ≡ x → AddsItem input_kind c (add_input c l) x
 adds_input c l g = search rules

@@ -1,8 +1,8 @@
--- What the lines of a text add, and what they make.
---     Lined kind most before read d      what the lines of one kind define, after what was defined before, and read
+-- The definitions and readings that the lines of a text add, and the circuit that the lines form.
+--     Lined kind most before read d      what the lines of one kind define and read, after earlier definitions
 --     gates_placed      each gate of a draft has the offset of its line
---     sound_draft      a draft whose literals are all defined makes a circuit, except that a gate may depend on itself
---     each_named      a name or none for each item
+--     sound_draft      a draft whose literals are all defined is a circuit, except that a gate may depend on itself
+--     each_named      an optional name for each item
 use Rattle.std.proofs.Common.{◌≡◌, ℕ, zero, suc, ◌+◌, ◌*◌, ◌^◌, ◌<◌, List, [], ◌∷◌, ◌++◌, length, map, Option, All}
 use Rattle.std.proofs.Common.{refl, sym, ap, subst, append-nil, append_assoc, arith, length-append, rules}
 use Rattle.std.specs.Prelude.{vec_len, Vec}
@@ -78,7 +78,7 @@ module _ (most : ℕ) where
 
 -- ## The offsets of the gates' lines
 
--- each item more has k offsets
+-- each further item adds k line offsets, where k is 1 for gates and otherwise 0
 abbrev Keeps : {A : Type 0} → ℕ → (Lines A → Field (Lines A)) → Type 0
 Keeps {A} k item = (c d : Lines A) (text : List Seen) → (item c).IsText text d →
     length d.starts + k * length c.items ≡ length c.starts + k * length d.items
@@ -141,7 +141,7 @@ sound_draft most {i} {l} {o} {a} names limit placed gi gl go ga n1 n2 n3 a1 a2 a
       starts = placed;
     }
 
--- a name or none for each item
+-- an optional name for each item
 pub each_named : {A : Type 0} (names : Vec (Option (Vec ℕ Global)) Global) (items : Vec A Global) {k n : ℕ} →
     vec_len names ≡ k → k ≡ n → n ≡ vec_len items → length (map name_bytes names.items) ≡ length items.items
 each_named names items e f g = omega (arith, length-map names.items name_bytes, names.ok.0, items.ok.0, e, f, g)

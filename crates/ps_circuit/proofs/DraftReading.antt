@@ -1,9 +1,9 @@
--- A text from its first to its last byte.
---     text_reads, text_trails      from the whole part to the answer
---     Reached start now rest      what is left is read from here
+-- Lemmas for the function that parses a text from the first byte to the last.
+--     text_reads, text_trails      from the whole grammar part to the answer
+--     Reached start now rest      after parsing from `start` to `now`, the part `rest` remains
 --     past_header, past_lines, all_reads      section by section
 --     answered      the answer to a text
---     draft_fails, draft_trails      the exits of the reading of a text
+--     draft_fails, draft_trails      the ways in which the function can return
 use Rattle.std.proofs.Common.{◌≡◌, ℕ, ◌^◌, ◌≤◌, List, [], ◌∷◌, length, Option, None, Some, Result, Ok, Err, IsErrAnd}
 use Rattle.std.proofs.Common.{All, refl, sym, ap, subst, ◌∙◌, arith, length-append, rules}
 use Rattle.std.specs.Prelude.{replicate, IfOk}
@@ -62,9 +62,9 @@ text_trails text new d {b} m n is = subst (λ x. FoundAnswers text (found_of x))
         subst (λ x. PartAnswers aig_causes circuit_text (stream_of text) (Err (record { cause = Syntax; offset = x })))
         o (answers_trailing laws_text.laws (stream_of text) new d p ps m.0 m.1 y)
 
--- ## The parts of the text, one after another
+-- ## The parts of the text, in order
 
--- what is left is read from here, and there are not too many bytes
+-- after parsing from `start` to `now`, the part `rest` remains, and the number of remaining bytes is limited
 pub record Reached (start now : Stream Seen) (rest : Field DraftData) : Type 0 where
   pub left : Left circuit_text start rest now
   pub short : length now.pieces ≤ 2 ^ 63
@@ -74,7 +74,7 @@ reads_on : {A : Type 0} {P : Field A} {Q : A → Field DraftData} {First More : 
     {next : Stream Seen} → ReadsPart P now a next → Reached start next (Q a)
 reads_on j {now = now} r a {next} m = grind (arith, past j r.left m, length-append m.0.taken next.pieces)
 
--- the numbers of the first line, with the greatest variable as the code has it
+-- the numbers of the first line, with the greatest variable as the code stores it
 abbrev pub numbers : ℕ → HeaderData → HeaderData
 numbers most d = record { most = most; inputs = d.inputs; latches = d.latches; outputs = d.outputs; gates = d.gates }
 
@@ -92,7 +92,7 @@ unfolding body
 past_header {start} {next} {most} {d} e short m is = subst (λ x. Reached start next (body_inputs (numbers most d) x))
     (sym is) (reads_on chain_text (record { left = text_unread; short = short }) (numbers most d) (grind arith))
 
--- the lines of one kind come next, as many as the code counts, after what it has noted
+-- the text continues with as many lines of one kind as the code counts
 pub record Ahead {A : Type 0} (item : Lines A → Field (Lines A)) (Q : Lines A → Field DraftData)
     (start now : Stream Seen) (count : ℕ) (noted : Lines A) : Type 0 where
   pub n : ℕ
@@ -151,7 +151,7 @@ module _ (text : List ℕ) (d : DraftData) (okay : PartAnswers aig_causes circui
       cyclic d k.0 offset okay known k.2 k.3 (ap (λ x. Err (record { cause = x; offset = offset })) k.1)
   answered known (Err OutOfMemory) same is cause = tt
 
--- ## The exits of the reading of a text
+-- ## The ways in which the function can return
 
 pub draft_fails : (text : List ℕ) {start : Stream Seen} (e : AigFault) (r : Result Draft AigFault) →
     start ≡ stream_of text → Stops aig_causes circuit_text start (found_of e) → IsErrAnd r (λ y. y ≡ e) →
@@ -172,7 +172,7 @@ pub draft_reads : (text : List ℕ) {start s7 : Stream Seen} {d : DraftData} →
     ReadsPart circuit_text start d s7 → PartAnswers aig_causes circuit_text (stream_of text) (Ok d)
 draft_reads text {start} {s7} {d} is e m = text_reads text s7 d e (subst (λ x. ReadsPart circuit_text x d s7) is m)
 
--- no names at all
+-- a list of missing names
 none_of : {A : Type 0} {n : ℕ} (items : List A) → n ≡ length items → replicate n None ≡ no_names items
 none_of [] e = ap (λ k. replicate k None) e
 none_of (x ∷ items) e = ap (λ k. replicate k None) e ∙ ap (λ xs. None ∷ xs) (none_of items refl)

@@ -1,4 +1,4 @@
--- The gates of a builder, and one more.
+-- The gates of a builder, before and after a gate is added.
 use Rattle.std.proofs.Common.{◌≡◌, ◌∙◌, ℕ, ◌+◌, ◌-◌, ◌*◌, ◌/◌, ◌%◌, ◌^◌, ◌<◌, ◌≤◌, ◌&&◌, ◌||◌, Bool, true, false, not}
 use Rattle.std.proofs.Common.{cond, eqb, [], ◌∷◌, ◌++◌, length, length-append, get_or, slice_get, Some, refl, sym, ap}
 use Rattle.std.proofs.Common.{ap₂, subst, arith, inl, inr, ◌⊎◌, Result, Err, IsErrAnd, rules}
@@ -44,7 +44,7 @@ negated_even n = let even : 2 * n % 2 ≡ 0 = omega arith in ap (λ r. cond (eqb
 negated_odd : (n : ℕ) → negated (2 * n + 1) ≡ 2 * n
 negated_odd n = search rules
 
--- a literal is a variable's, or its negation
+-- a literal is either a variable's positive literal or its negation
 of_literal : (P : ℕ → Type 0) → ((n : ℕ) → P (2 * n)) → ((n : ℕ) → P (2 * n + 1)) → (l : ℕ) → P l
 of_literal P even odd l = elim (cases_eq (l % 2) 1) [
   | inl o ↦ subst P (let e : 2 * (l / 2) + 1 ≡ l = omega arith in e) (odd (l / 2))
@@ -72,7 +72,7 @@ held-extends a b x l h = let p = x.more in let q = x.given in omega arith
 pub meets-extends : (a b : Drafted) → Extends a b → (v : ℕ → Bool) → Meets b v → Meets a v
 meets-extends a b x v m = search rules
 
--- the gates with one more
+-- the gates with one more gate
 abbrev pub more : Drafted → Sides → Drafted
 more d s = record { given = d.given; gates = d.gates ++ s ∷ [] }
 
@@ -104,7 +104,7 @@ sound-more {d} {s} is room sides none = record {
 pub drafted_are : (a b : Drafted) → a.given ≡ b.given → a.gates ≡ b.gates → a ≡ b
 drafted_are a b e f = ap₂ (λ n g. record { given = n; gates = g }) e f
 
--- what is true once a gate has its place
+-- the new gates are sound, contain the old gates, and have the gate s at an index
 pub record Placed (old new : Drafted) (s : Sides) (place : ℕ) : Type 0 where
   pub sound : IsSoundDraft new
   pub extends : Extends old new
@@ -133,7 +133,7 @@ pub placed-bit : (d : Drafted) (s : Sides) (place : ℕ) → slice_get d.gates p
     bit v (2 * (d.given + 1 + place)) ≡ (bit v s.first && bit v s.second)
 placed-bit d s place at v m = bit-plain v (d.given + 1 + place) ∙ m.each place s at
 
--- where a gate is needed
+-- a new pair of literals needs a gate
 pub needs : (d : Drafted) (own : ℕ) (s : Sides) → IsSoundDraft d → AreSides own s → IsNew d s.first s.second →
     NeedsGate d s.first s.second
 needs d own s is a new = search rules
@@ -161,7 +161,7 @@ pub chosen_bits : (v : ℕ → Bool) (s h l : ℕ) {ns : ℕ} (high low result :
     bit v result ≡ cond (bit v s) (bit v h) (bit v l)
 chosen_bits v s h l high low result e eh el er = er ∙ chosen_either v s h l high low e eh el
 
--- a choice with a side that is true
+-- a choice in which one alternative is the constant true
 bit_one : {d : Drafted} (v : ℕ → Bool) → Meets d v → bit v 1 ≡ true
 bit_one v m = ap not m.constant
 
@@ -172,7 +172,7 @@ pub either_low : (d : Drafted) (s high low not_s : ℕ) → not_s ≡ negated s 
     IsChoice d s high low not_s high
 either_low d s high low not_s n e v m = grind (arith, bit-negated, bit_one {d = d} v m)
 
--- a fault that is passed on
+-- a fault that is returned unchanged
 pub passed : {X : Type 0} (result : Result X EncodeFault) (fault other : EncodeFault) →
     IsErrAnd result (λ given. given ≡ fault) → result ≡ Err other → fault ≡ other
 passed result fault other h k = search rules

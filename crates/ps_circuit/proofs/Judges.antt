@@ -1,4 +1,4 @@
--- What may be wrong with the numbers and the symbols of an AIGER text is decided.
+-- It is decidable which numbers and symbols of an AIGER text are errors.
 use Rattle.std.proofs.Common.{◌≡◌, ℕ, suc, ◌+◌, ◌*◌, ◌^◌, ◌<◌, ◌≤◌, List, ◌++◌, length, slice_get, Option, None, Some}
 use Rattle.std.proofs.Common.{refl, sym, ◌∙◌, rules}
 use Rattle.std.proofs.lemmas.Bool.{cases_eq}
@@ -47,21 +47,22 @@ judge_reset latch n = judge_one cause_number (judge_cause cause_number UnsetLatc
 
 -- ## Symbols
 
--- the bytes after a sign begin with these digits, or with none
+-- the longest run of digits in the bytes after a given byte, which may be empty
 pub record Digits (s : Seen) (digits : List ℕ) : Type 0 where
   pub rest : List ℕ
   pub split : s.behind ≡ digits ++ rest
   pub all : AllOf is_digit digits
   pub longest : StopsBefore is_digit rest
 
--- which symbol is bad
+-- the letter of a symbol is an error only if a number follows that is not the number of an unnamed input, latch or
+-- output
 pub bad_symbol : {names : NamesData} {s : Seen} {kind : Kind} {digits : List ℕ} {f : AigCause} →
     take_kind s ≡ Some kind → Digits s digits → IsBadSymbol names s f →
     (0 < length digits) × (slice_get (names_of names kind) (decimal_value digits) ≡ Some None → ⊥)
 bad_symbol {names} {s} {kind} {digits} letter d b = search (rules, same_some, same_run)
 
 module _ (names : NamesData) where
-  -- no place of that kind has the number, or it has a name
+  -- whether the entry with this number is missing or already has a name
   decide_free : (place : Option (Option (List ℕ))) → Decided (place ≡ Some None → ⊥)
   decide_free place = search (rules, none_is_some, same_some)
 

@@ -1,6 +1,6 @@
--- What the lemmas of this crate say of the parts of a circuit's text (`ps_text`).
---     Lawful, Chain, Left      of parts whose causes are those of circuits
---     Judges Wrong      which numbers are wrong is decided
+-- Abbreviations for the laws of the parts of a circuit's text (`ps_text`).
+--     Lawful, Chain, Left      for parts whose causes are those of circuits
+--     Judges Wrong      it is decidable which numbers are errors
 use Rattle.std.proofs.Common.{ℕ}
 use Rattle.ps_text.specs.Answers.{Stream}
 use Rattle.ps_text.specs.Outcomes.{HasOutcomes}

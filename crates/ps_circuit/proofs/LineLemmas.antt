@@ -1,5 +1,5 @@
--- The number lines of a text: how they are read, and how they fail.
---     past_..      what is left of a line after what was read of it
+-- Lemmas for the functions that parse the number lines of a text, including the cases in which they fail.
+--     past_..      the rest of a line after one of its fields
 --     Lining      the invariant of a loop over the lines of one kind
 use Rattle.std.proofs.Common.{◌≡◌, ℕ, ◌+◌, ◌-◌, ◌*◌, ◌^◌, ◌<◌, ◌≤◌, Bool, true, false, List, [], ◌∷◌, ◌++◌, length}
 use Rattle.std.proofs.Common.{Option, Result, Ok, Err, Contains, refl, subst, inl, inr, arith, rules}
@@ -137,7 +137,7 @@ reset_good latch {old} {new} {n} x other small = number_small (WrongReset latch)
     good f (inl w) = other w.0
     good f (inr w) = omega (arith, w.0)
 
--- ## What is left of a line
+-- ## The rest of a line
 
 module _ (most : ℕ) where
   pub past_input : (c : Lines ℕ) {old s : Stream Seen} {l : Number} →
@@ -175,7 +175,7 @@ module _ (most : ℕ) where
           Left (gate_line most c) old (gate_end c l first second) u
       past_second r = past (chain_second most c l first) past_first r
 
--- ## Values of lines
+-- ## The values of lines
 
 pub input_is : (c : Lines ℕ) (l : Number) {items defined : List ℕ} → items ≡ c.items ++ l.value ∷ [] →
     defined ≡ c.defined ++ variable l.value ∷ []

@@ -1,4 +1,4 @@
--- Links stand for the gates that a gate reads.
+-- The links of a gate lead to exactly the gates that it reads.
 use Rattle.std.proofs.Common.{◌≡◌, ◌≢◌, ℕ, ◌+◌, ◌<◌, IfSome, List, [], ◌∷◌, ◌++◌, map, length, get_or, refl, sym, ap}
 use Rattle.std.proofs.Common.{ap₂, subst, ◌∙◌, arith, nat_eq, Some, None, Option, slice_get, suc, rules, AllPairs}
 use Rattle.std.proofs.Common.{Contains, take, length-append}
@@ -22,7 +22,7 @@ use Rattle.ps_components.proofs.Ways.{Way-map}
 no_gate : Gate
 no_gate = record { literal = 0; first = 0; second = 0 }
 
--- the places of the gates by their variables
+-- `place_of` maps the variable of each gate to the gate's index, and every other variable to `None`
 record ArePlaces (gates : List Gate) (place_of : ℕ → Option ℕ) : Type 0 where
   back : (v k : ℕ) → place_of v ≡ Some k → (g : Gate) × (slice_get gates k ≡ Some g) × (variable g.literal ≡ v)
   forth : (k : ℕ) (g : Gate) → slice_get gates k ≡ Some g → place_of (variable g.literal) ≡ Some k
@@ -30,7 +30,7 @@ record ArePlaces (gates : List Gate) (place_of : ℕ → Option ℕ) : Type 0 wh
 abbrev pub gate_variables : List Gate → List ℕ
 gate_variables gates = map (λ g. variable g.literal) gates
 
--- gates of different variables
+-- a list of gates with distinct variables
 module _ (gates : List Gate) (once : AllPairs (λ g h. variable g.literal ≢ variable h.literal) gates) where
   many : length (gate_variables gates) ≡ length gates
   many = length-map gates (λ g. variable g.literal)
@@ -69,7 +69,7 @@ length-links_by : (place_of : ℕ → Option ℕ) (gates : List Gate) → length
 length-links_by place_of [] = refl
 length-links_by place_of (g ∷ gates) = ap suc (length-links_by place_of gates)
 
--- the links by the places of all gates
+-- the links that are computed with the indices of all gates
 links-by_places : {gates : List Gate} {place_of : ℕ → Option ℕ} {links : List Links} → ArePlaces gates place_of →
     links ≡ links_by place_of gates → AreLinksOf gates links
 links-by_places {gates} {place_of} a e = search (rules, length-links_by, slice_get-map, slice_get_within)
@@ -77,7 +77,7 @@ links-by_places {gates} {place_of} a e = search (rules, length-links_by, slice_g
 abbrev sides : Option ℕ → Option ℕ → Links
 sides first second = record { first = first; second = second }
 
--- the links of one gate more
+-- the list of links after the links of one more gate are appended
 pub links_by-more : (variables : List ℕ) (gates : List Gate) (k : ℕ) (g : Gate) {links more : List Links}
     {first second : Option ℕ} → k < length gates →
     links ≡ links_by (place_in variables) (take k gates) → more ≡ links ++
@@ -91,7 +91,7 @@ links_by-more variables gates k g l before e at_first at_second =
     ∙ map-append (λ h. sides (place_in variables (variable h.first)) (place_in variables (variable h.second)))
     (take k gates) (get_or gates k g ∷ []))
 
--- the links by the places of the gates' variables
+-- the links that are computed with the indices of the gates' variables
 pub links-by_variables : {gates : List Gate} {variables : List ℕ} {links : List Links} →
     AllPairs (λ g h. variable g.literal ≢ variable h.literal) gates →
     variables ≡ gate_variables gates → links ≡ links_by (place_in variables) gates → AreLinksOf gates links
@@ -116,7 +116,7 @@ module _ (gates : List Gate) (links : List Links) (a : AreLinksOf gates links) w
   pub cyclic-of_links : {i : ℕ} → IsFirstOnCycle (Link (graph_of links)) i → IsFirstOnCycle (ReadsGate gates) i
   cyclic-of_links c = search (rules, Way-map, c.cyclic, c.first)
 
--- no two gates of a circuit have one variable
+-- the gates of a circuit have distinct variables
 pub gates_once : (c : CircuitData) → AllPairs (λ l m. variable l ≢ variable m) (definitions c) →
     AllPairs (λ g h. variable g.literal ≢ variable h.literal) c.gates
 gates_once c once i j d lt within e = grind (arith, length-append, many, length-map, at_gate)
@@ -125,7 +125,7 @@ gates_once c once i j d lt within e = grind (arith, length-append, many, length-
         (length (c.inputs ++ map (λ l. l.literal) c.latches) + i) 0 ≡ (get_or c.gates i d).literal
     at_gate i d lt = search (rules, get_or-append-add, get_or-map, c.inputs, c.latches, c.gates)
 
--- the target of a side of a gate is a gate
+-- a literal of a gate links to the index of a gate
 pub side_within : (links : List Links) (item place : ℕ) {sides : Links} → IsWithin (graph_of links) →
     slice_get links item ≡ Some sides → place < 2 → IfSome (side_of sides place) (λ to. to < length links)
 side_within links item place {sides} within at lt = which (side_of sides place) refl

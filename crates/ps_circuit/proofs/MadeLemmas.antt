@@ -1,4 +1,4 @@
--- Gates that are made stay, and what was made once is there when it is asked for again.
+-- Gates that were made remain, and making a gate a second time finds the existing gate.
 use Rattle.std.proofs.Common.{◌≡◌, ◌∙◌, ℕ, ◌+◌, ◌*◌, ◌<◌, ◌≤◌, ◌==◌, ◌&&◌, Bool, true, false, cond, rules}
 use Rattle.std.proofs.Common.{if◌then◌else◌, [], ◌∷◌, ◌++◌, length, length-append, get_or, slice_get, Some, refl, sym}
 use Rattle.std.proofs.Common.{ap, ap₂, arith, inl, inr}
@@ -17,7 +17,7 @@ use Rattle.ps_circuit.specs.Gates.{Made, has_sides, gate_of, and_of, or_of, chos
 use Rattle.ps_circuit.proofs.GateLemmas.{bool_cases, true_is_not_false, extends-refl, extends-trans, extends-more}
 use Rattle.ps_circuit.proofs.GateLemmas.{same_sides, sides_same, drafted_are, Placed}
 
--- asked for again, in a draft with all gates that it took, it takes no further gate
+-- making the gates again, in a draft that already has all of them, adds no gate and returns the same literal
 abbrev pub IsThere : Made → (Drafted → Made) → Drafted → Type 0
 IsThere made make e = make e ≡ record { draft = e; literal = made.literal }
 
@@ -56,7 +56,7 @@ gate_at d {s} = elim (bool_cases (list_any (has_sides s) d.gates)) [
   | inr none ↦ grind (arith, absent_place, slice_get-push)
 ]
 
--- no gate before its place has its sides
+-- no gate before the index of a gate has the same two literals
 gate_first : {d e : Drafted} (s : Sides) → Extends d e → (k : ℕ) → k < place_of d s → place_of d s ≤ length d.gates →
     has_sides s (get_or e.gates k s) ≡ false
 gate_first {d} {e} s x k lt within =
@@ -67,7 +67,7 @@ gate_first {d} {e} s x k lt within =
 place_within : (d : Drafted) (s : Sides) → place_of d s ≤ length d.gates
 place_within d s = search (rules, bool_cases, present_place, absent_place)
 
--- a gate that has these sides where no gate before it has them
+-- making a gate finds the first gate with the same two literals
 pub gate-found : (e : Drafted) {s : Sides} (place : ℕ) → slice_get e.gates place ≡ Some s →
     ((k : ℕ) → k < place → has_sides s (get_or e.gates k s) ≡ false) →
     gate_of e s ≡ record { draft = e; literal = 2 * (e.given + 1 + place) }
@@ -89,9 +89,9 @@ gate-again d {e} s x =
     let found = gate-found e (place_of d s) (grind (arith, gate_at d)) (λ k lt. first k lt (place_within d s)) in
     found ∙ ap (made_with e) (gate_literal d s x)
 
--- ## What stays
+-- ## What remains
 
--- the gates that are there stay, and where they are all there it takes no further one
+-- the existing gates remain, and making the same gates again adds no gate
 pub record Lasts (make : Drafted → Made) : Type 0 where
   pub extends : (d : Drafted) → Extends d (make d).draft
   pub again : (d e : Drafted) → Extends (make d).draft e → IsThere (make d) make e
@@ -148,7 +148,7 @@ pub mux-same : (d : Drafted) (s literal : ℕ) → mux_of d s literal literal �
 unfolding mux_of
 mux-same d s literal = rw (eq-eqb literal literal refl) refl
 
--- ## Too many
+-- ## Too many variables
 
 pub above-extends : (d e : Drafted) → Extends d e → 2147483647 < variables_of d → 2147483647 < variables_of e
 above-extends d e x above = let p = x.more in let q = x.given in omega arith
@@ -174,7 +174,7 @@ gate_draft : (old : Drafted) {new : Drafted} (s : Sides) → new.given ≡ old.g
 unfolding gate_of
 gate_draft old {new} s given keys = drafted_are (gate_of old s).draft new (sym given) (sym keys)
 
--- a gate that has its place is made
+-- inserting a gate into the builder's set has the same result as `gate_of`
 pub made-placed : {old new : Drafted} {s : Sides} {place : ℕ} → Placed old new s place → new.given ≡ old.given →
     new.gates ≡ insert_key (sides_eq.eq-value).it old.gates s →
     gate_of old s ≡ record { draft = new; literal = 2 * (new.given + 1 + place) }

@@ -1,4 +1,4 @@
--- Numbers of the text, and the first line: how they are read, and how they fail.
+-- Lemmas for the functions that parse numbers and the first line of a text, including the cases in which they fail.
 use Rattle.std.proofs.Common.{◌≡◌, ℕ, zero, suc, ◌-◌, ◌<◌, ◌≤◌, Bool, true, false, List, Option, Result, Ok, Err, rules}
 use Rattle.std.proofs.Common.{IsErrAnd, refl, sym, ap, ap₂, subst, inl, inr, ◌∙◌, arith}
 use Rattle.std.specs.Prelude.{codes}
@@ -123,7 +123,7 @@ sections_unread (suc n) {old} l =
     subst (λ k. Left (sections (suc n)) old
     (then_by more (by_more (then_by (number WrongCount) (λ _. sections k)) (give tt))) old) one unread
 
--- a section comes
+-- a further section follows
 pub section_unread : (left : ℕ) {old mid : Stream Seen} {b : Bool} → 0 < left → b ≡ true → Reads more old b mid →
     Left (sections left) old (section left) mid
 section_unread left l e m =
@@ -161,7 +161,7 @@ pub header_unread : {old : Stream Seen} → Left header old (then_by (word (code
 unfolding header
 header_unread = unread
 
--- what is left of it after the numbers that were read
+-- the rest of the first line after the numbers that were read
 module _ {old : Stream Seen} {s0 s1 : Stream Seen} {m : Number}
     (w : Reads {F = AigCause} (word (codes "aag")) old tt s0)
     (r1 : Reads (field WrongMost) s0 m s1) where

@@ -1,4 +1,4 @@
--- Lemmas of the reader.
+-- Lemmas for the parser's private functions.
 use Rattle.std.proofs.Common.{◌≡◌, ◌≢◌, ℕ, ◌+◌, ◌^◌, ◌<◌, ◌≤◌, List, [], ◌∷◌, ◌++◌, Bool, true, map, length, take}
 use Rattle.std.proofs.Common.{get_or, set, sym, subst, arith, Some, Option, All, rules, AllPairs, Contains, Vec}
 use Rattle.std.proofs.lemmas.List.{length-map, get_or-map, map-set, take_more, take_all, take-append-drop}
@@ -22,7 +22,7 @@ use Rattle.ps_circuit.specs.Inner.Reading.{AddsVariable, Defines, IsKnownIn, Tel
 use Rattle.ps_circuit.specs.declared.number.Number.{Number}
 use Rattle.std.specs.Bool.{OnTrue}
 
--- a variable that is not one of those is appended to them
+-- a variable that is not in the list is appended to it
 pub adds_variable : {old new : List ℕ} {v : ℕ} → new ≡ old ++ v ∷ [] → (Contains old v → ⊥) → AddsVariable old v new
 adds_variable {old} e none = search (rules, Contains-get_or)
 
@@ -43,7 +43,7 @@ apart_of : (literals : List ℕ) → AllPairs (λ v w. v ≢ w) (map variable li
 apart_of literals h i j d lt within e =
     h i j (variable d) lt (omega (arith, length-map literals variable)) (grind (arith, get_or-map))
 
--- the parts that were read make a draft
+-- the parts that were read form a draft
 pub draft_of : {c : CircuitData} {defined : List ℕ} → c.most < 2 ^ 31 → Defines c.most [] (definitions c) defined →
     All (IsKnownIn defined) (readings c) → length c.input_names ≡ length c.inputs →
     length c.latch_names ≡ length c.latches → length c.output_names ≡ length c.outputs → All IsName c.input_names →
@@ -64,7 +64,7 @@ pub known_all : (variables : List ℕ) (fields : List Number) (i : ℕ) → leng
     All (λ f. IsKnownIn variables f.value) (take i fields) → All (λ f. IsKnownIn variables f.value) fields
 known_all variables fields i le h = subst (λ fs. All (λ f. IsKnownIn variables f.value) fs) (take_all i fields le) h
 
--- the first of these that is not defined
+-- the first literal in the list that is not defined
 pub first_undefined : {variables : List ℕ} {readings : List Number} (i : ℕ) (d : Number) → i < length readings →
     All (IsDefined variables) (take i readings) → (IsDefined variables (get_or readings i d) → ⊥) →
     IsFirstUndefined variables readings (get_or readings i d)
@@ -74,7 +74,7 @@ pub cyclic_tells : (gates : List Gate) (starts : List ℕ) {i : ℕ} {f e : AigF
     i < length starts → f ≡ Text Cyclic (get_or starts i 0) → f ≡ e → TellsCyclic gates starts (found_of e)
 cyclic_tells gates starts {i} first l is same = search (rules, slice_get-get_or)
 
--- a name that was read fits
+-- a name that was parsed is a valid name
 pub name_set : (names : List (Option (Vec ℕ Global))) (i : ℕ) {name : List ℕ} (v : Vec ℕ Global) →
     All IsName (map name_bytes names) → v.items ≡ name → 0 < length name → All (λ b. b ≢ 10) name →
     All IsName (map name_bytes (set names i (Some v)))

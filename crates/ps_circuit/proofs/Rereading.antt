@@ -1,4 +1,5 @@
--- What is written is read again: fields, lines, names, circuits and texts.
+-- Lemmas about parsing the text that the writer produces, which gives the same circuit. They cover fields, lines,
+-- names, circuits and whole texts.
 
 pub mod RereadFields
 pub mod RereadLines

@@ -1,7 +1,8 @@
--- The laws of the signs of an AIGER text: sets of signs, bytes, words, numbers, gaps and ends of lines.
---     Separates      a space, a tab or a newline: what follows a number
---     AtBody, AtTail      the first byte of what follows the first line, and the number lines
---     numbers, optional      the chains of a number, and of a further field or none, and what follows them
+-- The laws of the smallest parts of an AIGER text: sets of bytes, single bytes, words, numbers, gaps and ends of lines.
+--     Separates      a space, a tab or a newline, which end a number
+--     AtBody, AtTail      the first bytes that can follow the first line, and the number lines
+--     numbers, optional      the chain of a number and what follows it; the chain of an optional further field and what
+--               follows it
 use Rattle.std.proofs.Common.{◌≡◌, ℕ, ◌⊎◌, Bool, true, false, refl, sym, ap, inl, inr, ◌∙◌, rules}
 use Rattle.std.proofs.lemmas.Bool.{eqb-true}
 use Rattle.ps_text.specs.Parts.{give, then_by, either, mapped}
@@ -17,7 +18,7 @@ use Rattle.ps_text.proofs.Bytes.Single.{At}
 use Rattle.ps_text.proofs.Bytes.Lawful.{byte_of, larger, chained, next, given, mapped_by, either_of, or_nothing, run_by}
 use Rattle.ps_circuit.proofs.Lawful.{Lawful, Chain, Judges}
 
--- ## Sets of signs
+-- ## Sets of bytes
 
 abbrev pub AtDigit : Seen → Type 0
 AtDigit s = is_digit s.byte ≡ true
@@ -41,7 +42,7 @@ AtTail s = AtKind s ⊎ At 99 s
 abbrev pub AtBody : Seen → Type 0
 AtBody s = AtDigit s ⊎ AtTail s
 
--- the test of a byte that is known
+-- a byte that passes a test is not equal to a byte that fails the test
 test_at : (p : ℕ → Bool) {b : ℕ} (t : Seen) → t.byte ≡ b → p t.byte ≡ true → p b ≡ false → ⊥
 test_at p {b} t e h k = let g : p b ≡ true = ap p (sym e) ∙ h in cc
 
@@ -131,7 +132,7 @@ pub numbers : {B : Type 0} {Q : Number → Field B} {Wrong : ℕ → AigCause �
     Judges Wrong → ((n : Number) → Lawful (Q n) Separates More ⊥) → Chain (number Wrong) Q AtDigit More ⊥
 numbers judge q = next (laws_number judge) q digit_separates
 
--- a further field of the line, or the value that stands for a missing one
+-- a further field of the line, or the value that stands for a missing field
 pub optional : {V : Type 0} {P : Field V} → Lawful P AtDigit Separates ⊥ → (v : V) →
     Chain more (by_more P (give v)) Separates Separates ⊥
 optional {P = P} l v = chained laws_more by (λ t h d. digit_separates t d h) (λ t h. h) (λ t h. absurd h.0) (λ t h. h)

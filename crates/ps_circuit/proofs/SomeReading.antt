@@ -1,5 +1,5 @@
--- Each text of a circuit has an answer: the text's first cause, or the first literal that is not defined, or the first
--- gate that depends on itself, or else its circuit.
+-- Each text of a circuit has an answer: an error in the text, a literal that is not defined, a gate that depends on
+-- itself, or the circuit.
 use Rattle.std.proofs.Common.{ℕ, ◌<◌, ◌⊎◌, List, [], ◌∷◌, length, get_or, All, Result, Ok, Err, refl, ap, inl, inr}
 use Rattle.std.proofs.Common.{arith}
 use Rattle.std.proofs.lemmas.Bool.{cases_eq}

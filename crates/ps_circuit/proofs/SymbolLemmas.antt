@@ -1,6 +1,6 @@
--- The lines of names, and the comment: how they are read, and how they fail.
---     AtLetter      a letter of a symbol comes, and one step moves past it
---     past_letter, past_number, past_space, past_name      what is left of the line after them
+-- Lemmas for the functions that parse the lines of names and the comment, including the cases in which they fail.
+--     AtLetter      the next byte is the letter of a symbol, and one step moves past it
+--     past_letter, past_number, past_space, past_name      the rest of the line after each of its parts
 use Rattle.std.proofs.Common.{◌≡◌, ◌≢◌, ℕ, zero, suc, ◌+◌, ◌^◌, ◌<◌, true, false, List, [], ◌∷◌, ◌++◌, length, map, set}
 use Rattle.std.proofs.Common.{Option, None, Some, Vec, refl, sym, ap, subst, inl, inr, ◌∙◌, arith, rules}
 use Rattle.std.specs.Prelude.{slice_get, All}
@@ -44,7 +44,7 @@ use Rattle.ps_circuit.proofs.TextLaws.{chain_number, chain_space, chain_name, la
 use Rattle.ps_circuit.proofs.SignLaws.{AtKind}
 use Rattle.ps_circuit.proofs.NumberLemmas.{number_any}
 
--- what the next sign sees is what follows it
+-- the bytes after the next byte, as the grammar sees them, are those that follow it in the text
 behind_is : {old new : Stream Seen} {t : Seen} (at : ℕ) {bytes : List ℕ} → IsAhead old → next_of old ≡ Some t →
     new ≡ tail old → new.pieces ≡ pieces_at at bytes → t.behind ≡ bytes
 behind_is {old} {t} at {bytes} x n e k = go x.1 x.2
@@ -70,7 +70,7 @@ at_letter all kind names t same next is ahead moved = search rules
 
 module _ {all : NamesData} {kind : Kind} {names : List (Option (Vec ℕ Global))} {t : Seen} {old s1 : Stream Seen}
     (a : AtLetter all kind names t old s1) where
-  -- the digits that were passed are those that the letter sees
+  -- the digits that were read are the digits after the letter
   seen_digits : {s2 : Stream Seen} {run : List ℕ} → Passes is_digit s1 s2 run → Digits t run
   seen_digits x = grind (arith, behind_is x.at a.ahead a.next a.moved x.old_is)
 
@@ -113,7 +113,7 @@ module _ {all : NamesData} {kind : Kind} {names : List (Option (Vec ℕ Global))
         pub past_name : Left (symbol_line all) old (symbol_end all kind k name) s4
         past_name = past (chain_name all kind k) past_space r
 
-        -- the list of one kind, with a name put at its place
+        -- the list of names of one kind, after the new name is set
         pub symbol_reads : {s5 : Stream Seen} {after : List (Option (Vec ℕ Global))} (v : Vec ℕ Global) →
             Reads newline s4 tt s5 → after ≡ set names n.value (Some v) → v.items ≡ name →
             Reads (symbol_line all) old (put_names all kind (map name_bytes after)) s5
@@ -121,7 +121,7 @@ module _ {all : NamesData} {kind : Kind} {names : List (Option (Vec ℕ Global))
             let value : n.value ≡ k.value = omega (arith, (number_any x).1, within) in
             reads_last (λ _. add_name all kind k.value name) past_name l (search (rules, map-set))
 
--- ## Which line comes
+-- ## Which line follows
 
 letter_at : (t : Seen) → AtKind t → (is_kind (Some t.byte) ≡ true) × (kind : Kind) × (take_kind t ≡ Some kind)
 letter_at t h = search rules
@@ -170,13 +170,13 @@ pub symbol_refused : (names : NamesData) (s : Stream Seen) {e : AigFault} → (n
     → Stops aig_causes (symbol_line names) s (found_of e)
 symbol_refused names s i l o is = grind (arith, stops_here, symbol_laws)
 
--- the letter comes
+-- the next byte is the letter of a symbol
 pub letter_is : (s : Stream Seen) {b : ℕ} {kind : Kind} → next_byte s ≡ Some b →
     take_kind (record { byte = b; at = 0; behind = [] }) ≡ Some kind →
     (t : Seen) × (next_of s ≡ Some t) × (take_kind t ≡ Some kind)
 letter_is s e h = let t = next_is (next_of s) e in (t.0, t.1, rw t.2 h)
 
--- a name that was read has a byte, and no newline
+-- a name that was read has at least one byte, and no newline
 all_plain : (xs : List ℕ) → AllOf is_inner xs → All (λ b. b ≢ 10) xs
 all_plain [] h k d lt = absurd (omega arith)
 all_plain (x ∷ xs) h zero d lt = λ e. let y : is_inner 10 ≡ true = ap is_inner (sym e) ∙ h.0 in cc

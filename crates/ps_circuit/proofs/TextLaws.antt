@@ -1,6 +1,6 @@
--- The laws of the parts of an AIGER text: with which bytes each begins, and with which it continues. Its signs:
--- SignLaws.
---     fields      the chain of a number after a gap, and what follows it
+-- The laws of the parts of an AIGER text: the bytes that can begin a part, and the bytes that can continue it. The laws
+-- of the smallest parts are in SignLaws.
+--     fields      the chain of a gap, a number, and what follows it
 --     chain_..      a part of a production and what follows it
 use Rattle.std.proofs.Common.{◌≡◌, ℕ, zero, suc, Bool, false, eqb, List, Some, refl, inl, inr, rules}
 use Rattle.std.specs.Prelude.{codes}
@@ -49,7 +49,7 @@ pub chain_field : {Wrong : ℕ → AigCause → Type 0} → Judges Wrong → Cha
 chain_field judge = chained laws_gap (λ _. laws_number judge) space_digit (λ t h. inl h) (λ t h. absurd h.0) (λ t h. h)
     (λ t h. absurd h.0) (λ n. n.0)
 
--- a number after a gap, and what follows it
+-- a gap, a number, and what follows
 pub fields : {B : Type 0} {Q : Number → Field B} {Wrong : ℕ → AigCause → Type 0} {More : Seen → Type 0} →
     Judges Wrong → ((n : Number) → Lawful (Q n) Separates More ⊥) → Chain (field Wrong) Q Separates More ⊥
 unfolding field
@@ -174,7 +174,7 @@ pub laws_gate_line : (most : ℕ) (c : Lines Gate) → Lawful (gate_line most c)
 unfolding gate_line
 laws_gate_line most c = (chain_gate most c).whole
 
--- so many lines of one kind
+-- a given number of lines of one kind
 module _ {C : Type 0} (item : C → Field C) (l : (c : C) → Lawful (item c) AtDigit Separates ⊥) where
   behind_line : (n : ℕ) (c : C) → ((d : C) → Lawful (times n item d) AtDigit Separates (Unit {0})) →
       Chain (item c) (times n item) AtDigit Separates (Unit {0})

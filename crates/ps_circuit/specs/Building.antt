@@ -1,10 +1,10 @@
--- Gates made one after another.
---     Drafted      how many variables are not gates, and the two literals of each gate; the gates' variables come next,
+-- A circuit of gates under construction.
+--     Drafted      the number of given variables, and the two literals of each gate; the gates have the next variables,
 --               in order
---     bit v literal      the bit of a literal, given one for each variable
+--     bit v literal      the value of a literal, where v gives a value to each variable
 --     Meets d v      variable 0 is false, and each gate is the conjunction of its two literals
---     Extends old new      the gates that were there are still there, at their variables
---     IsSoundDraft d      what is true of the gates of a builder
+--     Extends old new      the existing gates remain, with the same variables
+--     IsSoundDraft d      the invariant of the gates of a builder
 use Rattle.std.specs.Prelude.{◌≡◌, ◌≢◌, ℕ, ◌+◌, ◌^◌, ◌<◌, ◌≤◌, ◌&&◌, ◌||◌, Bool, false, not, if◌then◌else◌, List}
 use Rattle.std.specs.Prelude.{length}
 use Rattle.std.specs.Prelude.{slice_get, Some}
@@ -15,11 +15,11 @@ pub record Drafted : Type 0 where
   pub given : ℕ
   pub gates : List Sides
 
--- how many variables there are, not counting 0
+-- the number of variables, without variable 0
 abbrev pub variables_of : Drafted → ℕ
 variables_of d = d.given + length d.gates
 
--- the literal's variable is 0 or one of them
+-- the literal's variable is 0, a given variable or the variable of a gate
 abbrev pub IsHeld : Drafted → ℕ → Type 0
 IsHeld d literal = variable literal ≤ variables_of d
 
@@ -36,20 +36,21 @@ pub record Extends (old new : Drafted) : Type 0 where
   pub more : length old.gates ≤ length new.gates
   pub same : (k : ℕ) (s : Sides) → slice_get old.gates k ≡ Some s → slice_get new.gates k ≡ Some s
 
--- two literals of different variables below that one, neither constant, the greater first
+-- two literals of different variables that are less than the gate's own variable; neither is constant, and the greater
+-- literal is first
 pub record AreSides (own : ℕ) (s : Sides) : Type 0 where
   pub below : variable s.first < own
   pub falls : s.second < s.first
   pub different : variable s.second ≢ variable s.first
   pub not_constant : 0 < variable s.second
 
--- there is a literal for each variable; and no two gates have the same two literals
+-- each variable has a literal of 32 bits, and no two gates have the same two literals
 pub record IsSoundDraft (d : Drafted) : Type 0 where
   pub room : variables_of d < 2 ^ 31
   pub sides : (k : ℕ) (s : Sides) → slice_get d.gates k ≡ Some s → AreSides (d.given + 1 + k) s
   pub once : (k l : ℕ) (s : Sides) → slice_get d.gates k ≡ Some s → slice_get d.gates l ≡ Some s → k ≡ l
 
--- no further variable has a literal
+-- no further variable would have a literal of 32 bits
 abbrev pub IsFull : Drafted → Type 0
 IsFull d = variables_of d ≡ 2147483647
 
@@ -57,7 +58,8 @@ IsFull d = variables_of d ≡ 2147483647
 abbrev pub IsNew : Drafted → ℕ → ℕ → Type 0
 IsNew d x y = (k : ℕ) (s : Sides) → slice_get d.gates k ≡ Some s → ¬ ((s.first ≡ x) × (s.second ≡ y))
 
--- the conjunction of the two literals is neither of them and not constant, and there is no gate for it
+-- the two literals have different variables, neither literal is constant, and no existing gate has the same two
+-- literals
 pub record NeedsGate (d : Drafted) (x y : ℕ) : Type 0 where
   pub first_varies : 0 < variable x
   pub second_varies : 0 < variable y
@@ -65,13 +67,13 @@ pub record NeedsGate (d : Drafted) (x y : ℕ) : Type 0 where
   pub is_new : IsNew d x y
   pub is_new_too : IsNew d y x
 
--- the disjunction of the two literals is the choice: the first if s is true, the second if it is false
+-- the disjunction of x and y is the choice between `high` and `low`: `high` where s is true, and `low` where s is false
 abbrev pub IsChoice : Drafted → (s high low x y : ℕ) → Type 0
 IsChoice d s high low x y =
     (v : ℕ → Bool) → Meets d v → (bit v x || bit v y) ≡ (if bit v s then bit v high else bit v low)
 
--- there is no gate for one of the conjunctions of which a choice is made: that of `s` and `high`, that of `low` and `s`
--- negated, or the one whose negation is the choice
+-- A choice needs a new gate if there is no gate yet for one of its three conjunctions. The three conjunctions are that
+-- of `s` and `high`, that of `low` and the negation of `s`, and the one whose negation is the choice.
 pub data NeedsChoice (d : Drafted) (s high low : ℕ) : Type 0 where
   for_high : NeedsGate d s high → NeedsChoice d s high low
   for_low : NeedsGate d (negated s) low → NeedsChoice d s high low

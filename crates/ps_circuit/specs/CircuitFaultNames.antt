@@ -1,4 +1,4 @@
--- The numbers and the names of the faults for which parts do not make a circuit.
+-- The numbers and the names of the faults for which some parts do not form a circuit.
 use Rattle.std.specs.Prelude.{ℕ, List}
 use Rattle.ps_circuit.specs.CauseNames.{cause_name}
 use Rattle.ps_circuit.specs.Causes.{cause_number}

@@ -1,9 +1,9 @@
--- What a circuit is.
---     CircuitData      the value of a circuit: its greatest variable, its literals, and a name or none for each input,
---               latch and output
---     definitions, readings      the literals that define a variable, and those that are read
---     ReadsGate gates i j, Way      one gate reads another; it depends on it
---     IsDraft, IsCircuit      all except that no gate depends on itself; the whole
+-- The definition of a circuit.
+--     CircuitData      the value of a circuit: its greatest variable, its literals, and an optional name for each
+--               input, latch and output
+--     definitions, readings      the literals that define a variable, and the literals that are read
+--     ReadsGate gates i j, Way      gate i reads gate j; a gate depends on another gate
+--     IsDraft, IsCircuit      all conditions except that no gate depends on itself; all conditions
 use Rattle.std.specs.Prelude.{◌≡◌, ◌≢◌, ℕ, ◌+◌, ◌*◌, ◌%◌, ◌<◌, ◌≤◌, ◌⊎◌, ◌^◌, List, [], ◌∷◌, ◌++◌, length, map}
 use Rattle.std.specs.Prelude.{slice_get, Option, None, Some, All, AllPairs, Contains}
 use Rattle.std.specs.List.{flat_map}
@@ -26,19 +26,19 @@ pub record CircuitData : Type 0 where
 abbrev pub definitions : CircuitData → List ℕ
 definitions c = c.inputs ++ map (λ l. l.literal) c.latches ++ map (λ g. g.literal) c.gates
 
--- the next literals of the latches, the outputs, and the two literals that each gate reads
+-- the literals that are read: the next literals of the latches, the outputs, and the two literals of each gate
 abbrev pub readings : CircuitData → List ℕ
 readings c = map (λ l. l.next) c.latches ++ c.outputs ++ flat_map (λ g. g.first ∷ g.second ∷ []) c.gates
 
--- not negated, not constant, and at most the greatest
+-- the literal is not negated, not constant, and not greater than the greatest literal
 abbrev pub IsDefinition : ℕ → ℕ → Type 0
 IsDefinition most literal = (literal % 2 ≡ 0) × (2 ≤ literal) × (literal ≤ 2 * most + 1)
 
--- the literal's variable is 0 or one of those defined
+-- the literal's variable is 0 or is defined
 abbrev pub IsKnown : List ℕ → ℕ → Type 0
 IsKnown defined literal = (variable literal ≡ 0) ⊎ Contains (map variable defined) (variable literal)
 
--- the gate at place i has a literal of the variable of the gate at place j
+-- the gate with index i reads a literal whose variable belongs to the gate with index j
 pub record ReadsGate (gates : List Gate) (i j : ℕ) : Type 0 where
   pub reader : Gate
   pub read : Gate

@@ -1,4 +1,4 @@
--- What a contract sees of the parts of a circuit.
+-- The values of the parts of a circuit, as contracts refer to them.
 use Rattle.std.specs.Prelude.{ℕ, ◌==◌, List, map, position, Option, Vec}
 use Rattle.std.specs.Option.{option_map}
 use Rattle.std.specs.Global.{Global}
@@ -23,11 +23,11 @@ data_of p = record {
   output_names = map name_bytes p.output_names.items;
 }
 
--- the place of a variable, if it is one of these
+-- the index of a variable in a list of variables, if it is in the list
 abbrev pub place_in : List ℕ → ℕ → Option ℕ
 place_in variables v = position (λ other. v == other) variables
 
--- place by place, the gates that each gate reads
+-- for each gate, the indices of the gates that it reads
 abbrev pub links_by : (ℕ → Option ℕ) → List Gate → List Links
 links_by place_of gates =
     map (λ g. record { first = place_of (variable g.first); second = place_of (variable g.second) }) gates

@@ -1,7 +1,8 @@
--- The gates of a builder in the order in which they are made, without a limit on their number.
+-- The gates that a builder makes, in order, without a limit on their number.
 --     Made      the gates so far, and a literal over them
---     gate_of d s      the literal of the gate with these sides
---     and_of d x y, or_of d x y, mux_of d s high low      the literal that is both, one of them, the one that s chooses
+--     gate_of d s      the literal of the gate that reads the two literals in `s`
+--     and_of d x y, or_of d x y, mux_of d s high low      the literals of a conjunction, of a disjunction, and of a
+--               choice by s
 use Rattle.std.specs.Prelude.{ℕ, ◌+◌, ◌*◌, ◌==◌, ◌&&◌, ◌||◌, nat_lt, Bool, if◌then◌else◌, [], ◌∷◌, ◌++◌}
 use Rattle.std.specs.List.{list_any, position_or_len}
 use Rattle.ps_circuit.specs.declared.builder.Sides.{Sides}
@@ -15,7 +16,7 @@ pub record Made : Type 0 where
 abbrev pub has_sides : Sides → Sides → Bool
 has_sides s gate = s.first == gate.first && s.second == gate.second
 
--- an existing gate is used again; a new one takes the next variable
+-- an existing gate is used again; a new gate takes the next variable
 unfoldable pub gate_of : Drafted → Sides → Made
 gate_of d s = record {
   draft = record { given = d.given; gates = if list_any (has_sides s) d.gates then d.gates else d.gates ++ s ∷ [] };
@@ -36,7 +37,7 @@ inverted made = record { draft = made.draft; literal = negated made.literal }
 unfoldable pub or_of : Drafted → ℕ → ℕ → Made
 or_of d x y = inverted (and_of d (negated x) (negated y))
 
--- if neither of the two is constant, and they are different literals
+-- the choice between two different literals, neither of which is constant
 unfoldable pub chosen_of : Drafted → ℕ → ℕ → ℕ → Made
 chosen_of d s high low =
     let where_true = and_of d s high in

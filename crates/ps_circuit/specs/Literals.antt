@@ -1,4 +1,4 @@
--- A literal as a number: twice its variable, plus one if it is negated. Variable 0 is false.
+-- A literal as a number: twice its variable, plus one if the literal is negated. Variable 0 is false.
 use Rattle.std.specs.Prelude.{ℕ, ◌+◌, ◌-◌, ◌/◌, ◌%◌, ◌==◌, Bool, if◌then◌else◌}
 
 abbrev pub variable : ℕ → ℕ
@@ -7,6 +7,6 @@ variable literal = literal / 2
 abbrev pub is_negated : ℕ → Bool
 is_negated literal = literal % 2 == 1
 
--- the literal of the same variable with the other bit
+-- the negation of a literal
 abbrev pub negated : ℕ → ℕ
 negated literal = if is_negated literal then literal - 1 else literal + 1

@@ -1,6 +1,6 @@
--- The parts of an AIGER text that are made of single bytes and of runs of bytes (`ps_text`).
---     number Wrong      the longest run of digits, leading zeros included; Wrong says which numbers are wrong
---     gap, newline, line_end, more      what separates the fields of a line and ends the line
+-- The parts of an AIGER text that consist of single bytes and of runs of bytes (`ps_text`).
+--     number Wrong      the longest run of digits, including leading zeros; `Wrong` states which numbers are errors
+--     gap, newline, line_end, more      what separates the fields of a line, and what ends the line
 use Rattle.std.specs.Prelude.{ℕ, Bool, true, false, List}
 use Rattle.ps_text.specs.Parts.{Part, Causes, give, then_by, either, mapped}
 use Rattle.ps_text.specs.Bytes.{Seen, byte_causes, byte, run, NoBadRun, is_digit, is_space, is_inner}
@@ -21,7 +21,7 @@ Field V = Part Seen V AigCause
 abbrev pub number_at : ℕ → List ℕ → Number
 number_at at digits = record { value = decimal_value digits; offset = at }
 
--- a number of any size, and the offset of its first digit
+-- a number of any size, with the offset of its first digit
 unfoldable pub number : (ℕ → AigCause → Type 0) → Field Number
 number Wrong = run is_digit number_at (λ digits f. Wrong (decimal_value digits) f)
 
@@ -38,15 +38,15 @@ rest_of_line = run is_inner (λ at bytes. bytes) NoBadRun
 unfoldable pub newline : Field (Unit {0})
 newline = byte 10
 
--- the end of a line; spaces or tabs may come before it
+-- the end of a line, with any spaces or tabs before it
 unfoldable pub line_end : Field (Unit {0})
 line_end = then_by (either gap (give tt)) (λ _. newline)
 
--- the end of a line, or a gap before a further field; true says that a field comes
+-- the end of a line, or a gap before a further field; the value is true if a field follows
 unfoldable pub more : Field Bool
 more = either (mapped (λ _. false) newline) (then_by gap (λ _. either (mapped (λ _. false) newline) (give true)))
 
--- the one part if a further field comes, and else the other
+-- the first part if a further field follows, and otherwise the second part
 abbrev pub by_more : {V : Type 0} → Field V → Field V → Bool → Field V
 by_more P Q true = P
 by_more P Q false = Q

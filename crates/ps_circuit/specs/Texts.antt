@@ -1,4 +1,4 @@
--- AIGER texts of circuits: their grammar, by parts (`ps_text`), and what may be wrong in them.
+-- AIGER texts of circuits: their grammar, in parts (`ps_text`), and the errors that they can have.
 --     aag M I L O A [B [C [J [F]]]]
 --     I lines   lit
 --     L lines   lit next [reset]
@@ -6,19 +6,21 @@
 --     A lines   lhs rhs0 rhs1
 --     symbols   iK name | lK name | oK name
 --     c         and then anything
--- A field of a number line comes after a gap: one or more spaces or tabs. A number line may end with a gap. Numbers may
--- be of any size and have leading zeros; the last newline may be missing. I, L, O and A say how many lines there are,
--- whatever their size. A name is what follows one space up to the end of the line, at least one byte.
---     61 (`Syntax`)      a byte, or an end, that is not allowed there; the letter of a symbol whose K is too large or
---               has a name
+-- A gap is one or more spaces or tabs. Each field of a number line comes after a gap, and a number line may end with a
+-- gap. Numbers may be of any size and have leading zeros. The last newline may be missing. The numbers I, L, O and A
+-- state how many lines there are, however large they are. A name follows one space, reaches to the end of the line, and
+-- has at least one byte.
+--     61 (`Syntax`)      a byte that is not allowed here, or an early end; the letter of a symbol whose K is too large
+--               or already has a name
 --     62 (`Literal`)      a literal above 2M + 1; an M of 2^31 or more; an input, latch or left side that is odd or
 --               below 2; a reset that is not 0, 1 or the latch
 --     63 (`DefinedTwice`)      an input, latch or left side whose variable was defined before
 --     66 (`UnsetLatch`)      a reset that is the latch
 --     67 (`Sections`)      a B, C, J or F that is not 0
--- Each is at the first digit of its number. The first of these in the text is answered, and at one place the one with
--- the smaller number. If there is none,
---     64 (`Undefined`)      the first literal that is read and whose variable is neither defined nor 0, and else
+-- The errors 62, 63, 66 and 67 are at the first digit of their number. The first error in the text is reported. If
+-- there are several errors at the same offset, the error with the smallest number is reported. If there are none of
+-- these errors, one of the following can be reported, in this order:
+--     64 (`Undefined`)      the first literal that is read and whose variable is neither defined nor 0
 --     65 (`Cyclic`)      the line of the first gate that depends on itself
 use Rattle.std.specs.Prelude.{◌≡◌, ◌≢◌, ℕ, zero, suc, ◌+◌, ◌*◌, ◌^◌, ◌<◌, ◌≤◌, ◌⊎◌, List, [], ◌∷◌, ◌++◌, Bool, false}
 use Rattle.std.specs.Prelude.{map, codes, slice_get, slice_set, All, Contains, Option, Some, None, Result, Ok, Err}
@@ -71,12 +73,12 @@ pub record HeaderData : Type 0 where
   pub outputs : ℕ
   pub gates : ℕ
 
--- at most n counts of sections, and the end of the line
+-- the sizes of up to n sections, and the end of the line
 unfoldable pub sections : ℕ → Field (Unit {0})
 sections zero = line_end
 sections (suc n) = then_by more (by_more (then_by (number WrongCount) (λ _. sections n)) (give tt))
 
--- a number after a gap
+-- a gap and a number
 unfoldable pub field : (ℕ → AigCause → Type 0) → Field Number
 field Wrong = then_by gap (λ _. number Wrong)
 
@@ -90,15 +92,15 @@ header =
 
 -- ## Number lines
 
--- what was read of some lines of one kind: their items, the variables defined so far, the literals read so far, and,
--- for gates, the offset of each line
+-- what was read of some lines of one kind: their items, the variables defined so far, the literals read so far and, for
+-- gates, the offset of each line
 pub record Lines (A : Type 0) : Type 0 where
   pub items : List A
   pub defined : List ℕ
   pub readings : List Number
   pub starts : List ℕ
 
--- before the first line, and before the lines of the next kind
+-- the state before the first line; the state before the lines of the next kind
 abbrev pub no_lines : {A : Type 0} → Lines A
 no_lines = record { items = []; defined = []; readings = []; starts = [] }
 
@@ -137,7 +139,7 @@ add_gate c l first second = record {
 unfoldable pub input_line : ℕ → Lines ℕ → Field (Lines ℕ)
 input_line most c = then_by (number (WrongDefinition most c.defined)) (λ l. mapped (λ _. add_input c l) line_end)
 
--- the reset of a latch, if there is one, and the end of the line; true is 1
+-- the reset of a latch, if there is one, and the end of the line; the value is true for the reset 1
 unfoldable pub reset : ℕ → Field Bool
 reset latch =
     then_by more (by_more (then_by (number (WrongReset latch)) (λ n. mapped (λ _. n.value == 1) line_end)) (give false))
@@ -181,7 +183,7 @@ put_names names OfInput list = record { inputs = list; latches = names.latches; 
 put_names names OfLatch list = record { inputs = names.inputs; latches = list; outputs = names.outputs }
 put_names names OfOutput list = record { inputs = names.inputs; latches = names.latches; outputs = list }
 
--- with a name for the k-th of its kind
+-- the names with one more name, for the k-th input, latch or output
 abbrev pub add_name : NamesData → Kind → ℕ → List ℕ → NamesData
 add_name names kind k name = put_names names kind (slice_set (names_of names kind) k (Some name))
 
@@ -191,7 +193,7 @@ take_kind s =
     if s.byte == 105 then Some OfInput else if s.byte == 108 then Some OfLatch else if s.byte == 111 then Some
     OfOutput else None
 
--- after the letter comes a number that is too large, or whose input, latch or output has a name
+-- the letter of a symbol whose number is too large, or belongs to an input, latch or output that already has a name
 pub record IsBadSymbol (names : NamesData) (s : Seen) (f : AigCause) : Type 0 where
   pub kind : Kind
   pub letter : take_kind s ≡ Some kind
@@ -205,7 +207,7 @@ symbol_line names =
     then_by (one take_kind (IsBadSymbol names)) (λ kind. then_by (number AnyNumber) (λ k. then_by (byte 32) (λ _.
     then_by rest_of_line (λ name. mapped (λ _. add_name names kind k.value name) newline))))
 
--- any signs
+-- any bytes
 unfoldable pub anything : Field (Unit {0})
 anything = many (λ _. one (λ s. Some tt) NoBad) tt
 
@@ -214,8 +216,8 @@ comment = either (then_by (byte 99) (λ _. anything)) (give tt)
 
 -- ## The text
 
--- what was read of a text: its circuit, the variables that are defined, the literals that are read, in text order, and
--- the offset of each gate's line
+-- What was read of a text: its circuit, the defined variables, the literals that are read, in text order, and the
+-- offset of each gate's line.
 pub record DraftData : Type 0 where
   pub circuit : CircuitData
   pub defined : List ℕ
@@ -265,7 +267,7 @@ circuit_text = then_by header (λ h. body h)
 abbrev pub IsDefined : List ℕ → Number → Type 0
 IsDefined defined l = (variable l.value ≡ 0) ⊎ Contains defined (variable l.value)
 
--- the first literal of these whose variable is neither
+-- the first literal in the list whose variable is neither 0 nor defined
 pub record IsFirstUndefined (defined : List ℕ) (readings : List Number) (l : Number) : Type 0 where
   pub before : List Number
   pub after : List Number
@@ -273,7 +275,7 @@ pub record IsFirstUndefined (defined : List ℕ) (readings : List Number) (l : N
   pub before_defined : All (IsDefined defined) before
   pub not_defined : ¬ IsDefined defined l
 
--- the answer to a text: its circuit, or the first cause for which it has none
+-- the answer to a text: its circuit, or its first error
 pub data ReadsCircuit (text : List ℕ) (answer : Result CircuitData (Found AigCause)) : Type 0 where
   refused : (found : Found AigCause) → PartAnswers aig_causes circuit_text (stream_of text) (Err found) →
       answer ≡ Err found → ReadsCircuit text answer
@@ -288,6 +290,6 @@ pub data ReadsCircuit (text : List ℕ) (answer : Result CircuitData (Found AigC
       All (IsDefined d.defined) d.readings →
       ((i : ℕ) → ¬ Way (ReadsGate d.circuit.gates) i i) → answer ≡ Ok d.circuit → ReadsCircuit text answer
 
--- what the reader returns: this, unless memory runs out
+-- the result of the parser: the answer to the text, or out of memory
 abbrev pub IsCircuitAnswer : List ℕ → Result CircuitData AigFault → Type 0
 IsCircuitAnswer text result = UnlessMemory (ReadsCircuit text) result

@@ -1,11 +1,12 @@
 -- The values of a circuit, and its traces.
---     bit_of values literal      the bit of a literal, if the list has a bit for each variable
---     AreValues c inputs latches values      the list has a bit for each variable of the circuit, and meets its
---               equations
---     HasOneValues c      there are values, and any two lists agree on each literal whose variable is 0 or defined
---     Steps c latches inputs outputs next      the outputs of a step, and the latches after it
---     IsTrace c moments      latches begin with their resets, and are updated by their next literals
--- A variable that nothing defines may have either bit: no literal of a circuit reads it.
+--     bit_of values literal      the value of a literal, if the list has a bit for each variable
+--     AreValues c inputs latches values      the list has a bit for each variable of the circuit, and satisfies the
+--               circuit's equations
+--     HasOneValues c      there are values, and any two lists of values agree on each literal whose variable is 0 or
+--               defined
+--     Steps c latches inputs outputs next      the outputs of a step, and the latches after the step
+--     IsTrace c moments      the latches begin with their resets, and are updated by their next literals
+-- A variable that is not defined may have either value, since no literal of a circuit reads it.
 use Rattle.std.specs.Prelude.{◌≡◌, ℕ, ◌+◌, ◌&&◌, Bool, false, not, if◌then◌else◌, List, [], ◌∷◌, map, length}
 use Rattle.std.specs.Prelude.{slice_index_or, All}
 use Rattle.ps_circuit.specs.declared.parts.Gate.{Gate}
@@ -43,17 +44,17 @@ pub record Steps (c : CircuitData) (latches inputs outputs next : List Bool) : T
   pub outputs_are : outputs ≡ map (bit_of values) c.outputs
   pub next_are : next ≡ map (λ l. bit_of values l.next) c.latches
 
--- the latches' first values
+-- the first values of the latches
 abbrev pub resets : CircuitData → List Bool
 resets c = map (λ l. l.reset) c.latches
 
--- the bits of one step, the latches' before it
+-- the bits of one step; the latches are those before the step
 pub record Moment : Type 0 where
   pub latches : List Bool
   pub inputs : List Bool
   pub outputs : List Bool
 
--- the moments, one after another, lead from these latches to those
+-- a list of consecutive steps leads from some latch values to others
 abbrev pub GoesOn : CircuitData → List Bool → List Moment → List Bool → Type 0
 GoesOn c latches [] last = latches ≡ last
 GoesOn c latches (m ∷ ms) last =

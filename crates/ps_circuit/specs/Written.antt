@@ -1,4 +1,4 @@
--- The bytes of a circuit that is written.
+-- The bytes of a circuit's text as the writer produces it.
 --     line x xs      the number x, then each of xs after one space, then a newline
 --     text_of c      the header, the lines of the inputs, latches, outputs and gates, and a line for each name
 use Rattle.std.specs.Prelude.{ℕ, ◌+◌, List, [], ◌∷◌, ◌++◌, length, codes, decimal, Option, None, Some, if◌then◌else◌}
@@ -33,7 +33,7 @@ abbrev pub symbol_line : ℕ → ℕ → Option (List ℕ) → List ℕ
 symbol_line letter k None = []
 symbol_line letter k (Some name) = letter ∷ decimal k ++ 32 ∷ name ++ 10 ∷ []
 
--- a line for each name, the first of which has the number k
+-- a line for each name, where the first entry of the list has the number k
 abbrev pub symbol_lines : ℕ → ℕ → List (Option (List ℕ)) → List ℕ
 symbol_lines letter k [] = []
 symbol_lines letter k (n ∷ ns) = symbol_line letter k n ++ symbol_lines letter (k + 1) ns

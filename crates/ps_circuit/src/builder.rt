@@ -1,4 +1,4 @@
-//! And-gates made one after another, each once.
+//! A builder of and-gates, which makes each gate only once.
 
 ghost use Rattle.std.specs.Prelude.{◌≡◌, ℕ, ◌+◌, ◌*◌, ◌^◌, ◌<◌, ◌≤◌, ◌&&◌, ◌||◌, Bool, not, cond, [], length};
 ghost use Rattle.std.specs.Prelude.{slice_get, Some, IfOk};
@@ -13,22 +13,22 @@ use indexmap::IndexSet;
 use std::alloc::Global;
 use std::marker::Model;
 
-/// The greatest number of variables: twice that number plus one is still a number of 32 bits.
+/// The largest number of variables, chosen such that twice the number plus one still fits into 32 bits.
 const MOST_VARIABLES: u32 = 2147483647;
 
-/// The two literals that a gate reads, the greater first.
+/// The two literals that a gate reads, with the greater literal first.
 #[derive(Debug, Clone, Copy, PartialEq, Eq, Hash)]
 pub struct Sides {
     /// The greater literal.
     pub first: Literal,
-    /// The smaller one.
+    /// The smaller literal.
     pub second: Literal,
 }
 
-/// Makes and-gates over some given variables. An existing gate is used again, and a new one takes the next variable.
+/// Makes and-gates over some given variables. An existing gate is used again, and a new gate takes the next variable.
 ///
-/// Every call, even one that fails, leaves the existing gates unchanged. A call fails only if out of memory, or if 2147483647 variables
-/// exist and another gate is needed.
+/// Every call, even one that fails, leaves the existing gates unchanged. A call fails only if out of memory, or if
+/// 2147483647 variables exist and another gate is needed.
 #[derive(Drop)]
 pub struct Builder {
     given: u32,
@@ -44,7 +44,7 @@ impl Model for Builder {
 }
 
 impl Builder {
-    /// No gates, over the given variables, which are numbered from 1.
+    /// A builder without gates. The given variables have the numbers from 1 to `given`.
     pub fn new(alloc: Global, given: u32) -> Self
         requires { given < 2 ^ 31 }
         ensures given { result.given ≡ given }
@@ -56,7 +56,7 @@ impl Builder {
         }
     }
 
-    /// How many variables there are, not counting 0.
+    /// The number of variables: the given variables and the gates, without variable 0.
     pub fn variables(&self) -> u32
         ensures variables { result ≡ variables_of self.now }
         ensures sound { IsSoundDraft self.now }
@@ -64,7 +64,7 @@ impl Builder {
         self.given + self.gates.len() as u32
     }
 
-    /// How many of them are given.
+    /// The number of given variables.
     pub fn given(&self) -> u32
         ensures given { result ≡ self.now.given }
         ensures sound { IsSoundDraft self.now }
@@ -80,7 +80,7 @@ impl Builder {
         self.gates.as_slice()
     }
 
-    /// The literal that is true if both are.
+    /// The literal that is true if both literals are true.
     #[tactic(auto, unfolding(crate::specs::Gates::and_of))]
     pub fn and(&mut self, x: Literal, y: Literal) -> Result<Literal, EncodeFault>
         requires first { IsHeld self.old x }
@@ -117,7 +117,7 @@ impl Builder {
         }
     }
 
-    /// The literal that is true if at least one of them is.
+    /// The literal that is true if at least one of the two literals is true.
     #[tactic(auto, unfolding(crate::specs::Gates::or_of))]
     pub fn or(&mut self, x: Literal, y: Literal) -> Result<Literal, EncodeFault>
         requires first { IsHeld self.old x }
@@ -177,7 +177,7 @@ impl Builder {
         self.chosen(s, high, low)
     }
 
-    /// The same, if neither of the two is constant.
+    /// The literal that `mux` returns, if neither `high` nor `low` is constant.
     #[tactic(auto, unfolding(crate::specs::Gates::chosen_of))]
     fn chosen(&mut self, s: Literal, high: Literal, low: Literal) -> Result<Literal, EncodeFault>
         requires chooses { IsHeld self.old s }
@@ -199,7 +199,7 @@ impl Builder {
         self.or(where_true, where_false)
     }
 
-    /// The literal of the gate with these sides.
+    /// The literal of the gate that reads these two literals. A missing gate is made.
     fn gate(&mut self, sides: Sides) -> Result<Literal, EncodeFault>
         requires { AreSides (variables_of self.old + 1) sides }
         ensures extends { Extends self.old self.new }

@@ -18,16 +18,16 @@ use std::alloc::{AllocError, Global};
 use std::marker::Model;
 use thiserror::Error;
 
-/// Why parts do not make a circuit.
+/// Why some parts do not form a circuit.
 #[derive(Clone, Copy, Debug, PartialEq, Eq, Error)]
 pub enum CircuitFault {
     /// A gate depends on itself.
     #[error("the gate at place {gate} depends on itself")]
     Cyclic {
-        /// The place, from 0, of the first such gate.
+        /// The index of the first gate that depends on itself.
         gate: usize,
     },
-    /// Memory ran out.
+    /// Out of memory.
     #[error("out of memory")]
     OutOfMemory,
 }
@@ -68,7 +68,8 @@ impl From<AllocError> for CircuitFault {
 }
 
 /// A circuit of and-gates and latches. Each variable is defined once, each literal's variable is defined or 0, and no
-/// gate depends on itself. The circuit keeps an order of its gates in which each comes after those that it reads.
+/// gate depends on itself. The circuit stores an order of its gates in which each gate comes after the gates that it
+/// reads.
 #[derive(Drop)]
 pub struct Circuit {
     parts: Parts,
@@ -85,7 +86,7 @@ impl Model for Circuit {
 }
 
 impl Circuit {
-    /// Makes a circuit from its parts, unless a gate depends on itself.
+    /// Makes a circuit from its parts. Fails if a gate depends on itself, or if out of memory.
     pub(crate) fn new(alloc: Global, parts: Parts) -> Result<Self, CircuitFault>
         requires { IsDraft (data_of parts) }
         ensures ok { IfOk result (λ c. c ≡ data_of parts) }
@@ -102,7 +103,7 @@ impl Circuit {
         }
     }
 
-    /// Makes a circuit from its parts, whose gates each come after those that they read. Fails if out of memory.
+    /// Makes a circuit from parts in which each gate comes after the gates that it reads. Fails if out of memory.
     pub fn in_order(alloc: Global, parts: Parts) -> Result<Self, AllocError>
         requires draft { IsDraft (data_of parts) }
         requires ordered { (i j : ℕ) → ReadsGate parts.gates.items i j → j < i }
@@ -145,7 +146,7 @@ impl Circuit {
         &self.parts.outputs
     }
 
-    /// The gates, in the order of the text or of the parts.
+    /// The gates, in the order in which the text or the parts list them.
     pub fn gates(&self) -> &[Gate]
         ensures gates { result.now ≡ self.now.gates }
         ensures well_formed { IsCircuit self.now }
@@ -153,28 +154,28 @@ impl Circuit {
         &self.parts.gates
     }
 
-    /// The places of the gates, each after those that it reads.
+    /// The indices of the gates, in an order in which each gate comes after the gates that it reads.
     pub fn order(&self) -> &[usize]
         ensures { IsOrder (ReadsGate self.now.gates) (length self.now.gates) result.now }
     {
         &self.order
     }
 
-    /// The names of the inputs, in their order.
+    /// The optional names of the inputs, in the order of the inputs.
     pub(crate) fn input_names(&self) -> &[Option<Vec<u8>>]
         ensures { map name_bytes result.now ≡ self.now.input_names }
     {
         &self.parts.input_names
     }
 
-    /// The names of the latches, in their order.
+    /// The optional names of the latches, in the order of the latches.
     pub(crate) fn latch_names(&self) -> &[Option<Vec<u8>>]
         ensures { map name_bytes result.now ≡ self.now.latch_names }
     {
         &self.parts.latch_names
     }
 
-    /// The names of the outputs, in their order.
+    /// The optional names of the outputs, in the order of the outputs.
     pub(crate) fn output_names(&self) -> &[Option<Vec<u8>>]
         ensures { map name_bytes result.now ≡ self.now.output_names }
     {
@@ -215,7 +216,7 @@ impl Circuit {
     }
 }
 
-/// The places before this one.
+/// The numbers from 0 to `count - 1`. Fails if out of memory.
 fn places_up_to(alloc: Global, count: usize) -> Result<Vec<usize>, AllocError>
     ensures count { IfOk result (λ places. length places.items ≡ count) }
     ensures each { IfOk result (λ places. (k : ℕ) → k < count → slice_index places.items k ≡ k) }

@@ -10,10 +10,10 @@ use thiserror::Error;
 /// Why no circuit was made.
 #[derive(Debug, Clone, Copy, PartialEq, Eq, Error)]
 pub enum EncodeFault {
-    /// 2147483647 variables exist, and one more is needed.
+    /// 2147483647 variables exist, and another variable is needed.
     #[error("the circuit is too large")]
     CircuitTooLarge,
-    /// Memory ran out.
+    /// Out of memory.
     #[error("out of memory")]
     OutOfMemory,
 }

@@ -1,32 +1,34 @@
-//! Why the text of a circuit is refused.
+//! Why the text of a circuit is rejected.
 
 ghost use Rattle.ps_circuit.specs.CauseNames.{cause_name};
 ghost use Rattle.ps_circuit.specs.Causes.{cause_number};
 
 use ps_text::faults::{Cause, Fault};
 
-/// What is wrong with the text of a circuit. In brackets the part of AIGER 1.9 that requires it.
+/// What is wrong with the text of a circuit. Each description ends with the part of AIGER 1.9 that the text violates,
+/// in brackets.
 #[derive(Clone, Copy, Debug, PartialEq, Eq)]
 pub enum AigCause {
-    /// A byte that is not allowed here, or an early end (ASCII format, symbol table, comments).
+    /// A byte is not allowed here, or the text ends too early (ASCII format, symbol table, comments).
     Syntax,
-    /// A literal that is not allowed here: too large, or negated or constant where a variable is defined (literals).
+    /// A literal is not allowed here: it is too large, or it is negated or constant where a variable is defined
+    /// (literals).
     Literal,
-    /// A variable that was defined before (literals).
+    /// A variable is defined a second time (literals).
     DefinedTwice,
-    /// A literal whose variable is never defined (literals).
+    /// The variable of a literal is never defined (literals).
     Undefined,
-    /// A gate that depends on itself (and-gates).
+    /// A gate depends on itself (and-gates).
     Cyclic,
-    /// A latch without a first value: its own literal is its reset (reset logic). psyn runs circuits, so it refuses
-    /// that.
+    /// A latch has no first value, since its own literal is its reset (reset logic). psyn rejects such a latch, because
+    /// it runs circuits.
     UnsetLatch,
-    /// A section of bad states, constraints, justice or fairness that is not empty (header: B, C, J, F): psyn's own
-    /// limit.
+    /// A section of bad states, constraints, justice or fairness is not empty (header: B, C, J, F). This limit is
+    /// psyn's own.
     Sections,
 }
 
-/// Why a circuit was not read.
+/// Why the text of a circuit was not parsed: an error in the text, or out of memory.
 pub type AigFault = Fault<AigCause>;
 
 impl Cause for AigCause {

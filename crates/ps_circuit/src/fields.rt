@@ -1,4 +1,4 @@
-//! The fields of a line of the text of a circuit, and what separates them.
+//! The parser of the fields of a line, and of what separates them, in the text of a circuit.
 
 ghost use Rattle.ps_circuit.specs.Signs as parts;
 ghost use Rattle.ps_circuit.specs.Inner.Cursors.{Tells, TellsNumber};
@@ -7,11 +7,11 @@ use crate::fault::{AigCause, AigFault};
 use crate::number::Number;
 use ps_text::cursor::{Class, Cursor};
 
-/// Reads the number that comes next.
+/// Reads a number.
 ///
 /// # Errors
 ///
-/// [`AigCause::Syntax`] if no digit comes next.
+/// [`AigCause::Syntax`] if the next byte is not a digit.
 pub fn number(cursor: &mut Cursor) -> Result<Number, AigFault>
     ensures { TellsNumber cursor.old result cursor.new }
 {
@@ -27,11 +27,11 @@ pub fn number(cursor: &mut Cursor) -> Result<Number, AigFault>
     })
 }
 
-/// Moves past one or more spaces or tabs.
+/// Skips one or more spaces or tabs.
 ///
 /// # Errors
 ///
-/// [`AigCause::Syntax`] if no space or tab comes next.
+/// [`AigCause::Syntax`] if the next byte is neither a space nor a tab.
 pub fn gap(cursor: &mut Cursor) -> Result<(), AigFault>
     ensures { Tells (λ u. u) parts.gap cursor.old result cursor.new }
 {
@@ -58,18 +58,18 @@ pub fn rest_of_line<'a>(cursor: &mut Cursor<'a>) -> Result<&'a [u8], AigFault>
     Ok(bytes)
 }
 
-/// Moves past a newline.
+/// Skips a newline.
 ///
 /// # Errors
 ///
-/// [`AigCause::Syntax`] if no newline comes next.
+/// [`AigCause::Syntax`] if the next byte is not a newline.
 pub fn newline(cursor: &mut Cursor) -> Result<(), AigFault>
     ensures { Tells (λ u. u) parts.newline cursor.old result cursor.new }
 {
     cursor.byte(b'\n', AigCause::Syntax)
 }
 
-/// Moves past the end of a line; spaces or tabs may come before it.
+/// Skips the end of a line, with any spaces or tabs before it.
 ///
 /// # Errors
 ///
@@ -81,11 +81,11 @@ pub fn line_end(cursor: &mut Cursor) -> Result<(), AigFault>
     newline(cursor)
 }
 
-/// Moves past the end of a line, or to the next field, and returns whether there is one.
+/// Moves past the end of a line or to the next field, and returns whether there is a next field.
 ///
 /// # Errors
 ///
-/// [`AigCause::Syntax`] if neither comes next.
+/// [`AigCause::Syntax`] if the next byte is not a newline, a space or a tab.
 pub fn more(cursor: &mut Cursor) -> Result<bool, AigFault>
     ensures { Tells (λ b. b) parts.more cursor.old result cursor.new }
 {

@@ -6,10 +6,10 @@ ghost use Rattle.ps_circuit.specs.Inner.GateGraphs.{graph_of};
 use crate::links::Links;
 use ps_components::Graph;
 
-/// The gates, each with two places: for the gates that its two sides read, if they read gates.
+/// The gates as the vertices of a graph. Up to two edges lead from each gate to the gates whose literals it reads.
 #[derive(Drop)]
 pub struct GateGraph {
-    /// For each gate the gates that it reads.
+    /// For each gate, the gates that it reads.
     pub links: Vec<Links>,
     pub ghost within: { IsWithin (graph_of links.items) },
 }

@@ -11,22 +11,22 @@ use crate::fields::{gap, line_end, more, number};
 use crate::number::Number;
 use ps_text::cursor::Cursor;
 
-/// The greatest number that a text may have as its greatest variable.
+/// The largest number that a text may declare as its greatest variable.
 const MOST: u64 = 2_147_483_647;
 
-/// The numbers of the first line. A number of inputs, latches, outputs or gates beyond 64 bits counts as the greatest
-/// of 64 bits.
+/// The numbers of the first line. A number of inputs, latches, outputs or gates that does not fit into 64 bits is
+/// stored as the greatest number of 64 bits.
 #[derive(Clone, Copy)]
 pub struct Header {
     /// The greatest variable: M.
     pub most: u32,
-    /// How many lines of inputs there are: I.
+    /// The number of input lines: I.
     pub inputs: u64,
-    /// How many lines of latches there are: L.
+    /// The number of latch lines: L.
     pub latches: u64,
-    /// How many lines of outputs there are: O.
+    /// The number of output lines: O.
     pub outputs: u64,
-    /// How many lines of gates there are: A.
+    /// The number of gate lines: A.
     pub gates: u64,
 }
 
@@ -34,7 +34,7 @@ pub struct Header {
 ///
 /// # Errors
 ///
-/// The first cause in the line, by the text's order.
+/// The first error in the line, in the order of the text.
 pub fn read_header(cursor: &mut Cursor) -> Result<Header, AigFault>
     ensures exact { TellsHeader cursor.old result cursor.new }
     ensures small { IfOk result (λ h. h.most < 2 ^ 31) }
@@ -55,11 +55,11 @@ pub fn read_header(cursor: &mut Cursor) -> Result<Header, AigFault>
     })
 }
 
-/// Reads a number after a gap.
+/// Reads a gap and a number.
 ///
 /// # Errors
 ///
-/// [`AigCause::Syntax`] if no space, tab or digit comes next.
+/// [`AigCause::Syntax`] if the gap or the digits are missing.
 pub fn field(cursor: &mut Cursor) -> Result<Number, AigFault>
     ensures { TellsField cursor.old result cursor.new }
 {
@@ -79,7 +79,7 @@ fn most(cursor: &mut Cursor) -> Result<Number, AigFault>
     Ok(most)
 }
 
-/// Reads how many lines of one kind there are.
+/// Reads the number of lines of one kind.
 fn count(cursor: &mut Cursor) -> Result<u64, AigFault>
     ensures { TellsCount cursor.old result cursor.new }
 {
@@ -87,7 +87,7 @@ fn count(cursor: &mut Cursor) -> Result<u64, AigFault>
     Ok(count.value)
 }
 
-/// Reads at most `left` counts of sections, which must be 0, and the end of the line.
+/// Reads the sizes of up to `left` sections, each of which must be 0, and the end of the line.
 fn sections(cursor: &mut Cursor, left: u32) -> Result<(), AigFault>
     ensures { Tells (λ u. u) (parts.sections left) cursor.old result cursor.new }
 {

@@ -1,4 +1,4 @@
-//! The laws that the text of a circuit has at most one answer, and that it has an answer.
+//! Laws: the text of a circuit has exactly one answer.
 
 ghost use Rattle.std.specs.Prelude.{◌≡◌, ℕ, List, Result};
 ghost use Rattle.ps_text.specs.Answers.{Found};
@@ -6,13 +6,14 @@ ghost use Rattle.ps_circuit.specs.Circuits.{CircuitData};
 ghost use Rattle.ps_circuit.specs.Texts.{ReadsCircuit};
 ghost use Rattle.ps_circuit.specs.declared.fault.AigCause.{AigCause};
 
-/// A text has at most one answer: its circuit, or its first cause and its place.
+/// A text has at most one answer: its circuit, or its first error and the offset of that error.
 pub fn one_answer()
     ensures { (text : List ℕ) (a b : Result CircuitData (Found AigCause)) → ReadsCircuit text a →
         ReadsCircuit text b → a ≡ b }
 {}
 
-/// A text has an answer. The law is about texts, not about calls: out of memory is not one of the answers.
+/// Every text has an answer. This law is about texts, not about calls: a call may also fail because it is out of
+/// memory.
 pub fn some_answer()
     ensures { (text : List ℕ) → (answer : Result CircuitData (Found AigCause)) × ReadsCircuit text answer }
 {}

@@ -1,29 +1,30 @@
-//! Circuits of and-gates and latches: made gate by gate, read from the ASCII form of AIGER 1.9 and written to it.
+//! Circuits of and-gates and latches. A builder makes circuits gate by gate, a parser reads them from the ASCII form of
+//! AIGER 1.9, and a writer writes them in that form.
 //!
-//! The number of a literal is twice its variable, plus one if it is negated. Literal 0 is false and 1 is true, as in
-//! AIGER. There are at most 2,147,483,647 variables.
+//! The number of a literal is twice its variable, plus one if the literal is negated. As in AIGER, literal 0 is false
+//! and literal 1 is true. There are at most 2,147,483,647 variables.
 //!
 //! | Call | What it gives |
 //! |---|---|
 //! | `read(text)` | the circuit of a text (AIGER 1.9: header, resets, symbols, comments), or the first `AigFault` |
-//! | `write(circuit)` | a text, which `read` reads as that circuit again |
+//! | `write(circuit)` | a text, which `read` parses as the same circuit |
 //! | `Literal::positive(variable)`, `constant(bit)`, `new(number)` | a literal |
-//! | `Literal::negated`, `variable`, `is_negated`, `number` | its negation; its parts, and its number in a text |
-//! | `Builder::new(given)` | a builder over given variables; existing gates stay through every call, failed ones too |
-//! | `Builder::and`, `or`, `mux` | the literal of a conjunction, disjunction or choice; gates are reused |
-//! | `Circuit::in_order(parts)` | a circuit from parts whose gates each come after those that they read |
-//! | `Circuit::inputs`, `latches`, `outputs`, `gates` | its parts |
-//! | `Circuit::order` | an order of its gates in which they can be evaluated |
-//! | `Circuit::input_name`, `latch_name`, `output_name` | the name of a symbol, if there is one |
-//! | `EncodeFault::number`, `name`, `AigCause::number`, `name` | a fault or a cause in psyn's list of faults |
-//! | `one_answer`, `some_answer` | laws: a text has exactly one answer, its circuit or its first cause |
+//! | `Literal::negated`, `variable`, `is_negated`, `number` | the negation of a literal, its parts and its number |
+//! | `Builder::new(given)` | a builder over given variables; no call changes an existing gate |
+//! | `Builder::and`, `or`, `mux` | the literal of a conjunction, disjunction or choice; existing gates are used again |
+//! | `Circuit::in_order(parts)` | a circuit from parts in which each gate comes after the gates that it reads |
+//! | `Circuit::inputs`, `latches`, `outputs`, `gates` | the parts of the circuit |
+//! | `Circuit::order` | an order of the gates in which they can be evaluated |
+//! | `Circuit::input_name`, `latch_name`, `output_name` | the name of an input, a latch or an output, if it has one |
+//! | `EncodeFault::number`, `name`, `AigCause::number`, `name` | the number and name of a fault or cause |
+//! | `one_answer`, `some_answer` | laws: a text has exactly one answer, its circuit or its first error |
 //!
 //! A builder fails only if out of memory, or if 2,147,483,647 variables exist and another gate is needed. In a circuit
 //! each variable is defined once, each literal's variable is defined or 0, and no gate depends on itself.
 //!
-//! Reading takes time proportional to the text, except for looking up variables that are not in order, in a tree.
-//! Sections of bad states, constraints, justice and fairness must be empty, and a latch must not have its own literal
-//! as its reset.
+//! Parsing takes time proportional to the length of the text, except for looking up variables that are not in order, in
+//! a tree. Sections of bad states, constraints, justice and fairness must be empty, and a latch must not have its own
+//! literal as its reset.
 #![tactic(auto)]
 
 mod builder;

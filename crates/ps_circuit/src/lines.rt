@@ -1,4 +1,4 @@
-//! The number lines of the text of a circuit.
+//! The parser of the number lines in the text of a circuit.
 
 ghost use Rattle.std.specs.Prelude.{◌≡◌, ℕ, ◌<◌, ◌≤◌, ◌+◌, ◌*◌, ◌^◌, [], ◌∷◌, ◌++◌, length, IfOk, IfErr, OnOk, IsTrue};
 ghost use Rattle.std.specs.Prelude.{◌↔◌, false, Contains};
@@ -25,19 +25,20 @@ use ps_ids::Ids;
 use ps_text::cursor::Cursor;
 use std::alloc::Global;
 
-/// The variables that were defined, the literals that were read, and the offset of each gate's line, in text order.
+/// What the parser records while it reads the lines: the defined variables, the literals that use a variable, and the
+/// offset of each gate's line.
 #[derive(Drop)]
 pub struct Noted {
-    /// The variables that were defined, from 1.
+    /// The variables that are defined so far, in text order.
     pub variables: Ids,
-    /// The literals that were read.
+    /// The literals so far that use a variable, as opposed to defining it, in text order.
     pub readings: Vec<Number>,
-    /// The byte, from 0, at which each gate's line begins.
+    /// The offset of each gate's line.
     pub starts: Vec<usize>,
 }
 
 impl Noted {
-    /// What is known before the first line.
+    /// The records before the first line.
     pub fn nothing(alloc: Global) -> Self
         ensures { lines_of [] result ≡ no_lines {A = ℕ} }
     {
@@ -49,15 +50,15 @@ impl Noted {
     }
 }
 
-/// A kind of number lines.
+/// A kind of number lines: inputs, latches, outputs or gates.
 pub trait Line {
-    /// What a line of the kind says.
+    /// The content of a line of this kind.
     type Item: Drop;
 
-    /// Such a line, after others of its kind.
+    /// The grammar of a line of this kind, after earlier lines of the same kind.
     ghost part: { ℕ → Lines Self.Item → Field (Lines Self.Item) };
 
-    /// What one more line adds.
+    /// What a further line adds to the lines before it.
     ghost adds: { ℕ → Lines Self.Item → Lines Self.Item → Type 0 };
 
     /// Reads a line.
@@ -78,7 +79,7 @@ pub trait Line {
 ///
 /// # Errors
 ///
-/// The first cause in the lines; out of memory.
+/// The first error in the lines, or out of memory.
 pub fn lines<L: Line>(
     alloc: Global,
     cursor: &mut Cursor,
@@ -100,14 +101,14 @@ pub fn lines<L: Line>(
     Ok(items)
 }
 
-/// Whether a literal is not negated, not constant, and at most the greatest.
+/// Whether a literal is not negated, not constant, and not greater than the greatest literal.
 fn can_define(literal: u64, most: u32) -> bool
     ensures { IsTrue result ↔ IsDefinition most literal }
 {
     literal % 2 == 0 && literal >= 2 && literal <= 2 * u64::from(most) + 1
 }
 
-/// Records that a variable is defined, and returns whether that is new.
+/// Records that a variable is defined, and returns whether the variable is new.
 fn adds(variables: &mut Ids, variable: u64) -> Result<bool, AigFault>
     ensures new { IfOk result (λ new. OnTrue new (AddsVariable variables.old variable variables.new)) }
     ensures twice { result ≡ Ok false → Contains variables.old variable }
@@ -137,7 +138,7 @@ fn definition(cursor: &mut Cursor, variables: &mut Ids, most: u32) -> Result<Num
     Ok(number)
 }
 
-/// Reads a literal after a gap.
+/// Reads a gap and a literal, and records the literal for a later check.
 fn reading(cursor: &mut Cursor, readings: &mut Vec<Number>, most: u32) -> Result<Number, AigFault>
     requires { most < 2 ^ 31 }
     ensures exact { Tells (λ n. n) (parts.field (WrongLiteral most)) cursor.old result cursor.new }
@@ -175,7 +176,7 @@ impl Line for InputLine {
     }
 }
 
-/// Reads a latch's first value, if there is one, and the end of its line.
+/// Reads a latch's first value, if the line has one, and the end of the line.
 fn reset(cursor: &mut Cursor, literal: u64) -> Result<bool, AigFault>
     requires { literal < 2 ^ 32 }
     ensures { Tells (λ b. b) (parts.reset literal) cursor.old result cursor.new }

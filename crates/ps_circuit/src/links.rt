@@ -1,4 +1,4 @@
-//! Which gates read which.
+//! The gates that each gate reads.
 
 ghost use Rattle.std.specs.Prelude.{◌≡◌, ◌≢◌, IfOk, AllPairs, map};
 ghost use Rattle.ps_circuit.specs.Literals.{variable};
@@ -9,16 +9,16 @@ use crate::parts::Gate;
 use ps_ids::Ids;
 use std::alloc::{AllocError, Global};
 
-/// The places of the gates that a gate reads.
+/// The indices of the gates that a gate reads.
 #[derive(Clone, Copy)]
 pub struct Links {
-    /// That of its first literal, if it is a gate's.
+    /// The index of the gate to which the first literal belongs, if it belongs to a gate.
     pub first: Option<usize>,
-    /// That of its second literal, if it is a gate's.
+    /// The index of the gate to which the second literal belongs, if it belongs to a gate.
     pub second: Option<usize>,
 }
 
-/// For each gate, the places of the gates that it reads. Fails if out of memory.
+/// For each gate, the indices of the gates that it reads. Fails if out of memory.
 pub fn links_of(alloc: Global, gates: &[Gate]) -> Result<Vec<Links>, AllocError>
     requires once { AllPairs (λ g h. variable g.literal ≢ variable h.literal) gates.now }
     ensures { IfOk result (λ links. AreLinksOf gates.now links.items) }
@@ -41,7 +41,7 @@ fn variables_of(alloc: Global, gates: &[Gate]) -> Result<Ids, AllocError>
     Ok(variables)
 }
 
-/// The links of the gates, by the places of their variables.
+/// The links of the gates, by the indices of their variables.
 fn links_to(alloc: Global, gates: &[Gate], variables: &Ids) -> Result<Vec<Links>, AllocError>
     ensures { IfOk result (λ links. links.items ≡ links_by (place_in variables.now) gates.now) }
 {

@@ -5,8 +5,8 @@ ghost use Rattle.ps_circuit.specs.Literals.{is_negated, negated, variable};
 
 use std::marker::Model;
 
-/// A variable, negated or not. Variable 0 is false. The number of a literal is twice its variable, plus one if it is
-/// negated; literals are ordered by their numbers.
+/// A variable, negated or not. Variable 0 is false. The number of a literal is twice its variable, plus one if the
+/// literal is negated. Literals are ordered by their numbers.
 #[derive(Debug, Clone, Copy, PartialEq, Eq, PartialOrd, Ord, Hash)]
 pub struct Literal {
     number: u32,
@@ -29,7 +29,7 @@ impl Literal {
     /// The literal that is always true.
     pub const TRUE: Literal = Literal { number: 1 };
 
-    /// The literal with that number.
+    /// The literal with this number.
     pub fn new(number: u32) -> Self
         ensures { result ≡ number }
     {
@@ -46,35 +46,35 @@ impl Literal {
         }
     }
 
-    /// The literal that always has that bit.
+    /// The literal that always has this value.
     pub fn constant(bit: bool) -> Self
         ensures { result ≡ (if bit then 1 else 0) }
     {
         if bit { Literal::TRUE } else { Literal::FALSE }
     }
 
-    /// Its number, as a text has it.
+    /// The number of the literal, as it is written in a text.
     pub fn number(self) -> u32
         ensures { result ≡ self }
     {
         self.number
     }
 
-    /// Its variable.
+    /// The variable of the literal.
     pub fn variable(self) -> u32
         ensures { result ≡ variable self }
     {
         self.number / 2
     }
 
-    /// Whether it is negated.
+    /// Whether the literal is negated.
     pub fn is_negated(self) -> bool
         ensures { result ≡ is_negated self }
     {
         self.number % 2 == 1
     }
 
-    /// The literal of the same variable with the other bit.
+    /// The negation of the literal.
     pub fn negated(self) -> Self
         ensures { result ≡ negated self }
     {

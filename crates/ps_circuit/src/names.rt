@@ -1,4 +1,4 @@
-//! The names in the text of a circuit, and the comment that ends it.
+//! The parser of the names in the text of a circuit, and of the comment that ends the text.
 
 ghost use Rattle.std.specs.Prelude.{◌≡◌, ◌≢◌, ℕ, ◌<◌, ◌^◌, Some, None, false, [], map, length, replicate, slice_get};
 ghost use Rattle.std.specs.Prelude.{vec_len, IfOk, IfErr, OnOk, IsTrue, All};
@@ -21,11 +21,11 @@ use std::alloc::Global;
 /// The names of the inputs, latches and outputs.
 #[derive(Drop)]
 pub struct Names {
-    /// A name or none for each input.
+    /// The optional name of each input.
     pub inputs: Vec<Option<Vec<u8>>>,
-    /// A name or none for each latch.
+    /// The optional name of each latch.
     pub latches: Vec<Option<Vec<u8>>>,
-    /// A name or none for each output.
+    /// The optional name of each output.
     pub outputs: Vec<Option<Vec<u8>>>,
 }
 
@@ -49,7 +49,7 @@ impl Names {
     }
 }
 
-/// A list of `count` missing names.
+/// A list of length `count` without names.
 fn no_names(alloc: Global, count: usize) -> Result<Vec<Option<Vec<u8>>>, AigFault>
     ensures each { IfOk result (λ names. vec_len names ≡ count) }
     ensures none { IfOk result (λ names. map name_bytes names.items ≡ replicate count None) }
@@ -66,8 +66,8 @@ fn no_names(alloc: Global, count: usize) -> Result<Vec<Option<Vec<u8>>>, AigFaul
 ///
 /// # Errors
 ///
-/// [`AigCause::Syntax`] at the first byte that does not belong to a symbol, or at the letter of a symbol whose place
-/// does not exist or has a name; out of memory.
+/// [`AigCause::Syntax`] at the first byte that does not belong to a symbol, or at the letter of a symbol whose number
+/// does not exist or already has a name. Fails if out of memory.
 pub fn symbols(alloc: Global, cursor: &mut Cursor, names: &mut Names) -> Result<(), AigFault>
     requires { AreNames names.old (vec_len names.old.inputs) (vec_len names.old.latches) (vec_len names.old.outputs) }
     ensures exact { Tells (λ _. names_data names.new) (many parts.symbol_line (names_data names.old)) cursor.old
@@ -81,7 +81,7 @@ pub fn symbols(alloc: Global, cursor: &mut Cursor, names: &mut Names) -> Result<
     Ok(())
 }
 
-/// Whether a line with a name begins with that byte.
+/// Whether a line with a name begins with this byte.
 fn is_letter(byte: Option<u8>) -> bool
     ensures { result ≡ is_kind byte }
 {
@@ -108,7 +108,7 @@ fn symbol_line(alloc: Global, cursor: &mut Cursor, names: &mut Names) -> Result<
     Err(cursor.refusal(AigCause::Syntax))
 }
 
-/// Reads a line that begins with a letter and names one of these.
+/// Reads a line with a name of one kind: the letter, the number and the name.
 fn name_line(
     alloc: Global,
     cursor: &mut Cursor,
@@ -135,7 +135,7 @@ fn name_line(
     Ok(())
 }
 
-/// Whether the place with that number exists and has no name.
+/// Whether the number belongs to an entry that has no name yet.
 fn is_free(names: &Vec<Option<Vec<u8>>>, number: u64) -> bool
     ensures free { IsTrue result → slice_get (map name_bytes names.now.items) number ≡ Some None }
     ensures taken { result ≡ false → slice_get (map name_bytes names.now.items) number ≢ Some None }
@@ -145,11 +145,11 @@ fn is_free(names: &Vec<Option<Vec<u8>>>, number: u64) -> bool
     number < names.len() as u64 && names[number as usize].is_none()
 }
 
-/// Moves past what follows the names: nothing, or a line that begins with `c` and everything after it.
+/// Skips what follows the names: nothing, or a line that begins with `c` and everything after it.
 ///
 /// # Errors
 ///
-/// [`AigCause::Syntax`] if something else follows.
+/// [`AigCause::Syntax`] if anything else follows.
 pub fn comment(cursor: &mut Cursor) -> Result<(), AigFault>
     ensures { TellsComment cursor.old result cursor.new }
 {

@@ -7,17 +7,18 @@ ghost use Rattle.ps_circuit.specs.Literals.{variable};
 use crate::fault::{AigCause, AigFault};
 use crate::literal::Literal;
 
-/// A number in the text, and the offset of its first digit. A number beyond 64 bits counts as the greatest of 64 bits.
+/// A number in the text, and the offset of its first digit. A number that does not fit into 64 bits is stored as the
+/// greatest number of 64 bits.
 #[derive(Clone, Copy)]
 pub struct Number {
-    /// Its value.
+    /// The value of the number.
     pub value: u64,
-    /// The offset of its first digit, from 0.
+    /// The offset of the first digit.
     pub offset: usize,
 }
 
 impl Number {
-    /// The literal with that number.
+    /// The literal with this number.
     pub fn literal(self) -> Literal
         requires { self.value < 2 ^ 32 }
         ensures { result ≡ self.value }
@@ -25,14 +26,14 @@ impl Number {
         Literal::new(self.value as u32)
     }
 
-    /// The variable of the literal with that number.
+    /// The variable of the literal with this number.
     pub fn variable(self) -> u64
         ensures { result ≡ variable self.value }
     {
         self.value / 2
     }
 
-    /// The refusal for this cause, at the number.
+    /// The fault with a given cause at the offset of this number.
     pub fn refused(self, cause: AigCause) -> AigFault
         ensures { result ≡ faults.Text cause self.offset }
     {

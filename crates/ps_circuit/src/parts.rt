@@ -5,26 +5,26 @@ use crate::literal::Literal;
 /// A latch: its own literal, the literal of its next value, and its first value (AIGER 1.9, reset logic).
 #[derive(Clone, Copy, Debug, PartialEq, Eq)]
 pub struct Latch {
-    /// Its own literal, which is not negated and not constant.
+    /// The latch's own literal, which is neither negated nor constant.
     pub literal: Literal,
-    /// The literal of its value in the next step.
+    /// The literal whose value is the value of the latch in the next step.
     pub next: Literal,
-    /// Its value in the first step.
+    /// The value of the latch in the first step.
     pub reset: bool,
 }
 
-/// An and-gate: its own literal, and the two that it reads.
+/// An and-gate: its own literal, and the two literals that it reads.
 #[derive(Clone, Copy, Debug, PartialEq, Eq)]
 pub struct Gate {
-    /// Its own literal, which is not negated and not constant.
+    /// The gate's own literal, which is neither negated nor constant.
     pub literal: Literal,
-    /// The first literal that it reads.
+    /// The first literal that the gate reads.
     pub first: Literal,
-    /// The second one.
+    /// The second literal that the gate reads.
     pub second: Literal,
 }
 
-/// The parts of a circuit: the greatest variable, the literals, and for each input, latch and output a name or none.
+/// The parts of a circuit: the greatest variable, the literals, and an optional name for each input, latch and output.
 #[derive(Drop)]
 pub struct Parts {
     /// The greatest variable that the circuit may use: M of the header.
@@ -37,10 +37,10 @@ pub struct Parts {
     pub outputs: Vec<Literal>,
     /// The gates.
     pub gates: Vec<Gate>,
-    /// A name or none for each input.
+    /// The optional name of each input.
     pub input_names: Vec<Option<Vec<u8>>>,
-    /// A name or none for each latch.
+    /// The optional name of each latch.
     pub latch_names: Vec<Option<Vec<u8>>>,
-    /// A name or none for each output.
+    /// The optional name of each output.
     pub output_names: Vec<Option<Vec<u8>>>,
 }

@@ -1,4 +1,4 @@
-//! Reading circuits from AIGER texts.
+//! The parser of circuits in AIGER texts.
 
 ghost use Rattle.std.specs.Prelude.{◌≡◌, ◌≢◌, ℕ, ◌<◌, ◌≤◌, ◌+◌, ◌*◌, ◌^◌, List, [], ◌∷◌, ◌++◌, length, map, vec_len};
 ghost use Rattle.std.specs.Prelude.{IfOk, Result, Err, All, Contains, IsTrue, ◌⊎◌, false, slice_index};
@@ -22,20 +22,21 @@ use ps_ids::Ids;
 use ps_text::cursor::Cursor;
 use std::alloc::Global;
 
-/// What was read of a text.
+/// The parts of a circuit as the text states them, and the records that the later checks need.
 #[derive(Drop)]
 pub(crate) struct Draft {
     parts: Parts,
     noted: Noted,
 }
 
-/// Reads a circuit from an AIGER text (AIGER 1.9, ASCII format).
+/// Parses a circuit from an AIGER text (AIGER 1.9, ASCII format).
 ///
 /// # Errors
 ///
-/// The first cause in the text's order for which it is not a circuit; out of memory.
+/// The first error of the text, in the order of the text, or out of memory. Undefined variables and cycles are reported
+/// only if there is no other error.
 pub fn read(alloc: Global, text: &[u8]) -> Result<Circuit, AigFault>
-    // The text's circuit, or the first cause for which it has none.
+    // The circuit of the text, or the first error of the text.
     ensures exact { IsCircuitAnswer text.now result }
     ensures well_formed { IfOk result (λ c. IsCircuit c) }
 {
@@ -44,7 +45,7 @@ pub fn read(alloc: Global, text: &[u8]) -> Result<Circuit, AigFault>
     assembled(alloc, parts, &noted.starts)
 }
 
-/// Reads a text from its first to its last byte.
+/// Reads a text from the first byte to the last.
 fn read_draft(alloc: Global, text: &[u8]) -> Result<Draft, AigFault>
     ensures exact { TellsDraft text.now result }
     ensures sound { IfOk result (λ d. IsSoundDraft (draft_data d)) }
@@ -72,7 +73,8 @@ fn read_draft(alloc: Global, text: &[u8]) -> Result<Draft, AigFault>
     Ok(Draft { parts, noted })
 }
 
-/// Refuses the first literal whose variable is neither defined nor 0.
+/// Checks that the variable of each used literal is defined or 0. The fault is reported for the first literal that
+/// fails this check.
 fn all_defined(noted: &Noted) -> Result<(), AigFault>
     ensures { TellsDefined noted.now.variables noted.now.readings.items result }
 {
@@ -84,7 +86,7 @@ fn all_defined(noted: &Noted) -> Result<(), AigFault>
     Ok(())
 }
 
-/// Whether the variable is 0 or one of these.
+/// Whether a variable is 0 or in a list of variables.
 fn is_defined(variables: &Ids, variable: u64) -> bool
     ensures defined { IsTrue result → (variable ≡ 0) ⊎ Contains variables.now variable }
     ensures not_defined { result ≡ false → (variable ≡ 0) ⊎ Contains variables.now variable → ⊥ }
@@ -92,7 +94,7 @@ fn is_defined(variables: &Ids, variable: u64) -> bool
     variable == 0 || variables.has(variable)
 }
 
-/// The refusal of a gate that depends on itself, at its line.
+/// The fault for a gate that depends on itself, at the offset of the gate's line.
 fn cyclic(starts: &[usize], gate: usize) -> AigFault
     requires { gate < length starts.now }
     ensures { result ≡ faults.Text AigCause.Cyclic (slice_index starts.now gate) }
@@ -103,7 +105,7 @@ fn cyclic(starts: &[usize], gate: usize) -> AigFault
     }
 }
 
-/// Makes the circuit, unless a gate depends on itself.
+/// Makes the circuit from its parts. Fails if a gate depends on itself, or if out of memory.
 fn assembled(alloc: Global, parts: Parts, starts: &[usize]) -> Result<Circuit, AigFault>
     requires draft { IsDraft (data_of parts) }
     requires starts { length starts.now ≡ length parts.gates.items }

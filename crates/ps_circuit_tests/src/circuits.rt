@@ -1,20 +1,21 @@
-//! Texts of circuits.
+//! Tests of the parser and the writer of circuits.
 
 use ps_aiger::{Circuit, read, write};
 use std::alloc::Global;
 use std::test::Fail;
 
-/// Gates in another order than that in which they are read, and a name for one symbol of each kind.
+/// A circuit whose gates are listed before the gates that they read, with a name for one input, one latch and one
+/// output.
 const TWISTED: &str =
     "aag 5 1 1 3 3\n2\n4 10 1\n4\n10\n1\n10 9 7\n8 5 3\n6 4 2\ni0 r\nl0 q\no2 g\n";
 
-/// What is written of the circuit that is read.
+/// The text that the writer produces for the circuit of a text.
 fn rewritten(alloc: Global, text: &str) -> Result<Vec<u8>, Fail> {
     let circuit = read(alloc, text.as_bytes())?;
     Ok(write(alloc, &circuit)?)
 }
 
-/// Whether that is such a text.
+/// Whether the written text is the expected one.
 fn is_rewritten(alloc: Global, text: &str, wanted: &str) -> Result<bool, Fail> {
     Ok(rewritten(alloc, text)?.as_slice() == wanted.as_bytes())
 }
@@ -27,7 +28,7 @@ fn written_as_it_was_read(rt: HostRuntime) -> Result<(), Fail> {
     Ok(())
 }
 
-/// Whether the gates of a text are evaluated in such an order.
+/// Whether the order in which the gates of a text are evaluated is the expected one.
 fn is_ordered(alloc: Global, text: &str, wanted: &[usize]) -> Result<bool, Fail> {
     let circuit = read(alloc, text.as_bytes())?;
     Ok(circuit.order() == wanted)
@@ -39,7 +40,7 @@ fn gates_are_worked_out_behind_those_that_they_read(rt: HostRuntime) -> Result<(
     Ok(())
 }
 
-/// Whether the first bytes of a text are a circuit.
+/// Whether a prefix of a text parses as a circuit.
 fn is_read(alloc: Global, text: &[u8], length: usize) -> bool {
     length <= text.len() && read(alloc, &text[..length]).is_ok()
 }

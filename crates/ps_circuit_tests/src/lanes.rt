@@ -1,14 +1,14 @@
-//! Lanes compared with plain runs.
+//! Tests that compare lanes with plain runs.
 
 use ps_aiger::{Circuit, read};
 use ps_simulate::{LaneSimulator, Simulator};
 use std::alloc::{AllocError, Global};
 use std::test::Fail;
 
-/// One input, one latch whose first value is 1, and three gates, none of which comes after those that it reads.
+/// One input, one latch whose first value is 1, and three gates. The first gate reads the two gates after it.
 const FORWARD: &[u8] = b"aag 5 1 1 3 3\n2\n4 10 1\n4\n10\n1\n10 9 7\n8 5 3\n6 4 2\n";
 
-/// The outputs of a step, and the latch after it.
+/// The outputs of a step, and the value of the latch after the step.
 type Step = ([bool; 3], bool);
 
 /// A step of a plain run.
@@ -22,7 +22,7 @@ fn plain_step(alloc: Global, circuit: &Circuit, input: bool) -> Result<Option<St
     Ok(Some((outputs, simulator.latch(0))))
 }
 
-/// The step of the first lane, in which the input is true, and that of the last, in which it is false.
+/// The step of the first lane, in which the input is true, and the step of the last lane, in which it is false.
 fn lane_steps(alloc: Global, circuit: &Circuit) -> Result<[Option<Step>; 2], AllocError> {
     if circuit.inputs().len() != 1 || circuit.outputs().len() != 3 || circuit.latches().len() != 1 {
         return Ok([None; 2]);
@@ -39,10 +39,10 @@ fn lane_steps(alloc: Global, circuit: &Circuit) -> Result<[Option<Step>; 2], All
     ])
 }
 
-/// Plain steps, and those of lanes.
+/// The steps of plain runs, and those of lanes.
 type Steps = ([Option<Step>; 2], [Option<Step>; 2]);
 
-/// Steps of both kinds.
+/// The steps of a circuit, in plain runs and in lanes.
 fn steps(alloc: Global, circuit: &Circuit) -> Result<Steps, Fail> {
     let plain = [
         plain_step(alloc, circuit, true)?,
@@ -51,7 +51,7 @@ fn steps(alloc: Global, circuit: &Circuit) -> Result<Steps, Fail> {
     Ok((plain, lane_steps(alloc, circuit)?))
 }
 
-/// The same of the circuit of a text.
+/// The steps of the circuit of a text, in plain runs and in lanes.
 fn steps_of(alloc: Global, text: &[u8]) -> Result<Steps, Fail> {
     let circuit = read(alloc, text)?;
     steps(alloc, &circuit)

@@ -1,5 +1,6 @@
-//! Tests of circuits, machines, solvers and simulators: what no clause says, and calls with ample memory that the
-//! program does not make. What the program shows of them is in `examples/rows/libraries-circuits.toml`.
+//! Tests of circuits, machines, solvers and simulators. The tests check what no contract states. With ample memory,
+//! they also make the calls that the program never makes. What the program prints about the same things is tested in
+//! `examples/rows/libraries-circuits.toml`.
 #![tactic(auto)]
 
 #[cfg(test)]

@@ -1,4 +1,4 @@
-//! The machine of the winner of a worked automaton, and its circuit.
+//! Tests of the winner's machine for an example automaton, and of its circuit.
 
 ghost use Rattle.std.specs.Prelude.{IfOk};
 ghost use Rattle.ps_machine.specs.Solving.{IsCertified};
@@ -13,11 +13,11 @@ use std::alloc::Global;
 use std::test::Fail;
 
 /// A grant must come exactly when there is a request. The controller moves first, so the environment wins: it sees the
-/// grant, and makes a request exactly when there is none.
+/// grant, and makes a request exactly when there is no grant.
 const EXACT: &[u8] =
     b"HOA: v1 Start: 0 AP: 2 \"r\" \"g\" controllable-AP: 1 Acceptance: 0 t --BODY-- State: 0 [0&1 | !0&!1] 0 --END--";
 
-/// The certificate that the built-in solver finds.
+/// The certificate that the built-in solver computes.
 fn solved(alloc: Global, game: &NamedGame) -> Result<Certificate, Fail>
     ensures { IfOk result (IsCertified game.now) }
 {
@@ -40,7 +40,7 @@ fn machine_of(alloc: Global, text: &[u8]) -> Result<Machine, Fail> {
     machine_for(alloc, &automaton, Order::Moore)
 }
 
-/// The next memory and the letter that is played, if the memory exists.
+/// The next memory state and the letter that the machine outputs, or `None` if the memory state does not exist.
 fn step(machine: &Machine, memory: usize, letter: u64) -> Option<(usize, u64)> {
     if memory >= machine.memories() {
         return None;
@@ -49,7 +49,7 @@ fn step(machine: &Machine, memory: usize, letter: u64) -> Option<(usize, u64)> {
     Some((row.memory, row.letter))
 }
 
-/// The steps of the winner's machine at two memories and at both letters of the grant.
+/// The steps of the winner's machine from its first two memory states, each with both values of the grant.
 fn steps_of(alloc: Global, text: &[u8]) -> Result<[Option<(usize, u64)>; 4], Fail> {
     let machine = machine_of(alloc, text)?;
     Ok([
@@ -79,7 +79,7 @@ fn circuit_text_of(alloc: Global, text: &[u8]) -> Result<Vec<u8>, Fail> {
     circuit_text(alloc, &machine)
 }
 
-/// Whether that is such a text.
+/// Whether the circuit of the winner's machine has the expected text.
 fn has_circuit(alloc: Global, text: &[u8], wanted: &[u8]) -> Result<bool, Fail> {
     Ok(circuit_text_of(alloc, text)?.as_slice() == wanted)
 }

@@ -1,4 +1,4 @@
-//! From a text to the winner's circuit, as a user of the library writes it.
+//! Tests of the way from a text to the winner's circuit, written as a user of the library would write it.
 
 use ps_certificate::Certificate;
 use ps_game::{Arena, NamedGame};
@@ -11,7 +11,8 @@ use std::test::Fail;
 const GRANTS: &[u8] =
     b"HOA: v1 Start: 0 AP: 2 \"r\" \"g\" controllable-AP: 1 Acceptance: 0 t --BODY-- State: 0 [0&1 | !0&!1] 0 --END--";
 
-/// Who wins, and the texts that show it: the problem is read, its game is solved, and the certificate answers it.
+/// The winner of a text's problem, and the texts that prove the verdict. The function parses the problem, solves its
+/// game and makes a report from the certificate.
 fn answer(alloc: Global, text: &[u8]) -> Result<Report, Fail> {
     let problem = Problem::read(alloc, text, Order::Mealy)?;
     let report = answer_to(alloc, &problem);
@@ -19,7 +20,7 @@ fn answer(alloc: Global, text: &[u8]) -> Result<Report, Fail> {
     report
 }
 
-/// The report of a problem, by a certificate that psyn's own solver gives.
+/// The report of a problem, with a certificate from psyn's own solver.
 fn answer_to(alloc: Global, problem: &Problem) -> Result<Report, Fail> {
     let certificate = BuiltIn::new(alloc).solve(problem.game())?;
     Ok(problem.report(alloc, &certificate, false)?)
@@ -33,7 +34,7 @@ fn a_controller_grants_what_is_requested(rt: HostRuntime) -> Result<(), Fail> {
     Ok(())
 }
 
-/// A solver that notes the size of the game for which it was asked last, and asks another one.
+/// A solver that records the size of the last game that it was given, and passes the game to another solver.
 #[derive(Drop)]
 struct Noting<S> {
     vertices: usize,

@@ -1,4 +1,4 @@
-//! A solver that is fed certificates.
+//! Tests of a solver that is fed certificates.
 
 use ps_game::NamedGame;
 use ps_machine::{Replay, SolveFault, Solver};
@@ -9,10 +9,10 @@ use std::test::Fail;
 /// Two vertices of player 1.
 const GAME: &[u8] = b"7 0 1 9; 9 1 1 9;";
 
-/// How many vertices the certificate has, or at which byte the text is refused.
+/// The number of entries of the certificate, or the offset at which the text is rejected.
 type Answer = Result<usize, Option<usize>>;
 
-/// What a solver that was fed a text answers.
+/// The result of a solver that was fed a text.
 fn answer(solver: &mut Replay, game: &NamedGame) -> Answer {
     match solver.solve(game) {
         Ok(certificate) => Ok(certificate.entries.len()),
@@ -21,7 +21,8 @@ fn answer(solver: &mut Replay, game: &NamedGame) -> Answer {
     }
 }
 
-/// The same. If an allocation failed, which `rt try --test --fail-alloc N` does, the same solver is asked once more.
+/// The result of a solver that was fed a text. If an allocation failed, as in a run of `rt try --test --fail-alloc N`,
+/// the same solver is called again.
 fn answer_again(solver: &mut Replay, game: &NamedGame) -> Answer {
     match answer(solver, game) {
         Err(None) => answer(solver, game),
@@ -29,7 +30,7 @@ fn answer_again(solver: &mut Replay, game: &NamedGame) -> Answer {
     }
 }
 
-/// Feeds a text, once more if an allocation failed.
+/// Feeds a text to a solver, and tries again if an allocation failed.
 fn feed(solver: &mut Replay, text: &[u8]) -> Result<(), AllocError> {
     match solver.feed(text) {
         Ok(()) => Ok(()),
@@ -37,10 +38,10 @@ fn feed(solver: &mut Replay, text: &[u8]) -> Result<(), AllocError> {
     }
 }
 
-/// What is answered before any text, after one that ends early, and after a whole one.
+/// The results before any text is fed, after a text that ends early, and after a complete text.
 type Answers = [Answer; 3];
 
-/// The answers for a game.
+/// The three results for a game.
 fn answers_for(alloc: Global, game: &NamedGame) -> Result<Answers, Fail> {
     let mut solver = Replay::new(alloc);
     let none = answer_again(&mut solver, game);
@@ -53,7 +54,7 @@ fn answers_for(alloc: Global, game: &NamedGame) -> Result<Answers, Fail> {
     Ok([none, early, answer_again(&mut solver, game)])
 }
 
-/// The game of a text, read once more if an allocation failed.
+/// The game of a text. If an allocation failed, the text is parsed again.
 fn game_of(alloc: Global, text: &[u8]) -> Result<NamedGame, PgFault> {
     match read(alloc, text) {
         Ok(game) => Ok(game),
@@ -61,7 +62,7 @@ fn game_of(alloc: Global, text: &[u8]) -> Result<NamedGame, PgFault> {
     }
 }
 
-/// The answers for the game of a text.
+/// The three results for the game of a text.
 fn answers_of(alloc: Global, text: &[u8]) -> Result<Answers, Fail> {
     let game = game_of(alloc, text)?;
     answers_for(alloc, &game)

@@ -1,4 +1,4 @@
--- The laws of the parts of a text: which sign each begins with, and how parts are joined.
+-- The laws of the parts of a grammar: which tokens a part can begin and continue with, and how parts are joined.
 
 pub mod SignLaws
 pub mod OperandLaws

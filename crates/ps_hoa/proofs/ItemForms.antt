@@ -1,8 +1,10 @@
--- What must hold of what follows the name of an item: a section for each item, and a row for it in `form`.
---     IsForm h part      a part may follow a name, after items that say h: its laws, of which only the signs with which
---               it continues matter; an outcome from each list of signs; and what the items so far keep
---     form h item      so may what follows the name of that item; judge_item, what may be wrong with its name
---     joint_.., .._loop, .._begins, .._serves      of its parts, for the functions that read them
+-- The properties of the arguments of each header item. There is a section for each item, and a row in `form`.
+--     IsForm h part      the properties of a part that follows an item's name, where the earlier items give h: its
+--               laws, of which only the tokens that continue it matter; an outcome for each list of tokens; and the
+--               invariant of the items so far
+--     form h item      the arguments of this item have these properties; judge_item: the errors at its name
+--     joint_.., .._loop, .._begins, .._serves      lemmas about the parts of the arguments, for the functions that
+--               parse them
 use Rattle.std.proofs.Common.{arith, rules, ◌≡◌, ◌<◌, true, Bool, ℕ, List, [], length, Some, refl, sym, ap, ◌∙◌}
 use Rattle.ps_text.specs.Answers.{Stream, next_of as there_of}
 use Rattle.ps_text.specs.Parts.{Part, give, times, many, mapped, barred}
@@ -58,7 +60,7 @@ use Rattle.ps_hoa.proofs.Soundness.Keeping.{keeps_mapped, keeps_many}
 use Rattle.ps_hoa.proofs.Soundness.Places.{different_kept}
 use Rattle.ps_hoa.proofs.Soundness.SoundLabels.{keeps_label}
 
--- the signs with which an item continues
+-- the tokens that can continue an item
 abbrev pub is_argument : Kind → Bool
 is_argument = union is_value is_connective
 
@@ -80,7 +82,7 @@ goes_on l w = weaker l (λ t _. tt) w (λ _. tt)
 -- ## `States:`, `Start:`, `AP:`, `Alias:` and `Acceptance:`
 
 module _ (h : HeaderData) where
-  -- `States:`
+  -- the arguments of `States:`
   form_states : IsForm h (state_count h)
   form_states = record {
     laws = goes_on (laws_mapped _ _ (laws_int state_limit)) (λ t k. absurd k);
@@ -88,7 +90,7 @@ module _ (h : HeaderData) where
     keeps = λ k. search (rules, keeps_mapped, keeps_int);
   }
 
-  -- `Start:`
+  -- the arguments of `Start:`
   form_start : IsForm h (start_state h)
   form_start = record {
     laws = goes_on (laws_mapped _ _ (laws_alternating (laws_int number_limit))) (within is_and is_argument refl);
@@ -97,7 +99,7 @@ module _ (h : HeaderData) where
     keeps = λ k. search (rules, keeps_mapped);
   }
 
-  -- `AP:`
+  -- the arguments of `AP:`
   pub joint_counted_names : Joint (int proposition_limit) (λ n. mapped (with_names h) (times n proposition_name []))
   joint_counted_names = joint_tight (laws_int proposition_limit)
       (λ n. laws_mapped _ _ (laws_times_all proposition_name laws_proposition_name n []))
@@ -116,7 +118,7 @@ module _ (h : HeaderData) where
         (λ n l. search (rules, keeps_mapped, keeps_names, k.0, k.2, k.3, k.4));
   }
 
-  -- `Alias:`
+  -- the arguments of `Alias:`
   pub joint_named_label : Joint (new_alias h) (λ name.
       mapped (with_alias h name) (label (header_scope h) nesting_limit))
   joint_named_label = joint_tight (laws_new_alias h) (λ _. laws_mapped _ _ (laws_label (header_scope h) nesting_limit))
@@ -137,7 +139,7 @@ module _ (h : HeaderData) where
         )));
   }
 
-  -- `Acceptance:`
+  -- the arguments of `Acceptance:`
   pub joint_counted_condition : Joint (int set_limit) (λ n. mapped (with_acceptance h n) (condition nesting_limit))
   joint_counted_condition = joint_tight (laws_int set_limit) (λ _. laws_mapped _ _ (laws_condition nesting_limit))
 
@@ -248,7 +250,7 @@ form_other h = record {
 
 -- ## Any item
 
--- what may be wrong with its name
+-- the errors at the name of an item
 wrong_item : (h : HeaderData) (item : Item) → Judged cause_number (IsWrongItem h item)
 wrong_item h items.Start = judge_cause cause_number causes.Start (decide_not (decide_none h.start))
 wrong_item h item = judge_none cause_number

@@ -1,4 +1,4 @@
--- The tokens of a text, as going over its bytes finds them.
+-- The scan over the bytes of a text gives the tokens of the text.
 
 pub mod Scanning
 pub mod Streams

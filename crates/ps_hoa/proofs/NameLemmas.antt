@@ -1,4 +1,4 @@
--- The test of two texts is the same both ways.
+-- Comparing two texts gives the same result in either order.
 use Rattle.std.proofs.Common.{◌≡◌, ℕ, Bool, true, List, rules}
 use Rattle.std.specs.Str.{bytes_eq}
 use Rattle.std.proofs.lemmas.Slice.Eq.{bytes_eq-Decides}

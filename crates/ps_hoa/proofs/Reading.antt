@@ -1,4 +1,4 @@
--- How the reading functions read the parts of a text.
+-- Lemmas for the parsing functions.
 
 pub mod NextSign
 pub mod SingleSigns

@@ -1,4 +1,4 @@
--- What holds of each file that was read.
+-- Every parsed file is sound.
 
 pub mod Keeping
 pub mod NameSets

@@ -2,10 +2,10 @@
 --     state ::= "State:" ("[" label "]")? INT STRING? sets? edge*
 --     edge  ::= ("[" label "]")? INT sets?
 --     sets  ::= "{" INT* "}"
--- The label of a state is that of each of its edges. A state without a label, whose edges have none either, has
+-- The label of a state is the label of each of its edges. If neither a state nor its edges have labels, the edges have
 -- implicit labels: edge k is taken at the letter k, in which proposition i is bit i.
---     BodyData      the rows so far, and how many edges they have
---     state h body      one more state, after those of body
+--     BodyData      the rows so far, and the number of their edges
+--     state h body      one more state, after the states of body
 --     body h      all states, and `--END--`
 use Rattle.std.specs.Prelude.{◌≡◌, ◌≢◌, ℕ, ◌+◌, ◌-◌, ◌^◌, ◌<◌, ◌≤◌, ◌⊎◌, Bool, true, false, List, [], ◌∷◌, ◌++◌, length}
 use Rattle.std.specs.Prelude.{codes, if◌then◌else◌, nat_eq, Option, None, Some, IfSome, slice_get}
@@ -31,18 +31,18 @@ pub record BodyData : Type 0 where
 abbrev pub no_rows : BodyData
 no_rows = record { rows = []; edges = 0 }
 
--- a text has at most as many edges
+-- the largest number of edges that a text may have
 abbrev pub edge_limit : ℕ
 edge_limit = 1048576
 
 -- ## Numbers
 
--- an INT that is not a state
+-- an `INT` that is not the number of a state
 abbrev pub IsBadState : Option ℕ → ℕ → HoaCause → Type 0
 IsBadState (Some states) n f = ((number_limit < n) × (f ≡ causes.Limit)) ⊎ ((states ≤ n) × (f ≡ causes.Range))
 IsBadState None n f = (state_limit ≤ n) × (f ≡ causes.Limit)
 
--- an INT that is not a set
+-- an `INT` that is not the number of an acceptance set
 abbrev pub IsBadSet : ℕ → ℕ → HoaCause → Type 0
 IsBadSet sets n f = ((number_limit < n) × (f ≡ causes.Limit)) ⊎ ((sets ≤ n) × (f ≡ causes.Range))
 
@@ -71,7 +71,7 @@ closing ns = mapped (λ _. ns) (mark is_right_brace)
 abbrev pub sets : ℕ → Part Sign (List ℕ) HoaCause
 sets count = then_by (mark is_left_brace) (λ _. then_by (many (set_number count) []) closing)
 
--- sets, or none
+-- acceptance sets between braces, or nothing
 abbrev pub marks : HeaderData → Part Sign (List ℕ) HoaCause
 marks h = either (sets (sets_of h)) (give [])
 
@@ -91,7 +91,7 @@ body_scope h = record { names = h.alias_names; propositions = Some (length (name
 abbrev pub some_label : Expression → Unit {0} → Option Expression
 some_label e _ = Some e
 
--- what follows `[`
+-- the rest of a label after `[`
 abbrev pub label_in_brackets : HeaderData → Part Sign (Option Expression) HoaCause
 label_in_brackets h =
     then_by (labels.label (body_scope h) nesting_limit) (λ e. mapped (some_label e) (mark is_right_bracket))
@@ -101,7 +101,7 @@ state_label h = either (then_by (mark is_left_bracket) (λ _. label_in_brackets 
 
 -- ## Edges
 
--- how the edges of a row are labelled: by the row's label, each by its own, by their places, or not known yet
+-- how the edges of a row are labelled: by the row's label, by a label of each edge, by their order, or not known yet
 abbrev pub first_labelling : List EdgeData → Labelling
 first_labelling [] = NotKnown
 first_labelling (e ∷ es) = elim e.guard [ stated label ↦ ByEdge | of_state ↦ ByState | at_letter k ↦ ByPlace ]
@@ -109,7 +109,7 @@ first_labelling (e ∷ es) = elim e.guard [ stated label ↦ ByEdge | of_state �
 abbrev pub labelling : RowData → Labelling
 labelling row = elim row.label [ Some e ↦ ByState | None ↦ first_labelling row.edges ]
 
--- an edge with a label where its state has one or earlier edges have none
+-- whether the next edge of a state may be without a label, and whether it may have a label
 abbrev pub MayHaveNoLabel : Labelling → Type 0
 MayHaveNoLabel ByEdge = ⊥
 MayHaveNoLabel _ = Unit {0}
@@ -119,8 +119,8 @@ MayHaveLabel ByEdge = Unit {0}
 MayHaveLabel NotKnown = Unit {0}
 MayHaveLabel _ = ⊥
 
--- what may be wrong with the `[` of an edge, where `before` is the number of edges of earlier states: one edge too
--- many; or a label where there may be none
+-- An error at the `[` of an edge: the text has too many edges, or the edge may not have a label. The argument `before`
+-- is the number of edges of earlier states.
 abbrev pub IsBadBracket : ℕ → RowData → Sign → HoaCause → Type 0
 IsBadBracket before row s f = (s.kind ≡ kinds.LeftBracket)
     × (((edge_limit ≤ before + length row.edges) × (f ≡ causes.Limit)) ⊎
@@ -129,12 +129,12 @@ IsBadBracket before row s f = (s.kind ≡ kinds.LeftBracket)
 abbrev pub is_bracket : Sign → Option (Unit {0})
 is_bracket s = if is_left_bracket s.kind then Some tt else None
 
--- the target of an edge whose label comes before it
+-- the target of an edge with a label
 abbrev pub labelled_target : HeaderData → Part Sign ℕ HoaCause
 labelled_target h = barred (one int_in (BadIn (IsBadState h.states))) IsAlternating
 
--- a target that is an edge's first sign: with a wrong state number, of one edge too many, or of an edge that needs a
--- label
+-- an error at the target of an edge without a label: the target is not a state, the text has too many edges, or the
+-- edge needs a label
 abbrev pub IsBadPlainTarget : Option ℕ → ℕ → RowData → ℕ → HoaCause → Type 0
 IsBadPlainTarget states before row n f =
     IsBadState states n f
@@ -170,14 +170,14 @@ edge h before row = either (labelled_edge h before row) (plain_edge h before row
 abbrev pub edges : HeaderData → ℕ → RowData → Part Sign RowData HoaCause
 edges h before row = many (edge h before) row
 
--- implicit labels that are not one for each letter
+-- the row has implicit labels, but not exactly one edge for each letter
 abbrev pub IsWrongCount : HeaderData → RowData → Type 0
 IsWrongCount h row = (labelling row ≡ ByPlace) × (length row.edges ≢ 2 ^ length (names_of h))
 
 abbrev pub last_row : BodyData → Option RowData
 last_row body = slice_get body.rows (length body.rows - 1)
 
--- what may be wrong with a sign after the last edge of a state: the number of its edges
+-- an error at the token after the last edge of a state: the state has a wrong number of edges
 abbrev pub IsBadEnd : HeaderData → BodyData → HoaCause → Type 0
 IsBadEnd h body f = ((row : RowData) × (last_row body ≡ Some row) × IsWrongCount h row) × (f ≡ causes.Labels)
 
@@ -187,14 +187,14 @@ abbrev pub has_row : ℕ → List RowData → Bool
 has_row n [] = false
 has_row n (row ∷ rows) = if nat_eq n row.state then true else has_row n rows
 
--- an INT that is not a state, or that of an earlier row
+-- an `INT` that is not the number of a state, or is the state of an earlier row
 abbrev pub IsBadRow : HeaderData → BodyData → ℕ → HoaCause → Type 0
 IsBadRow h body n f = IsBadState h.states n f ⊎ ((has_row n body.rows ≡ true) × (f ≡ causes.StateTwice))
 
 abbrev pub state_number : HeaderData → BodyData → Part Sign ℕ HoaCause
 state_number h body = one int_in (BadIn (IsBadRow h body))
 
--- the name of a state is read over
+-- the name of a state is skipped
 abbrev pub nothing_of : List ℕ → Unit {0}
 nothing_of _ = tt
 

@@ -1,7 +1,7 @@
--- The bytes of an HOA text, by the tokens that they begin.
+-- The classes of bytes in an HOA text. The class of a byte determines which tokens it can begin.
 --     class_of b      what a byte begins: a blank, a run of digits, a name, an alias, a string, a mark, a comment, or a
---               sign by itself
---     IsName text      a letter or `_`, and then letters, digits, `_` and `-`
+--               token of one byte
+--     IsName text      a letter or `_`, followed by letters, digits, `_` and `-`
 use Rattle.std.specs.Prelude.{ℕ, ◌&&◌, Bool, true, false, List, [], ◌∷◌, if◌then◌else◌, nat_le, nat_eq}
 use Rattle.ps_hoa.specs.declared.tokens.Class.{Class}
 use Rattle.ps_hoa.specs.declared.tokens.Class.TheVariants.{Blank, Digit, Letter, At, Quote, Dash, Slash, Sign, Other}
@@ -42,7 +42,7 @@ digits _ = false
 abbrev pub is_digit : ℕ → Bool
 is_digit b = digits (class_of b)
 
--- a byte of a name after its first
+-- a byte that a name may contain after its first byte
 abbrev pub goes_on : Class → Bool
 goes_on Digit = true
 goes_on Letter = true
@@ -52,7 +52,7 @@ goes_on _ = false
 abbrev pub is_name_byte : ℕ → Bool
 is_name_byte b = goes_on (class_of b)
 
--- the first byte is one of A to Z
+-- the first byte is a letter from A to Z
 abbrev pub begins_capital : List ℕ → Bool
 begins_capital [] = false
 begins_capital (b ∷ bs) = is_between 65 90 b

@@ -1,4 +1,4 @@
--- The names of the causes by which an HOA text is refused.
+-- The names of the causes for which an HOA text is rejected.
 use Rattle.std.specs.Prelude.{ℕ, List, codes}
 use Rattle.ps_hoa.specs.declared.fault.HoaCause.{HoaCause}
 use Rattle.ps_hoa.specs.declared.fault.HoaCause.TheVariants as causes

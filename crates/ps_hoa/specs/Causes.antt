@@ -1,8 +1,8 @@
--- The causes by which an HOA text is refused, with their numbers in psyn's list of faults, and the causes that a sign
--- is by itself, wherever it occurs.
---     hoa_causes      for the answer to a text: the numbers, the causes of signs by themselves, and the grammar's
---               refusal
---     found_of      what an error says of the text
+-- The causes for which an HOA text is rejected, with their numbers in psyn's list of faults. Tokens of some kinds have
+-- a cause of their own, with which they are rejected wherever they occur.
+--     hoa_causes      used to define the answer to a text: the numbers of causes, the causes of tokens by themselves,
+--               and the cause of all other tokens that are not allowed
+--     found_of      what a fault states about the text
 use Rattle.std.specs.Prelude.{ℕ, ◌||◌, Bool, false, List, codes, if◌then◌else◌, Option, None, Some, is_some}
 use Rattle.std.specs.Str.{bytes_eq}
 use Rattle.ps_text.specs.Parts.{Causes}
@@ -16,7 +16,7 @@ use Rattle.ps_text.specs.declared.faults.Fault.{Fault}
 use Rattle.ps_hoa.specs.declared.fault.HoaCause.{HoaCause}
 use Rattle.ps_hoa.specs.declared.fault.HoaCause.TheVariants as causes
 
--- a cause and its place, or out of memory
+-- either a cause with an offset, or out of memory
 abbrev pub HoaFault : Type 0
 HoaFault = Fault HoaCause
 
@@ -41,16 +41,16 @@ cause_number causes.Controllable = 19
 cause_number causes.Name = 20
 cause_number causes.SeveralAutomata = 22
 
--- the grammar defines a name, as that of an item or elsewhere
+-- the grammar defines this name, as the name of a header item or otherwise
 abbrev pub is_spelled : List ℕ → Bool
 is_spelled name =
     bytes_eq name (codes "HOA:") || bytes_eq name (codes "State:") || is_some (item_named name)
 
--- a name that begins with a capital and that the grammar does not spell
+-- the name begins with a capital letter, and the grammar does not define it
 unfoldable pub is_unknown_capital : List ℕ → Bool
 is_unknown_capital name = if is_spelled name then false else begins_capital name
 
--- the cause that a sign is by itself
+-- the cause with which every token of this kind is rejected, if the kind has a cause of its own
 abbrev pub own_cause : Kind → List ℕ → Option HoaCause
 own_cause kinds.OpenComment text = Some causes.Token
 own_cause kinds.Odd text = Some causes.Token

@@ -1,4 +1,5 @@
--- A code for what a text means, by which a proof tells two of them apart. That of a condition is an expression's.
+-- Each meaning of a text has a code, and different meanings have different codes. The code of an acceptance condition
+-- is an expression.
 use Rattle.std.specs.Prelude.{◌≡◌, ℕ, ◌⊎◌, Bool, true, false, List, Option, None, Some, refl}
 use Rattle.std.proofs.Common.{inl, inr, ap}
 use Rattle.std.specs.Coded.{Coded, code_by, coded_list, coded_option, coded×, coded⊎, coded_ℕ}
@@ -9,8 +10,8 @@ use Rattle.ps_hoa.specs.Conditions.{Condition, Conditions, constant, infinitely,
 use Rattle.ps_hoa.specs.Conditions.{more}
 use Rattle.ps_hoa.specs.Files.{GuardData, EdgeData, RowData, FileData, stated, of_state, at_letter}
 
--- a set that is visited infinitely often is written as a proposition, one visited finitely often as an alias, and a
--- complement as a negation
+-- The code of a set is a proposition if the set is visited infinitely often, and an alias if it is visited finitely
+-- often. The code of a complement is the negation of the code of the set.
 abbrev expression_of_set : Bool → Expression → Expression
 expression_of_set true e = expressions.not_of e
 expression_of_set false e = e

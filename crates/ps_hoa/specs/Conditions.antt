@@ -1,9 +1,9 @@
 -- Acceptance conditions:
 --     cond ::= BOOLEAN | ("Inf" | "Fin") "(" "!"? INT ")" | "(" cond ")" | cond "&" cond | cond "|" cond
--- `&` binds tighter than `|`. The operands of several `&` are one conjunction, and likewise for `|`; a condition in
--- parentheses is one operand.
---     condition room      a condition in which `(` may be nested to the depth `room`; those of `Inf` and `Fin` don't
---               count
+-- `&` binds tighter than `|`. Operands that are joined by `&` form one conjunction, and operands that are joined by `|`
+-- form one disjunction. A condition in parentheses is a single operand.
+--     condition room      a condition in which `(` may be nested to the depth `room`; the parentheses of `Inf` and
+--               `Fin` don't count
 use Rattle.std.specs.Prelude.{ℕ, ◌≡◌, ◌<◌, Bool, true, false, List, [], ◌∷◌, codes, if◌then◌else◌, Option}
 use Rattle.std.specs.Prelude.{None, Some}
 use Rattle.std.specs.Str.{bytes_eq}
@@ -20,12 +20,13 @@ use Rattle.ps_hoa.specs.declared.fault.HoaCause.TheVariants as causes
 use Rattle.ps_hoa.specs.declared.tokens.Kind.{Kind}
 use Rattle.ps_hoa.specs.declared.tokens.Kind.TheVariants as kinds
 
--- the set of that number, or its complement
+-- the set with this number, or its complement
 pub record SetData : Type 0 where
   pub number : ℕ
   pub complemented : Bool
 
--- an acceptance condition: some sets are visited infinitely often, and some finitely often
+-- An acceptance condition is a Boolean combination of statements that a set is visited infinitely often, or only
+-- finitely often.
 mutual
   pub data Condition : Type 0 where
     constant : Bool → Condition
@@ -54,7 +55,7 @@ constant_value kind text = None
 abbrev pub constant_in : Sign → Option Condition
 constant_in sign = constant_value sign.kind sign.text
 
--- `Inf` is true of Inf
+-- `true` for `Inf`, `false` for `Fin`
 abbrev pub often_value : Kind → List ℕ → Option Bool
 often_value kinds.Word text =
     if bytes_eq text (codes "Inf") then Some true else (if bytes_eq text (codes "Fin") then Some false else None)
@@ -74,7 +75,7 @@ set_value complemented kind text = None
 abbrev pub set_in : Bool → Sign → Option SetData
 set_in complemented sign = set_value complemented sign.kind sign.text
 
--- an INT above the greatest one
+-- an `INT` above the greatest `INT`
 abbrev pub IsBadSet : Kind → List ℕ → HoaCause → Type 0
 IsBadSet kinds.Int text f = (number_limit < decimal_value text) × (f ≡ causes.Limit)
 IsBadSet kind text f = ⊥
@@ -100,12 +101,12 @@ visit = then_by often_or_not (λ often. then_by (mark is_left) (λ _. then_by an
 abbrev pub atom : Part Sign Condition HoaCause
 atom = either (one constant_in NoBad) visit
 
--- what operands with a connective between them are together
+-- the condition that operands form when a connective joins them
 abbrev pub together : Connective → List Condition → Condition
 together connectives.And cs = all_hold (row_of cs)
 together connectives.Or cs = any_holds (row_of cs)
 
--- an operand is an atom or is in parentheses; `!` comes before none
+-- an operand is an atom or is in parentheses; `!` never comes before an operand
 abbrev pub grammar : InfixGrammar Condition
 grammar = record { leaf = atom; negated = None; together = together }
 

@@ -1,9 +1,10 @@
--- The edges of an automaton: at which letters each is taken, and which sets it is in.
---     row_of file q      what is written of the state q, if anything is
---     IsTaken file row edge letter      an edge of that row is taken at that letter
---     is_marked row edge set      an edge of that row is in that set
---     Goes file q letter marks next      the state q goes by that letter, with these sets, to the next state
--- A letter is a number, in which proposition i is bit i.
+-- The edges of an automaton: the letters at which an edge is taken, and the sets of the edge.
+--     row_of file q      the row of the state q, if there is one
+--     IsTaken file row edge letter      an edge of this row is taken at this letter
+--     is_marked row edge set      an edge of this row is in this set
+--     Goes file q letter marks next      by this letter, the state q goes to the state `next`, on an edge with these
+--               sets
+-- A letter is a number whose bit i is proposition i.
 use Rattle.std.specs.Prelude.{◌≡◌, ℕ, ◌^◌, ◌<◌, ◌||◌, Bool, IsTrue, List, [], ◌∷◌, length, nat_eq, if◌then◌else◌}
 use Rattle.std.specs.Prelude.{Option, None, Some, slice_get}
 use Rattle.ps_label.specs.Expression.{Expression}
@@ -14,11 +15,12 @@ abbrev pub row_among : List RowData → ℕ → Option RowData
 row_among [] q = None
 row_among (row ∷ rows) q = if nat_eq q row.state then Some row else row_among rows q
 
--- the row of a state; a state without one has no edges
+-- the row of a state; a state without a row has no edges
 abbrev pub row_of : FileData → ℕ → Option RowData
 row_of file q = row_among file.rows q
 
--- a guard is open at the letters at which its label is true, at those of its state's label, or at its own letter alone
+-- A guard is open at the letters at which its own label is true, at the letters at which the state's label is true, or
+-- at a single letter.
 abbrev pub IsOpen : List Expression → Option Expression → GuardData → ℕ → Type 0
 IsOpen aliases label (stated e) letter = IsTrue (label_truth aliases letter e)
 IsOpen aliases None of_state letter = ⊥
@@ -28,12 +30,12 @@ IsOpen aliases label (at_letter k) letter = letter ≡ k
 abbrev pub IsTaken : FileData → RowData → EdgeData → ℕ → Type 0
 IsTaken file row edge letter = IsOpen file.aliases row.label edge.guard letter
 
--- an edge is in its own sets and in those of its state
+-- an edge is in its own sets and in the sets of its state
 abbrev pub is_marked : RowData → EdgeData → ℕ → Bool
 is_marked row edge set = is_among set row.marks || is_among set edge.marks
 
--- Some edge of q, taken at that letter, leads there. Its sets are given by a test, so in which order they are written,
--- and how often, makes no difference.
+-- Some edge of q is taken at this letter and leads to `next`. The sets of the edge are given as a test, so their order
+-- and repetitions do not matter.
 pub record Goes (file : FileData) (q letter : ℕ) (marks : ℕ → Bool) (next : ℕ) : Type 0 where
   pub is_letter : letter < 2 ^ length file.names
   pub row : RowData

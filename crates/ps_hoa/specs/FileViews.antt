@@ -1,4 +1,4 @@
--- What a file in memory means.
+-- The abstract value of a stored file.
 use Rattle.std.specs.Prelude.{map}
 use Rattle.ps_label.specs.Truth.{expressions}
 use Rattle.ps_hoa.specs.Files.{FileData}

@@ -1,11 +1,12 @@
--- What an HOA text means: an automaton as it is written, with its names, its aliases and its condition.
+-- The meaning of an HOA text: an automaton as it is written, with its names, its aliases and its condition.
 --     FileData      the whole text; a state without a row has no edges
 use Rattle.std.specs.Prelude.{ℕ, ◌+◌, max, List, [], ◌∷◌, ◌++◌, Option, None, Some, if◌then◌else◌, nat_eq, Bool, true}
 use Rattle.std.specs.Prelude.{false}
 use Rattle.ps_label.specs.Expression.{Expression}
 use Rattle.ps_hoa.specs.Conditions.{Condition}
 
--- at which letters an edge is taken: those of its label, those of its state's label, or one letter (an implicit label)
+-- the letters at which an edge is taken: the letters of its label, those of its state's label, or a single letter (an
+-- implicit label)
 pub data GuardData : Type 0 where
   stated : Expression → GuardData
   of_state : GuardData
@@ -16,7 +17,7 @@ pub record EdgeData : Type 0 where
   pub target : ℕ
   pub marks : List ℕ
 
--- what is written of a state: its label or none, its marks, and its edges in order
+-- what the text states about a state: an optional label, its acceptance sets, and its edges in order
 pub record RowData : Type 0 where
   pub state : ℕ
   pub label : Option Expression
@@ -33,7 +34,7 @@ pub record FileData : Type 0 where
   pub condition : Condition
   pub rows : List RowData
 
--- a number that is written again counts once, at its first place
+-- a repeated number counts once, where it first occurs
 abbrev pub is_among : ℕ → List ℕ → Bool
 is_among n [] = false
 is_among n (m ∷ ms) = if nat_eq n m then true else is_among n ms
@@ -41,7 +42,7 @@ is_among n (m ∷ ms) = if nat_eq n m then true else is_among n ms
 abbrev pub once : List ℕ → ℕ → List ℕ
 once ns n = if is_among n ns then ns else ns ++ n ∷ []
 
--- the greatest state that edges, or rows, name, where `so_far` is named already
+-- the greatest state that the edges or rows name, or `so_far` if that is greater
 abbrev pub greatest_target : ℕ → List EdgeData → ℕ
 greatest_target so_far [] = so_far
 greatest_target so_far (e ∷ es) = greatest_target (max so_far e.target) es
@@ -50,7 +51,7 @@ abbrev pub greatest_state : ℕ → List RowData → ℕ
 greatest_state so_far [] = so_far
 greatest_state so_far (r ∷ rs) = greatest_state (greatest_target (max so_far r.state) r.edges) rs
 
--- without `States:` there is one state more than the greatest that is named
+-- without `States:`, the number of states is one more than the greatest state that the text names
 abbrev pub count_of_states : Option ℕ → ℕ → List RowData → ℕ
 count_of_states (Some n) start rows = n
 count_of_states None start rows = 1 + greatest_state start rows

@@ -3,9 +3,9 @@
 --            | "controllable-AP:" INT* | "tool:" STRING STRING? | "name:" STRING
 --            | HEADERNAME (BOOLEAN | INT | STRING | IDENTIFIER)*
 -- Items may be in any order; an alias must come before its use.
---     HeaderData      what the items so far say; header_data, what those say that the code has read
---     item_in s      the item with that name
---     behind_name h item      what follows the name of that item, after items that say h
+--     HeaderData      the values that the items so far give; header_data: those of a stored header
+--     item_in s      the item with this name
+--     behind_name h item      the arguments of this item, after items that give h
 --     item h      one more item
 --     header      all items, and `--BODY--`
 use Rattle.std.specs.Prelude.{◌≡◌, ◌≢◌, ℕ, ◌<◌, ◌≤◌, ◌⊎◌, ◌||◌, Bool, true, false, List, [], ◌∷◌, ◌++◌, length, drop}
@@ -35,7 +35,7 @@ use Rattle.ps_hoa.specs.declared.fault.HoaCause.TheVariants as causes
 use Rattle.ps_hoa.specs.declared.tokens.Kind.{Kind}
 use Rattle.ps_hoa.specs.declared.tokens.Kind.TheVariants as kinds
 
--- the sets of `Acceptance:` and its condition
+-- the number of acceptance sets, and the acceptance condition
 pub record AcceptanceData : Type 0 where
   pub sets : ℕ
   pub condition : Condition
@@ -61,7 +61,7 @@ no_items =
       acceptance = None;
     }
 
--- what the items say that the code has read
+-- the abstract value of a stored acceptance condition, with its number of sets
 abbrev pub acceptance_data : Acceptance → AcceptanceData
 acceptance_data a = record { sets = a.sets; condition = condition_of a.condition }
 
@@ -83,8 +83,8 @@ names_of h = unwrap_or h.names []
 
 -- ## Signs
 
--- the limits: of states, propositions, sets and aliases; the greatest number of a state where `States:` does not give
--- one
+-- the limits on the numbers of states, propositions, sets and aliases; without `States:`, every state must be less than
+-- the limit on states
 abbrev pub state_limit : ℕ
 state_limit = 65535
 
@@ -108,15 +108,15 @@ int_value kind text = None
 abbrev pub int_in : Sign → Option ℕ
 int_in s = int_value s.kind s.text
 
--- an INT above a limit
+-- an `INT` above a limit
 abbrev pub IsAbove : ℕ → Sign → HoaCause → Type 0
 IsAbove limit s f = IfSome (int_in s) (λ n. (limit < n) × (f ≡ causes.Limit)) × (int_in s ≢ None)
 
--- an INT up to a limit
+-- an `INT` up to a limit
 abbrev pub int : ℕ → Part Sign ℕ HoaCause
 int limit = one int_in (IsAbove limit)
 
--- the meaning of a string between quotes: a backslash and a byte stand for that byte
+-- the meaning of a string: a backslash and the byte after it stand for that byte
 abbrev pub unescaped : Bool → List ℕ → List ℕ
 unescaped skip [] = []
 unescaped true (b ∷ bs) = b ∷ unescaped false bs
@@ -140,7 +140,7 @@ string = one string_in NoBad
 
 -- ## The names of items
 
--- a name without a meaning here that does not begin with a capital is that of an item too, which is read over
+-- An item with an unknown name is skipped, unless the name begins with a capital letter.
 abbrev pub item_or_other : Option Item → List ℕ → Option Item
 item_or_other (Some item) name = Some item
 item_or_other None name = if begins_capital name then None else Some items.Other
@@ -152,7 +152,7 @@ item_value kind text = None
 abbrev pub item_in : Sign → Option Item
 item_in s = item_value s.kind s.text
 
--- an item that is not allowed here, by its name alone: a second `Start:`
+-- an item whose name is not allowed here, whatever follows the name: a second `Start:`
 abbrev pub IsWrongItem : HeaderData → Item → HoaCause → Type 0
 IsWrongItem h items.Start f = (h.start ≢ None) × (f ≡ causes.Start)
 IsWrongItem h item f = ⊥
@@ -171,7 +171,7 @@ with_states h n = record h { states = Some n }
 abbrev pub state_count : HeaderData → Part Sign HeaderData HoaCause
 state_count h = mapped (with_states h) (int state_limit)
 
--- `&` after a state makes an alternating automaton
+-- `&` after a state makes the automaton alternating
 abbrev pub IsAlternating : ℕ → Sign → HoaCause → Type 0
 IsAlternating state s f = (s.kind ≡ kinds.And) × (f ≡ causes.Alternating)
 
@@ -181,7 +181,7 @@ with_start h n = record h { start = Some n }
 abbrev pub start_state : HeaderData → Part Sign HeaderData HoaCause
 start_state h = mapped (with_start h) (barred (int number_limit) IsAlternating)
 
--- a byte that occurs in no name of a proposition
+-- a byte that no name of a proposition may contain
 abbrev pub is_control : ℕ → Bool
 is_control b = nat_lt b 32 || nat_eq b 127
 
@@ -197,7 +197,7 @@ abbrev pub is_empty : List ℕ → Bool
 is_empty [] = true
 is_empty (b ∷ bs) = false
 
--- a string that is not a name of a proposition, or that of an earlier one
+-- a string that may not be the name of a proposition, or is the name of an earlier proposition
 abbrev pub IsBadName : List (List ℕ) → Sign → HoaCause → Type 0
 IsBadName names s f =
     IfSome (string_in s) (λ name. ((is_empty name || has_control name || is_name_among name names) ≡ true) ×
@@ -219,7 +219,7 @@ abbrev pub alias_value : Kind → List ℕ → Option (List ℕ)
 alias_value kinds.AliasName text = Some text
 alias_value kind text = None
 
--- a name beyond the limit of aliases, or that of an earlier one
+-- a name beyond the limit of aliases, or the name of an earlier alias
 abbrev pub IsBadAlias : List (List ℕ) → Sign → HoaCause → Type 0
 IsBadAlias names s f = IfSome (alias_value s.kind s.text) (λ name.
     ((alias_limit ≤ length names) × (f ≡ causes.Limit)) ⊎ ((is_name_among name names ≡ true) × (f ≡ causes.Alias))) ×
@@ -243,8 +243,8 @@ abbrev pub counted_condition : HeaderData → Part Sign HeaderData HoaCause
 counted_condition h =
     then_by (int set_limit) (λ n. mapped (with_acceptance h n) (conditions.condition nesting_limit))
 
--- Each proposition has a place, and all numbers that are not propositions share one: it only matters whether there is
--- one.
+-- Each proposition has a slot of its own. All numbers that are not propositions share one slot, since it only matters
+-- whether there is such a number.
 abbrev pub place_of : ℕ → ℕ
 place_of n = if nat_lt n proposition_limit then n else proposition_limit
 
@@ -252,7 +252,7 @@ abbrev pub has_place : ℕ → List ℕ → Bool
 has_place place [] = false
 has_place place (n ∷ ns) = if nat_eq place (place_of n) then true else has_place place ns
 
--- a number is kept where its place is free, so a proposition that is named again counts once
+-- a number is kept if its slot is free, so a repeated proposition counts once
 abbrev pub kept : List ℕ → ℕ → List ℕ
 kept ns n = if has_place (place_of n) ns then ns else ns ++ n ∷ []
 
@@ -265,7 +265,7 @@ with_controllable h ns = record h { controllable = Some ns }
 abbrev pub controlled : HeaderData → Part Sign HeaderData HoaCause
 controlled h = mapped (with_controllable h) (many index [])
 
--- what is read over changes nothing
+-- skipped tokens do not change the header
 abbrev pub unchanged : HeaderData → List ℕ → HeaderData
 unchanged h _ = h
 
@@ -303,7 +303,7 @@ item h = then_by (item_name h) (behind_name h)
 
 -- ## `--BODY--`, where the whole header is checked
 
--- a label, or a condition, speaks of a proposition, or of a set, that there is not
+-- a label names a proposition that does not exist, or a condition names a set that does not exist
 abbrev mutual
   pub SpeaksBeyond : ℕ → Expression → Type 0
   SpeaksBeyond count (constant b) = ⊥
@@ -337,7 +337,7 @@ abbrev pub AnIndexBeyond : ℕ → List ℕ → Type 0
 AnIndexBeyond count [] = ⊥
 AnIndexBeyond count (n ∷ ns) = (count ≤ n) ⊎ AnIndexBeyond count ns
 
--- the start is not a state; without `States:` it is above the greatest possible one
+-- the start is not a state; without `States:`, the start is greater than every possible state
 abbrev pub IsStartBeyond : Option ℕ → Option ℕ → Type 0
 IsStartBeyond (Some n) (Some start) = n ≤ start
 IsStartBeyond states start = ⊥
@@ -360,7 +360,8 @@ IsRangeBroken h =
     ⊎ (AnAliasBeyond (length (names_of h)) h.aliases ⊎ (IsConditionBeyond h.acceptance ⊎
     IsControlBeyond (length (names_of h)) h.controllable))
 
--- what is wrong with a header that ends here; of several the one with the smallest number is answered
+-- The possible flaws of a complete header. If a header has several flaws, the flaw with the smallest number is
+-- reported.
 pub data IsBadHeader (h : HeaderData) : HoaCause → Type 0 where
   no_acceptance : h.acceptance ≡ None → IsBadHeader h causes.MissingAcceptance
   start_too_large : IsStartTooLarge h.states h.start → IsBadHeader h causes.Limit

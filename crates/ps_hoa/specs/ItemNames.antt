@@ -1,7 +1,8 @@
 -- The names of the items of a header.
---     item_names      those that have a meaning here
---     item_named name      the item with that name
---     mark_of item      the mark of an item that may occur only once; no_marks, if none has occurred
+--     item_names      the names of the items that the parser knows
+--     item_named name      the item with this name
+--     mark_of item      the index of the mark of an item that may occur only once; no_marks: none of these items has
+--               occurred
 use Rattle.std.specs.Prelude.{ℕ, Bool, false, List, [], ◌∷◌, codes, if◌then◌else◌, Option, None, Some}
 use Rattle.std.specs.Str.{bytes_eq}
 use Rattle.ps_hoa.specs.declared.items.Item.{Item}

@@ -1,7 +1,7 @@
 -- Label expressions:
 --     label ::= BOOLEAN | INT | ANAME | "!" label | "(" label ")" | label "&" label | label "|" label
--- `!` binds tightest, then `&`, then `|`. The operands of several `&` are one conjunction, and likewise for `|`; an
--- expression in parentheses is one operand.
+-- `!` binds tightest, then `&`, then `|`. Operands that are joined by `&` form one conjunction, and operands that are
+-- joined by `|` form one disjunction. An expression in parentheses is a single operand.
 --     label scope room      a label in which `!` and `(` may be nested to the depth `room`
 --     operand scope room      what is allowed on either side of `&`
 use Rattle.std.specs.Prelude.{ℕ, ◌≡◌, ◌≤◌, ◌<◌, ◌⊎◌, Bool, true, false, List, codes, if◌then◌else◌, Option}
@@ -19,8 +19,8 @@ use Rattle.ps_hoa.specs.declared.fault.HoaCause.TheVariants as causes
 use Rattle.ps_hoa.specs.declared.tokens.Kind.{Kind}
 use Rattle.ps_hoa.specs.declared.tokens.Kind.TheVariants as kinds
 
--- The context of a label: the aliases that were defined before, in order, and, if it matters, the number of
--- propositions. In the header it does not, since `AP:` may come after the label.
+-- The context of a label: the earlier aliases in order, and the number of propositions where it is known. In the header
+-- this number is not known, since `AP:` may come after the label.
 pub record ScopeData : Type 0 where
   pub names : List (List ℕ)
   pub propositions : Option ℕ
@@ -33,7 +33,7 @@ abbrev pub constant_in : Option Bool → Option Expression
 constant_in None = None
 constant_in (Some b) = Some (constant b)
 
--- the number of the alias of that name
+-- the number of the alias with this name
 abbrev pub alias_number : List (List ℕ) → List ℕ → Option ℕ
 alias_number names text = position (λ name. bytes_eq name text) names
 
@@ -41,7 +41,7 @@ abbrev pub alias_in : Option ℕ → Option Expression
 alias_in None = None
 alias_in (Some k) = Some (alias k)
 
--- an operand of one sign
+-- an operand that consists of a single token
 abbrev pub leaf_value : List (List ℕ) → Kind → List ℕ → Option Expression
 leaf_value names kinds.Word text = constant_in (boolean_in text)
 leaf_value names kinds.Int text = Some (proposition (decimal_value text))
@@ -55,7 +55,8 @@ abbrev pub IsBeyond : Option ℕ → ℕ → Type 0
 IsBeyond None n = ⊥
 IsBeyond (Some count) n = count ≤ n
 
--- what may be wrong with such an operand: an INT above the greatest one, or that is not a proposition; an unknown alias
+-- an error in an operand of a single token: an `INT` that is above the greatest `INT` or is not a proposition, or an
+-- unknown alias
 abbrev pub IsBadLeaf : ScopeData → Kind → List ℕ → HoaCause → Type 0
 IsBadLeaf scope kinds.Int text f =
     ((number_limit < decimal_value text) × (f ≡ causes.Limit)) ⊎
@@ -69,12 +70,12 @@ BadLeaf scope sign f = IsBadLeaf scope sign.kind sign.text f
 abbrev pub leaf : ScopeData → Part Sign Expression HoaCause
 leaf scope = one (leaf_in scope.names) (BadLeaf scope)
 
--- what operands with a connective between them are together
+-- the expression that operands form when a connective joins them
 abbrev pub together : Connective → List Expression → Expression
 together connectives.And es = all_of (row_of es)
 together connectives.Or es = any_of (row_of es)
 
--- an operand is one sign, follows `!` or is in parentheses
+-- an operand is a single token, follows `!`, or is in parentheses
 abbrev pub grammar : ScopeData → InfixGrammar Expression
 grammar scope = record { leaf = leaf scope; negated = Some not_of; together = together }
 

@@ -1,4 +1,4 @@
--- The bytes of names that lie in memory.
+-- The bytes of a stored name.
 use Rattle.std.specs.Prelude.{ℕ, List, Vec}
 use Rattle.std.specs.Global.{Global}
 

@@ -1,9 +1,9 @@
--- Labels and acceptance conditions by the grammar without a limit, with how deep `!` and `(` nest: each counts from its
--- sign to the end of its operand, and the parentheses of `Inf` and `Fin` don't count. The grammars of `Labels` and
--- `Conditions` are this one up to their room.
---     IsLabel names deep text v, IsCondition deep text v      the signs are one of that meaning, in which they nest
---               that deep
---     Within room Nests      they nest no deeper than that
+-- The grammar of labels and acceptance conditions without a limit, together with the nesting depth of `!` and `(`. The
+-- depth counts each `!` and each `(` from the sign to the end of its operand, except for the parentheses of `Inf` and
+-- `Fin`. Up to the depth `room`, the grammars of `Labels` and `Conditions` equal this grammar.
+--     IsLabel names deep text v, IsCondition deep text v      the tokens are a label or a condition with the meaning
+--               `v` and the nesting depth `deep`
+--     Within room Nests      the nesting depth is at most `room`
 use Rattle.std.specs.Prelude.{ℕ, ◌≡◌, ◌≤◌, ◌⊎◌, suc, max, true, List, [], ◌∷◌, ◌++◌, Some}
 use Rattle.ps_label.specs.Expression.{Expression, not_of}
 use Rattle.ps_hoa.specs.Conditions as conditions
@@ -14,16 +14,17 @@ use Rattle.ps_hoa.specs.Tokens.{Sign}
 use Rattle.ps_hoa.specs.declared.infix.Connective.{Connective}
 use Rattle.ps_hoa.specs.declared.infix.Connective.TheVariants as connectives
 
--- what each of the two grammars has of its own
+-- the part of the grammar that differs between labels and conditions
 pub record Grammar (V : Type 0) : Type 1 where
-  -- the signs are an operand without `!` or `(` in front
+  -- the tokens are an operand that does not begin with `!` or `(`
   pub IsAtom : List Sign → V → Type 0
-  -- with `!` in front, an operand of the first value has the second
+  -- with `!` before it, an operand with the first value has the second value
   pub Negates : V → V → Type 0
-  -- what operands with a connective between them are together
+  -- the value that operands have together when a connective joins them
   pub together : Connective → List V → V
 
--- each form has its nesting, its signs and its value; More are the parts after the first, each after its connective
+-- Each form has its nesting depth, its tokens and its value. The further operands, each after its connective, are
+-- `More`.
 mutual
   pub data IsOperand {V : Type 0} (g : Grammar V) : ℕ → List Sign → V → Type 0 where
     atom : (text : List Sign) (v : V) → g.IsAtom text v → IsOperand g 0 text v
@@ -33,7 +34,7 @@ mutual
         is_right r.kind ≡ true → IsRow g connectives.Or deep text v →
         IsOperand g (suc deep) (l ∷ text ++ r ∷ []) v
 
-  -- what is between connectives: `&` binds tighter than `|`
+  -- what may be on either side of a connective: `&` binds tighter than `|`
   pub data IsPart {V : Type 0} (g : Grammar V) : Connective → ℕ → List Sign → V → Type 0 where
     operand : (deep : ℕ) (text : List Sign) (v : V) → IsOperand g deep text v → IsPart g connectives.And deep text v
     conjunction : (deep : ℕ) (text : List Sign) (v : V) → IsRow g connectives.And deep text v →
@@ -50,7 +51,7 @@ mutual
         More g c b rest vs →
         IsRow g c (max a b) (text ++ rest) (joined (g.together c) (v ∷ vs))
 
--- a label's atoms are of one sign, and `!` makes its negation
+-- the atoms of a label are single tokens, and `!` negates the label after it
 abbrev pub label_grammar : List (List ℕ) → Grammar Expression
 label_grammar names = record {
   IsAtom = λ text v. (t : Sign) × (text ≡ t ∷ []) × (labels.leaf_in names t ≡ Some v);
@@ -61,7 +62,7 @@ label_grammar names = record {
 abbrev pub IsLabel : List (List ℕ) → ℕ → List Sign → Expression → Type 0
 IsLabel names = IsRow (label_grammar names) connectives.Or
 
--- a condition's atoms are a constant or a set that is visited; `!` comes before none
+-- the atoms of a condition are constants, and sets that are visited; `!` never comes before an operand
 abbrev pub condition_grammar : Grammar Condition
 condition_grammar = record {
   IsAtom =

@@ -1,11 +1,11 @@
--- What labels and acceptance conditions have in common: signs by themselves, an operand in parentheses, rows of
--- operands, and operands that contain others.
---     mark test      a sign of such a kind, by itself
+-- The common grammar of labels and acceptance conditions: single tokens, an operand in parentheses, rows of operands,
+-- and operands that contain other operands.
+--     mark test      a single token whose kind passes the test
 --     inner part      the part between parentheses
---     row sign join operand      operands with that sign between them: a single one is itself, and several are joined
---               at once
+--     row sign join operand      operands with this sign between them: a single operand keeps its value, and several
+--               are joined at once
 --     rows together connective operand      operands with a connective between them, where `&` binds tighter than `|`
---     operand g room      an operand of such a grammar, in which `!` and `(` may be nested to the depth `room`
+--     operand g room      an operand of this grammar, in which `!` and `(` may be nested to the depth `room`
 use Rattle.std.specs.Prelude.{ℕ, ◌≡◌, zero, suc, Bool, true, false, List, [], ◌∷◌, ◌++◌, if◌then◌else◌, Option, None}
 use Rattle.std.specs.Prelude.{Some, is_some}
 use Rattle.ps_text.specs.Parts.{Part, NoBad, give, one, then_by, either, many, mapped, barred}
@@ -58,7 +58,7 @@ single v = v ∷ []
 abbrev pub with_last : {V : Type 0} → List V → V → List V
 with_last vs v = vs ++ v ∷ []
 
--- a single operand is itself
+-- a single operand keeps its own value
 abbrev pub joined : {V : Type 0} → (List V → V) → List V → V
 joined join (v ∷ []) = v
 joined join vs = join vs
@@ -82,7 +82,7 @@ abbrev pub is_sign_of : Connective → Kind → Bool
 is_sign_of connectives.And = is_and
 is_sign_of connectives.Or = is_or
 
--- what is between connectives: between `&` operands, and between `|` rows of these with `&`
+-- what may be on either side of a connective: for `&` an operand, and for `|` a row of operands joined by `&`
 abbrev pub between : {V : Type 0} → (Connective → List V → V) → Connective → Part Sign V HoaCause → Part Sign V HoaCause
 between together connectives.And operand = operand
 between together connectives.Or operand = row is_and (together connectives.And) operand
@@ -93,16 +93,16 @@ rows together connective operand =
 
 -- ## Operands
 
--- what each of the two grammars has of its own
+-- the part of the grammar that differs between labels and conditions
 pub record InfixGrammar (V : Type 0) : Type 1 where
-  -- an operand without `!` or `(` in front
+  -- an operand that does not begin with `!` or `(`
   pub leaf : Part Sign V HoaCause
   -- the value of an operand with `!` before it, if `!` is allowed there
   pub negated : Option (V → V)
-  -- what operands with a connective between them are together
+  -- the value that operands have together when a connective joins them
   pub together : Connective → List V → V
 
--- with such a sign an operand begins that holds another one
+-- a token of this kind begins an operand that contains another operand
 abbrev pub holds : {V : Type 0} → Option (V → V) → Kind → Bool
 holds negated kinds.Not = is_some negated
 holds negated kind = is_left kind
@@ -110,14 +110,14 @@ holds negated kind = is_left kind
 abbrev pub IsTooDeep : {V : Type 0} → Option (V → V) → Sign → HoaCause → Type 0
 IsTooDeep negated sign f = (holds negated sign.kind ≡ true) × (f ≡ causes.Limit)
 
--- no such operand is allowed here, since the nesting would be too deep
+-- no operand that contains another operand is allowed here, since the nesting would be too deep
 abbrev pub bar : {V : Type 0} → Option (V → V) → Part Sign (Unit {0}) HoaCause
 bar negated = barred (give tt) (λ _. IsTooDeep negated)
 
 abbrev pub negation : {V : Type 0} → (V → V) → Part Sign V HoaCause → Part Sign V HoaCause
 negation negated operand = then_by (mark is_not) (λ _. mapped negated operand)
 
--- an operand that contains another one: after `!`, if that is allowed, or in parentheses
+-- an operand that contains another operand: after `!`, if that is allowed, or in parentheses
 abbrev pub holding : {V : Type 0} → Option (V → V) → Part Sign V HoaCause → Part Sign V HoaCause → Part Sign V HoaCause
 holding None operand held = held
 holding (Some negated) operand held = either (negation negated operand) held
@@ -131,6 +131,6 @@ operand g (suc room) =
 abbrev pub number_limit : ℕ
 number_limit = 4294967295
 
--- `!` and `(` may nest as many deep
+-- the greatest depth to which `!` and `(` may be nested
 abbrev pub nesting_limit : ℕ
 nesting_limit = 256

@@ -1,4 +1,4 @@
--- The tokens found by going over the bytes once: where the reader is, and what is still to come.
+-- The tokens that a single pass over the bytes finds.
 use Rattle.std.specs.Prelude.{◌≡◌, ℕ, zero, suc, ◌+◌, ◌-◌, ◌<◌, ◌≤◌, ◌&&◌, Bool, true, false, List, [], ◌∷◌, length}
 use Rattle.std.specs.Prelude.{take}
 use Rattle.std.specs.Prelude.{drop, codes, if◌then◌else◌, nat_eq, nat_lt, Option, None, Some}
@@ -27,13 +27,13 @@ abbrev pub one_more : Option ℕ → Option ℕ
 one_more None = None
 one_more (Some n) = Some (suc n)
 
--- that many more, if there is a number
+-- the sum of a number and an optional number
 abbrev pub plus : ℕ → Option ℕ → Option ℕ
 plus k None = None
 plus k (Some n) = Some (k + n)
 
--- how many bytes there are up to the end of the comment that contains them, with `depth` others around it; with `skip`,
--- the first one belongs to a pair before
+-- The number of bytes up to the end of the comment that these bytes continue. The comment is nested in `depth` further
+-- comments. With `skip`, the first byte belongs to the same pair as the byte before it.
 unfoldable pub comment_len : List ℕ → Bool → ℕ → Option ℕ
 comment_len [] skip depth = None
 comment_len (b ∷ bs) true depth = one_more (comment_len bs false depth)
@@ -43,7 +43,7 @@ comment_len (b ∷ bs) false depth =
     else (if nat_eq b 47 && nat_eq (head_or_zero bs) 42 then one_more (comment_len bs true (suc depth))
     else one_more (comment_len bs false depth))
 
--- how many bytes there are up to the end of the string that contains them, including the closing quote
+-- the number of bytes up to the end of the string that these bytes continue, including the closing quote
 unfoldable pub quoted_len : List ℕ → Bool → Option ℕ
 quoted_len [] skip = None
 quoted_len (b ∷ bs) true = one_more (quoted_len bs false)
@@ -52,7 +52,8 @@ quoted_len (b ∷ bs) false = if nat_eq b 34 then Some 1 else one_more (quoted_l
 abbrev pub begins_with : List ℕ → List ℕ → Bool
 begins_with bytes word = bytes_eq (take (length word) bytes) word
 
--- what begins here, and how many bytes it has: a token, by the class of its first byte and the bytes after that
+-- The blank, comment or token that begins with the first byte, and its length. The class of the first byte and the
+-- bytes after it determine the kind of a token.
 abbrev pub number_step : ℕ → List ℕ → Step
 number_step b bs =
     if nat_eq b 48 && nat_lt 0 (prefix_len is_digit bs) then Found ZeroRun (1 + prefix_len is_digit bs)
@@ -132,7 +133,7 @@ IsNoBlank (Found kind n) = Unit {0}
 abbrev pub fresh : Marks
 fresh = record { stood = no_marks; ended = false }
 
--- the tokens still to come, where the first `skip` bytes belong to what was found before
+-- the remaining tokens, where the first `skip` bytes belong to the token or blank before them
 unfoldable pub lex_behind : List ℕ → ℕ → ℕ → List (Piece Sign)
 lex_behind [] skip at = []
 lex_behind (b ∷ bs) (suc skip) at = lex_behind bs skip (at + 1)
@@ -146,13 +147,13 @@ lex_behind (b ∷ bs) zero at =
 abbrev pub lex : ℕ → List ℕ → List (Piece Sign)
 lex at bytes = lex_behind bytes 0 at
 
--- where a reader of tokens is
+-- the state of the tokenizer: the text, the offset of the next token, and the names that have occurred
 pub record Reading : Type 0 where
   pub source : List ℕ
   pub at : ℕ
   pub marks : Marks
 
--- a token by itself is there
+-- the text has this token at these offsets, regardless of the tokens before it
 pub record IsLexeme (source : List ℕ) (found : Lexeme) : Type 0 where
   pub rises : found.start ≤ found.stop
   pub within : found.stop ≤ length source
@@ -163,7 +164,7 @@ pub record IsLexeme (source : List ℕ) (found : Lexeme) : Type 0 where
 unfoldable pub stream_of : Reading → Stream Sign
 stream_of r = record { pieces = marked r.marks (lex r.at (drop r.at r.source)); end = length r.source }
 
--- the next piece; at the end of the text it is not one of its tokens
+-- the next token; at the end of the text, a piece of the kind `Finish`
 abbrev pub next_of : Stream Sign → Piece Sign
 next_of s = elim s.pieces [ [] ↦ record { sign = record { kind = Finish; text = [] }; start = s.end } | p ∷ ps ↦ p ]
 

@@ -1,6 +1,6 @@
--- What holds of each file that was read: every number is that of a state, a proposition, a set or an earlier alias; the
--- numbers of a list, names and rows differ; the edges of a state are labelled in one of three ways; and nothing is
--- beyond the limits of texts.
+-- The properties of a parsed file. Every number refers to a state, a proposition, a set or an earlier alias. No list
+-- has a number twice, no two propositions have the same name, and no two rows have the same state. The edges of a state
+-- are labelled in one of three ways, and the limits on texts are kept.
 --     IsSoundFile file
 use Rattle.std.specs.Prelude.{◌≡◌, ℕ, ◌+◌, ◌^◌, ◌<◌, ◌≤◌, ◌⊎◌, ◌||◌, false, List, [], ◌∷◌, length, All, sum_by, Option}
 use Rattle.std.specs.Prelude.{None, Some, IfSome}
@@ -40,12 +40,12 @@ IsStated e = (label : Expression) × (e.guard ≡ stated label)
 abbrev pub IsOfState : EdgeData → Type 0
 IsOfState e = e.guard ≡ of_state
 
--- these edges, the first of which has the number given, are taken at the letters of their numbers
+-- the edges are taken at successive letters, from the letter k on
 abbrev pub AreAtLetters : ℕ → List EdgeData → Type 0
 AreAtLetters k [] = Unit {0}
 AreAtLetters k (e ∷ es) = (e.guard ≡ at_letter k) × AreAtLetters (k + 1) es
 
--- by the label of the state, each by its own, or one for each letter
+-- the edges are labelled by the state's label, by a label of each edge, or in order, with one edge for each letter
 abbrev pub AreLabelled : ℕ → Option Expression → List EdgeData → Type 0
 AreLabelled propositions (Some e) es = AllByRecursion IsOfState es
 AreLabelled propositions None es = AllByRecursion IsStated es ⊎ (AreAtLetters 0 es × (length es ≡ 2 ^ propositions))
@@ -59,7 +59,7 @@ abbrev pub IsGuard : FileData → GuardData → Type 0
 IsGuard file (stated e) = IsLabelOf file e
 IsGuard file guard = Unit {0}
 
--- numbers below that, each once
+-- distinct numbers below a bound
 pub record AreBelow (count : ℕ) (ns : List ℕ) : Type 0 where
   pub all : All (λ n. n < count) ns
   pub different : AreDifferent ns
@@ -76,7 +76,7 @@ pub record IsSoundRow (file : FileData) (row : RowData) : Type 0 where
   pub edges : All (IsSoundEdge file) row.edges
   pub labelled : AreLabelled (length file.names) row.label row.edges
 
--- names are not empty, have no control bytes, and differ
+-- the names differ, are not empty, and contain no control bytes
 abbrev pub AreNames : List (List ℕ) → Type 0
 AreNames [] = Unit {0}
 AreNames (name ∷ names) =

@@ -1,4 +1,4 @@
--- A token of the code, and its place.
+-- The stored tokens, and their offsets in the text.
 use Rattle.std.specs.Prelude.{◌≡◌, ℕ, ◌+◌, ◌≤◌, List, ◌++◌, length, drop, slice_range}
 use Rattle.ps_text.specs.Answers.{Piece}
 use Rattle.ps_hoa.specs.Scan.{IsLexeme}
@@ -7,23 +7,23 @@ use Rattle.ps_hoa.specs.declared.tokens.Kind.{Kind}
 use Rattle.ps_hoa.specs.declared.tokens.Marks.{Marks}
 use Rattle.ps_hoa.specs.declared.tokens.Token.{Token}
 
--- what the grammar sees of a token
+-- the token as the grammar sees it
 abbrev pub piece_of : Token → Piece Sign
 piece_of token = record { sign = record { kind = token.kind; text = token.text.now }; start = token.start }
 
--- the token's text is that between its two offsets
+-- the text of the token is the source between the token's two offsets
 pub record IsSpan (source : List ℕ) (token : Token) : Type 0 where
   pub rises : token.start ≤ token.stop
   pub within : token.stop ≤ length source
   pub text : token.text.now ≡ slice_range source token.start token.stop
 
--- a token that is there by itself with that kind, and what it is after these marks
+-- `kind` is the kind of the token by itself; the field `kind` of the token also depends on the earlier tokens
 pub record IsKept (source : List ℕ) (marks : Marks) (kind : Kind) (token : Token) : Type 0 where
   pub lexeme : IsLexeme source (record { kind = kind; start = token.start; stop = token.stop })
   pub here : token.kind ≡ kind_here marks kind token.text.now
   pub text : token.text.now ≡ slice_range source token.start token.stop
 
--- the blanks from one place of a text to another
+-- the bytes between two offsets of a text are blanks and comments
 pub record AreBlanks (source : List ℕ) (from at : ℕ) : Type 0 where
   pub blanks : List ℕ
   pub run : IsBlankRun blanks

@@ -1,9 +1,9 @@
--- What the reader of HOA texts answers.
---     file      header and body, as one part
---     IsBehindBlanks bytes blanks rest      rest is what follows all blanks and comments
---     ReadsFile bytes answer      the meaning of a text without a cause, and else its first cause. The stages follow
---               one another: the length, `HOA:`, the version, and what comes after it by its tokens
---     IsFileAnswer view bytes result      what the reader returns
+-- The answer to an HOA text: its meaning, or its first error.
+--     file      the header and the body, as one part
+--     IsBehindBlanks bytes blanks rest      `rest` is what follows all blanks and comments
+--     ReadsFile bytes answer      the answer is the meaning of a text without an error, and otherwise the first error.
+--               The stages are, in order: the length, `HOA:`, the version, and the tokens after it
+--     IsFileAnswer view bytes result      the result of the parser
 use Rattle.std.specs.Prelude.{◌≡◌, ◌≢◌, ℕ, ◌+◌, ◌<◌, ◌≤◌, ◌||◌, Bool, true, List, [], ◌++◌, length, codes, nat_eq, None}
 use Rattle.std.specs.Prelude.{Some, Result, Ok, Err}
 use Rattle.std.specs.Option.{unwrap_or}
@@ -26,7 +26,7 @@ use Rattle.ps_text.specs.declared.faults.Fault.TheVariants as faults
 abbrev pub condition_of : HeaderData → Condition
 condition_of h = elim h.acceptance [ None ↦ conditions.constant true | Some a ↦ a.condition ]
 
--- what header and body mean together
+-- the file that a header and a body form together
 abbrev pub file_of : HeaderData → BodyData → FileData
 file_of h b = record {
   states = count_of_states h.states (unwrap_or h.start 0) b.rows;
@@ -52,11 +52,11 @@ pub record IsBehindBlanks (bytes blanks rest : List ℕ) : Type 0 where
   pub are_blanks : IsBlankRun blanks
   pub all : (part more : List ℕ) → rest ≡ part ++ more → IsBlankPart part → ⊥
 
--- a byte of a version: of a name, or a dot
+-- a byte that a version may contain: a byte of a name, or a dot
 abbrev pub is_version_byte : ℕ → Bool
 is_version_byte b = is_name_byte b || nat_eq b 46
 
--- the longest run of such bytes
+-- the longest run of bytes that a version may contain
 pub record IsVersion (bytes version rest : List ℕ) : Type 0 where
   pub split : bytes ≡ version ++ rest
   pub run : AllBytes is_version_byte version
@@ -81,17 +81,17 @@ pub data ReadsFile (bytes : List ℕ) : Result FileData (Found HoaCause) → Typ
       PartAnswers hoa_causes file (record { pieces = marked fresh pieces; end = length bytes }) answer →
       ReadsFile bytes answer
 
--- the error is the answer to the text
+-- the fault is the answer to the text
 abbrev pub IsRefusedAs : List ℕ → HoaFault → Type 0
 IsRefusedAs bytes (faults.Text cause offset) = ReadsFile bytes (at_offset cause offset)
 IsRefusedAs bytes faults.OutOfMemory = ⊥
 
--- the same, and nothing where memory ran out
+-- the fault is the answer to the text, or means out of memory
 abbrev pub IsFaultOf : List ℕ → HoaFault → Type 0
 IsFaultOf bytes (faults.Text cause offset) = ReadsFile bytes (at_offset cause offset)
 IsFaultOf bytes faults.OutOfMemory = Unit {0}
 
--- what the reader answers, whose value means what view says
+-- the result of the parser, where `view` gives the meaning of the stored value
 abbrev pub IsFileAnswer : {X : Type 0} → (X → FileData) → List ℕ → Result X HoaFault → Type 0
 IsFileAnswer view bytes (Ok x) = ReadsFile bytes (Ok (view x))
 IsFileAnswer view bytes (Err fault) = IsFaultOf bytes fault

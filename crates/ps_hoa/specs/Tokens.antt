@@ -2,12 +2,12 @@
 --     Sign      a token as the grammar sees it: its kind and its bytes
 --     IsComment text      `/* .. */`, with comments of its own inside
 --     IsBlankRun text      blanks and comments
---     Stands kind text rest      a token of that kind, followed by rest: the longest that can begin there
---     IsToken kind text rest      the same, or one that is never allowed: a comment that is not closed, or a byte that
---               begins no token
---     AreTokens at bytes pieces      the tokens of bytes, the first of which has the offset at, with blanks between
---     marked marks pieces      the same, if the second occurrence of a name that may occur only once, and what follows
---               `--END--`, are distinguished
+--     Stands kind text rest      a token of this kind, followed by rest: the longest token that can begin here
+--     IsToken kind text rest      the same, or a token that is never allowed: a comment that is not closed, or a byte
+--               that begins no token
+--     AreTokens at bytes pieces      the tokens of `bytes`, with blanks between them; `at` is the offset of the bytes
+--     marked marks pieces      the same tokens, where the second occurrence of a name that may occur only once, and
+--               every token after `--END--`, have kinds of their own
 use Rattle.std.specs.Prelude.{◌≡◌, ℕ, suc, ◌+◌, ◌<◌, ◌⊎◌, ◌≢◌, ◌||◌, Bool, true, false, List, [], ◌∷◌, ◌++◌, length}
 use Rattle.std.specs.Prelude.{codes, if◌then◌else◌, nat_eq, get_or, set, Option, None, Some}
 use Rattle.std.specs.Str.{bytes_eq}
@@ -26,8 +26,8 @@ pub record Sign : Type 0 where
 
 -- ## Blanks
 
--- These bytes end the comment that contains them, with `depth` further ones around it, and do so only with the last
--- byte.
+-- These bytes complete a comment that was opened before them, and only their last byte completes it. The comment is
+-- nested in `depth` further comments.
 pub data Ends : ℕ → List ℕ → Type 0 where
   closes_last : {b c : ℕ} → b ≡ 42 → c ≡ 47 → Ends 0 (b ∷ c ∷ [])
   closes : {depth b c : ℕ} {bs : List ℕ} → b ≡ 42 → c ≡ 47 → Ends depth bs → Ends (suc depth) (b ∷ c ∷ bs)
@@ -66,7 +66,7 @@ pub data IsQuoted : List ℕ → Type 0 where
   plain : {b : ℕ} {bs : List ℕ} → b ≢ 34 → b ≢ 92 → IsQuoted bs → IsQuoted (b ∷ bs)
   escaped : {b c : ℕ} {bs : List ℕ} → b ≡ 92 → IsQuoted bs → IsQuoted (b ∷ c ∷ bs)
 
--- a sign by itself is one byte
+-- the bytes that a token of each kind may consist of; a punctuation mark is a single byte
 abbrev pub HasForm : Kind → List ℕ → Type 0
 HasForm Header text = (name : List ℕ) × IsName name × (text ≡ name ++ 58 ∷ [])
 HasForm Word text = IsName text
@@ -84,7 +84,7 @@ HasForm Behind text = ⊥
 HasForm Finish text = ⊥
 HasForm kind text = (b : ℕ) × (text ≡ b ∷ []) × (class_of b ≡ SignOf kind)
 
--- the bytes that make a token of that kind longer
+-- the bytes that would make a token of this kind longer
 abbrev pub lengthens : Kind → ℕ → Bool
 lengthens Word b = is_name_byte b || nat_eq b 58
 lengthens AliasName b = is_name_byte b
@@ -100,7 +100,7 @@ pub record Stands (kind : Kind) (text rest : List ℕ) : Type 0 where
   pub form : HasForm kind text
   pub longest : StopsBefore (lengthens kind) rest
 
--- a comment begins that is not closed
+-- a comment begins here and is not closed
 pub record IsOpen (text rest : List ℕ) : Type 0 where
   pub begins : text ≡ codes "/*"
   pub unclosed : (comment more : List ℕ) → text ++ rest ≡ comment ++ more → IsComment comment → ⊥
@@ -118,7 +118,7 @@ IsToken OpenComment text rest = IsOpen text rest
 IsToken Odd text rest = IsOdd text rest
 IsToken kind text rest = Stands kind text rest
 
--- one token after blanks, and what follows
+-- one token after blanks, and the rest after the token
 pub record IsNext (at : ℕ) (bytes : List ℕ) (piece : Piece Sign) (rest : List ℕ) : Type 0 where
   pub blanks : List ℕ
   pub split : bytes ≡ blanks ++ (piece.sign.text ++ rest)
@@ -133,7 +133,7 @@ AreTokens at bytes (p ∷ ps) =
 
 -- ## Names that may occur only once, and what follows the end
 
--- the name occurred before (`HOA:` always did)
+-- the name has occurred before; `HOA:` always has
 abbrev pub has_stood : Marks → Option ℕ → Bool
 has_stood marks None = false
 has_stood marks (Some mark) = get_or marks.stood mark false
@@ -148,7 +148,7 @@ with_mark marks (Some mark) = record marks { stood = set marks.stood mark true }
 abbrev pub with_name : Marks → List ℕ → Marks
 with_name marks name = with_mark marks (mark_named name)
 
--- Behind `--END--` only a comment that is not closed is told from other tokens.
+-- After `--END--`, all tokens except a comment that is not closed have the kind `Behind`.
 abbrev pub kind_here : Marks → Kind → List ℕ → Kind
 kind_here marks OpenComment text = OpenComment
 kind_here marks Finish text = Finish

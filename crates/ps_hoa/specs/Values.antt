@@ -1,4 +1,4 @@
--- What the code's acceptance conditions are, apart from where their parts lie in memory.
+-- The abstract value of a stored acceptance condition.
 use Rattle.std.specs.Prelude.{true, false}
 use Rattle.ps_hoa.specs.Conditions.{SetData, Condition, Conditions, constant, infinitely, finitely, all_hold, any_holds}
 use Rattle.ps_hoa.specs.Conditions.{last, more}

@@ -1,4 +1,4 @@
-//! The file that a header and a body make up.
+//! Assembles a file from a header and a body.
 
 ghost use Rattle.std.specs.Prelude.{◌≡◌, ◌≤◌, IfErr, IfOk, map, option_map};
 ghost use Rattle.ps_text.specs.declared.faults.Fault.TheVariants as faults;
@@ -22,7 +22,7 @@ use crate::rows::Rows;
 use ps_label::{Label, Labels};
 use std::alloc::{AllocError, Global};
 
-/// The file of a header and a body.
+/// The file with a given header and a given body.
 pub(crate) fn file(alloc: Global, header: Header, rows: Rows) -> Result<HoaFile, HoaFault>
     requires { IsSoundFile (file_of (header_data header) (body_data rows)) }
     ensures value { IfOk result (λ file. file ≡ file_of (header_data header.entry) (body_data rows)) }
@@ -56,7 +56,7 @@ pub(crate) fn file(alloc: Global, header: Header, rows: Rows) -> Result<HoaFile,
     })
 }
 
-/// The aliases, each of which uses only earlier ones.
+/// The list of aliases, each of which uses only earlier aliases.
 fn labels(alloc: Global, aliases: Vec<Label>) -> Result<Labels, AllocError>
     requires { AreOrdered (expressions aliases.items) }
     ensures { IfOk result (λ labels. labels ≡ aliases.items) }
@@ -68,7 +68,8 @@ fn labels(alloc: Global, aliases: Vec<Label>) -> Result<Labels, AllocError>
     Ok(labels)
 }
 
-/// How many states there are: as many as the header says, or one more than the greatest that is named.
+/// The number of states: the number that the header states, or else one more than the greatest state that the text
+/// names.
 fn count_of_states(states: Option<u32>, start: u32, rows: &[Row]) -> u32
     requires { files.count_of_states states start (map row_data rows.now) ≤ state_limit }
     ensures { result ≡ files.count_of_states states start (map row_data rows.now) }
@@ -79,7 +80,7 @@ fn count_of_states(states: Option<u32>, start: u32, rows: &[Row]) -> u32
     }
 }
 
-/// The greatest state that is named, given one that is.
+/// The greatest state among `named` and the states and targets of the given rows.
 fn greatest_state(named: u32, rows: &[Row]) -> u32
     ensures { result ≡ files.greatest_state named (map row_data rows.now) }
 {
@@ -90,7 +91,7 @@ fn greatest_state(named: u32, rows: &[Row]) -> u32
     greatest
 }
 
-/// The greatest state that is named, given one that is.
+/// The greatest state among `named` and the targets of the given edges.
 fn greatest_target(named: u32, edges: &[Edge]) -> u32
     ensures { result ≡ files.greatest_target named (map edge_data edges.now) }
 {

@@ -1,4 +1,4 @@
-//! The body of an HOA text.
+//! The parser of the body of an HOA text.
 
 ghost use Rattle.std.specs.Prelude.{◌≡◌, ◌≢◌, ℕ, ◌+◌, ◌^◌, ◌≤◌, ◌↔◌, false, true, codes, IfOk, is_some, length};
 ghost use Rattle.std.specs.Prelude.{option_map};
@@ -27,7 +27,7 @@ use crate::tokens::{Kind, Token, Tokens};
 use ps_label::Label;
 use std::alloc::Global;
 
-/// Reads the body: its states, and `--END--`.
+/// Parses the body: its states, then `--END--`.
 pub(crate) fn body(alloc: Global, tokens: &mut Tokens, header: &Header) -> Result<Rows, HoaFault>
     ensures { ReadsAs body_data (parts.body (header_data header.now)) tokens.old result tokens.new }
 {
@@ -36,7 +36,7 @@ pub(crate) fn body(alloc: Global, tokens: &mut Tokens, header: &Header) -> Resul
     Ok(rows)
 }
 
-/// Reads states, up to the first token that does not begin one.
+/// Parses states, up to the first token that does not begin a state.
 fn states(alloc: Global, tokens: &mut Tokens, header: &Header) -> Result<Rows, HoaFault>
     ensures { ReadsAs body_data (many (parts.state (header_data header.now)) no_rows) tokens.old result tokens.new }
 {
@@ -47,7 +47,7 @@ fn states(alloc: Global, tokens: &mut Tokens, header: &Header) -> Result<Rows, H
     Ok(rows)
 }
 
-/// Whether `State:` comes next.
+/// Whether the next token is `State:`.
 fn is_at_state(tokens: &Tokens) -> bool
     ensures { result ≡ is_some (state_value (next_of (stream_of tokens.now)).sign) }
 {
@@ -55,7 +55,7 @@ fn is_at_state(tokens: &Tokens) -> bool
     is_name(token, b"State:")
 }
 
-/// Reads a state after others.
+/// Parses the next state, and adds its row to the rows of the earlier states.
 fn state(
     alloc: Global,
     tokens: &mut Tokens,
@@ -70,7 +70,7 @@ fn state(
     Ok(())
 }
 
-/// Reads the row of a state that has no other row.
+/// Parses the row of a state that has no row yet.
 fn row(alloc: Global, tokens: &mut Tokens, header: &Header, rows: &Rows) -> Result<Row, HoaFault>
     ensures part { ReadsAs (λ row. with_row (body_data rows.now) (row_data row))
         (parts.state (header_data header.now) (body_data rows.now)) tokens.old result tokens.new }
@@ -93,7 +93,7 @@ fn row(alloc: Global, tokens: &mut Tokens, header: &Header, rows: &Rows) -> Resu
     Ok(row)
 }
 
-/// Reads `State:` after the edges of the last row.
+/// Reads `State:`, and checks that the last row is complete.
 fn begin(tokens: &mut Tokens, header: &Header, rows: &Rows) -> Result<(), HoaFault>
     ensures { ReadsAs (λ u. u) (parts.state_begins (header_data header.now) (body_data rows.now)) tokens.old
         result tokens.new }
@@ -102,7 +102,7 @@ fn begin(tokens: &mut Tokens, header: &Header, rows: &Rows) -> Result<(), HoaFau
     begin_of(token, header, rows)
 }
 
-/// The token is `State:` after the edges of the last row.
+/// Checks that a token is `State:`, and that the last row is complete.
 fn begin_of(token: Token, header: &Header, rows: &Rows) -> Result<(), HoaFault>
     ensures { Takes (λ u. u) state_value (IsBadNext (header_data header.now) (body_data rows.now))
         (piece_of token.entry) result }
@@ -116,7 +116,7 @@ fn begin_of(token: Token, header: &Header, rows: &Rows) -> Result<(), HoaFault>
     }
 }
 
-/// Reads `--END--` after the edges of the last row.
+/// Reads `--END--`, and checks that the last row is complete.
 fn end(tokens: &mut Tokens, header: &Header, rows: &Rows) -> Result<(), HoaFault>
     ensures { ReadsAs (λ _. body_data rows.now) (parts.ended (header_data header.now) (body_data rows.now)) tokens.old
         result tokens.new }
@@ -125,7 +125,7 @@ fn end(tokens: &mut Tokens, header: &Header, rows: &Rows) -> Result<(), HoaFault
     end_of(token, header, rows)
 }
 
-/// The token is `--END--` after the edges of the last row.
+/// Checks that a token is `--END--`, and that the last row is complete.
 fn end_of(token: Token, header: &Header, rows: &Rows) -> Result<(), HoaFault>
     ensures { Takes (λ u. u) (mark_in is_end) (IsBadClose (header_data header.now) (body_data rows.now))
         (piece_of token.entry) result }
@@ -137,7 +137,7 @@ fn end_of(token: Token, header: &Header, rows: &Rows) -> Result<(), HoaFault>
     }
 }
 
-/// Whether the last row has implicit labels that are not one for each letter.
+/// Whether the last row has implicit labels, but not exactly one edge for each letter.
 fn is_end_wrong(header: &Header, rows: &Rows) -> bool
     ensures { (result ≡ true) ↔ IsEndWrong (header_data header.now) (body_data rows.now) }
 {
@@ -147,7 +147,7 @@ fn is_end_wrong(header: &Header, rows: &Rows) -> bool
     }
 }
 
-/// Whether a row has implicit labels that are not one for each letter, given the number of propositions.
+/// Whether a row has implicit labels, but not exactly one edge for each letter.
 fn has_wrong_count(row: &Row, propositions: usize) -> bool
     ensures { (h : HeaderData) → length (names_of h) ≡ propositions →
         (result ≡ true) ↔ IsWrongCount h (row_data row.now) }
@@ -163,7 +163,7 @@ fn is_power_of_two(number: usize, exponent: usize) -> bool
     exponent < 64 && number == 1 << exponent
 }
 
-/// Reads the label of a state, if it has one.
+/// Parses the label of a state, if there is one.
 fn state_label(
     alloc: Global,
     tokens: &mut Tokens,
@@ -190,7 +190,7 @@ fn state_number(tokens: &mut Tokens, header: &Header, rows: &Rows) -> Result<u32
     new_state_of(token, header, rows)
 }
 
-/// The state that a token is, which has no row yet.
+/// The state that a token names, which must not have a row yet.
 fn new_state_of(token: Token, header: &Header, rows: &Rows) -> Result<u32, HoaFault>
     ensures sign { Takes (λ n. n) int_in (BadIn (IsBadRow (header_data header.now) (body_data rows.now)))
         (piece_of token.entry) result }
@@ -203,7 +203,7 @@ fn new_state_of(token: Token, header: &Header, rows: &Rows) -> Result<u32, HoaFa
     Ok(state)
 }
 
-/// Moves past the name of a state, if it has one.
+/// Skips the name of a state, if there is one.
 fn pass_name(tokens: &mut Tokens)
     ensures { ReadsPart parts.state_name (stream_of tokens.old) tt (stream_of tokens.new) }
 {

@@ -1,4 +1,4 @@
-//! Acceptance conditions, and reading them.
+//! Acceptance conditions and their parser.
 
 ghost use Rattle.std.specs.Prelude.{◌≡◌, map};
 ghost use Rattle.ps_text.specs.Parts.{NoBad, one};
@@ -15,32 +15,34 @@ use crate::signs::{int_of, mark};
 use crate::tokens::{Kind, Token, Tokens, is_same};
 use std::alloc::{AllocError, Global};
 
-/// An acceptance condition (HOA v1, acceptance): some sets of edges are visited infinitely often, and some finitely
-/// often.
+/// An acceptance condition (HOA v1, acceptance). A condition is a Boolean combination of statements that a run visits a
+/// set of edges infinitely often, or only finitely often.
 #[derive(Debug, Drop)]
 pub enum Cond {
     /// True of every run.
     Always,
     /// True of no run.
     Never,
-    /// The set with that number is visited infinitely often, or, if the flag is set, its complement is.
+    /// The set with this number is visited infinitely often. If the flag is set, this holds for the complement of the
+    /// set instead.
     Inf(u32, bool),
-    /// The set with that number is visited finitely often, or, if the flag is set, its complement is.
+    /// The set with this number is visited finitely often. If the flag is set, this holds for the complement of the set
+    /// instead.
     Fin(u32, bool),
-    /// All of these hold.
+    /// All operands hold.
     All(Vec<Cond>),
-    /// At least one of these holds.
+    /// At least one operand holds.
     Any(Vec<Cond>),
 }
 
-/// A set by its number, or its complement.
+/// An acceptance set, given by its number, or the complement of an acceptance set.
 #[derive(Clone, Copy)]
 struct Set {
     number: u32,
     complemented: bool,
 }
 
-/// Reads an acceptance condition.
+/// Parses an acceptance condition.
 pub(crate) fn condition(alloc: Global, tokens: &mut Tokens) -> Result<Cond, HoaFault>
     ensures { ReadsAs condition_of (conditions.condition nesting_limit) tokens.old result tokens.new }
 {
@@ -76,7 +78,7 @@ impl Infix for Conditions {
         matches!(kind, Kind::LeftParen)
     }
 
-    // Never called: here `!` may only come before the number of a set, not before an operand.
+    // Never called: in a condition, `!` may only come before the number of a set, not before an operand.
     fn negated(&self, _alloc: Global, operand: Cond) -> Result<Cond, AllocError> {
         Ok(operand)
     }
@@ -91,7 +93,7 @@ impl Infix for Conditions {
     }
 }
 
-/// The condition that a set is visited infinitely often, or that it is not.
+/// The condition that a set is visited infinitely often if `often` is true, and finitely often otherwise.
 fn visits(often: bool, set: Set) -> Cond
     ensures { condition_of result ≡ conditions.visits often (set_data set) }
 {
@@ -102,7 +104,7 @@ fn visits(often: bool, set: Set) -> Cond
     }
 }
 
-/// Whether a token is `Inf`, if it is `Inf` or `Fin`.
+/// Whether the token is `Inf`. The result is `None` if the token is neither `Inf` nor `Fin`.
 fn often_of(token: Token) -> Option<bool>
     ensures { result ≡ conditions.often_in (piece_of token.entry).sign }
 {
@@ -113,7 +115,7 @@ fn often_of(token: Token) -> Option<bool>
     }
 }
 
-/// Reads `t` or `f`.
+/// Parses `t` or `f`.
 fn constant(tokens: &mut Tokens) -> Result<Cond, HoaFault>
     ensures { ReadsAs condition_of (one conditions.constant_in NoBad) tokens.old result tokens.new }
 {
@@ -121,7 +123,7 @@ fn constant(tokens: &mut Tokens) -> Result<Cond, HoaFault>
     constant_of(token)
 }
 
-/// The constant that a token is.
+/// The constant that a token names.
 fn constant_of(token: Token) -> Result<Cond, HoaFault>
     ensures { Takes condition_of conditions.constant_in NoBad (piece_of token.entry) result }
 {
@@ -132,7 +134,7 @@ fn constant_of(token: Token) -> Result<Cond, HoaFault>
     }
 }
 
-/// Reads a set, or the complement of one.
+/// Parses the number of a set, with or without `!` before it.
 fn any_set(tokens: &mut Tokens) -> Result<Set, HoaFault>
     ensures { ReadsAs set_data conditions.any_set tokens.old result tokens.new }
 {
@@ -143,7 +145,7 @@ fn any_set(tokens: &mut Tokens) -> Result<Set, HoaFault>
     one_set(tokens, false)
 }
 
-/// Reads the number of a set.
+/// Parses the number of a set.
 fn one_set(tokens: &mut Tokens, complemented: bool) -> Result<Set, HoaFault>
     ensures { ReadsAs set_data (conditions.set complemented) tokens.old result tokens.new }
 {
@@ -151,7 +153,7 @@ fn one_set(tokens: &mut Tokens, complemented: bool) -> Result<Set, HoaFault>
     set_of(token, complemented)
 }
 
-/// The set whose number a token is.
+/// The set that a token names, or the complement of that set.
 fn set_of(token: Token, complemented: bool) -> Result<Set, HoaFault>
     ensures { Takes set_data (conditions.set_in complemented) conditions.BadSet (piece_of token.entry) result }
 {

@@ -1,4 +1,4 @@
-//! The edges of a state: their labels, targets and marks.
+//! The parser of a state's edges: their labels, targets and acceptance sets.
 
 ghost use Rattle.std.specs.Prelude.{[], ◌≡◌, ◌+◌, ◌<◌, ◌≤◌, ◌↔◌, Bool, IfOk, IsTrue, OnOk, length, map, Some};
 ghost use Rattle.ps_label.specs.Expression.{expression};
@@ -25,26 +25,26 @@ use ps_label::Label;
 use smallvec::SmallVec;
 use std::alloc::{AllocFailed, Global};
 
-/// The greatest number of edges in a text.
+/// The largest number of edges that a text may have.
 pub(crate) const EDGE_LIMIT: usize = 1_048_576;
 
-/// If `States:` does not give the number of states, each is less than this.
+/// Every state is less than this number if the header has no `States:`.
 const STATE_LIMIT: u32 = 65_535;
 
-/// How the edges of a state are labelled.
+/// The ways in which the edges of a state are labelled.
 #[derive(Clone, Copy)]
 pub(crate) enum Labelling {
-    /// By the state's label.
+    /// By the label of the state.
     ByState,
-    /// Each by its own label.
+    /// By a label of each edge.
     ByEdge,
-    /// By their places: edge `k` is taken at the letter `k`.
+    /// By the order of the edges: the edge with index `k` is taken at the letter `k`.
     ByPlace,
-    /// The state has no label, and no edge yet.
+    /// Not known yet, since the state has no label and no edge.
     NotKnown,
 }
 
-/// How the edges of a state are labelled.
+/// How the edges of a state are labelled so far.
 pub(crate) fn labelling_of(row: &Row) -> Labelling
     ensures { result ≡ parts.labelling (row_data row.now) }
 {
@@ -61,8 +61,8 @@ pub(crate) fn labelling_of(row: &Row) -> Labelling
     }
 }
 
-/// Reads the edges of a state, up to the first token that does not begin one. The number of edges of earlier states is
-/// given.
+/// Parses the edges of a state, up to the first token that does not begin an edge. The argument `before` is the number
+/// of edges of the earlier states.
 pub(crate) fn edges(
     alloc: Global,
     tokens: &mut Tokens,
@@ -82,14 +82,14 @@ pub(crate) fn edges(
     Ok(())
 }
 
-/// Whether an edge begins here.
+/// Whether the next token begins an edge.
 fn is_at_edge(tokens: &Tokens) -> bool
     ensures { result ≡ begins_edge (next_of (stream_of tokens.now)).sign.kind }
 {
     matches!(tokens.peek().kind, Kind::LeftBracket | Kind::Int)
 }
 
-/// Reads one more edge of a state.
+/// Parses one more edge of a state.
 fn edge(
     alloc: Global,
     tokens: &mut Tokens,
@@ -110,7 +110,7 @@ fn edge(
     }
 }
 
-/// Reads an edge with a label.
+/// Parses an edge with a label.
 fn labelled_edge(
     alloc: Global,
     tokens: &mut Tokens,
@@ -136,7 +136,7 @@ fn labelled_edge(
     Ok(())
 }
 
-/// Reads an edge without a label.
+/// Parses an edge without a label.
 fn plain_edge(
     alloc: Global,
     tokens: &mut Tokens,
@@ -161,7 +161,7 @@ fn plain_edge(
     Ok(())
 }
 
-/// The guard of the next edge of a state, if it has no label.
+/// The guard of a state's next edge if this edge has no label.
 fn plain_guard(row: &Row) -> Guard
     ensures { guard_data result ≡ parts.plain_guard (row_data row.now) }
 {
@@ -182,7 +182,7 @@ fn bracket(tokens: &mut Tokens, before: usize, row: &Row) -> Result<(), HoaFault
     bracket_of(token, before, row)
 }
 
-/// The token is the `[` of an edge.
+/// Checks that a token is the `[` of an edge, and that an edge with a label is allowed here.
 fn bracket_of(token: Token, before: usize, row: &Row) -> Result<(), HoaFault>
     requires { before ≤ edge_limit }
     ensures sign { Takes (λ u. u) is_bracket (IsBadBracket before (row_data row.now)) (piece_of token.entry) result }
@@ -199,7 +199,7 @@ fn bracket_of(token: Token, before: usize, row: &Row) -> Result<(), HoaFault>
     }
 }
 
-/// Reads what follows the `[` of a label.
+/// Parses what follows the `[` of a label.
 pub(crate) fn label_in_brackets(
     alloc: Global,
     tokens: &mut Tokens,
@@ -214,7 +214,7 @@ pub(crate) fn label_in_brackets(
     Ok(label)
 }
 
-/// Reads the target of an edge with a label.
+/// Parses the target of an edge with a label.
 fn labelled_target(tokens: &mut Tokens, header: &Header) -> Result<u32, HoaFault>
     ensures { ReadsAs (λ n. n) (parts.labelled_target (header_data header.now)) tokens.old result tokens.new }
 {
@@ -224,7 +224,7 @@ fn labelled_target(tokens: &mut Tokens, header: &Header) -> Result<u32, HoaFault
     Ok(target)
 }
 
-/// Reads the target of an edge without a label.
+/// Parses the target of an edge without a label.
 fn plain_target(
     tokens: &mut Tokens,
     header: &Header,
@@ -242,7 +242,7 @@ fn plain_target(
     Ok(target)
 }
 
-/// The target of an edge without a label that a token is.
+/// The target that a token names, for an edge without a label.
 fn plain_target_of(
     token: Token,
     states: Option<u32>,
@@ -267,7 +267,7 @@ fn plain_target_of(
     }
 }
 
-/// The state that a token is.
+/// The state that a token names.
 pub(crate) fn state_of(token: Token, states: Option<u32>) -> Result<u32, HoaFault>
     ensures { Takes (λ n. n) int_in (BadIn (IsBadState states)) (piece_of token.entry) result }
 {
@@ -284,7 +284,7 @@ pub(crate) fn state_of(token: Token, states: Option<u32>) -> Result<u32, HoaFaul
     }
 }
 
-/// Checks that no `&` follows a state.
+/// Checks that the next token is not `&`.
 fn alone(tokens: &Tokens) -> Result<(), HoaFault>
     ensures { StandsAlone (next_of (stream_of tokens.now)) result }
 {
@@ -295,7 +295,7 @@ fn alone(tokens: &Tokens) -> Result<(), HoaFault>
     Ok(())
 }
 
-/// Reads the sets between braces, if there are any.
+/// Parses acceptance sets between braces, if there are any.
 pub(crate) fn marks(
     alloc: Global,
     tokens: &mut Tokens,
@@ -311,7 +311,7 @@ pub(crate) fn marks(
     }
 }
 
-/// Reads sets between braces; each is less than `count`.
+/// Parses acceptance sets between braces. Each set must be less than `count`.
 fn sets(alloc: Global, tokens: &mut Tokens, count: u32) -> Result<SmallVec<u32, 4>, HoaFault>
     ensures { ReadsAs (λ marks. marks.items) (parts.sets count) tokens.old result tokens.new }
 {
@@ -321,7 +321,7 @@ fn sets(alloc: Global, tokens: &mut Tokens, count: u32) -> Result<SmallVec<u32, 
     Ok(marks)
 }
 
-/// Reads sets, up to the first token that is not a number; each is less than `count`.
+/// Parses acceptance sets, up to the first token that is not a number. Each set must be less than `count`.
 fn set_numbers(alloc: Global, tokens: &mut Tokens, count: u32) -> Result<SmallVec<u32, 4>, HoaFault>
     ensures { ReadsAs (λ marks. marks.items) (many (parts.set_number count) []) tokens.old result tokens.new }
 {
@@ -334,7 +334,7 @@ fn set_numbers(alloc: Global, tokens: &mut Tokens, count: u32) -> Result<SmallVe
     Ok(marks)
 }
 
-/// The set that a token is, if it is less than `count`.
+/// The acceptance set that a token names, which must be less than `count`.
 fn set_of(token: Token, count: u32) -> Result<u32, HoaFault>
     ensures { Takes (λ n. n) int_in (BadIn (IsBadSet count)) (piece_of token.entry) result }
 {
@@ -348,7 +348,7 @@ fn set_of(token: Token, count: u32) -> Result<u32, HoaFault>
     }
 }
 
-/// Adds a number, unless it is there already.
+/// Adds a number, unless the list has it already.
 fn add_once(numbers: &mut SmallVec<u32, 4>, number: u32) -> Result<(), AllocFailed<u32>>
     ensures { OnOk result (numbers.new.items ≡ once numbers.old.items number) }
 {

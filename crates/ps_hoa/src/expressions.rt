@@ -1,4 +1,4 @@
-//! Laws of expressions.
+//! Laws about the grammars of labels and of acceptance conditions.
 
 ghost use Rattle.ps_hoa.specs.Labels as labels;
 ghost use Rattle.ps_hoa.specs.Conditions as conditions;
@@ -10,14 +10,14 @@ ghost use Rattle.ps_hoa.specs.Tokens.{Sign};
 ghost use Rattle.ps_label.specs.Expression.{Expression};
 ghost use Rattle.std.specs.Prelude.{ℕ, List, ◌↔◌};
 
-/// Tokens are at most one label, and at most one acceptance condition.
+/// A list of tokens parses as at most one label, and as at most one acceptance condition.
 pub fn one_expression()
     ensures labels { (scope : ScopeData) (room : ℕ) → HasOneMeaning (labels.label scope room).IsText }
     ensures conditions { (room : ℕ) → HasOneMeaning (conditions.condition room).IsText }
 {}
 
-/// Labels and conditions with room for a given nesting of `!` and `(` are those of the grammars without a limit in
-/// which the nesting is no deeper.
+/// Up to a given nesting of `!` and `(`, the grammar with this limit gives the same labels and conditions as the
+/// grammar without a limit.
 pub fn bounded_nesting()
     ensures labels { (scope : ScopeData) (room : ℕ) (text : List Sign) (v : Expression) →
         (labels.label scope room).IsText text v ↔ Within room (IsLabel scope.names) text v }

@@ -1,11 +1,12 @@
-//! What is wrong with an HOA text.
+//! The errors of HOA texts.
 
 ghost use Rattle.ps_hoa.specs.CauseNames.{cause_name};
 ghost use Rattle.ps_hoa.specs.Causes.{cause_number};
 
 use ps_text::faults::{Cause, Fault};
 
-/// Why an HOA text is refused. In brackets the part of HOA v1 that requires it; limits and names are psyn's own.
+/// Why an HOA text is rejected. Each description ends with the part of HOA v1 that the text violates, in brackets.
+/// Limits and names are psyn's own.
 #[derive(Clone, Copy, Debug, PartialEq, Eq)]
 pub enum HoaCause {
     /// The text does not begin with `HOA:` (header).
@@ -14,41 +15,42 @@ pub enum HoaCause {
     Version,
     /// No token begins here, or a string or a comment is not closed (tokens).
     Token,
-    /// A token that is not allowed here, or an early end.
+    /// A token is not allowed here, or the text ends too early.
     Syntax,
-    /// Several digits that begin with `0` (tokens: `INT`).
+    /// A number has several digits and begins with `0` (tokens: `INT`).
     Number,
-    /// A header item that may occur only once, a second time (header).
+    /// A header item that may occur only once occurs a second time (header).
     HeaderTwice,
     /// There is no `Acceptance:` (acceptance).
     MissingAcceptance,
-    /// In the header: an unknown item whose name begins with a capital.
+    /// The header has an unknown item whose name begins with a capital letter (header).
     UnknownHeader,
     /// A limit is exceeded.
     Limit,
     /// The text was aborted: `--ABORT--` (body).
     Aborted,
-    /// `&` after a state: the automaton is alternating (body).
+    /// `&` follows a state, so the automaton is alternating (body).
     Alternating,
-    /// There is no start state, or a second one.
+    /// There is no start state, or there is a second start state.
     Start,
-    /// A number that is not one of the propositions, the sets or the states.
+    /// A number is not the number of a proposition, a set or a state.
     Range,
-    /// An alias that is not defined before, or defined twice (labels).
+    /// An alias is not defined before its use, or is defined twice (labels).
     Alias,
-    /// Labels on some edges of a state, or a wrong number of edges without any (body: implicit labels).
+    /// A label of an edge is missing or not allowed, or the number of edges without labels is wrong (body: implicit
+    /// labels).
     Labels,
-    /// A second row of a state (body).
+    /// A state has a second row (body).
     StateTwice,
     /// There is no `controllable-AP:` (extended HOA).
     Controllable,
-    /// A name that no proposition can have, or that an earlier one has.
+    /// A proposition's name is not allowed, or is the name of an earlier proposition.
     Name,
     /// Something follows `--END--`.
     SeveralAutomata,
 }
 
-/// Why an HOA text was not read.
+/// Why an HOA text was not parsed: an error in the text, or out of memory.
 pub type HoaFault = Fault<HoaCause>;
 
 impl Cause for HoaCause {

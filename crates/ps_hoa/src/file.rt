@@ -1,4 +1,4 @@
-//! An automaton as its text says it.
+//! An automaton as its text states it.
 
 ghost use Rattle.std.specs.Prelude.{◌≡◌, map, option_copied, option_map};
 ghost use Rattle.ps_label.specs.Truth.{expressions};
@@ -16,42 +16,42 @@ use ps_label::{Label, Labels};
 use smallvec::SmallVec;
 use std::marker::Model;
 
-/// At which letters an edge is taken (HOA v1, body: labels of edges and of states, implicit labels).
+/// The letters at which an edge is taken (HOA v1, body: labels of edges and of states, implicit labels).
 #[derive(Debug, Drop)]
 pub enum Guard {
-    /// Those at which this label is true.
+    /// The letters at which this label is true.
     Stated(Label),
-    /// Those at which the label of the edge's state is true.
+    /// The letters at which the label of the edge's state is true.
     OfState,
-    /// Only this letter, in which proposition `i` is bit `i`. It is also the place of the edge in its row, from 0.
+    /// Only this letter, in which proposition `i` is bit `i`. The letter is also the index of the edge in its row.
     Letter(u64),
 }
 
 /// An edge of a state (HOA v1, body).
 #[derive(Debug, Drop)]
 pub struct Edge {
-    /// When it is taken.
+    /// When the edge is taken.
     pub guard: Guard,
-    /// The state to which it leads.
+    /// The state to which the edge leads.
     pub target: u32,
-    /// The sets that it is in, each once, in the order in which the text first names them.
+    /// The acceptance sets of the edge, each once, in the order in which the text first names them.
     pub marks: SmallVec<u32, 4>,
 }
 
-/// What the text says about a state (HOA v1, body: `State:`).
+/// What the text states about a state (HOA v1, body: `State:`).
 #[derive(Debug, Drop)]
 pub struct Row {
     /// The state's number.
     pub state: u32,
-    /// The label of all its edges, if it has one.
+    /// The label of all edges of the state, if the state has a label.
     pub label: Option<Label>,
-    /// The sets that the state is in, each once, in the order in which the text first names them.
+    /// The acceptance sets of the state, each once, in the order in which the text first names them.
     pub marks: SmallVec<u32, 4>,
-    /// Its edges, in the order of the text.
+    /// The edges of the state, in the order of the text.
     pub edges: Vec<Edge>,
 }
 
-/// An automaton as its text says it. A state without a row has no edges.
+/// An automaton as its text states it. A state without a row has no edges.
 #[derive(Debug, Drop)]
 pub struct HoaFile {
     pub(crate) states: u32,
@@ -105,7 +105,7 @@ impl HoaFile {
         self.names.as_slice()
     }
 
-    /// The propositions that are controllable, each once, in the order in which the text first names them.
+    /// The controllable propositions, each once, in the order in which the text first names them.
     pub fn controllable(&self) -> &[u32]
         ensures value { result.now ≡ self.now.controllable }
         ensures well_formed { IsSoundFile self.now }
@@ -129,7 +129,7 @@ impl HoaFile {
         self.sets
     }
 
-    /// When a run is accepted.
+    /// The acceptance condition, which states when a run is accepted.
     pub fn condition(&self) -> &Cond
         ensures value { condition_of result.now ≡ self.now.condition }
         ensures well_formed { IsSoundFile self.now }
@@ -137,7 +137,7 @@ impl HoaFile {
         &self.condition
     }
 
-    /// The rows of the states that have one, in the order of the text.
+    /// The rows in the order of the text. A state need not have a row.
     pub fn rows(&self) -> &[Row]
         ensures value { map row_data result.now ≡ self.now.rows }
         ensures well_formed { IsSoundFile self.now }
@@ -145,7 +145,7 @@ impl HoaFile {
         self.rows.as_slice()
     }
 
-    /// The row of a state, if it has one.
+    /// The row of a state, if there is one.
     pub fn row(&self, state: u32) -> Option<&Row>
         ensures value { option_map row_data (option_copied result) ≡ row_of self.now state }
         ensures well_formed { IsSoundFile self.now }

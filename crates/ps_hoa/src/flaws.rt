@@ -1,4 +1,4 @@
-//! What is wrong with a header, checked at `--BODY--`.
+//! The checks of a whole header, made at `--BODY--`.
 
 ghost use Rattle.std.specs.Prelude.{◌≡◌, ◌↔◌, true, MatchOption, option_map};
 ghost use Rattle.ps_label.specs.Expression.{expression};
@@ -14,10 +14,10 @@ use crate::header::{Acceptance, Header};
 use crate::indices::Indices;
 use ps_label::Label;
 
-/// If `States:` does not say it, the number of each state is less than this.
+/// Every state is less than this number if the header has no `States:`.
 const STATE_LIMIT: u32 = 65_535;
 
-/// What is wrong with a header; if there are several flaws, the one with the smallest number.
+/// What is wrong with a header. If a header has several flaws, the flaw with the smallest number is returned.
 pub(crate) fn flaw(header: &Header) -> Option<HoaCause>
     ensures { MatchOption result (IsSoundHeader (header_data header.now)) (IsLeastFlaw (header_data header.now)) }
 {
@@ -39,7 +39,7 @@ pub(crate) fn flaw(header: &Header) -> Option<HoaCause>
     None
 }
 
-/// Whether the start is above the greatest state that there can be.
+/// Whether the start state is greater than every possible state, in a header without `States:`.
 fn is_start_too_large(states: Option<u32>, start: Option<u32>) -> bool
     ensures { (result ≡ true) ↔ parts.IsStartTooLarge states start }
 {
@@ -66,7 +66,7 @@ fn is_range_broken(header: &Header) -> bool
     is_control_beyond(count, &header.controllable)
 }
 
-/// Whether the start is not a state.
+/// Whether the start state is not a state of the automaton.
 fn is_start_beyond(states: Option<u32>, start: Option<u32>) -> bool
     ensures { (result ≡ true) ↔ parts.IsStartBeyond states start }
 {
@@ -107,7 +107,7 @@ fn speaks_beyond(count: usize, label: &Label) -> bool
     }
 }
 
-/// Whether the condition names a set that does not exist.
+/// Whether the acceptance condition names a set that does not exist.
 fn is_condition_beyond(acceptance: &Option<Acceptance>) -> bool
     ensures { (result ≡ true) ↔ parts.IsConditionBeyond (option_map acceptance_data acceptance.now) }
 {
@@ -135,7 +135,7 @@ fn names_set_beyond(count: u32, condition: &Cond) -> bool
     }
 }
 
-/// Whether a proposition that does not exist is controllable.
+/// Whether `controllable-AP:` names a proposition that does not exist.
 fn is_control_beyond(count: usize, controllable: &Option<Indices>) -> bool
     ensures { (result ≡ true) ↔ parts.IsControlBeyond count controllable.now }
 {
@@ -145,7 +145,7 @@ fn is_control_beyond(count: usize, controllable: &Option<Indices>) -> bool
     }
 }
 
-/// Whether one of the numbers is not that of a proposition.
+/// Whether some number in a list is not the number of a proposition.
 fn is_index_beyond(count: usize, indices: &[u32]) -> bool
     ensures { (result ≡ true) ↔ parts.AnIndexBeyond count indices.now }
 {

@@ -1,4 +1,4 @@
-//! What a header says.
+//! The content of a header.
 
 ghost use Rattle.std.specs.Prelude.{◌≡◌, length};
 ghost use Rattle.ps_hoa.specs.Header.{names_of, no_items, header_data};
@@ -18,7 +18,7 @@ pub(crate) struct Acceptance {
     pub(crate) condition: Cond,
 }
 
-/// What the items of a header say.
+/// The values that the items of a header give. An optional field is `None` if its item has not occurred.
 #[derive(Drop)]
 pub(crate) struct Header<'a> {
     pub(crate) states: Option<u32>,
@@ -31,7 +31,7 @@ pub(crate) struct Header<'a> {
 }
 
 impl<'a> Header<'a> {
-    /// No items.
+    /// A header without items.
     pub(crate) fn new(alloc: Global) -> Self
         ensures { header_data result ≡ no_items }
     {
@@ -46,7 +46,7 @@ impl<'a> Header<'a> {
         }
     }
 
-    /// The number of propositions.
+    /// The number of propositions, which is 0 without `AP:`.
     pub(crate) fn propositions(&self) -> usize
         ensures { result ≡ length (names_of (header_data self.now)) }
     {
@@ -56,7 +56,7 @@ impl<'a> Header<'a> {
         }
     }
 
-    /// The number of acceptance sets.
+    /// The number of acceptance sets, which is 0 without `Acceptance:`.
     pub(crate) fn sets(&self) -> u32
         ensures { result ≡ sets_of (header_data self.now) }
     {

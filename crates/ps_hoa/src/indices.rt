@@ -6,11 +6,11 @@ ghost use Rattle.ps_hoa.specs.Header.{has_place, kept, place_of};
 use std::alloc::{AllocError, Global};
 use std::marker::Model;
 
-/// Numbers from here on are not propositions, and share one place.
+/// All numbers from this one on share one slot, since none of them is the number of a proposition.
 const LAST_PLACE: u32 = 64;
 
-/// Numbers in order of appearance: each proposition's once, and of the other numbers only the first. So there are at
-/// most 65.
+/// Numbers in order of appearance. Each number less than 64 is kept once, and of all other numbers only the first is
+/// kept. The list has at most 65 numbers.
 #[derive(Debug, Drop)]
 pub(crate) struct Indices {
     numbers: Vec<u32>,
@@ -25,7 +25,7 @@ impl Model for Indices {
 }
 
 impl Indices {
-    /// No numbers.
+    /// An empty list of numbers.
     pub(crate) fn new(alloc: Global) -> Self
         ensures { result ≡ [] }
     {
@@ -34,14 +34,14 @@ impl Indices {
         }
     }
 
-    /// The numbers, in order.
+    /// The numbers, in order of appearance.
     pub(crate) fn as_slice(&self) -> &[u32]
         ensures { result.now ≡ self.now }
     {
         self.numbers.as_slice()
     }
 
-    /// Adds a number, unless its place is taken.
+    /// Adds a number, unless its slot is taken. Fails if out of memory.
     pub(crate) fn add(&mut self, number: u32) -> Result<(), AllocError>
         ensures ok { OnOk result (self.new ≡ kept self.old number) }
         ensures err { OnErr result (self.new ≡ self.old) }
@@ -54,7 +54,7 @@ impl Indices {
     }
 }
 
-/// Whether one of the numbers has the place of a number.
+/// Whether one of the numbers has the same slot as the given number.
 fn has_place(numbers: &[u32], number: u32) -> bool
     ensures { result ≡ has_place (place_of number) numbers.now }
 {
@@ -67,7 +67,7 @@ fn has_place(numbers: &[u32], number: u32) -> bool
     false
 }
 
-/// The place of a number.
+/// The slot of a number.
 fn place_of(number: u32) -> u32
     ensures { result ≡ place_of number }
 {

@@ -1,4 +1,4 @@
-//! Reading operands with connectives between them: of labels, and of acceptance conditions.
+//! The parser of operands with connectives between them, for labels and for acceptance conditions.
 
 ghost use Rattle.std.specs.Prelude.{◌≡◌, ◌↔◌, [], ◌∷◌, IfOk, IfSome, map, true};
 ghost use Rattle.ps_hoa.specs.Operands.{InfixGrammar, between, holds as holds_at, nesting_limit, operand as operand_of};
@@ -13,10 +13,10 @@ use crate::signs::{is_kind, mark};
 use crate::tokens::{Kind, Tokens};
 use std::alloc::{AllocError, Global};
 
-/// The greatest nesting of `!` and `(`.
+/// The greatest depth to which `!` and `(` may be nested.
 const NESTING_LIMIT: usize = 256;
 
-/// A sign between operands; `&` binds tighter.
+/// A sign between operands. The sign `&` binds tighter than `|`.
 #[derive(Clone, Copy)]
 pub(crate) enum Connective {
     /// `&`
@@ -27,37 +27,37 @@ pub(crate) enum Connective {
 
 /// A grammar of operands with connectives between them.
 pub(crate) trait Infix {
-    /// The value of an operand.
+    /// The type of the values that the parser returns.
     type Value: Drop;
 
-    /// What such values mean.
+    /// The type of the meanings of parsed values.
     ghost Meaning: { Type 0 };
 
-    /// What a value means.
+    /// The meaning of a value.
     ghost meaning: { Self.Value → Self.Meaning };
 
-    /// What the grammar has of its own.
+    /// The part of the grammar that differs between labels and conditions.
     ghost grammar: { Self → InfixGrammar Self.Meaning };
 
-    /// Reads an operand that does not begin with `!` or `(`.
+    /// Parses an operand that does not begin with `!` or `(`.
     fn leaf(&self, tokens: &mut Tokens) -> Result<Self::Value, HoaFault>
         ensures { ReadsAs meaning (grammar self.now).leaf tokens.old result tokens.new };
 
-    /// Whether an operand that contains another one may begin with such a sign.
+    /// Whether a token of this kind begins an operand that contains another operand.
     fn holds(&self, kind: Kind) -> bool
         ensures { result ≡ holds_at (grammar self.now).negated kind };
 
-    /// The operand with `!` before it.
+    /// The value of an operand with `!` before it.
     fn negated(&self, alloc: Global, operand: Self::Value) -> Result<Self::Value, AllocError>
         ensures { IfOk result
             (λ v. IfSome (grammar self.now).negated (λ negated. meaning v ≡ negated (meaning operand))) };
 
-    /// The value of operands with a connective between them.
+    /// The joint value of operands with the same connective between them.
     fn together(&self, connective: Connective, operands: Vec<Self::Value>) -> Self::Value
         ensures { meaning result ≡ (grammar self.now).together connective (map meaning operands.items) };
 }
 
-/// Reads operands with connectives between them.
+/// Parses operands with connectives between them.
 pub(crate) fn read<G: Infix>(
     alloc: Global,
     tokens: &mut Tokens,
@@ -70,7 +70,8 @@ pub(crate) fn read<G: Infix>(
     row(alloc, tokens, grammar, NESTING_LIMIT, Connective::Or)
 }
 
-/// Reads operands with a connective between them; `!` and `(` may be nested to a given depth.
+/// Parses operands that are separated by the given connective or by a tighter one. In them, `!` and `(` may be nested
+/// up to the depth `room`.
 #[cycle(infix)]
 fn row<G: Infix>(
     alloc: Global,
@@ -95,7 +96,7 @@ fn row<G: Infix>(
     Ok(grammar.together(connective, operands))
 }
 
-/// A list that begins with an operand, and has room for a second one.
+/// A list with the first operand, and with space for a second operand.
 fn begun<V: Drop>(alloc: Global, first: V) -> Result<Vec<V>, AllocError>
     ensures { IfOk result (λ operands. operands.items ≡ first ∷ []) }
 {
@@ -104,7 +105,7 @@ fn begun<V: Drop>(alloc: Global, first: V) -> Result<Vec<V>, AllocError>
     Ok(operands)
 }
 
-/// Reads what is between such connectives.
+/// Parses what may be on either side of a connective: an operand for `&`, a row of operands with `&` for `|`.
 #[cycle(infix)]
 fn part<G: Infix>(
     alloc: Global,
@@ -123,7 +124,7 @@ fn part<G: Infix>(
     }
 }
 
-/// Reads an operand.
+/// Parses an operand.
 #[cycle(infix)]
 fn operand<G: Infix>(
     alloc: Global,
@@ -151,7 +152,7 @@ fn operand<G: Infix>(
     Ok(inner)
 }
 
-/// Whether a connective comes next.
+/// Whether the next token is the connective.
 fn is_at(tokens: &Tokens, connective: Connective) -> bool
     ensures { (result ≡ true) ↔ ((next_of (stream_of tokens.now)).sign.kind ≡ kind_of connective) }
 {

@@ -1,4 +1,4 @@
-//! The items of a header.
+//! The parser of header items.
 
 ghost use Rattle.std.specs.Prelude.{◌≡◌, ◌<◌, [], IfSome, None};
 ghost use Rattle.ps_label.specs.Expression.{expression};
@@ -27,16 +27,16 @@ use crate::tokens::{Kind, Token, Tokens, is_same};
 use ps_label::Label;
 use std::alloc::Global;
 
-/// The greatest number of states in a text,
+/// The largest number of states that a text may declare.
 const STATE_LIMIT: u32 = 65_535;
 
-/// of propositions,
+/// The largest number of propositions that a text may declare.
 const PROPOSITION_LIMIT: u32 = 64;
 
-/// and of acceptance sets.
+/// The largest number of acceptance sets that a text may declare.
 const SET_LIMIT: u32 = 64;
 
-/// The items of a header: those that have a meaning here, and all others.
+/// The kinds of header items: those that the parser knows by name, and `Other` for every other item.
 #[derive(Clone, Copy)]
 pub(crate) enum Item {
     States,
@@ -50,7 +50,7 @@ pub(crate) enum Item {
     Other,
 }
 
-/// The items that have a meaning here, by their names.
+/// The names of the items that the parser knows.
 const ITEMS: &[(&[u8], Item)] = &[
     (b"States:", Item::States),
     (b"Start:", Item::Start),
@@ -62,7 +62,7 @@ const ITEMS: &[(&[u8], Item)] = &[
     (b"name:", Item::Name),
 ];
 
-/// The item of that name, if it has a meaning here.
+/// The item with this name, if the parser knows the name.
 pub(crate) fn item_named(name: &[u8]) -> Option<Item>
     ensures { result ≡ item_named name.now }
 {
@@ -75,10 +75,10 @@ pub(crate) fn item_named(name: &[u8]) -> Option<Item>
     None
 }
 
-/// The number of marks for items that may occur only once.
+/// The number of marks. A mark records the occurrence of an item that may occur only once.
 pub(crate) const MARK_COUNT: usize = 4;
 
-/// The mark of an item, if it may occur only once.
+/// The index of the mark of an item, if the item may occur only once.
 fn mark_of(item: Item) -> Option<usize>
     ensures value { result ≡ mark_of item }
     ensures within { IfSome result (λ mark. mark < MARK_COUNT) }
@@ -92,7 +92,7 @@ fn mark_of(item: Item) -> Option<usize>
     }
 }
 
-/// The mark of the item with that name, if it may occur only once.
+/// The index of the mark of the item with this name, if the item may occur only once.
 pub(crate) fn mark_named(name: &[u8]) -> Option<usize>
     ensures value { result ≡ mark_named name.now }
     ensures within { IfSome result (λ mark. mark < MARK_COUNT) }
@@ -100,7 +100,7 @@ pub(crate) fn mark_named(name: &[u8]) -> Option<usize>
     mark_of(item_named(name)?)
 }
 
-/// Reads a header, up to `--BODY--`.
+/// Parses a header, up to `--BODY--`.
 pub(crate) fn header<'a>(alloc: Global, tokens: &mut Tokens<'a>) -> Result<Header<'a>, HoaFault>
     ensures { ReadsAs header_data header_part tokens.old result tokens.new }
 {
@@ -109,7 +109,7 @@ pub(crate) fn header<'a>(alloc: Global, tokens: &mut Tokens<'a>) -> Result<Heade
     Ok(header)
 }
 
-/// Reads `--BODY--`; nothing may be wrong with the header.
+/// Reads the token `--BODY--`, and checks the header as a whole.
 fn body_mark(tokens: &mut Tokens, header: &Header) -> Result<(), HoaFault>
     ensures { ReadsAs (λ _. header_data header.now) (parts.body_mark (header_data header.now)) tokens.old
         result tokens.new }
@@ -118,7 +118,7 @@ fn body_mark(tokens: &mut Tokens, header: &Header) -> Result<(), HoaFault>
     body_mark_of(token, header)
 }
 
-/// The token is `--BODY--`, and nothing is wrong with the header.
+/// Checks that a token is `--BODY--`, and that the header as a whole has no flaw.
 fn body_mark_of(token: Token, header: &Header) -> Result<(), HoaFault>
     ensures { Takes (λ _. header_data header.now) (body_in (header_data header.now))
         (parts.IsBadBody (header_data header.now)) (piece_of token.entry) result }
@@ -132,7 +132,7 @@ fn body_mark_of(token: Token, header: &Header) -> Result<(), HoaFault>
     }
 }
 
-/// Reads all items.
+/// Parses all items of a header.
 pub(crate) fn items<'a>(alloc: Global, tokens: &mut Tokens<'a>) -> Result<Header<'a>, HoaFault>
     ensures { ReadsAs header_data (many parts.item no_items) tokens.old result tokens.new }
 {
@@ -143,7 +143,7 @@ pub(crate) fn items<'a>(alloc: Global, tokens: &mut Tokens<'a>) -> Result<Header
     Ok(header)
 }
 
-/// Which item begins with a token: the one of that name, or one whose name has no meaning here.
+/// The item that a token begins. An item with an unknown name is `Other`.
 fn item_at(token: Token) -> Option<Item>
     ensures { result ≡ item_value token.entry.kind token.entry.text.now }
 {
@@ -157,7 +157,7 @@ fn item_at(token: Token) -> Option<Item>
     }
 }
 
-/// Reads one more item.
+/// Parses one more item.
 fn read_item<'a>(
     alloc: Global,
     tokens: &mut Tokens<'a>,
@@ -178,7 +178,7 @@ fn item_name(tokens: &mut Tokens, header: &Header) -> Result<Item, HoaFault>
     item_name_of(token, header)
 }
 
-/// The token is the name of an item that is allowed here.
+/// The item that a token names. The name is rejected if the item is not allowed here.
 fn item_name_of(token: Token, header: &Header) -> Result<Item, HoaFault>
     ensures { Takes (λ item. item) item_in (parts.IsBadItem (header_data header.now)) (piece_of token.entry) result }
 {
@@ -189,7 +189,7 @@ fn item_name_of(token: Token, header: &Header) -> Result<Item, HoaFault>
     }
 }
 
-/// Reads what follows the name of an item.
+/// Parses the arguments of an item, which follow its name.
 fn behind_name<'a>(
     alloc: Global,
     tokens: &mut Tokens<'a>,
@@ -212,7 +212,7 @@ fn behind_name<'a>(
     }
 }
 
-/// Reads the number of states.
+/// Parses the number of states.
 fn states(tokens: &mut Tokens, header: &mut Header) -> Result<(), HoaFault>
     ensures { ReadsAs (λ _. header_data header.new) (parts.state_count (header_data header.old)) tokens.old
         result tokens.new }
@@ -221,7 +221,7 @@ fn states(tokens: &mut Tokens, header: &mut Header) -> Result<(), HoaFault>
     Ok(())
 }
 
-/// Reads the start state.
+/// Parses the start state.
 fn start(tokens: &mut Tokens, header: &mut Header) -> Result<(), HoaFault>
     ensures { ReadsAs (λ _. header_data header.new) (parts.start_state (header_data header.old)) tokens.old
         result tokens.new }
@@ -230,7 +230,7 @@ fn start(tokens: &mut Tokens, header: &mut Header) -> Result<(), HoaFault>
     Ok(())
 }
 
-/// Reads the names of the propositions.
+/// Parses the names of the propositions.
 fn names(alloc: Global, tokens: &mut Tokens, header: &mut Header) -> Result<(), HoaFault>
     ensures { ReadsAs (λ _. header_data header.new) (parts.counted_names (header_data header.old)) tokens.old
         result tokens.new }
@@ -240,7 +240,7 @@ fn names(alloc: Global, tokens: &mut Tokens, header: &mut Header) -> Result<(), 
     Ok(())
 }
 
-/// Reads an alias, after `Alias:`.
+/// Parses the definition of an alias, after `Alias:`.
 fn alias<'a>(
     alloc: Global,
     tokens: &mut Tokens<'a>,
@@ -256,7 +256,7 @@ fn alias<'a>(
     Ok(())
 }
 
-/// Reads a label in a header, where nothing is known about the propositions.
+/// Parses a label in a header. The number of propositions may not be known yet.
 fn header_label(alloc: Global, tokens: &mut Tokens, names: &Names) -> Result<Label, HoaFault>
     ensures { ReadsAs expression (labels.label (record { names = names.now; propositions = None }) nesting_limit)
         tokens.old result tokens.new }
@@ -268,7 +268,7 @@ fn header_label(alloc: Global, tokens: &mut Tokens, names: &Names) -> Result<Lab
     label(alloc, tokens, &scope)
 }
 
-/// Reads the acceptance condition.
+/// Parses the number of acceptance sets and the acceptance condition.
 fn acceptance(alloc: Global, tokens: &mut Tokens, header: &mut Header) -> Result<(), HoaFault>
     ensures { ReadsAs (λ _. header_data header.new) (parts.counted_condition (header_data header.old)) tokens.old
         result tokens.new }
@@ -279,7 +279,7 @@ fn acceptance(alloc: Global, tokens: &mut Tokens, header: &mut Header) -> Result
     Ok(())
 }
 
-/// Reads which propositions are controllable.
+/// Parses the numbers of the controllable propositions.
 fn controllable(alloc: Global, tokens: &mut Tokens, header: &mut Header) -> Result<(), HoaFault>
     ensures { ReadsAs (λ _. header_data header.new) (parts.controlled (header_data header.old)) tokens.old
         result tokens.new }
@@ -288,7 +288,7 @@ fn controllable(alloc: Global, tokens: &mut Tokens, header: &mut Header) -> Resu
     Ok(())
 }
 
-/// Reads numbers, and keeps those that matter.
+/// Parses numbers, and keeps only those that matter.
 fn indices(alloc: Global, tokens: &mut Tokens) -> Result<Indices, HoaFault>
     ensures { ReadsAs (λ indices. indices) (many parts.index []) tokens.old result tokens.new }
 {

@@ -1,4 +1,4 @@
-//! Reading labels.
+//! The parser of labels.
 
 ghost use Rattle.std.specs.Prelude.{◌≡◌, ◌↔◌, true};
 ghost use Rattle.ps_label.specs.Expression.{expression};
@@ -17,7 +17,7 @@ use crate::tokens::{Kind, Token, Tokens, is_same};
 use ps_label::Label;
 use std::alloc::{AllocError, Global};
 
-/// Reads a label.
+/// Parses a label.
 pub(crate) fn label(alloc: Global, tokens: &mut Tokens, scope: &Scope) -> Result<Label, HoaFault>
     ensures { ReadsAs expression (labels.label scope.now nesting_limit) tokens.old result tokens.new }
 {
@@ -58,7 +58,7 @@ impl Infix for Scope<'_, '_> {
     }
 }
 
-/// The operand that a token is.
+/// The operand that a single token represents.
 fn leaf_of(token: Token, scope: &Scope) -> Result<Label, HoaFault>
     ensures { Takes expression (labels.leaf_in scope.now.names) (labels.BadLeaf scope.now)
         (piece_of token.entry) result }
@@ -81,7 +81,7 @@ fn leaf_of(token: Token, scope: &Scope) -> Result<Label, HoaFault>
     }
 }
 
-/// Whether there is no proposition with that number, if the number of propositions is known.
+/// Whether no proposition has this number. The result is false if the number of propositions is not known.
 fn is_beyond(propositions: Option<usize>, number: u32) -> bool
     ensures { (result ≡ true) ↔ labels.IsBeyond propositions number }
 {

@@ -1,4 +1,4 @@
-//! The laws that an HOA text has exactly one answer, and that a file that was read is sound.
+//! Laws: an HOA text has exactly one answer, and every parsed file is sound.
 
 ghost use Rattle.std.specs.Prelude.{◌≡◌, ℕ, List, Result, Ok, Some, length, slice_get};
 ghost use Rattle.ps_label.specs.Expression.{Expression, IsOver, AreOrdered};
@@ -9,23 +9,26 @@ ghost use Rattle.ps_hoa.specs.Sound.{IsSoundFile, IsSoundEdge, IsSoundRow};
 ghost use Rattle.ps_hoa.specs.Texts.{ReadsFile};
 ghost use Rattle.ps_hoa.specs.declared.fault.HoaCause.{HoaCause};
 
-/// A text has at most one answer: what it means, or its first cause and its place.
+/// A text has at most one answer: its meaning, or its first error and the offset of that error.
 pub fn one_answer()
     ensures { (text : List ℕ) (a b : Result FileData (Found HoaCause)) → ReadsFile text a → ReadsFile text b → a ≡ b }
 {}
 
-/// A text has an answer. The law is about texts, not about calls: out of memory is not one of the answers.
+/// Every text has an answer. This law is about texts, not about calls: a call may also fail because it is out of
+/// memory.
 pub fn some_answer()
     ensures { (text : List ℕ) → (answer : Result FileData (Found HoaCause)) × ReadsFile text answer }
 {}
 
-/// In a file that was read every number is that of a state, a proposition, a set or an earlier alias; names and rows
-/// differ; and the edges of a state are labelled by the state, each by its own label, or one for each letter.
+/// In a parsed file, every number refers to a state, a proposition, a set or an earlier alias. Names are distinct, and
+/// no state has two rows. The edges of a state are labelled by the state's label, by a label of each edge, or
+/// implicitly, with one edge for each letter.
 pub fn sound_files()
     ensures { (text : List ℕ) (file : FileData) → ReadsFile text (Ok file) → IsSoundFile file }
 {}
 
-/// In a sound file each row is sound, the row of a state belongs to that state, and each edge of a row is sound.
+/// In a sound file, each row is sound, `row_of` gives a row of the requested state, and each edge of a sound row is
+/// sound.
 pub fn sound_parts()
     ensures row { (file : FileData) → IsSoundFile file → (k : ℕ) (row : RowData) → slice_get file.rows k ≡ Some row →
         IsSoundRow file row }
@@ -35,8 +38,8 @@ pub fn sound_parts()
         slice_get row.edges k ≡ Some edge → IsSoundEdge file edge }
 {}
 
-/// The labels of a sound file are such that their truth is defined: its aliases use earlier ones, and the labels of its
-/// rows and edges use its aliases, and propositions less than 64.
+/// The truth of each label of a sound file is defined: its aliases use only earlier aliases, and the labels of its rows
+/// and edges use only its aliases and propositions less than 64.
 pub fn sound_labels()
     ensures aliases { (file : FileData) → IsSoundFile file → AreOrdered file.aliases }
     ensures row { (file : FileData) → IsSoundFile file → (row : RowData) → IsSoundRow file row → (e : Expression) →

@@ -1,27 +1,27 @@
-//! Reads texts of the Hanoi Omega-Automata format, version 1, with the header item `controllable-AP:` of extended HOA.
+//! Parses texts of the Hanoi Omega-Automata format, version 1, with the header item `controllable-AP:` of extended HOA.
 //!
 //! | Call | What it gives |
 //! |---|---|
-//! | `read(text)` | the automaton as its text says it, or the first `HoaFault` in the text |
-//! | `HoaFile::states`, `start`, `names`, `controllable`, `aliases`, `sets`, `condition` | what its header says |
-//! | `HoaFile::rows`, `row(state)` | what its body says of each state: label, sets and edges, in text order |
+//! | `read(text)` | the automaton as the text states it, or the first `HoaFault` in the text |
+//! | `HoaFile::states`, `start`, `names`, `controllable`, `aliases`, `sets`, `condition` | what the header states |
+//! | `HoaFile::rows`, `row(state)` | what the body states of a state: label, sets, and edges in text order |
 //! | `Row`, `Edge`, `Guard`, `Cond` | a state, an edge, the letters at which it is taken, an acceptance condition |
 //! | `Tokens::new`, `peek`, `advance` | the tokens of a text (HOA v1, tokens), without blanks and comments |
-//! | `HoaCause::number`, `name` | a cause in psyn's list of faults |
+//! | `HoaCause::number`, `name` | the number and the name of a cause in psyn's list of faults |
 //!
-//! | Law | What it says |
+//! | Law | What it states |
 //! |---|---|
-//! | `one_answer`, `some_answer` | a text has exactly one answer, its file or its first cause |
+//! | `one_answer`, `some_answer` | a text has exactly one answer: its file, or its first error |
 //! | `tokens::one_list_of_tokens` | a text has exactly one list of tokens, by longest match with nested comments |
-//! | `expressions::one_expression` | tokens are at most one label and at most one condition, by precedence |
-//! | `expressions::bounded_nesting` | the grammar with a limit is that without, up to the limit |
-//! | `sound_files` | a file that was read is sound: numbers are in range, names and rows differ, limits are kept |
-//! | `sound_parts`, `sound_labels` | what soundness says of a row, an edge, a label |
+//! | `expressions::one_expression` | tokens parse as at most one label and at most one condition, by precedence |
+//! | `expressions::bounded_nesting` | the grammar with a nesting limit is the unlimited grammar up to that limit |
+//! | `sound_files` | a parsed file is sound: numbers are in range, names and rows differ, limits are kept |
+//! | `sound_parts`, `sound_labels` | what the soundness of a file implies for its rows, its edges and its labels |
 //!
-//! `HoaFile` has soundness as its invariant, so every `HoaFile` is sound. A text has at most 16,777,216 bytes, 65,535
+//! The invariant of `HoaFile` is soundness, so every `HoaFile` is sound. A text has at most 16,777,216 bytes, 65,535
 //! states, 1,048,576 edges, 64 propositions, 64 sets and 4,096 aliases, and `!` and `(` are nested at most 256 deep.
-//! These limits are psyn's own; beyond them the cause is `Limit`. Reading takes time proportional to the text, except
-//! for looking up aliases and states in trees.
+//! These limits are psyn's own. A text that exceeds a limit is rejected with the cause `Limit`. Parsing takes time
+//! proportional to the length of the text, except for looking up aliases and states in trees.
 #![tactic(auto)]
 
 mod assembly;

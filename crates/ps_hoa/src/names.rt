@@ -1,4 +1,4 @@
-//! Names in order of appearance, each once.
+//! Distinct names in order of appearance.
 
 ghost use Rattle.std.specs.Prelude.{◌≡◌, ◌++◌, ◌∷◌, [], None, OnOk, OnErr, length};
 ghost use Rattle.ps_hoa.specs.Labels.{alias_number};
@@ -7,7 +7,8 @@ use std::alloc::{AllocError, Global};
 use std::collections::BTreeMap;
 use std::marker::Model;
 
-/// Names that are parts of one text, in order. An ordered table finds the number of each, whatever the names are.
+/// Distinct names, each a part of the same text, in order of appearance. An ordered table gives the number of each
+/// name, so a lookup is fast whatever the names are.
 #[derive(Drop)]
 pub(crate) struct Names<'a> {
     names: Vec<&'a [u8]>,
@@ -30,7 +31,7 @@ impl<'a> Model for Names<'a> {
 }
 
 impl<'a> Names<'a> {
-    /// No names.
+    /// An empty list of names.
     pub(crate) fn new(alloc: Global) -> Self
         ensures { result ≡ [] }
     {
@@ -40,21 +41,21 @@ impl<'a> Names<'a> {
         }
     }
 
-    /// How many names there are.
+    /// The number of names.
     pub(crate) fn len(&self) -> usize
         ensures { result ≡ length self.now }
     {
         self.names.len()
     }
 
-    /// The number of a name, if it is one of them.
+    /// The number of a name, if the name is in the list.
     pub(crate) fn number(&self, name: &[u8]) -> Option<usize>
         ensures { result ≡ alias_number self.now name.now }
     {
         self.numbers.get(name).copied()
     }
 
-    /// Adds a new name.
+    /// Adds a new name. Fails if out of memory.
     pub(crate) fn push(&mut self, name: &'a [u8]) -> Result<(), AllocError>
         requires { alias_number self.old name.now ≡ None }
         ensures ok { OnOk result (self.new ≡ self.old ++ name.now ∷ []) }

@@ -1,4 +1,4 @@
-//! Names in a header that must be new.
+//! The parser of the names that a header defines, each of which must be new.
 
 ghost use Rattle.std.specs.Prelude.{◌≡◌, [], IfOk, None, false};
 ghost use Rattle.ps_text.specs.Parts.{one, times};
@@ -16,10 +16,10 @@ use crate::signs::{is_kind, quoted_of, unescaped};
 use crate::tokens::{Kind, Token, Tokens};
 use std::alloc::Global;
 
-/// The greatest number of aliases in a text.
+/// The largest number of aliases that a text may have.
 const ALIAS_LIMIT: usize = 4096;
 
-/// Reads `count` names of propositions.
+/// Parses `count` names of propositions.
 pub(crate) fn propositions(
     alloc: Global,
     tokens: &mut Tokens,
@@ -34,7 +34,7 @@ pub(crate) fn propositions(
     Ok(names)
 }
 
-/// Reads one more name of a proposition.
+/// Parses one more name of a proposition.
 fn proposition(alloc: Global, tokens: &mut Tokens, names: &mut Propositions) -> Result<(), HoaFault>
     ensures { ReadsAs (λ _. names.new) (parts.proposition_name names.old) tokens.old result tokens.new }
 {
@@ -43,7 +43,7 @@ fn proposition(alloc: Global, tokens: &mut Tokens, names: &mut Propositions) -> 
     Ok(())
 }
 
-/// Reads a name that no proposition has.
+/// Reads a name that no earlier proposition has.
 fn new_name(alloc: Global, tokens: &mut Tokens, names: &Propositions) -> Result<Vec<u8>, HoaFault>
     ensures part { ReadsAs (λ name. name.items) (one parts.string_in (parts.IsBadName names.now)) tokens.old
         result tokens.new }
@@ -53,7 +53,7 @@ fn new_name(alloc: Global, tokens: &mut Tokens, names: &Propositions) -> Result<
     new_name_of(alloc, token, names)
 }
 
-/// The name that a token is, which no proposition has.
+/// The name that a token states, which no earlier proposition has.
 fn new_name_of(alloc: Global, token: Token, names: &Propositions) -> Result<Vec<u8>, HoaFault>
     ensures sign { Takes (λ name. name.items) parts.string_in (parts.IsBadName names.now)
         (piece_of token.entry) result }
@@ -66,7 +66,7 @@ fn new_name_of(alloc: Global, token: Token, names: &Propositions) -> Result<Vec<
     Ok(name)
 }
 
-/// Whether a name has a byte that is not allowed.
+/// Whether a name contains a byte that is not allowed.
 fn has_control(name: &[u8]) -> bool
     ensures { result ≡ parts.has_control name.now }
 {
@@ -78,7 +78,7 @@ fn has_control(name: &[u8]) -> bool
     false
 }
 
-/// Reads a name that no alias has.
+/// Reads a name that no earlier alias has.
 pub(crate) fn new_alias<'a>(tokens: &mut Tokens<'a>, names: &Names) -> Result<&'a [u8], HoaFault>
     ensures part { ReadsAs (λ name. name.now) (one alias_name_in (parts.IsBadAlias names.now)) tokens.old
         result tokens.new }
@@ -88,7 +88,7 @@ pub(crate) fn new_alias<'a>(tokens: &mut Tokens<'a>, names: &Names) -> Result<&'
     new_alias_of(token, names)
 }
 
-/// The name that a token is, which no alias has.
+/// The name that a token states, which no earlier alias has.
 fn new_alias_of<'a>(token: Token<'a>, names: &Names) -> Result<&'a [u8], HoaFault>
     ensures sign { Takes (λ name. name.now) alias_name_in (parts.IsBadAlias names.now) (piece_of token.entry) result }
     ensures new { IfOk result (λ name. alias_number names.now name.now ≡ None) }

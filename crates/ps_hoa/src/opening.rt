@@ -13,10 +13,10 @@ ghost use Rattle.ps_hoa.specs.declared.fault.HoaCause.{HoaCause};
 use crate::fault::{HoaCause, HoaFault};
 use crate::tokens::{Tokens, begins_with, behind_blanks, is_name_byte, is_same};
 
-/// The greatest number of bytes in a text.
+/// The largest number of bytes that a text may have.
 const TEXT_LIMIT: usize = 16_777_216;
 
-/// How many bytes of a version the text begins with.
+/// The number of bytes at the start of a text that can belong to a version.
 fn version_at(bytes: &[u8]) -> usize
     ensures value { result ≡ prefix_len is_version_byte bytes.now }
     ensures within { result ≤ length bytes.now }
@@ -35,10 +35,11 @@ fn version_at(bytes: &[u8]) -> usize
 /// `Limit` if the text is too long, `NotHoa` if it does not begin with `HOA:`, and `Version` if the version is not
 /// `v1`.
 pub(crate) fn opened(text: &[u8]) -> Result<Tokens<'_>, HoaFault>
-    // What the tokens mean, or the first cause in them, is the answer to the text.
+    // If the tokens after the version have a meaning or a first error, that meaning or error is the answer to the whole
+    // text.
     ensures tokens { IfOk result (λ tokens. (answer : Result FileData (Found HoaCause)) →
         PartAnswers hoa_causes file (stream_of tokens) answer → ReadsFile text.now answer) }
-    // A refusal is the first cause of the text.
+    // A fault returned here is the first error of the text.
     ensures refused { IfErr result (IsRefusedAs text.now) }
 {
     if text.len() > TEXT_LIMIT {

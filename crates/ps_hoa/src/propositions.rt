@@ -8,7 +8,7 @@ use crate::tokens::is_same;
 use std::alloc::{AllocFailed, Global};
 use std::marker::Model;
 
-/// The names of the propositions in order, each once. They are few, so a search looks at all of them.
+/// The names of the propositions in order, each once. A search compares all names, since there are only a few.
 #[derive(Debug, Drop)]
 pub struct Propositions {
     names: Vec<Vec<u8>>,
@@ -24,7 +24,7 @@ impl Model for Propositions {
 }
 
 impl Propositions {
-    /// No propositions.
+    /// An empty list of names.
     pub fn new(alloc: Global) -> Self
         ensures { result ≡ [] }
     {
@@ -33,28 +33,28 @@ impl Propositions {
         }
     }
 
-    /// How many there are.
+    /// The number of propositions.
     pub fn len(&self) -> usize
         ensures { result ≡ length self.now }
     {
         self.names.len()
     }
 
-    /// Their names, in order.
+    /// The names of the propositions, in order.
     pub fn as_slice(&self) -> &[Vec<u8>]
         ensures { map bytes_of result.now ≡ self.now }
     {
         self.names.as_slice()
     }
 
-    /// Whether one of them has this name.
+    /// Whether a proposition has this name.
     pub fn has(&self, name: &[u8]) -> bool
         ensures { result ≡ is_name_among name.now self.now }
     {
         is_among(name, &self.names)
     }
 
-    /// Adds a proposition with a new name. Fails if out of memory, and gives the name back.
+    /// Adds a proposition with a new name. If out of memory, the call fails and returns the name.
     pub fn push(&mut self, name: Vec<u8>) -> Result<(), AllocFailed<Vec<u8>>>
         requires { is_name_among name.items self.old ≡ false }
         ensures ok { OnOk result (self.new ≡ self.old ++ name.items ∷ []) }
@@ -65,7 +65,7 @@ impl Propositions {
     }
 }
 
-/// Whether one of the names is this one.
+/// Whether a name is in a list of names.
 fn is_among(name: &[u8], names: &[Vec<u8>]) -> bool
     ensures { result ≡ is_name_among name.now (map bytes_of names.now) }
 {

@@ -1,4 +1,4 @@
-//! Reading whole texts.
+//! The parser of whole texts.
 
 ghost use Rattle.std.specs.Prelude.{IfOk};
 ghost use Rattle.ps_hoa.specs.Scan.{next_of, stream_of};
@@ -16,12 +16,12 @@ use crate::refusal::refused;
 use crate::tokens::{Kind, Tokens};
 use std::alloc::Global;
 
-/// Reads an HOA text (HOA v1, header and body; `controllable-AP:` of extended HOA).
+/// Parses an HOA text (HOA v1, header and body; `controllable-AP:` of extended HOA).
 ///
 /// # Errors
 ///
-/// `HoaFault::Text` with the first cause in the text and its offset; at one place, the cause with the smallest number.
-/// `OutOfMemory` if out of memory.
+/// `HoaFault::Text` with the first error in the text and its offset. Among errors at the same offset, the error with
+/// the smallest number comes first. `OutOfMemory` if out of memory.
 pub fn read(alloc: Global, text: &[u8]) -> Result<HoaFile, HoaFault>
     ensures answer { IsFileAnswer (λ file. file) text.now result }
     ensures sound { IfOk result IsSoundFile }
@@ -33,7 +33,7 @@ pub fn read(alloc: Global, text: &[u8]) -> Result<HoaFile, HoaFault>
     file(alloc, header, rows)
 }
 
-/// Checks that the text ends here.
+/// Checks that no token is left.
 fn finish(tokens: &Tokens) -> Result<(), HoaFault>
     ensures { EndsHere (stream_of tokens.now) result }
 {

@@ -1,4 +1,4 @@
-//! The fault of a token.
+//! The fault for a token that is rejected.
 
 ghost use Rattle.std.specs.Prelude.{◌≡◌, Some};
 ghost use Rattle.ps_text.specs.declared.faults.Fault.TheVariants as faults;
@@ -11,7 +11,7 @@ use crate::fault::{HoaCause, HoaFault};
 use crate::items::item_named;
 use crate::tokens::{Kind, Token, is_same};
 
-/// The fault with that cause at a token.
+/// The fault with a given cause, at the offset of a token.
 pub(crate) fn fault_at(token: Token, cause: HoaCause) -> HoaFault
     ensures { result ≡ faults.Text cause token.entry.start }
 {
@@ -21,14 +21,14 @@ pub(crate) fn fault_at(token: Token, cause: HoaCause) -> HoaFault
     }
 }
 
-/// The fault of a token that is not allowed at its place.
+/// The fault of a token that is not allowed here.
 pub(crate) fn refused(token: Token) -> HoaFault
     ensures { result ≡ faults.Text (refusal_of hoa_causes (Some (piece_of token.entry).sign)) token.entry.start }
 {
     fault_at(token, refusal(token))
 }
 
-/// The cause that a token is by itself, or else that of the grammar.
+/// The cause with which a token is rejected: the token's own cause if it has one, otherwise `Syntax`.
 fn refusal(token: Token) -> HoaCause
     ensures { result ≡ refusal_of hoa_causes (Some (piece_of token.entry).sign) }
 {
@@ -44,7 +44,7 @@ fn refusal(token: Token) -> HoaCause
     }
 }
 
-/// Whether a name begins with a capital and is not defined by the grammar.
+/// Whether a name begins with a capital letter and is not defined by the grammar.
 #[tactic(auto, unfolding(crate::specs::Causes::is_unknown_capital))]
 fn is_unknown(name: &[u8]) -> bool
     ensures { result ≡ is_unknown_capital name.now }
@@ -52,14 +52,14 @@ fn is_unknown(name: &[u8]) -> bool
     !is_spelled(name) && begins_capital(name)
 }
 
-/// Whether the grammar defines a name, as that of an item or elsewhere.
+/// Whether the grammar defines a name, as the name of a header item or otherwise.
 fn is_spelled(name: &[u8]) -> bool
     ensures { result ≡ is_spelled name.now }
 {
     is_same(name, b"HOA:") || is_same(name, b"State:") || item_named(name).is_some()
 }
 
-/// Whether the first byte is one of `A` to `Z`.
+/// Whether the first byte is a letter from `A` to `Z`.
 pub(crate) fn begins_capital(name: &[u8]) -> bool
     ensures { result ≡ begins_capital name.now }
 {

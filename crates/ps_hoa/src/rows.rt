@@ -1,4 +1,4 @@
-//! The rows of a body.
+//! The rows of a body, and a table that locates the row of each state.
 
 ghost use Rattle.std.specs.BTreeMap.{get};
 ghost use Rattle.std.specs.Ordering.{nat_cmp};
@@ -12,7 +12,7 @@ use crate::file::Row;
 use std::alloc::{AllocError, Global};
 use std::collections::BTreeMap;
 
-/// The rows of a body so far, with a table of their places by state, and the number of their edges.
+/// The rows of a body so far, a table with the index of each state's row, and the total number of edges.
 #[derive(Debug, Drop)]
 pub(crate) struct Rows {
     rows: Vec<Row>,
@@ -26,7 +26,7 @@ impl Rows {
     ghost use Rattle.ps_hoa.specs.Body.{has_row, last_row, no_rows, with_row};
     ghost use Rattle.ps_hoa.specs.Inner.Rows.{body_data};
 
-    /// No rows. Calls that add rows fail if out of memory.
+    /// An empty list of rows.
     pub(crate) fn new(alloc: Global) -> Self
         ensures { body_data result ≡ no_rows }
     {
@@ -37,7 +37,7 @@ impl Rows {
         }
     }
 
-    /// The number of edges.
+    /// The number of edges of all rows.
     pub(crate) fn edges(&self) -> usize
         ensures value { result ≡ (body_data self.now).edges }
         ensures within { result ≤ edge_limit }
@@ -45,7 +45,7 @@ impl Rows {
         self.edges
     }
 
-    /// Whether a row belongs to this state.
+    /// Whether a state has a row.
     pub(crate) fn has(&self, state: u32) -> bool
         ensures { result ≡ has_row state (body_data self.now).rows }
     {
@@ -59,7 +59,7 @@ impl Rows {
         self.rows.last()
     }
 
-    /// Adds the row of a new state.
+    /// Adds the row of a state that has no row yet. Fails if out of memory.
     pub(crate) fn push(&mut self, row: Row) -> Result<(), AllocError>
         requires new { has_row row.state (body_data self.old).rows ≡ false }
         requires within { (body_data self.old).edges + length row.edges.items ≤ edge_limit }
@@ -79,7 +79,7 @@ impl Rows {
         self.rows.as_slice()
     }
 
-    /// The row of a state, if it has one.
+    /// The row of a state, if there is one.
     pub(crate) fn of_state(&self, state: u32) -> Option<&Row>
         ensures { option_map row_data (option_copied result) ≡ row_among (body_data self.now).rows state }
     {
@@ -88,7 +88,7 @@ impl Rows {
     }
 }
 
-/// The row at a place, if there is one.
+/// The row at an index, if there is one.
 fn row_at(rows: &[Row], place: usize) -> Option<&Row>
     ensures { option_copied result ≡ slice_get rows.now place }
 {

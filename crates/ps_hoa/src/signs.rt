@@ -1,4 +1,4 @@
-//! Single signs of a text.
+//! The parser of single tokens.
 
 ghost use Rattle.std.specs.Prelude.{◌≡◌, ◌≢◌, ◌≤◌, ◌↔◌, Bool, IfOk, false, is_some, true, None, Some, nat_le};
 ghost use Rattle.std.specs.Prelude.{if◌then◌else◌};
@@ -17,7 +17,7 @@ use crate::refusal::{fault_at, refused};
 use crate::tokens::{Kind, Token, Tokens, is_same};
 use std::alloc::{AllocError, Global};
 
-/// Reads a sign of a kind.
+/// Reads a token of the given kind.
 pub(crate) fn mark(tokens: &mut Tokens, kind: Kind) -> Result<(), HoaFault>
     requires { kind ≢ Kind.Finish }
     ensures { (test : Kind → Bool) → IsTestOf test kind → ReadsAs (λ u. u) (mark_part test) tokens.old
@@ -27,7 +27,7 @@ pub(crate) fn mark(tokens: &mut Tokens, kind: Kind) -> Result<(), HoaFault>
     mark_of(token, kind)
 }
 
-/// The token is of a kind.
+/// Checks that a token is of the given kind.
 fn mark_of(token: Token, kind: Kind) -> Result<(), HoaFault>
     ensures { (test : Kind → Bool) → IsTestOf test kind → Takes (λ u. u) (mark_in test) NoBad
         (piece_of token.entry) result }
@@ -39,21 +39,21 @@ fn mark_of(token: Token, kind: Kind) -> Result<(), HoaFault>
     }
 }
 
-/// Whether a token is of a kind.
+/// Whether a token is of the given kind.
 pub(crate) fn is_kind(token: Token, kind: Kind) -> bool
     ensures { (result ≡ true) ↔ (token.entry.kind ≡ kind) }
 {
     token.kind == kind
 }
 
-/// Whether a token is that name, with `:` after it.
+/// Whether a token is this name with `:` directly after it.
 pub(crate) fn is_name(token: Token, name: &[u8]) -> bool
     ensures { result ≡ is_some (name_value name.now token.entry.kind token.entry.text.now) }
 {
     token.kind == Kind::Header && is_same(token.text, name)
 }
 
-/// Reads a number up to a limit.
+/// Reads a number that may not exceed a limit.
 pub(crate) fn int(tokens: &mut Tokens, limit: u32) -> Result<u32, HoaFault>
     ensures part { ReadsAs (λ n. n) (int_part limit) tokens.old result tokens.new }
     ensures within { IfOk result (λ n. n ≤ limit) }
@@ -62,7 +62,7 @@ pub(crate) fn int(tokens: &mut Tokens, limit: u32) -> Result<u32, HoaFault>
     int_up_to(token, limit)
 }
 
-/// The number up to a limit that a token is.
+/// The number that a token states, which may not exceed a limit.
 fn int_up_to(token: Token, limit: u32) -> Result<u32, HoaFault>
     ensures sign { Takes (λ n. n) int_in (IsAbove limit) (piece_of token.entry) result }
     ensures within { IfOk result (λ n. n ≤ limit) }
@@ -76,7 +76,7 @@ fn int_up_to(token: Token, limit: u32) -> Result<u32, HoaFault>
     }
 }
 
-/// Reads a state that no `&` follows.
+/// Reads a state that is not followed by `&`.
 pub(crate) fn start_state(tokens: &mut Tokens) -> Result<u32, HoaFault>
     ensures { ReadsAs (λ n. n) (barred_by (int_part number_limit) IsAlternating) tokens.old result tokens.new }
 {
@@ -87,7 +87,7 @@ pub(crate) fn start_state(tokens: &mut Tokens) -> Result<u32, HoaFault>
     Ok(state)
 }
 
-/// Reads a string between quotes, and returns the bytes between them.
+/// Reads a string, and returns the bytes between its quotes.
 pub(crate) fn quoted<'a>(tokens: &mut Tokens<'a>) -> Result<&'a [u8], HoaFault>
     ensures { ReadsAs (λ inner. meaning false inner.now) string_part tokens.old result tokens.new }
 {
@@ -106,7 +106,7 @@ pub(crate) fn quoted_of<'a>(token: Token<'a>) -> Result<&'a [u8], HoaFault>
     }
 }
 
-/// The text without its first and its last byte.
+/// A text without its first and its last byte.
 fn between_quotes(text: &[u8]) -> &[u8]
     ensures { result.now ≡ inside text.now }
 {
@@ -116,7 +116,7 @@ fn between_quotes(text: &[u8]) -> &[u8]
     &text[1..text.len() - 1]
 }
 
-/// The meaning of the bytes between quotes: a backslash and a byte stand for that byte.
+/// The meaning of the bytes between quotes: a backslash and the byte after it stand for that byte.
 pub(crate) fn unescaped(alloc: Global, inner: &[u8]) -> Result<Vec<u8>, AllocError>
     ensures { IfOk result (λ bytes. bytes.items ≡ meaning false inner.now) }
 {
@@ -133,8 +133,8 @@ pub(crate) fn unescaped(alloc: Global, inner: &[u8]) -> Result<Vec<u8>, AllocErr
     Ok(bytes)
 }
 
-/// The number that digits write, if it is at most the greatest `INT`. A byte less than `0` counts as `0`, so that
-/// nothing is required of the bytes.
+/// The number that a run of digits represents, if it does not exceed the greatest `INT`. A byte less than `0` counts as
+/// `0`, so the function accepts any bytes.
 pub(crate) fn int_of(digits: &[u8]) -> Option<u32>
     ensures { result ≡ (if nat_le (decimal_value digits.now) number_limit then Some
         (decimal_value digits.now) else None) }

@@ -1,4 +1,4 @@
-//! Items that are ignored.
+//! Header items that are ignored.
 
 ghost use Rattle.std.specs.Prelude.{◌≡◌};
 ghost use Rattle.ps_text.specs.Parts.{many};
@@ -14,7 +14,7 @@ use crate::refusal::{fault_at, refused};
 use crate::signs::{int_of, quoted};
 use crate::tokens::{Kind, Token, Tokens};
 
-/// Skips the name of a tool, and its version if there is one.
+/// Skips the name of a tool, and the tool's version if there is one.
 pub(crate) fn tool(tokens: &mut Tokens) -> Result<(), HoaFault>
     ensures { (h : HeaderData) → ReadsAs (λ _. h) (parts.strings h) tokens.old result tokens.new }
 {
@@ -33,7 +33,7 @@ pub(crate) fn name(tokens: &mut Tokens) -> Result<(), HoaFault>
     Ok(())
 }
 
-/// Skips what follows a name that has no meaning here.
+/// Skips the arguments of an item with an unknown name.
 pub(crate) fn other(tokens: &mut Tokens) -> Result<(), HoaFault>
     ensures { (h : HeaderData) → ReadsAs (λ _. h) (many parts.read_over h) tokens.old result tokens.new }
 {
@@ -58,7 +58,7 @@ fn read_over(tokens: &mut Tokens) -> Result<(), HoaFault>
     read_over_of(token)
 }
 
-/// The token may be skipped.
+/// Checks that a token may be skipped.
 fn read_over_of(token: Token) -> Result<(), HoaFault>
     ensures { (h : HeaderData) → Takes (λ _. h) (read_over_in h) (parts.IsAbove number_limit)
         (piece_of token.entry) result }

@@ -1,4 +1,4 @@
-//! Tokens of an HOA text.
+//! The tokens of an HOA text.
 
 ghost use Rattle.std.specs.Prelude.{◌≡◌, ℕ, ◌+◌, ◌-◌, ◌<◌, ◌≤◌, ◌↔◌, false, true, List, [], length, drop, slice_index};
 ghost use Rattle.std.specs.Prelude.{IfSome, IsTrue, ◌==◌, ◌&&◌};
@@ -15,16 +15,16 @@ ghost use Rattle.ps_hoa.specs.Spans.{AreBlanks, IsKept, IsSpan, piece_of};
 use crate::items::{MARK_COUNT, mark_named};
 use std::marker::Model;
 
-/// What a token is (HOA v1, tokens).
+/// The kind of a token (HOA v1, tokens).
 #[derive(Clone, Copy, Debug, PartialEq, Eq)]
 pub enum Kind {
     /// A name with `:` directly after it.
     Header,
     /// The second occurrence of a name that may occur only once.
     HeaderAgain,
-    /// A name: a letter or `_`, and then letters, digits, `_` and `-`.
+    /// A name: a letter or `_`, followed by letters, digits, `_` and `-`.
     Word,
-    /// `@`, and then letters, digits, `_` and `-`.
+    /// `@`, followed by letters, digits, `_` and `-`.
     AliasName,
     /// `0`, or digits that don't begin with `0`.
     Int,
@@ -58,15 +58,15 @@ pub enum Kind {
     Abort,
     /// `/*`, if the comment is not closed.
     OpenComment,
-    /// A byte that begins no token.
+    /// A byte that does not begin any token.
     Odd,
-    /// A byte after `--END--` that is not a blank.
+    /// Any token after `--END--`, except for a comment that is not closed.
     Behind,
     /// The end of the text.
     Finish,
 }
 
-/// What a byte begins.
+/// The class of a byte, by the blanks, comments and tokens that can begin with it.
 #[derive(Clone, Copy)]
 enum Class {
     Blank,
@@ -109,14 +109,14 @@ fn class_of(byte: u8) -> Class
     }
 }
 
-/// Which of the names that may occur only once have occurred, and whether `--END--` has.
+/// Which of the names that may occur only once have occurred, and whether `--END--` has occurred.
 #[derive(Clone, Copy)]
 pub struct Marks {
     pub(crate) stood: [bool; MARK_COUNT],
     pub(crate) ended: bool,
 }
 
-/// What begins at a place: what is skipped, or a token, and how many bytes it has.
+/// The blanks, the comment or the token that begins at an offset, and its length in bytes.
 #[derive(Clone, Copy)]
 enum Step {
     Skip(usize),
@@ -131,7 +131,7 @@ fn is_digit(byte: u8) -> bool
     matches!(byte, b'0'..=b'9')
 }
 
-/// How many digits the bytes begin with.
+/// The number of digits at the start of the bytes.
 fn digits_at(bytes: &[u8]) -> usize
     ensures value { result ≡ prefix_len digit bytes.now }
     ensures within { result ≤ length bytes.now }
@@ -143,7 +143,7 @@ fn digits_at(bytes: &[u8]) -> usize
     count
 }
 
-/// Whether a name may contain a byte after its first one.
+/// Whether a name may contain this byte after its first byte.
 #[tactic(auto, unfolding(crate::specs::Bytes::class_of))]
 pub(crate) fn is_name_byte(byte: u8) -> bool
     ensures { result ≡ names byte }
@@ -151,7 +151,7 @@ pub(crate) fn is_name_byte(byte: u8) -> bool
     matches!(byte, b'0'..=b'9' | b'a'..=b'z' | b'A'..=b'Z' | b'_' | b'-')
 }
 
-/// How many bytes of a name the bytes begin with.
+/// The number of bytes at the start that a name may contain after its first byte.
 fn name_at(bytes: &[u8]) -> usize
     ensures value { result ≡ prefix_len names bytes.now }
     ensures within { result ≤ length bytes.now }
@@ -163,7 +163,8 @@ fn name_at(bytes: &[u8]) -> usize
     count
 }
 
-/// How many bytes there are up to the end of the string that contains them, including the closing quote.
+/// The number of bytes up to the end of the string that these bytes continue, including the closing quote. The result
+/// is `None` if the string is not closed.
 fn quoted_at(bytes: &[u8]) -> Option<usize>
     ensures value { result ≡ quoted_len bytes.now false }
     ensures within { IfSome result (λ n. n ≤ length bytes.now) }
@@ -181,7 +182,8 @@ fn quoted_at(bytes: &[u8]) -> Option<usize>
     None
 }
 
-/// How many bytes there are up to the end of the comment that contains them, including the comments inside it.
+/// The number of bytes up to the end of the comment that these bytes continue, including comments nested in it. The
+/// result is `None` if the comment is not closed.
 fn comment_at(bytes: &[u8]) -> Option<usize>
     ensures value { result ≡ comment_len bytes.now false 0 }
     ensures within { IfSome result (λ n. n ≤ length bytes.now) }
@@ -205,7 +207,7 @@ fn comment_at(bytes: &[u8]) -> Option<usize>
     None
 }
 
-/// Whether these two bytes are at a place.
+/// Whether the bytes at an offset are the given two bytes.
 fn is_pair(bytes: &[u8], at: usize, first: u8, second: u8) -> bool
     requires some { 0 < second }
     ensures value { result ≡ (slice_index bytes.now at == first && slice_index bytes.now (at + 1) == second) }
@@ -214,7 +216,7 @@ fn is_pair(bytes: &[u8], at: usize, first: u8, second: u8) -> bool
     at < bytes.len() && bytes[at] == first && byte_at(bytes, at + 1) == second
 }
 
-/// The byte at a place, or 0 after the end.
+/// The byte at an offset, or 0 after the end.
 fn byte_at(bytes: &[u8], at: usize) -> u8
     ensures value { result ≡ slice_index bytes.now at }
     ensures within { 0 < result → at < length bytes.now }
@@ -274,7 +276,7 @@ fn text_step(bytes: &[u8]) -> Step
     }
 }
 
-/// Whether a text begins with a word.
+/// Whether a text begins with a given word.
 pub(crate) fn begins_with(bytes: &[u8], word: &[u8]) -> bool
     ensures value { result ≡ begins_with bytes.now word.now }
     ensures within { IsTrue result → length word.now ≤ length bytes.now }
@@ -314,7 +316,7 @@ fn comment_step(bytes: &[u8]) -> Step
     }
 }
 
-/// What begins at the front of these bytes.
+/// The blank, the comment or the token that begins with the first byte.
 #[tactic(auto, unfolding(crate::specs::Scan::step_of))]
 fn step_at(bytes: &[u8]) -> Step
     ensures value { result ≡ step_of bytes.now }
@@ -339,7 +341,7 @@ fn step_at(bytes: &[u8]) -> Step
     }
 }
 
-/// A token by itself, whatever came before it: what it is, and where.
+/// The kind and the span of a token, regardless of the tokens before it.
 #[derive(Clone, Copy)]
 struct Lexeme {
     kind: Kind,
@@ -347,7 +349,7 @@ struct Lexeme {
     stop: usize,
 }
 
-/// The first token from a place on, after blanks and comments.
+/// The first token from an offset on, after blanks and comments.
 fn first_lexeme(source: &[u8], from: usize) -> Lexeme
     requires { from ≤ length source.now }
     ensures blanks { AreBlanks source.now from result.start }
@@ -370,7 +372,7 @@ fn first_lexeme(source: &[u8], from: usize) -> Lexeme
     }
 }
 
-/// Where the blanks and comments that begin at a place end.
+/// The end of the blanks and comments that begin at an offset.
 pub(crate) fn behind_blanks(source: &[u8], from: usize) -> usize
     requires { from ≤ length source.now }
     ensures blanks { AreBlanks source.now from result }
@@ -382,7 +384,7 @@ pub(crate) fn behind_blanks(source: &[u8], from: usize) -> usize
     first_lexeme(source, from).start
 }
 
-/// Whether two texts are the same.
+/// Whether two texts are equal.
 pub(crate) fn is_same(name: &[u8], word: &[u8]) -> bool
     ensures { result ≡ bytes_eq name.now word.now }
 {
@@ -390,7 +392,7 @@ pub(crate) fn is_same(name: &[u8], word: &[u8]) -> bool
 }
 
 impl Marks {
-    /// Only `HOA:` has occurred.
+    /// The marks when only `HOA:` has occurred.
     fn new() -> Self
         ensures { result ≡ fresh }
     {
@@ -413,7 +415,7 @@ impl Marks {
         }
     }
 
-    /// What a token is after these.
+    /// The kind of a token that follows the recorded tokens.
     fn kind_of(&self, kind: Kind, text: &[u8]) -> Kind
         ensures { result ≡ kind_here self.now kind text.now }
     {
@@ -434,7 +436,7 @@ impl Marks {
         }
     }
 
-    /// Records a token.
+    /// Records that a token has occurred.
     fn pass(&mut self, kind: Kind, text: &[u8])
         ensures { self.new ≡ marks_after self.old kind text.now }
     {
@@ -449,23 +451,23 @@ impl Marks {
 /// A token of a text.
 #[derive(Clone, Copy)]
 pub struct Token<'a> {
-    /// What it is.
+    /// The kind of the token.
     pub kind: Kind,
-    /// Its bytes.
+    /// The bytes of the token.
     pub text: &'a [u8],
-    /// The offset of its first byte.
+    /// The offset of the first byte of the token.
     pub start: usize,
-    /// The offset after its last byte.
+    /// The offset after the last byte of the token.
     pub stop: usize,
 }
 
-/// The tokens of a text that are still to come.
+/// The tokens of a text that have not been read yet.
 #[derive(Drop)]
 pub struct Tokens<'a> {
     source: &'a [u8],
-    /// The token that comes next,
+    /// The next token.
     next: Token<'a>,
-    /// and what it is by itself.
+    /// The kind of the next token, regardless of the tokens before it.
     kind: Kind,
     marks: Marks,
 }
@@ -482,8 +484,8 @@ impl<'a> Model for Tokens<'a> {
 }
 
 impl<'a> Tokens<'a> {
-    /// The tokens from a place of a text on, which comes after its version. So a `HOA:` that is still to come is a
-    /// second one, even if the place is 0.
+    /// The tokens from an offset on. The offset should be after the version of the text. A later `HOA:` counts as the
+    /// second occurrence of this name, even if the offset is 0.
     pub fn new(source: &'a [u8], from: usize) -> Self
         requires { from ≤ length source.now }
         ensures pieces { (pieces : List (Piece Sign)) → AreTokens from (drop from source.now) pieces →
@@ -501,7 +503,7 @@ impl<'a> Tokens<'a> {
         }
     }
 
-    /// The next token; at the end of the text it is `Finish`.
+    /// The next token. At the end of the text, the kind of the token is `Finish`.
     pub fn peek(&self) -> Token<'a>
         ensures next { piece_of result ≡ next_of (stream_of self.now) }
         ensures finish { (result.kind ≡ Kind.Finish) ↔ ((stream_of self.now).pieces ≡ []) }
@@ -511,13 +513,13 @@ impl<'a> Tokens<'a> {
         self.next
     }
 
-    /// Moves past the next token, and returns it.
+    /// Moves past the next token, and returns that token.
     pub fn advance(&mut self) -> Token<'a>
         ensures next { piece_of result ≡ next_of (stream_of self.old) }
         ensures rest { stream_of self.new ≡ behind_next (stream_of self.old) }
         ensures text { IsSpan self.old.source result }
         ensures source { self.new.source ≡ self.old.source }
-        // So a token starts no sooner than the one before it stops.
+        // By these two clauses, a token never starts before the previous token stops.
         ensures start { result.start ≡ self.old.at }
         ensures rises { result.stop ≤ self.new.at }
     {
@@ -529,7 +531,7 @@ impl<'a> Tokens<'a> {
         token
     }
 
-    /// Whether the next token is of that kind.
+    /// Whether the next token is of this kind.
     pub(crate) fn is_at(&self, kind: Kind) -> bool
         ensures { (result ≡ true) ↔ ((next_of (stream_of self.now)).sign.kind ≡ kind) }
     {
@@ -537,7 +539,7 @@ impl<'a> Tokens<'a> {
     }
 }
 
-/// The token from a lexeme, after these marks.
+/// The token for a lexeme, given the marks of the tokens before it.
 fn token_of<'a>(source: &'a [u8], lexeme: Lexeme, marks: Marks) -> Token<'a>
     requires { IsLexeme source.now lexeme }
     ensures kept { IsKept source.now marks lexeme.kind result }

@@ -1,4 +1,4 @@
--- There are at most as many different lists of bits as there are numbers of that many bits.
+-- A list of distinct lists of k bits has at most 2^k entries.
 use Rattle.std.proofs.Common.{◌≡◌, ◌≢◌, ℕ, suc, ◌+◌, ◌*◌, ◌^◌, ◌<◌, ◌≤◌, Bool, true, false, List, [], ◌∷◌, length}
 use Rattle.std.proofs.Common.{get_or, map, refl, arith, rules, cond, ◌++◌, ◌⊎◌, inl, inr, length-append}
 use Rattle.std.proofs.Math.Nat.{pow-suc}
@@ -10,7 +10,7 @@ use Rattle.std.proofs.lemmas.Map.Keys.{IsDistinct-from_apart}
 use Rattle.std.proofs.lemmas.Map.Steps.{length-le_from_distinct_below}
 use Rattle.std.proofs.Math.Seq.{get_or-append_seam}
 
--- an element of a list with one more is one of the list's, or the last
+-- an entry of an extended list is an entry of the original list, or the new last entry
 pub at_push : {X : Type 0} (xs : List X) (x d : X) (k : ℕ) → k < length (xs ++ x ∷ []) →
     ((k < length xs) × (get_or (xs ++ x ∷ []) k d ≡ get_or xs k d)) ⊎
     ((k ≡ length xs) × (get_or (xs ++ x ∷ []) k d ≡ x))
@@ -40,7 +40,7 @@ below n [] all q e = cc
 below n (x ∷ xs) all q e =
     grind (arith, eqb-true q x, all 0 (omega arith), below n xs (λ k lt. all (suc k) (omega arith)) q)
 
--- there are at most n different numbers below n
+-- a list of distinct numbers below n has at most n entries
 pub few_below : (n : ℕ) (xs : List ℕ) → ((k : ℕ) → k < length xs → get_or xs k 0 < n) →
     ((k l d : ℕ) → k < l → l < length xs → get_or xs k d ≢ get_or xs l d) → length xs ≤ n
 few_below n xs all differ = search (rules, length-le_from_distinct_below, IsDistinct-from_apart, ne_eqb, below)

@@ -1,4 +1,5 @@
--- Numbers below n, none of which leads back to itself, can be put in an order; so can the gates of a circuit.
+-- If no number below n leads back to itself, the numbers can be ordered such that each comes after those to which it
+-- leads. In particular, the gates of a circuit can be ordered.
 use Rattle.std.proofs.Common.{◌≡◌, ◌≢◌, ℕ, zero, suc, ◌+◌, ◌<◌, inl, inr, List, [], ◌∷◌, ◌++◌, length, get_or, sym}
 use Rattle.std.proofs.Common.{ap, ◌∙◌, arith, Some, length-append, rules}
 use Rattle.std.specs.Prelude.{slice_get}
@@ -25,13 +26,13 @@ stands_or_not xs j = decide_as (λ c. (c.0, c.1, get_or_default xs c.0 0 j c.1 �
 
 module _ (R : ℕ → ℕ → Type 0) (n : ℕ) (to_within : (i j : ℕ) → R i j → j < n) (decide : (i j : ℕ) → Decided (R i j))
     (acyclic : (i : ℕ) → Way R i i → ⊥) where
-  -- numbers below n, each once, and each after all those to which it leads
+  -- distinct numbers below n, each after all numbers to which it leads
   record IsPart (xs : List ℕ) : Type 0 where
     below : (k : ℕ) → k < length xs → get_or xs k 0 < n
     once : (k l : ℕ) → k < l → l < length xs → get_or xs k 0 ≢ get_or xs l 0
     behind : (k j : ℕ) → k < length xs → R (get_or xs k 0) j → (l : ℕ) × (l < k) × (get_or xs l 0 ≡ j)
 
-  -- a part that has what another one has, and all of a kind
+  -- a longer list that keeps the numbers of a shorter list, and has all numbers with the property P
   record Grown (old : List ℕ) (P : ℕ → Type 0) : Type 0 where
     new : List ℕ
     is_part : IsPart new
@@ -42,7 +43,7 @@ module _ (R : ℕ → ℕ → Type 0) (n : ℕ) (to_within : (i j : ℕ) → R i
       IsPart (xs ++ i ∷ [])
   push {xs} i is lt absent sides = search (rules, at_push, get_or_append_left)
 
-  -- all of a kind that are below m, if each can be put into a part
+  -- a list can be extended by all numbers below m with a property, if it can be extended by each of these numbers alone
   each_below : (P : ℕ → Type 0) → ((j : ℕ) → Decided (P j)) →
       ((j : ℕ) → P j → (xs : List ℕ) → IsPart xs → Grown xs (λ k. j ≡ k))
       → (m : ℕ) (xs : List ℕ) → IsPart xs → Grown xs (λ k. (k < m) × P k)
@@ -59,7 +60,7 @@ module _ (R : ℕ → ℕ → Type 0) (n : ℕ) (to_within : (i j : ℕ) → R i
         })
       ]
 
-  -- numbers that differ, each with a way to the last
+  -- distinct numbers below n, each of which leads to i
   record IsPath (path : List ℕ) (i : ℕ) : Type 0 where
     below : (k : ℕ) → k < length path → get_or path k 0 < n
     differ : (k l d : ℕ) → k < l → l < length path → get_or path k d ≢ get_or path l d
@@ -78,7 +79,7 @@ module _ (R : ℕ → ℕ → Type 0) (n : ℕ) (to_within : (i j : ℕ) → R i
       leads zero k_lt = last r
       leads (suc k) k_lt = Way-join (is.leads k (omega (arith, k_lt))) (last r)
 
-  -- a number is put after all those to which it leads
+  -- a number is added after all numbers to which it leads
   visit : (fuel : ℕ) {i : ℕ} (path : List ℕ) → IsPath path i → n < fuel + length path → i < n → (xs : List ℕ) →
       IsPart xs → Grown xs (λ k. i ≡ k)
   visit zero path is_path many lt xs is = absurd (omega (arith, many, few_below n path is_path.below is_path.differ))
@@ -126,7 +127,7 @@ module _ (R : ℕ → ℕ → Type 0) (n : ℕ) (to_within : (i j : ℕ) → R i
         },
       )
 
--- the one gate has a literal of the other, or hasn't
+-- it is decidable whether a gate reads another gate
 reads_or_not : (gates : List Gate) (i j : ℕ) → Decided (ReadsGate gates i j)
 reads_or_not gates i j = decide_as (λ h. record { reader = h.0; read = h.2.0; at_i = h.1; at_j = h.2.1; side = h.2.2 })
     (λ r. (r.reader, r.at_i, (r.read, r.at_j, r.side)))

@@ -1,4 +1,4 @@
--- Lanes of words: each goes as the plain table goes.
+-- The bits of one lane in a table of words behave like the bits of a plain table.
 use Rattle.std.proofs.Common.{◌≡◌, ℕ, ◌+◌, ◌/◌, ◌%◌, ◌<◌, ◌&&◌, ◌==◌, Bool, true, false, not, cond, List, []}
 use Rattle.std.proofs.Common.{◌∷◌, ◌++◌, map, take, drop, length, get_or, arith, rules}
 use Rattle.std.specs.Prelude.{◌^◌, replicate, slice_set, slice_get, Some}
@@ -37,7 +37,7 @@ bit_in-and a b lane lt la lb = search (rules, get_or-zip2, bit_at_and, both, bit
 pub bit_in-mask : (b : Bool) (lane : ℕ) → lane < 256 → bit_in (replicate 4 (all_or_none b)) lane ≡ b
 bit_in-mask b lane lt = search (rules, get_or-replicate, mask_bit)
 
--- words, all of them changed by a mask
+-- the effect of applying a mask to all words of a value
 bit_in-flipped : (a : List ℕ) (b : Bool) (lane : ℕ) → lane < 256 → length a ≡ 4
     → bit_in (zip2 bit_xor a (replicate 4 (all_or_none b))) lane ≡ cond b (not (bit_in a lane)) (bit_in a lane)
 bit_in-flipped a b lane lt le =
@@ -60,7 +60,7 @@ pub bit_in-read : (values : List (List ℕ)) (wire : Wire) {m : ℕ} (lane : ℕ
     bit_in (zip2 bit_xor (get_or values wire.place []) (replicate 4 m)) lane ≡ read (lane_of values lane) wire
 bit_in-read values wire lane lt place four e = search (rules, bit_in-flipped, get_or-map)
 
--- a row that is worked out in all lanes
+-- the evaluation of one row in all lanes
 pub worked_on : (rows : List Row) (values initial : List (List ℕ)) (a b : List ℕ) (k lane : ℕ) → lane < 256 →
     k < length rows → length a ≡ 4 → length b ≡ 4 → bit_in a lane ≡ read (lane_of values lane)
     (get_or rows k no_row).first → bit_in b lane ≡ read (lane_of values lane) (get_or rows k no_row).second →
@@ -70,7 +70,7 @@ pub worked_on : (rows : List Row) (values initial : List (List ℕ)) (a b : List
 worked_on rows values initial a b k lane less lt la lb first second before =
     search (rules, no_row, bit_in-and, map-set, drop-cons)
 
--- the literals in front of a place, and one more
+-- the values of the first literals, and of one more literal
 pub read_on : (literals : List ℕ) (values table : List (List ℕ)) (words : List ℕ) (k lane : ℕ) → k < length literals →
     k < length table → bit_in words lane ≡ read (lane_of values lane) (wire_in (get_or literals k 0)) →
     take k (lane_of table lane) ≡ map (λ l. read (lane_of values lane) (wire_in l)) (take k literals) →
@@ -90,7 +90,7 @@ read_on literals values table words k lane lt room here before =
       map-append bit (take k literals) (get_or literals k 0 ∷ []),
     )
 
--- the words of a latch's reset after those of the latches before it
+-- the words of a latch's reset, after those of the earlier latches
 pub reset_on : (latches : List Latch) (words : List (List ℕ)) {more : List (List ℕ)} {m : ℕ} (k lane : ℕ) → lane < 256 →
     k < length latches → m ≡ all_or_none (get_or latches k no_latch).reset → more ≡ words ++ replicate 4 m ∷ [] →
     lane_of words lane ≡ map (λ (l : Latch). l.reset) (take k latches) →
@@ -106,7 +106,7 @@ reset_on latches words {m} k lane lt room is grown before =
       map-append reset (take k latches) (get_or latches k no_latch ∷ []),
     )
 
--- the lanes of two tables agree where their words do
+-- the lanes of two tables agree at indices where their words agree
 pub same_lane : (xs ys : List (List ℕ)) (p q lane : ℕ) → p < length xs → q < length ys → get_or xs p [] ≡ get_or ys q []
     → get_or (lane_of xs lane) p false ≡ get_or (lane_of ys lane) q false
 same_lane xs ys p q lane hp hq e = search (rules, get_or-map)
@@ -114,7 +114,7 @@ same_lane xs ys p q lane hp hq e = search (rules, get_or-map)
 pub length-lane : (xs : List (List ℕ)) (lane : ℕ) → length (lane_of xs lane) ≡ length xs
 length-lane xs lane = let f : List ℕ → Bool = λ ws. bit_in ws lane in length-map xs f
 
--- a bit that a shift leaves in front
+-- the lowest bit after a shift
 pub latch_is : (rows : List (List ℕ)) {words : List ℕ} (number lane : ℕ) → number < length rows →
     words ≡ get_or rows number words
     → slice_get (lane_of rows lane) number ≡ Some (bit_and (get_or words (lane / 64) 0 / 2 ^ (lane % 64)) 1 == 1)

@@ -1,4 +1,4 @@
--- What a step in all lanes reads from its table, in one lane.
+-- The values that a step of the 256 runs reads from its table, in one lane.
 use Rattle.std.proofs.Common.{◌≡◌, ℕ, ◌+◌, ◌/◌, ◌<◌, ◌≤◌, Bool, false, List, map, length, get_or, sym, ap, rules}
 use Rattle.std.proofs.Common.{◌∙◌, arith, All}
 use Rattle.std.specs.Prelude.{replicate}
@@ -22,7 +22,7 @@ use Rattle.ps_simulate.proofs.StepLemmas.{rows_within, outputs_within, nexts_wit
 use Rattle.ps_simulate.proofs.StepLemmas.{IsTable-worked_out}
 use Rattle.ps_simulate.specs.NeededGates.{no_wire}
 
--- literals that name wires of the table that were moved
+-- literals that represent renumbered wires have indices within the table
 literals_within : {size front : ℕ} {places : List ℕ} (literals : List ℕ) (wires : List Wire) →
     AreMoved size front places → map wire_in literals ≡ map (move_wire places) wires → All (λ w. w.place < size) wires →
     All (λ literal. literal / 2 < size) literals
@@ -41,7 +41,7 @@ module _ {c : CircuitData} {p : LanePlan} {values latches : List (List ℕ)} (t 
   pub size_is : p.size ≡ length (variables c)
   size_is = t.is_lane_plan.size_is ∙ t.is_lane_plan.is_plan.size_is
 
-  -- the places in front of the gates are those of the constant, the inputs and the latches
+  -- the table has the constant, the inputs, the latches and the gates
   pub room : p.size ≡ 1 + length c.inputs + length c.latches + length c.gates
   room = omega (arith, size_is, length-variables c)
 
@@ -75,12 +75,12 @@ module _ {c : CircuitData} {p : LanePlan} {values latches : List (List ℕ)} (t 
   pub nexts_many : length p.nexts.items ≡ length c.latches
   nexts_many = search (rules, length-map)
 
-  -- the gates are in the table
+  -- the gates have indices within the table
   pub gates_fit : p.front + length p.gates.items ≤ p.size
   gates_fit = gates_end p.front p.size p.gates.items t.plan.rows.items t.places t.is_lane_plan.gates_are
       (grind (arith, few_rows, room))
 
-  -- the constant is in the table
+  -- the table has the constant
   pub constant_there : (lane : ℕ) → lane < 256 → get_or (lane_of values lane) 0 false ≡ false
   constant_there lane lt =
       let are = t.is_lane_plan.are_moved in

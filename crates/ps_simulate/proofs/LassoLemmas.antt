@@ -1,4 +1,4 @@
--- Runs of a circuit through letters, and their first repetition.
+-- Runs of a circuit through words, and their first repetition.
 use Rattle.std.proofs.Common.{◌≡◌, ◌≢◌, ℕ, zero, suc, ◌+◌, ◌-◌, ◌*◌, ◌^◌, ◌<◌, ◌≤◌, inl, inr, Bool, false, List, rules}
 use Rattle.std.proofs.Common.{[], ◌∷◌, ◌++◌, None, Vec, All, length, take, drop, get_or, map, refl, ap, sym, ◌∙◌, arith}
 use Rattle.std.proofs.Common.{append_assoc, add-one, length-append}
@@ -53,7 +53,7 @@ pub goes_wide : (c : CircuitData) (from to : List Bool) (ms : List Moment) → G
 goes_wide c from to [] on e = ap length (sym on) ∙ e
 goes_wide c from to (m ∷ ms) (next, at, step, on) e = goes_wide c next to ms on (grind (arith, length-map))
 
--- ## One letter more
+-- ## One more letter
 
 pub letter_is : {c : CircuitData} {naming : Naming} (m : Moment) (letter : ℕ) → IsNaming c naming →
     letter < 2 ^ length naming.names.now → ((p : ℕ) → is_in p letter ≡
@@ -104,7 +104,7 @@ seam [] ys d (suc t) le e = absurd (omega arith)
 seam (z ∷ zs) ys d zero le e = refl
 seam (z ∷ zs) {x} {y} ys d (suc t) le e = seam zs ys d t (omega arith) e
 
--- what follows a trace leaves the latches before its steps as they are
+-- extending a trace does not change the latch values before its earlier steps
 pub along_more : (c : CircuitData) (trace ms : List Moment) (last to : List Bool) (t : ℕ) → GoesOn c last ms to →
     t ≤ length trace → get_or (latches_along (trace ++ ms) to) t [] ≡ get_or (latches_along trace last) t []
 along_more c trace [] last to t on le = search (rules, append-nil)
@@ -164,7 +164,7 @@ pub HasRead-next : {names : List (List ℕ)} {c d : CircuitData} {stem lap seen 
     length from ≡ length c.latches → HasRead names c stem lap seen' new last
 HasRead-next seen' same at h s r wide = search (rules, HasRead-lap)
 
--- fewer and fewer lists of bits are left
+-- each lap with new latch values leaves fewer lists of bits that were not seen
 pub fewer : {names : List (List ℕ)} {c : CircuitData} {stem lap seen' : List (List Bool)} {new : List ℕ}
     {last : List Bool} (seen : List (List Bool)) (latches : List Bool) → HasRead names c stem lap seen' new last →
     IsSeen seen seen' latches None →
@@ -182,7 +182,7 @@ pub length_of_letters : {names : List (List ℕ)} {c : CircuitData} {stem lap : 
     {letters : List ℕ} (h : RepeatsBy names c stem lap i letters) → length letters ≡ length stem + h.j * length lap
 length_of_letters {names} {c} {stem} {lap} {letters} h = search (rules, length_letters, length_trace)
 
--- ## Places of the verdict
+-- ## The letters of the verdict
 
 pub letter_at : (items : List (Vec Bool Global)) (i : ℕ) {item : Vec Bool Global} (d : List Bool) → i < length items →
     item ≡ get_or items i item → get_or (letters_of items) i d ≡ item.items
@@ -191,7 +191,7 @@ letter_at items i {item} d lt is = search (rules, get_or-map)
 times_more : (i l : ℕ) → suc i * l ≡ i * l + l
 times_more i l = grind arith
 
--- the first of the two laps ends after its beginning, and no later than the second begins
+-- the first of the two laps ends no later than the second lap begins
 pub lap_within : {names : List (List ℕ)} {c : CircuitData} {stem lap : List (List Bool)} {i : ℕ} {letters : List ℕ}
     (h : RepeatsBy names c stem lap i letters) → length stem + i * length lap + length lap ≤ length letters
 lap_within {lap} {i} h = grind (
@@ -207,7 +207,7 @@ pub lap_length : {names : List (List ℕ)} {c : CircuitData} {stem lap : List (L
 lap_length {names} {c} {stem} {lap} {i} count {letters} h e =
     grind (arith, length_of_letters h, mul-sub (length lap) h.j i, mul_comm (length lap) (h.j - i))
 
--- the same of letters that the code keeps
+-- the first of the two laps ends no later than the second lap begins, for words that are stored in a `Vec`
 pub lap_within_items : {names : List (List ℕ)} {c : CircuitData} (stem lap : List (Vec Bool Global)) {i : ℕ}
     {letters : List ℕ} (h : RepeatsBy names c (letters_of stem) (letters_of lap) i letters)
     → length stem + i * length lap + length lap ≤ length letters

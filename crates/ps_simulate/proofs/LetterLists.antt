@@ -1,4 +1,4 @@
--- Letters whose bits are in one list.
+-- Letters whose bits are in a single list.
 use Rattle.std.proofs.Common.{◌≡◌, ℕ, zero, suc, ◌+◌, ◌*◌, ◌<◌, ◌≤◌, Bool, List, [], ◌∷◌, ◌++◌, length, take, drop}
 use Rattle.std.proofs.Common.{refl, ap, arith, Some, slice_get, length-drop, length-append, false, inr, Err, rules}
 use Rattle.std.proofs.Math.Nat.{mul-le-mul_right}
@@ -17,17 +17,17 @@ length-letters_in width (suc count) bits = ap suc (length-letters_in width count
 mul_suc : (m n : ℕ) → suc m * n ≡ n + m * n
 mul_suc m n = grind arith
 
--- the bits after the first letter are those of the others
+-- the number of bits after the first letter
 rest_length : (width count : ℕ) (bits : List Bool) → length bits ≡ suc count * width →
     (length (drop width bits) ≡ count * width) × (width ≤ length bits)
 rest_length width count bits whole = grind (arith, mul_suc, length-drop)
 
--- the bits of one more letter
+-- the number of bits after a letter is appended
 pub whole-push : {width : ℕ} (count : ℕ) (bits letter : List Bool) → length bits ≡ count * width →
     length letter ≡ width → length (bits ++ letter) ≡ suc count * width
 whole-push {width} count bits letter whole fits = omega (arith, length-append bits letter, mul_suc count width)
 
--- one more letter
+-- the letters after a letter is appended
 pub letters_in-push : {width : ℕ} (count : ℕ) (bits letter : List Bool) → length bits ≡ count * width →
     length letter ≡ width → letters_in width (suc count) (bits ++ letter) ≡ letters_in width count bits ++ letter ∷ []
 letters_in-push {width} zero bits letter whole fits = search (rules, nil_from_length, take_all)
@@ -35,7 +35,7 @@ letters_in-push {width} (suc count) bits letter whole fits =
     let rest = rest_length width count bits whole in
     search (rules, take-append-le, drop-append-le, letters_in-push count (drop width bits) letter rest.0 fits)
 
--- a letter of them
+-- the letter at an index
 pub slice_get-letters_in : (width count : ℕ) (bits : List Bool) (i : ℕ) → i < count →
     slice_get (letters_in width count bits) i ≡ Some (take width (drop (i * width) bits))
 slice_get-letters_in width zero bits i lt = absurd (omega arith)
@@ -43,12 +43,12 @@ slice_get-letters_in width (suc count) bits zero lt = search rules
 slice_get-letters_in width (suc count) bits (suc i) lt =
     search (rules, drop-drop, slice_get-letters_in width count (drop width bits) i (omega arith))
 
--- a letter's bits are within those of all
+-- the bits of a letter are within the list of all bits
 pub letter_within : (place count width : ℕ) {size : ℕ} → place < count → size ≡ count * width →
     place * width + width ≤ size
 letter_within place count width lt is = search (rules, mul-le-mul_right)
 
--- the fault of a line is the answer to the text
+-- the first error in the current line is the answer to the text
 pub IsLettersAnswer-line : {text : List ℕ} {width start end : ℕ} {s : StimulusData} →
     HasRead text width false false start s → {line : List ℕ}
     → lines_of (drop start text) ≡ line ∷ lines_of (drop (end + 1) text) → start + length line ≡ end →

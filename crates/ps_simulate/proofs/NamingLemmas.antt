@@ -1,4 +1,4 @@
--- The places of symbols at the propositions that they name.
+-- The indices of symbols, stored at the propositions that they name.
 use Rattle.std.proofs.Common.{◌≡◌, ◌≢◌, ℕ, zero, suc, ◌+◌, ◌<◌, ◌⊎◌, inl, inr, Bool, true, false, not, cond, List, []}
 use Rattle.std.proofs.Common.{◌∷◌, length, get_or, set, Option, None, Some, Vec, Bor, map, refl, ap, sym, ◌∙◌, rules}
 use Rattle.std.proofs.Common.{arith}
@@ -44,12 +44,12 @@ some_same x y e = cc
 none_some : {X : Type 0} {x : X} → None ≡ Some x → ⊥
 none_some e = cc
 
--- what is there is within the list
+-- an index at which a list has a value is within the list
 pub within : {X : Type 0} (xs : List (Option X)) (k : ℕ) (x : X) → get_or xs k None ≡ Some x → k < length xs
 within xs k x e = search (rules, cases_lt, none_some, get_or_past)
 
 module _ (names : List (List ℕ)) (controllable : List ℕ) (wanted : Bool) (symbols : List (Option (List ℕ))) where
-  -- ## One symbol more
+  -- ## One more symbol
 
   set_cases : (places : List (Option ℕ)) (p k q : ℕ) {j : ℕ} → p < length places →
       get_or (set places p (Some k)) q None ≡ Some j → ((q ≡ p) × (j ≡ k)) ⊎ (get_or places q None ≡ Some j)
@@ -76,7 +76,7 @@ module _ (names : List (List ℕ)) (controllable : List ℕ) (wanted : Bool) (sy
         side = search (rules, set_cases);
       }
 
-  -- ## Symbols that are not the names, each once
+  -- ## Symbols that are not exactly the names
 
   pub nameless : (k : ℕ) → k < length symbols → get_or symbols k None ≡ None →
       ¬ AreNamesOnce names controllable wanted symbols
@@ -128,7 +128,7 @@ module _ (names : List (List ℕ)) (controllable : List ℕ) (wanted : Bool) (sy
         go p None e full = absurd (full e)
         go p (Some k) e full = (k, h.is p k e)
 
--- ## What the code tests
+-- ## The tests of the code
 
 pub beq_same : (a b : Bool) → beq a b ≡ true → a ≡ b
 beq_same a b e = grind arith

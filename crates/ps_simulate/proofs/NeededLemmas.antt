@@ -1,4 +1,4 @@
--- A step that leaves out the rows which are not needed.
+-- A step may leave out the rows that are not needed.
 use Rattle.std.proofs.Common.{◌≡◌, ◌≢◌, ℕ, suc, ◌<◌, ◌≤◌, ◌⊎◌, ◌&&◌, inl, inr, Bool, true, false, List, [], ◌∷◌, map, length}
 use Rattle.std.proofs.Common.{get_or, refl, sym, subst, ap, ap₂, ◌∙◌, arith, All, rules, length-set, get_or-set_same}
 use Rattle.std.proofs.Common.{get_or-set_other}
@@ -18,7 +18,7 @@ use Rattle.ps_simulate.proofs.StepLemmas.{Steps-worked_out, nexts_within, output
 use Rattle.ps_simulate.proofs.RowLemmas.{target_is}
 use Rattle.ps_simulate.proofs.WorkLemmas.{length-work_out, read-same, work_out-other}
 
--- ---- what is needed
+-- ---- the values that are needed
 
 pub needs_more : (needed : List Bool) (q p : ℕ) → q < length needed → Needs needed p → Needs (slice_set needed q true) p
 needs_more needed q p lt n = elim (cases_eq p q) [
@@ -32,7 +32,7 @@ needs_less needed q p n = elim (cases_eq p q) [
   | inr differ ↦ inl (sym (get_or-set_other needed q p true false differ) ∙ n)
 ]
 
--- what the row reads is needed
+-- the set of needed values after the values that a row reads are added
 abbrev pub with_sides : List Bool → Row → List Bool
 with_sides needed r = slice_set (slice_set needed r.first.place true) r.second.place true
 
@@ -44,7 +44,7 @@ needs_sides needed r within p h = needs_more (slice_set needed r.first.place tru
 
 module _ {rows : List Row} (is : IsScheduled rows) (needed : List Bool) (n : ℕ) (lt : n < length rows)
     (within : IsWithin (length needed) (row rows n)) where
-  -- a later row isn't read
+  -- no row reads the target of a later row
   needed_before : (k : ℕ) → n ≤ k → k < length rows → Needs (with_sides needed (row rows n)) (row rows k).target →
       Needs needed (row rows k).target
   needed_before k le less h =
@@ -76,9 +76,9 @@ module _ {rows : List Row} (is : IsScheduled rows) (needed : List Bool) (n : ℕ
         subst (λ j. NeedsWhatItReads (with_sides needed (row rows n)) (row rows j)) same sides_needed)
   ]
 
--- ---- rows that are left out
+-- ---- leaving out rows
 
--- tables that have one value at each place that is needed
+-- two tables agree at each index that is needed
 abbrev Agree : List Bool → List Bool → List Bool → Type 0
 Agree needed a b = (p : ℕ) → Needs needed p → get_or a p false ≡ get_or b p false
 
@@ -118,7 +118,7 @@ module _ (needed : List Bool) (size : ℕ) where
   reads-needed (w ∷ wires) a b need agree = ap₂ ◌∷◌ (read-same a b w (agree _ (need 0 w (omega arith))))
       (reads-needed wires a b (λ k d lt. need (suc k) d (omega arith)) agree)
 
--- ---- the plan that is left
+-- ---- the remaining plan
 
 module _ {c : CircuitData} (is : IsCircuit c) {whole cut : Plan} (p : IsPlan c whole) (left : IsCut whole cut) where
   pub cut_within : All (IsWithin (length (variables c))) cut.rows.items

@@ -1,4 +1,4 @@
--- The places of a circuit's variables.
+-- The indices of a circuit's variables.
 use Rattle.std.proofs.Common.{◌≡◌, ◌≢◌, ℕ, zero, suc, ◌<◌, inl, inr, List, [], ◌∷◌, ◌++◌, map, length, get_or, refl}
 use Rattle.std.proofs.Common.{sym, arith, nat_eq, AllPairs, Contains, rules}
 use Rattle.std.specs.List.{flat_map}
@@ -20,7 +20,7 @@ module _ {c : CircuitData} (is : IsCircuit c) where
   many : length (map variable (definitions c)) ≡ length (definitions c)
   many = length-map (definitions c) variable
 
-  -- no variable has two places
+  -- no variable has two indices
   pub variables_once : AllPairs (λ v w. v ≢ w) (variables c)
   variables_once = search (rules, many, variables_at)
 
@@ -33,7 +33,7 @@ module _ {c : CircuitData} (is : IsCircuit c) where
       (get_or (variables c) (place_of c (variable literal)) 0 ≡ variable literal)
   known_at literal k lt e = search (rules, place_of-at)
 
-  -- the place of a literal whose variable is 0 or defined
+  -- a literal whose variable is 0 or defined has an index
   pub place_known : (literal : ℕ) → IsKnown (definitions c) literal
       → (place_of c (variable literal) < length (variables c)) ×
       (get_or (variables c) (place_of c (variable literal)) 0 ≡ variable literal)
@@ -47,7 +47,7 @@ module _ {c : CircuitData} (is : IsCircuit c) where
       Contains (map f xs) (f (get_or xs i d))
   contains_mapped f xs i d lt = (i, omega (arith, length-map xs f), get_or-map f xs i d (f (get_or xs i d)) lt)
 
-  -- the literals of a gate are known
+  -- the variables of a gate's literals are defined or 0
   pub gate_known : (i : ℕ) (d : Gate) → i < length c.gates → IsKnown (definitions c) (get_or c.gates i d).literal
   gate_known i d lt = contains_variable _ (Contains-append_right (c.inputs ++ map (λ l. l.literal) c.latches) _ _
       (contains_mapped (λ g. g.literal) c.gates i d lt))

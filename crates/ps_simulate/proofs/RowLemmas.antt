@@ -45,13 +45,13 @@ module _ {c : CircuitData} (is : IsCircuit c) where
       (length c.inputs + length c.latches + i)
   place_of-gate i lt = place_of-definition _ (omega (arith, length-definitions c)) (definitions_gate c i lt)
 
-  -- two literals at one place have one variable
+  -- two literals with the same index have the same variable
   pub place_of-same : (l m : ℕ) → IsKnown (definitions c) l → IsKnown (definitions c) m →
       place_of c (variable l) ≡ place_of c (variable m) → variable l ≡ variable m
   place_of-same l m kl km e = search (rules, place_known)
 
   module _ {rows : List Row} (are : AreRows c rows) where
-    -- the place of the gate of a row
+    -- the index of a row's gate
     abbrev pub gate_place : ℕ → ℕ
     gate_place k = get_or are.order k 0
 
@@ -95,7 +95,7 @@ module _ {c : CircuitData} (is : IsCircuit c) where
           (search (rules, gate_at, reads, sides_known, gate_within, row_is));
     }
 
-    -- rows stay within the table
+    -- the indices of a row are within the table
     pub IsWithin-row : (k : ℕ) → k < length rows → IsWithin (length (variables c)) (row rows k)
     IsWithin-row k lt =
         let sides = sides_known is (gate_place k) no_gate (gate_within k lt) in

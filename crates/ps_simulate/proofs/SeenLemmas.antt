@@ -1,4 +1,4 @@
--- A map that has the place of each of the latches seen.
+-- A map with the index of each list of latch values that was seen.
 use Rattle.std.proofs.Common.{◌≡◌, ◌≢◌, ℕ, ◌+◌, ◌<◌, Bool, true, cond, List, [], ◌∷◌, ◌++◌, None, Some, Vec, length}
 use Rattle.std.proofs.Common.{get_or, refl, ap, sym, ◌∙◌, length-append, rules, arith}
 use Rattle.std.specs.BTreeMap.{BTreeMap, btree_map_len, get, IsEmpty}
@@ -23,7 +23,7 @@ bits_tied (x ∷ xs) (y ∷ ys) e = grind (arith, bits_tied xs ys)
 bits_own : (xs : List Bool) → is_eq (slice_cmp bool_cmp xs xs) ≡ true
 bits_own xs = ap is_eq (tied_itself (lists_total bool_cmp_total) xs)
 
--- ## Places
+-- ## Indices
 
 pub places_start : (places : BTreeMap (Vec Bool Global) ℕ) → IsEmpty places → HavePlaces [] places
 places_start places empty = search (rules, none_is_some)
@@ -35,7 +35,7 @@ seen_before {seen} have key same {place} e =
     let at = have.sound key place e in
     (slice_get_within seen place key.items at, get_or_from_slice_get seen place key.items [] at ∙ same, refl)
 
--- latches that were not seen are appended to the others
+-- latch values that were not seen before are appended
 module _ {seen : List (List Bool)} {old : BTreeMap (Vec Bool Global) ℕ} (new : BTreeMap (Vec Bool Global) ℕ)
     (have : HavePlaces seen old) (key : Vec Bool Global) {place : ℕ} (size : place ≡ length seen)
     (none : get bits_cmp old key ≡ None) (more : btree_map_len new ≡ btree_map_len old + 1)

@@ -1,4 +1,4 @@
--- How the text of a stimulus is read; each has one answer.
+-- The parser of stimuli is correct, and each text of a stimulus has exactly one answer.
 
 pub mod LineLemmas
 pub mod StimulusSteps

@@ -1,4 +1,4 @@
--- Values, traces, letters and verdicts are one.
+-- Values, traces, letters and verdicts are unique.
 
 pub mod OneLemmas
 pub mod OneTrace

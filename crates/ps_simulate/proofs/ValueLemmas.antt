@@ -1,4 +1,4 @@
--- A table of values by places, and the values of the circuit.
+-- The relation between the values in a table, by index, and the values of the circuit, by variable.
 use Rattle.std.proofs.Common.{◌≡◌, ℕ, suc, ◌+◌, ◌<◌, ◌&&◌, Bool, false, inl, inr, List, ◌∷◌, ◌++◌}
 use Rattle.std.proofs.Common.{map, length, get_or, sym, ap, subst, ◌∙◌, arith, length-append, rules}
 use Rattle.std.specs.Prelude.{replicate}
@@ -20,7 +20,7 @@ use Rattle.ps_simulate.proofs.RowLemmas.{target_is, IsScheduled-rows, IsWithin-r
 use Rattle.ps_simulate.specs.NeededGates.{row}
 use Rattle.ps_simulate.proofs.WorkLemmas.{work_out-other, work_out-row}
 
--- the values by variables, of a table by places
+-- the value of each variable, taken from a table in the order of the indices
 abbrev pub values_by : CircuitData → List Bool → List Bool
 values_by c table = map (λ v. get_or table (place_of c v) false) (range_with_len 0 (c.most + 1))
 
@@ -31,7 +31,7 @@ module _ {c : CircuitData} (is : IsCircuit c) where
       let within : k < length (definitions c) = omega (arith, length-map (definitions c) variable) in
       grind (arith, get_or-map variable (definitions c) k 0 (variable literal) within)
 
-  -- a literal reads the table as it reads the values
+  -- a literal has the same value in the table and in the list of values
   pub bit_of-values_by : (table : List Bool) (literal : ℕ) → IsKnown (definitions c) literal
       → bit_of (values_by c table) literal ≡ read table (wire_of c literal)
   bit_of-values_by table literal known = search (rules, get_or-map-range_with_len, variable-le_most)
@@ -53,7 +53,7 @@ module _ {c : CircuitData} (is : IsCircuit c) where
   module _ {rows : List Row} (are : AreRows c rows) {inputs latches table : List Bool}
       (each : length table ≡ length (variables c)) (many_inputs : length inputs ≡ length c.inputs)
       (many_latches : length latches ≡ length c.latches) (holds : Holds inputs latches table) where
-    -- the places in front of the gates' stay
+    -- evaluating the rows does not change the values before those of the gates
     kept : (p : ℕ) → p < suc (length c.inputs + length c.latches) →
         get_or (work_out rows table) p false ≡ get_or table p false
     kept p lt = work_out-other rows table p (λ k less e. omega (arith, target_is is are k less))
@@ -103,7 +103,7 @@ module _ {c : CircuitData} (is : IsCircuit c) where
           bit_of-values_by all g.second sides.1,
         )
 
-    -- what the rows make of the table are the circuit's values
+    -- the table after the evaluation of the rows has the circuit's values
     pub AreValues-work_out : AreValues c inputs latches (values_by c (work_out rows table))
     AreValues-work_out = record {
       each = length-map-range_with_len (λ v. get_or (work_out rows table) (place_of c v) false) 0 (c.most + 1);
@@ -113,7 +113,7 @@ module _ {c : CircuitData} (is : IsCircuit c) where
       gates_are = All-from_get_or (MeetsGate (values_by c (work_out rows table))) c.gates no_gate gate_holds;
     }
 
--- the table that the rows begin with
+-- the table before the evaluation of the rows
 abbrev pub first_table : CircuitData → List Bool → List Bool → List Bool
 first_table c inputs latches = false ∷ inputs ++ latches ++ replicate (length c.gates) false
 

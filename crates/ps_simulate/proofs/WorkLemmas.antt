@@ -1,4 +1,4 @@
--- Rows that are worked out, one after another.
+-- The evaluation of rows, one after another.
 use Rattle.std.proofs.Common.{◌≡◌, ◌≢◌, ℕ, zero, suc, ◌<◌, ◌&&◌, Bool, false, not, cond, List, [], ◌∷◌, length, get_or}
 use Rattle.std.proofs.Common.{refl, sym, ap, ap₂, ◌∙◌, arith, length-set, get_or-set_same, get_or-set_other}
 use Rattle.ps_simulate.specs.declared.plan.Wire.{Wire}
@@ -17,7 +17,7 @@ pub length-work_out : (rows : List Row) (values : List Bool) → length (work_ou
 length-work_out [] values = refl
 length-work_out (r ∷ rows) values = length-work_out rows (work_row values r) ∙ length-set values r.target _
 
--- what is not a target stays
+-- a value that is not a target does not change
 pub work_out-other : (rows : List Row) (values : List Bool) (p : ℕ) →
     ((k : ℕ) → k < length rows → (row rows k).target ≢ p)
     → get_or (work_out rows values) p false ≡ get_or values p false
@@ -29,7 +29,7 @@ pub read-same : (values others : List Bool) (w : Wire) → get_or values w.place
     read values w ≡ read others w
 read-same values others w e = ap (λ (b : Bool). cond w.is_negated (not b) b) e
 
--- each row's target has what the row's literals give
+-- after the evaluation, the target of each row has the value of the row's gate
 pub work_out-row : (rows : List Row) (values : List Bool) (k : ℕ) → IsScheduled rows →
     ((l : ℕ) → l < length rows → (row rows l).target < length values)
     → k < length rows → get_or (work_out rows values) (row rows k).target false ≡

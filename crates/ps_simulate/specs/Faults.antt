@@ -1,11 +1,11 @@
--- What may be wrong with the text of a stimulus: the number and the name of each cause, and which goes first at one
--- byte.
+-- The errors of the text of a stimulus: the number and the name of each cause, and the order of causes at the same
+-- offset.
 use Rattle.std.specs.Prelude.{ℕ, List, codes}
 use Rattle.ps_text.specs.declared.faults.Fault.{Fault}
 use Rattle.ps_simulate.specs.declared.fault.StimulusCause.{StimulusCause}
 use Rattle.ps_simulate.specs.declared.fault.StimulusCause.TheVariants.{Width, Stimulus}
 
--- a cause and its place, or out of memory
+-- either a cause with an offset, or out of memory
 abbrev pub StimulusFault : Type 0
 StimulusFault = Fault StimulusCause
 

@@ -1,5 +1,5 @@
--- The table that 256 runs evaluate at once: a plain run's, whose places are moved so that the gates are in the order of
--- evaluation.
+-- The table of 256 simultaneous runs, which is the table of a plain run with renumbered indices. The new indices list
+-- the gates in the order of evaluation.
 use Rattle.std.specs.Prelude.{◌≡◌, ◌≢◌, ℕ, ◌+◌, ◌<◌, ◌≤◌, Bool, false, List, [], ◌∷◌, map, length, slice_index_or}
 use Rattle.ps_circuit.specs.Circuits.{CircuitData}
 use Rattle.ps_circuit.specs.Literals.{is_negated, variable}
@@ -10,17 +10,17 @@ use Rattle.ps_simulate.specs.declared.lane_plan.Operands.{Operands}
 use Rattle.ps_simulate.specs.declared.lane_plan.LanePlan.{LanePlan}
 use Rattle.ps_simulate.specs.Plans.{IsPlan}
 
--- the literal's variable is a place
+-- the variable of the literal is an index of the table
 abbrev pub wire_in : ℕ → Wire
 wire_in literal = record { place = variable literal; is_negated = is_negated literal }
 
--- successive gates from that place on
+-- gates with successive indices, from the given index on
 abbrev pub rows_from : ℕ → List Operands → List Row
 rows_from place [] = []
 rows_from place (g ∷ gates) =
     record { target = place; first = wire_in g.first; second = wire_in g.second } ∷ rows_from (place + 1) gates
 
--- ---- places that are moved: the list has the new place of each
+-- ---- renumbered indices: the list `places` has the new index of each old index
 
 abbrev pub moved : List ℕ → ℕ → ℕ
 moved places p = slice_index_or places p 0
@@ -32,37 +32,37 @@ abbrev pub move_row : List ℕ → Row → Row
 move_row places r =
     record { target = moved places r.target; first = move_wire places r.first; second = move_wire places r.second }
 
--- the values by the places before they were moved
+-- the values in the order of their old indices
 abbrev pub unmoved : List ℕ → List Bool → List Bool
 unmoved places values = map (λ p. slice_index_or values p false) places
 
--- the first places stay
+-- the first indices stay
 abbrev pub AreKept : ℕ → List ℕ → Type 0
 AreKept front places = (p : ℕ) → p < front → moved places p ≡ p
 
--- each row's new place comes after that of the row before it
+-- the rows get successive new indices
 abbrev pub AreInOrder : ℕ → List ℕ → List Row → Type 0
 AreInOrder front places rows =
     (k : ℕ) (d : Row) → k < length rows → moved places (slice_index_or rows k d).target ≡ front + k
 
--- the row has a place after the first ones
+-- the target of the row is an index after those of the constant, the inputs and the latches
 pub record IsGateRow (front size : ℕ) (r : Row) : Type 0 where
   pub behind : front ≤ r.target
   pub within : r.target < size
 
--- no two rows have the same place
+-- no two rows have the same index
 abbrev pub AreOnce : List Row → Type 0
 AreOnce rows =
     (k l : ℕ) (d : Row) → k < l → l < length rows → (slice_index_or rows k d).target ≢ (slice_index_or rows l d).target
 
--- each place of a table goes to a place of the table, and no two go to the same
+-- each index of a table gets a new index within the table, and no two indices get the same one
 pub record AreMoved (size front : ℕ) (places : List ℕ) : Type 0 where
   pub each : length places ≡ size
   pub within : (p : ℕ) → p < size → moved places p < size
   pub once : (p q : ℕ) → p < size → q < size → moved places p ≡ moved places q → p ≡ q
   pub kept : AreKept front places
 
--- the plain run's plan, its places moved
+-- the plan of a plain run, with renumbered indices
 pub record IsLanePlan (c : CircuitData) (plan : Plan) (places : List ℕ) (p : LanePlan) : Type 0 where
   pub is_plan : IsPlan c plan
   pub are_moved : AreMoved p.size p.front places

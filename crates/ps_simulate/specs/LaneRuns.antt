@@ -1,16 +1,16 @@
--- Runs of a circuit on 256 stimuli at once, and each of them alone.
+-- Runs of a circuit on 256 stimuli at once, and the single run in each lane.
 use Rattle.std.specs.Prelude.{◌≡◌, ℕ, ◌<◌, Bool, List, [], ◌∷◌, map}
 use Rattle.ps_circuit.specs.Circuits.{CircuitData}
 use Rattle.ps_circuit.specs.Values.{Moment, Steps, GoesOn}
 use Rattle.ps_simulate.specs.Lanes.{lane_of}
 
--- the words of one step, the latches' before it
+-- the words of one step; the latches are those before the step
 pub record LaneMoment : Type 0 where
   pub latches : List (List ℕ)
   pub inputs : List (List ℕ)
   pub outputs : List (List ℕ)
 
--- the bits of a lane
+-- the bits of one lane
 abbrev pub moment_in : ℕ → LaneMoment → Moment
 moment_in lane m =
     record { latches = lane_of m.latches lane; inputs = lane_of m.inputs lane; outputs = lane_of m.outputs lane }
@@ -21,15 +21,16 @@ StepsInLanes c latches inputs outputs next =
     (lane : ℕ) → lane < 256 → Steps c (lane_of latches lane) (lane_of inputs lane) (lane_of outputs lane)
     (lane_of next lane)
 
--- the moments, one after another, lead from these latches to those
+-- a list of consecutive steps leads from some latch values to others
 abbrev pub GoOnInLanes : CircuitData → List (List ℕ) → List LaneMoment → List (List ℕ) → Type 0
 GoOnInLanes c latches [] last = latches ≡ last
 GoOnInLanes c latches (m ∷ ms) last =
     (next : List (List ℕ)) × (m.latches ≡ latches) × StepsInLanes c latches m.inputs m.outputs next ×
     GoOnInLanes c next ms last
 
--- for every list of steps each lane's moments are a run from that lane's latches. They are those of each plain run from
--- there on that lane's letters: it has the same outputs, and the same latches before each step and after the last
+-- For every list of steps, the steps of each lane form a run from the latch values of that lane. Every plain run from
+-- these latch values on the letters of the lane is the same run: it has the same outputs, and the same latch values
+-- before each step and at the end.
 abbrev pub AreLanesPlain : CircuitData → Type 0
 AreLanesPlain c =
     (latches last : List (List ℕ)) (ms : List LaneMoment) → GoOnInLanes c latches ms last →

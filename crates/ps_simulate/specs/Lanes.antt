@@ -1,4 +1,4 @@
--- The bits of 256 lanes, stored in lists of four words: that of lane 64·w + b is bit b of word w.
+-- The bits of 256 lanes, stored in lists of four words: the bit of lane 64·w + b is bit b of word w.
 use Rattle.std.specs.Prelude.{◌≡◌, ℕ, ◌-◌, ◌<◌, ◌/◌, ◌%◌, ◌^◌, ◌==◌, if◌then◌else◌, Bool, List, length, map}
 use Rattle.std.specs.Prelude.{slice_index}
 use Rattle.std.specs.Int.{bit_at}
@@ -8,24 +8,24 @@ use Rattle.ps_simulate.specs.declared.lane_plan.LanePlan.{LanePlan}
 use Rattle.ps_simulate.specs.LanePlans.{IsLanePlan, unmoved}
 use Rattle.ps_simulate.specs.Tables.{IsTable}
 
--- a word of ones, or of zeros
+-- a word in which all bits are ones, or all are zeros
 abbrev pub all_or_none : Bool → ℕ
 all_or_none is_set = if is_set then 2 ^ 64 - 1 else 0
 
--- the bit of a lane
+-- the bit of one lane
 abbrev pub bit_in : List ℕ → ℕ → Bool
 bit_in words lane = bit_at (slice_index words (lane / 64)) (lane % 64) == 1
 
--- the bits of a lane
+-- the bits of one lane, one for each entry of the list
 abbrev pub lane_of : List (List ℕ) → ℕ → List Bool
 lane_of rows lane = map (λ words. bit_in words lane) rows
 
--- what contracts see of a simulator: a circuit, and for each latch the words of its current values
+-- the abstract value of a simulator: a circuit, and the words of the current value of each latch
 pub record LaneSimulation : Type 0 where
   pub circuit : CircuitData
   pub latches : List (List ℕ)
 
--- each lane has a table of the plain simulator, its places moved
+-- each lane has a table of the plain simulator, with renumbered indices
 pub record AreTables (c : CircuitData) (p : LanePlan) (values latches : List (List ℕ)) : Type 0 where
   pub plan : Plan
   pub places : List ℕ

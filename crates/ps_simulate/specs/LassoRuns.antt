@@ -1,4 +1,4 @@
--- A run of a circuit through letters. (For private functions.)
+-- Runs of a circuit through words. Only private contracts use these definitions.
 use Rattle.std.specs.Prelude.{◌≡◌, ◌≢◌, ℕ, ◌<◌, ◌++◌, Bool, List, [], ◌∷◌, Option, None, Some, length, map, slice_get}
 use Rattle.std.specs.Prelude.{slice_index_or, Vec}
 use Rattle.std.specs.BTreeMap.{BTreeMap, btree_map_len, get}
@@ -10,7 +10,8 @@ use Rattle.ps_circuit.specs.Circuits.{CircuitData}
 use Rattle.ps_circuit.specs.Values.{Moment, GoesOn, resets}
 use Rattle.ps_simulate.specs.Lassos.{AreLetters, Repeats, laps_of, latches_before}
 
--- letters are read from these latches to those, and as many letters of an automaton are appended to the earlier ones
+-- the circuit reads a word, which leads from some latch values to others, and the corresponding letters of the
+-- automaton are appended to the earlier letters
 pub record ReadsWord (names : List (List ℕ)) (c : CircuitData) (from : List Bool) (word : List (List Bool))
     (old new : List ℕ) (last : List Bool) : Type 0 where
   pub trace : List Moment
@@ -28,7 +29,8 @@ pub record RepeatsBy (names : List (List ℕ)) (c : CircuitData) (stem lap : Lis
   pub repeats : Repeats c stem lap i j trace
   pub are_letters : AreLetters names c trace letters
 
--- laps were read, one for each of the latches seen, which in turn are those before each lap, and all differ
+-- The circuit has read one lap for each entry of `seen`. The entries of `seen` are the latch values before each lap, in
+-- order, and all of them differ.
 pub record HasRead (names : List (List ℕ)) (c : CircuitData) (stem lap : List (List Bool)) (seen : List (List Bool))
     (letters : List ℕ) (last : List Bool) : Type 0 where
   pub trace : List Moment
@@ -39,7 +41,7 @@ pub record HasRead (names : List (List ℕ)) (c : CircuitData) (stem lap : List 
   pub wide : (k : ℕ) → k < length seen → length (slice_index_or seen k []) ≡ length c.latches
   pub differ : (k l : ℕ) → k < l → l < length seen → slice_index_or seen k [] ≢ slice_index_or seen l []
 
--- the place of latches that were seen before; new ones are appended
+-- the index of latch values that were seen before; new latch values are appended
 abbrev pub IsSeen : List (List Bool) → List (List Bool) → List Bool → Option ℕ → Type 0
 IsSeen old new latches (Some i) = (i < length old) × (slice_index_or old i [] ≡ latches) × (new ≡ old)
 IsSeen old new latches None =
@@ -49,7 +51,7 @@ IsSeen old new latches None =
 abbrev pub bits_cmp : Vec Bool Global → Vec Bool Global → Ordering
 bits_cmp one other = slice_cmp bool_cmp one.items other.items
 
--- a map has the place of each of the latches seen, and of nothing else
+-- the map has the index of each list of latch values that was seen, and nothing else
 pub record HavePlaces (seen : List (List Bool)) (places : BTreeMap (Vec Bool Global) ℕ) : Type 0 where
   pub each : btree_map_len places ≡ length seen
   pub sound : (key : Vec Bool Global) (place : ℕ) → get bits_cmp places key ≡ Some place →

@@ -1,8 +1,8 @@
--- What a circuit and an automaton make of a stem that is read once and a lap that is repeated.
---     IsLetterOf names c m letter      a step's letter: a proposition's bit is that of the input or output with its
---               name
---     Repeats c stem lap i j trace      the first repetition: before lap j the latches are those before lap i
---     IsVerdictOf file c stem lap verdict      whether the trace so far is accepted, as a lasso that goes back to lap i
+-- The verdict of an automaton on a circuit, a stem that is read once, and a lap that is read repeatedly.
+--     IsLetterOf names c m letter      the letter of a step: the bit of a proposition is that of the input or output
+--               with its name
+--     Repeats c stem lap i j trace      the first repetition: the latches before lap j are those before lap i
+--     IsVerdictOf file c stem lap verdict      whether the trace so far is accepted, as a lasso that returns to lap i
 use Rattle.std.specs.Prelude.{◌≡◌, ◌≢◌, ℕ, zero, suc, ◌+◌, ◌-◌, ◌*◌, ◌^◌, ◌<◌, ◌↔◌, Bool, false, IsTrue, List, [], ◌∷◌}
 use Rattle.std.specs.Prelude.{◌++◌, length, map, take, drop, slice_index_or}
 use Rattle.ps_label.specs.Truth.{is_in}
@@ -28,21 +28,21 @@ AreLetters names c (m ∷ ms) (letter ∷ letters) = IsLetterOf names c m letter
 
 -- ## The first repetition
 
--- a number of laps, one after another
+-- a given number of consecutive laps
 abbrev pub laps_of : List (List Bool) → ℕ → List (List Bool)
 laps_of lap zero = []
 laps_of lap (suc laps) = laps_of lap laps ++ lap
 
--- the latches before each step of a trace, and then those after it
+-- the latch values before each step of a trace, followed by those after the last step
 abbrev pub latches_along : List Moment → List Bool → List (List Bool)
 latches_along trace last = map (λ m. m.latches) trace ++ last ∷ []
 
--- the latches before a lap
+-- the latch values before lap k
 abbrev pub latches_before : List (List Bool) → List (List Bool) → List Moment → List Bool → ℕ → List Bool
 latches_before stem lap trace last k = slice_index_or (latches_along trace last) (length stem + k * length lap) []
 
--- A trace reads the stem and then j laps, which are not empty. The latches after it are those before lap i, and those
--- before the laps so far differ.
+-- A trace reads the stem and then j laps, which are not empty. The latch values after the trace are those before lap i,
+-- and the latch values before each of the j laps differ.
 pub record Repeats (c : CircuitData) (stem lap : List (List Bool)) (i j : ℕ) (trace : List Moment) : Type 0 where
   pub has_letter : 0 < length lap
   pub last : List Bool

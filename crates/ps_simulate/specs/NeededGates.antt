@@ -1,5 +1,5 @@
--- The gates that a step needs: those that an output, a latch's next value or another needed gate reads. The others are
--- not evaluated.
+-- The gates that a step needs: a gate is needed if an output, a latch's next value or another needed gate reads it.
+-- Gates that are not needed are not evaluated.
 use Rattle.std.specs.Prelude.{◌≡◌, ℕ, ◌<◌, Bool, true, false, List, length, slice_index_or, All}
 use Rattle.std.specs.List.{filter}
 use Rattle.ps_simulate.specs.declared.plan.Wire.{Wire}
@@ -15,7 +15,7 @@ no_row = record { target = 0; first = no_wire; second = no_wire }
 abbrev pub row : List Row → ℕ → Row
 row rows k = slice_index_or rows k no_row
 
--- no two rows have one target, and what a row reads is the target of none but an earlier one
+-- no two rows have the same target, and a row reads targets only of earlier rows
 pub record IsScheduled (rows : List Row) : Type 0 where
   pub once : (k l : ℕ) → k < length rows → l < length rows → (row rows k).target ≡ (row rows l).target → k ≡ l
   pub first_behind : (k l : ℕ) → k < length rows → l < length rows →
@@ -23,19 +23,19 @@ pub record IsScheduled (rows : List Row) : Type 0 where
   pub second_behind : (k l : ℕ) → k < length rows → l < length rows →
       (row rows k).second.place ≡ (row rows l).target → l < k
 
--- the value at the place is needed
+-- the value at this index is needed
 abbrev pub Needs : List Bool → ℕ → Type 0
 Needs needed place = slice_index_or needed place false ≡ true
 
 abbrev pub NeedsWire : List Bool → Wire → Type 0
 NeedsWire needed wire = Needs needed wire.place
 
--- if the row's value is needed, so are those that it reads
+-- if the value of the row is needed, the values that it reads are needed
 pub record NeedsWhatItReads (needed : List Bool) (r : Row) : Type 0 where
   pub first : Needs needed r.target → NeedsWire needed r.first
   pub second : Needs needed r.target → NeedsWire needed r.second
 
--- what the outputs and the next values read is needed, and what needed rows read
+-- every value that an output, a latch's next value or a needed row reads is needed
 pub record AreNeeded (plan : Plan) (needed : List Bool) : Type 0 where
   pub by_outputs : All (NeedsWire needed) plan.outputs.items
   pub by_nexts : All (NeedsWire needed) plan.nexts.items

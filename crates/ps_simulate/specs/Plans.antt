@@ -1,5 +1,5 @@
--- The table of gates that a simulator evaluates. A place is that of a variable in a list: 0, and then the variables of
--- the inputs, the latches and the gates.
+-- The table of gates that a simulator evaluates. Indices refer to a list of variables: 0, and then the variables of the
+-- inputs, the latches and the gates.
 use Rattle.std.specs.Prelude.{◌≡◌, ℕ, ◌+◌, ◌<◌, ◌==◌, ◌&&◌, Bool, false, not, if◌then◌else◌, List, [], ◌∷◌, map, length}
 use Rattle.std.specs.Prelude.{slice_index_or, slice_set}
 use Rattle.std.specs.List.{position_or_len}
@@ -11,7 +11,7 @@ use Rattle.ps_simulate.specs.declared.plan.Wire.{Wire}
 use Rattle.ps_simulate.specs.declared.plan.Row.{Row}
 use Rattle.ps_simulate.specs.declared.plan.Plan.{Plan}
 
--- the variables by their places
+-- the variables in the order of their indices
 abbrev pub variables : CircuitData → List ℕ
 variables c = 0 ∷ map variable (definitions c)
 
@@ -27,11 +27,11 @@ row_of c g = record { target = place_of c (variable g.literal); first = wire_of 
 abbrev pub no_gate : Gate
 no_gate = record { literal = 0; first = 0; second = 0 }
 
--- the row of the gate at that place
+-- the row of the gate with index i
 abbrev pub row_at : CircuitData → ℕ → Row
 row_at c i = row_of c (slice_index_or c.gates i no_gate)
 
--- the rows are in an order in which each gate comes after those that it reads
+-- the rows are in an order in which each gate comes after the gates that it reads
 pub record AreRows (c : CircuitData) (rows : List Row) : Type 0 where
   pub order : List ℕ
   pub is_order : IsOrder (ReadsGate c.gates) (length c.gates) order
@@ -43,7 +43,7 @@ pub record IsPlan (c : CircuitData) (p : Plan) : Type 0 where
   pub outputs_are : p.outputs.items ≡ map (wire_of c) c.outputs
   pub nexts_are : p.nexts.items ≡ map (λ l. wire_of c l.next) c.latches
 
--- ---- work
+-- ---- evaluation
 
 abbrev pub read : List Bool → Wire → Bool
 read values w = if w.is_negated then not (slice_index_or values w.place false) else slice_index_or values w.place false
@@ -51,25 +51,25 @@ read values w = if w.is_negated then not (slice_index_or values w.place false) e
 abbrev pub work_row : List Bool → Row → List Bool
 work_row values row = slice_set values row.target (read values row.first && read values row.second)
 
--- the rows are evaluated, one after another
+-- the values after the rows are evaluated in order
 abbrev pub work_out : List Row → List Bool → List Bool
 work_out [] values = values
 work_out (row ∷ rows) values = work_out rows (work_row values row)
 
--- the places of the row are places of a table of that length
+-- the indices of the row are within a table of this length
 pub record IsWithin (size : ℕ) (row : Row) : Type 0 where
   pub target : row.target < size
   pub first : row.first.place < size
   pub second : row.second.place < size
 
--- bits by place: the constant, the inputs and the latches come first
+-- values by index: the constant, the inputs and the latches are first
 pub record Holds (inputs latches values : List Bool) : Type 0 where
   pub constant : slice_index_or values 0 false ≡ false
   pub inputs_there : (k : ℕ) → k < length inputs → slice_index_or values (1 + k) false ≡ slice_index_or inputs k false
   pub latches_there : (k : ℕ) → k < length latches → slice_index_or values (1 + length inputs + k) false ≡
       slice_index_or latches k false
 
--- a table of that size that held these bits, with its rows evaluated
+-- a table of the given size with the given inputs and latches, after its rows were evaluated
 pub record IsWorkedOut (rows : List Row) (inputs latches : List Bool) (size : ℕ) (values : List Bool) : Type 0 where
   pub table : List Bool
   pub each : length table ≡ size

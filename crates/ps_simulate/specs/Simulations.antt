@@ -1,4 +1,4 @@
--- What contracts see of a simulator.
+-- The abstract value of a simulator.
 use Rattle.std.specs.Prelude.{Bool, List}
 use Rattle.ps_circuit.specs.Circuits.{CircuitData}
 

@@ -1,11 +1,11 @@
--- The text of a stimulus: a line of digits for each letter, as many as there are inputs. If stem and lap are separated,
--- there is one line `-` between them.
+-- The text of a stimulus has a line of digits for each letter, with one digit for each input. If stem and lap are
+-- separated, there is one line `-` between them.
 --     lines_of text, start_of lines k      the lines without their newlines; the offset of the first byte of line k
 --     IsStimulus text width split s      the lines spell the letters
---     Stands text width split cause offset      there is a cause at that offset
---     IsFirst S cause offset      of the causes that S has, this one comes first; at one offset `Stimulus` goes before
+--     Stands text width split cause offset      there is an error with this cause at this offset
+--     IsFirst S cause offset      this is the first of the errors in S; at the same offset, `Stimulus` comes before
 --               `Width`
---     ReadsStimulus text width split answer      the stimulus of a text without a cause, and else the first cause
+--     ReadsStimulus text width split answer      the stimulus of a text without an error, and otherwise the first error
 use Rattle.std.specs.Prelude.{◌≡◌, ◌≢◌, ℕ, ◌+◌, ◌<◌, ◌≤◌, ◌⊎◌, ◌==◌, Bool, true, false, if◌then◌else◌, List, [], ◌∷◌}
 use Rattle.std.specs.Prelude.{◌++◌, length, map, take, slice_get, sum_by, All, Some, Result, Ok, Err}
 use Rattle.ps_text.specs.Answers.{Found}
@@ -18,17 +18,17 @@ use Rattle.ps_simulate.specs.Stimuli.{StimulusData, stem_of}
 
 -- ## Lines
 
--- a byte put before the first line
+-- the lines of a text with one more byte at the front
 abbrev pub put_byte : ℕ → List (List ℕ) → List (List ℕ)
 put_byte b [] = (b ∷ []) ∷ []
 put_byte b (line ∷ lines) = (b ∷ line) ∷ lines
 
--- a newline ends a line; what follows the last one is a line if it is not empty
+-- A newline ends a line. The bytes after the last newline form a line if there are any.
 abbrev pub lines_of : List ℕ → List (List ℕ)
 lines_of [] = []
 lines_of (b ∷ bytes) = if b == 10 then [] ∷ lines_of bytes else put_byte b (lines_of bytes)
 
--- the bytes of lines with their newlines
+-- the number of bytes of some lines, each with a newline
 abbrev pub extent : List (List ℕ) → ℕ
 extent lines = sum_by (λ line. length line + 1) lines
 
@@ -47,7 +47,7 @@ digits_of letter = map digit_of letter
 abbrev pub divider : List ℕ
 divider = 45 ∷ []
 
--- the lines of letters, with a divider or without
+-- the lines of the letters, with or without a divider
 abbrev pub spelled : Bool → StimulusData → List (List ℕ)
 spelled false s = map digits_of s.stem
 spelled true s = map digits_of s.stem ++ divider ∷ map digits_of s.lap
@@ -58,24 +58,24 @@ pub record IsStimulus (text : List ℕ) (width : ℕ) (split : Bool) (s : Stimul
   pub lap_widths : All (λ letter. length letter ≡ width) s.lap
   pub no_lap : split ≡ false → s.lap ≡ []
 
--- ## Causes
+-- ## Errors
 
 abbrev pub IsDigit : ℕ → Type 0
 IsDigit byte = (byte ≡ 48) ⊎ (byte ≡ 49)
 
--- line k is the first divider, if one is required
+-- line k is the first divider, if a divider is required
 pub record Divides (split : Bool) (lines : List (List ℕ)) (k : ℕ) : Type 0 where
   pub wanted : split ≡ true
   pub there : slice_get lines k ≡ Some divider
   pub first : (j : ℕ) → j < k → slice_get lines j ≢ Some divider
 
--- line k, which must be a letter
+-- line k must represent a letter
 pub record IsLetterLine (split : Bool) (lines : List (List ℕ)) (k : ℕ) (line : List ℕ) : Type 0 where
   pub there : slice_get lines k ≡ Some line
   pub letter : ¬ Divides split lines k
 
--- what is wrong with the line of a letter that begins there: its length, at its first byte, or a byte that is not a
--- digit
+-- The errors in the line of a letter. A wrong length is reported at the first byte of the line, and a byte that is not
+-- a digit is reported at its own offset.
 abbrev pub StandsInLine : List ℕ → ℕ → ℕ → StimulusCause → ℕ → Type 0
 StandsInLine line start width Width offset = (length line ≢ width) × (offset ≡ start)
 StandsInLine line start width Stimulus offset =
@@ -87,7 +87,7 @@ pub record StandsInLetter (text : List ℕ) (width : ℕ) (split : Bool) (cause 
   pub is_letter : IsLetterLine split (lines_of text) k line
   pub in_line : StandsInLine line (start_of (lines_of text) k) width cause offset
 
--- a divider is required, and there is none up to the end
+-- a divider is required, but no line is a divider
 pub record MissesDivider (text : List ℕ) (split : Bool) (cause : StimulusCause) (offset : ℕ) : Type 0 where
   pub wanted : split ≡ true
   pub none : (k : ℕ) → slice_get (lines_of text) k ≢ Some divider
@@ -109,11 +109,11 @@ abbrev pub ReadsStimulus : List ℕ → ℕ → Bool → Result StimulusData (Fo
 ReadsStimulus text width split (Ok s) = IsStimulus text width split s
 ReadsStimulus text width split (Err found) = IsFirst (Stands text width split) found.cause found.offset
 
--- what the reader returns: this, unless memory runs out
+-- the result of the parser: the answer to the text, or out of memory
 abbrev pub IsStimulusAnswer : List ℕ → ℕ → Bool → Result StimulusData StimulusFault → Type 0
 IsStimulusAnswer text width split result = UnlessMemory (ReadsStimulus text width split) result
 
--- the same for a text that has only a stem
+-- the answer to a text that has only a stem
 abbrev pub ReadsLetters : List ℕ → ℕ → Result (List (List Bool)) (Found StimulusCause) → Type 0
 ReadsLetters text width (Ok letters) = ReadsStimulus text width false (Ok (stem_of letters))
 ReadsLetters text width (Err found) = ReadsStimulus text width false (Err found)
@@ -126,7 +126,7 @@ HasOneAnswer text width split =
     (answer other : Result StimulusData (Found StimulusCause)) → ReadsStimulus text width split answer →
     ReadsStimulus text width split other → answer ≡ other
 
--- this is about texts, not about calls: out of memory is not one of the answers
+-- this is about texts, not about calls: a call may also fail because it is out of memory
 abbrev pub HasSomeAnswer : List ℕ → ℕ → Bool → Type 0
 HasSomeAnswer text width split =
     (answer : Result StimulusData (Found StimulusCause)) × ReadsStimulus text width split answer

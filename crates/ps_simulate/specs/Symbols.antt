@@ -1,7 +1,7 @@
--- Which input and output of a circuit is which proposition of an automaton, by name.
+-- The inputs and outputs of a circuit that stand for the propositions of an automaton, by name.
 --     IsSymbol names symbols k p      symbol k is the name of proposition p
---     AreNamesOnce names controllable wanted symbols      the symbols are the names of the propositions that are
---               controllable (or of those that are not), each exactly once, in any order
+--     AreNamesOnce names controllable wanted symbols      the symbols are the names of the controllable propositions
+--               (or of the others, if wanted is false), each exactly once, in any order
 --     HasSymbols role names controllable c      the circuit has the inputs and outputs of its role
 use Rattle.std.specs.Prelude.{◌≡◌, ℕ, ◌<◌, Bool, true, false, List, [], length, Option, None, Some, slice_index_or}
 use Rattle.ps_hoa.specs.Files.{is_among}
@@ -19,7 +19,8 @@ pub record AreNamesOnce (names : List (List ℕ)) (controllable : List ℕ) (wan
   pub some : (k : ℕ) → k < length symbols → (p : ℕ) × IsSymbol names symbols k p × (is_among p controllable ≡ wanted)
   pub once : (j k p : ℕ) → IsSymbol names symbols j p → IsSymbol names symbols k p → j ≡ k
 
--- a controller reads the propositions that are not controllable and sets the others; an environment the reverse
+-- A controller reads the propositions that are not controllable, and sets the controllable ones. An environment does
+-- the reverse.
 abbrev pub reads_controllable : Role → Bool
 reads_controllable Controller = false
 reads_controllable Environment = true

@@ -1,4 +1,4 @@
-//! Why the text of a stimulus is refused.
+//! Why the text of a stimulus is rejected.
 
 ghost use Rattle.std.specs.Prelude.{◌≡◌};
 ghost use Rattle.ps_simulate.specs.Faults.{cause_number, cause_name};
@@ -9,13 +9,13 @@ use ps_text::faults::{Cause, Fault};
 /// What is wrong with the text of a stimulus.
 #[derive(Clone, Copy, Debug, PartialEq, Eq)]
 pub enum StimulusCause {
-    /// The length of a line is not the number of inputs.
+    /// The length of a line differs from the number of inputs.
     Width,
-    /// A byte that is not a digit 0 or 1, or a missing line `-`.
+    /// A byte is not a digit 0 or 1, or the line `-` is missing.
     Stimulus,
 }
 
-/// Why no stimulus was read.
+/// Why a stimulus was not parsed: an error in the text, or out of memory.
 pub type StimulusFault = Fault<StimulusCause>;
 
 impl Cause for StimulusCause {
@@ -39,7 +39,7 @@ impl Cause for StimulusCause {
 }
 
 impl StimulusCause {
-    /// The fault for this cause at that byte.
+    /// The fault with this cause at an offset.
     pub(crate) fn at(self, offset: usize) -> StimulusFault
         ensures { result ≡ Text self offset }
     {

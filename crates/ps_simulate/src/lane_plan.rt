@@ -1,4 +1,4 @@
-//! The table of gates that 256 runs evaluate at once.
+//! The table of gates for 256 simultaneous runs.
 
 ghost use Rattle.std.specs.Prelude.{◌≡◌, ℕ, ◌+◌, ◌^◌, ◌<◌, ◌≤◌, length, map, All, IfOk};
 ghost use Rattle.ps_simulate.specs.LanePlans.{AreInOrder, AreKept, AreOnce, IsGateRow, move_row, move_wire, rows_from};
@@ -9,29 +9,29 @@ use crate::plan::{Plan, Row, Wire};
 use ps_circuit::{Circuit, Literal};
 use std::alloc::{AllocError, Global};
 
-/// The two literals that a gate reads. Their variables are places in the table of values.
+/// The two literals that a gate reads. The variable of each literal is an index into the table of values.
 #[derive(Clone, Copy)]
 pub struct Operands {
     /// The first literal.
     pub first: Literal,
-    /// The second one.
+    /// The second literal.
     pub second: Literal,
 }
 
-/// What a step evaluates in all lanes. The gates' values follow one another in the order of evaluation, so a gate needs
-/// eight bytes, and a step writes its table from front to back. A table of lanes is too large to stay near the
-/// processor, so what a step reads and writes there decides its time.
+/// What a step evaluates in all lanes. The values of the gates are in the order of evaluation, so a gate needs only
+/// eight bytes, and a step writes its table from front to back. The table does not fit into the processor's fastest
+/// caches, so the time of a step depends on how much it reads from and writes to the table.
 #[derive(Drop)]
 pub struct LanePlan {
-    /// The places of the table of values.
+    /// The length of the table of values.
     pub size: usize,
-    /// The places before the gates: the constant 0, the inputs and the latches.
+    /// The number of values before those of the gates: the constant 0, the inputs and the latches.
     pub front: usize,
     /// The operands of each gate, in the order of evaluation.
     pub gates: Vec<Operands>,
-    /// Literals, as in `Operands`.
+    /// The literals of the outputs, with indices as in `Operands`.
     pub outputs: Vec<Literal>,
-    /// Literals of the latches' next values.
+    /// The literals of the latches' next values, with indices as in `Operands`.
     pub nexts: Vec<Literal>,
 }
 
@@ -60,8 +60,8 @@ impl LanePlan {
     }
 }
 
-/// The new place of each place of a table: those before the gates stay, and the gates' places follow them in the order
-/// of their rows.
+/// A renumbering of the indices of a table. The indices before the gates stay, and the gates get the following indices,
+/// in the order of their rows. Fails if out of memory.
 fn moved_places(
     alloc: Global,
     rows: &[Row],
@@ -82,7 +82,7 @@ fn moved_places(
     Ok(places)
 }
 
-/// The places before this one.
+/// The numbers from 0 to `count - 1`. Fails if out of memory.
 fn places_up_to(alloc: Global, count: usize) -> Result<Vec<usize>, AllocError>
     ensures count { IfOk result (λ places. length places.items ≡ count) }
     ensures each { IfOk result (λ places. AreKept count places.items) }
@@ -94,7 +94,7 @@ fn places_up_to(alloc: Global, count: usize) -> Result<Vec<usize>, AllocError>
     Ok(places)
 }
 
-/// The literal of a wire after the move.
+/// The literal of a wire after the renumbering.
 fn literal(places: &[usize], wire: Wire) -> Literal
     requires places { All (λ p. p < 2 ^ 31) places.now }
     requires within { wire.place < length places.now }
@@ -108,7 +108,7 @@ fn literal(places: &[usize], wire: Wire) -> Literal
     }
 }
 
-/// The literals of wires after the move.
+/// The literals of some wires after the renumbering. Fails if out of memory.
 fn literals(alloc: Global, places: &[usize], wires: &[Wire]) -> Result<Vec<Literal>, AllocError>
     requires places { All (λ p. p < 2 ^ 31) places.now }
     requires within { All (λ w. w.place < length places.now) wires.now }
@@ -121,7 +121,7 @@ fn literals(alloc: Global, places: &[usize], wires: &[Wire]) -> Result<Vec<Liter
     Ok(literals)
 }
 
-/// The gates of rows after the move.
+/// The operands of some rows after the renumbering. Fails if out of memory.
 fn gates_of(alloc: Global, places: &[usize], rows: &[Row]) -> Result<Vec<Operands>, AllocError>
     requires places { All (λ p. p < 2 ^ 31) places.now }
     requires within { All (IsWithin (length places.now)) rows.now }

@@ -1,4 +1,4 @@
-//! Running a circuit on 256 stimuli at once.
+//! Runs a circuit on 256 stimuli at once.
 
 ghost use Rattle.std.specs.Prelude.{◌≡◌, ℕ, ◌+◌, ◌<◌, ◌≤◌, ◌⊎◌, [], length, map, slice_get, slice_index_or, All, IfOk};
 ghost use Rattle.std.specs.Prelude.{Some, false};
@@ -15,7 +15,7 @@ use std::alloc::{AllocError, Global};
 use std::marker::Model;
 use std::simd::prelude::*;
 
-/// A circuit, and the current values of its latches in 256 runs. The bit of run 64·w + b is bit b of word w.
+/// A circuit, and the current values of its latches in 256 runs. The value in run 64·w + b is bit b of word w.
 #[derive(Drop)]
 pub struct LaneSimulator<'a> {
     circuit: &'a Circuit,
@@ -37,7 +37,7 @@ impl<'a> Model for LaneSimulator<'a> {
 impl<'a> LaneSimulator<'a> {
     ghost use Rattle.ps_simulate.specs.LaneRuns.{StepsInLanes};
 
-    /// Starts a circuit 256 times, the latches at their resets. Fails if out of memory.
+    /// Starts a circuit 256 times, with the latches at their resets. Fails if out of memory.
     pub fn new(alloc: Global, circuit: &'a Circuit) -> Result<Self, AllocError>
         ensures circuit { IfOk result (λ s. s.circuit ≡ circuit.now) }
         ensures latches { IfOk result (λ s. (lane : ℕ) → lane < 256 → lane_of s.latches lane ≡ resets circuit.now) }
@@ -53,7 +53,8 @@ impl<'a> LaneSimulator<'a> {
         })
     }
 
-    /// Takes a letter in each run: puts the outputs' bits into `outputs`, and updates the latches. Takes no memory.
+    /// Takes one letter in each run: stores the values of the outputs in `outputs`, and updates the latches. Allocates
+    /// no memory.
     pub fn step_lanes(&mut self, inputs: &[[u64; 4]], outputs: &mut [[u64; 4]])
         requires inputs_fit { length inputs.now ≡ length self.old.circuit.inputs }
         requires outputs_fit { length outputs.old ≡ length self.old.circuit.outputs }
@@ -71,7 +72,7 @@ impl<'a> LaneSimulator<'a> {
         read_words(&self.plan.nexts, &self.values, &mut self.latches);
     }
 
-    /// The current value of a latch in a run. Takes no memory.
+    /// The current value of a latch in a run. Allocates no memory.
     pub fn latch(&self, lane: usize, number: usize) -> bool
         requires lane { lane < 256 }
         requires number { number < length self.now.circuit.latches }
@@ -82,7 +83,7 @@ impl<'a> LaneSimulator<'a> {
     }
 }
 
-/// The latches' resets, for each run.
+/// The resets of the latches, for each run.
 fn first_words(alloc: Global, circuit: &Circuit) -> Result<Vec<[u64; 4]>, AllocError>
     ensures latches { IfOk result (λ words. (lane : ℕ) → lane < 256 → lane_of words.items lane ≡ resets circuit.now) }
     ensures well_formed { IsCircuit circuit.now }
@@ -94,14 +95,14 @@ fn first_words(alloc: Global, circuit: &Circuit) -> Result<Vec<[u64; 4]>, AllocE
     Ok(words)
 }
 
-/// All bits, or none.
+/// A word with all bits set, or with no bit set.
 fn mask(is_set: bool) -> u64
     ensures { result ≡ all_or_none is_set }
 {
     u64::from(is_set).wrapping_neg()
 }
 
-/// Puts words into a table, from a place on.
+/// Copies words into a table, from an index on.
 fn put_words(values: &mut [[u64; 4]], start: usize, words: &[[u64; 4]])
     requires { start + length words.now ≤ length values.old }
     ensures put { (k : ℕ) → k < length words.now → slice_index_or values.new (start + k) [] ≡ slice_index_or
@@ -114,7 +115,7 @@ fn put_words(values: &mut [[u64; 4]], start: usize, words: &[[u64; 4]])
     }
 }
 
-/// The bits of a literal.
+/// The values of a literal in all runs.
 fn bits(values: &[[u64; 4]], literal: Literal) -> u64x4
     requires { variable literal < length values.now }
     ensures { (lane : ℕ) → lane < 256 → bit_in result lane ≡ read (lane_of values.now lane) (wire_in literal) }
@@ -123,7 +124,7 @@ fn bits(values: &[[u64; 4]], literal: Literal) -> u64x4
     words ^ u64x4::splat(mask(literal.is_negated()))
 }
 
-/// Evaluates the gates, each once. They are in the table from `front` on.
+/// Evaluates each gate once. The values of the gates are in the table from index `front` on.
 fn work_words(gates: &[Operands], front: usize, values: &mut [[u64; 4]])
     requires within { All (IsWithin (length values.old)) (rows_from front gates.now) }
     requires fit { front + length gates.now ≤ length values.old }
@@ -136,7 +137,7 @@ fn work_words(gates: &[Operands], front: usize, values: &mut [[u64; 4]])
     }
 }
 
-/// Fills the table for a step. The constant is already there.
+/// Fills the table for a step. The constant 0 is already in the table.
 fn fill_words(
     gates: &[Operands],
     front: usize,
@@ -156,7 +157,7 @@ fn fill_words(
     work_words(gates, front, values);
 }
 
-/// Reads literals, each into its own words.
+/// Evaluates literals, and stores the words of each literal.
 fn read_words(literals: &[Literal], values: &[[u64; 4]], words: &mut [[u64; 4]])
     requires within { All (λ literal. variable literal < length values.now) literals.now }
     requires fit { length words.old ≡ length literals.now }

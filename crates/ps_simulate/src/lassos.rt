@@ -1,4 +1,5 @@
-//! Lassos: a stem that is read once and a lap that is read repeatedly, until the latches repeat.
+//! Runs of a circuit on a lasso: the circuit reads a stem once and then a lap repeatedly, until its latch values
+//! repeat.
 
 ghost use Rattle.std.specs.Prelude.{◌≡◌, ◌+◌, ◌*◌, ◌^◌, ◌<◌, ◌≤◌, Bool, List, [], ℕ, false, length, All, IfOk, IfErr};
 ghost use Rattle.std.specs.Prelude.{IsTrue, IsOk, OnOk, vec_len};
@@ -24,30 +25,30 @@ use std::alloc::{AllocError, Global};
 use std::collections::BTreeMap;
 use thiserror::Error;
 
-/// Whether an automaton accepts, and the lengths of the stem and the lap that it was asked about.
+/// Whether an automaton accepts a lasso, and the lengths of the stem and the lap of this lasso.
 #[derive(Clone, Copy, Debug, PartialEq, Eq)]
 pub struct Verdict {
     /// Whether the trace is accepted.
     pub accepted: bool,
-    /// The letters before the first of two laps that begin with the same latches.
+    /// The number of letters before the first of two laps that begin with the same latch values.
     pub stem: usize,
-    /// The letters from there up to the second.
+    /// The number of letters from the first to the second of two laps that begin with the same latch values.
     pub lap: usize,
 }
 
 /// Why a lasso has no verdict.
 #[derive(Clone, Copy, Debug, PartialEq, Eq, Error)]
 pub enum LassoFault {
-    /// A letter of another length than the number of inputs.
+    /// The length of a letter differs from the number of inputs.
     #[error("a letter does not have a bit for each input")]
     Width,
-    /// A lap without letters.
+    /// The lap has no letters.
     #[error("the lap is empty")]
     EmptyLap,
-    /// The symbols of the inputs and the outputs are not the names of the role, each once.
+    /// The symbols of the inputs or of the outputs are not the names of the role's propositions, each exactly once.
     #[error("the symbols are not the names of the propositions")]
     Symbols,
-    /// Memory ran out.
+    /// Out of memory.
     #[error("out of memory")]
     OutOfMemory,
 }
@@ -88,13 +89,13 @@ impl From<AllocError> for LassoFault {
     }
 }
 
-/// Runs a circuit through a stem and then through a lap repeatedly, up to the first two laps that begin with the same
-/// latches. Then asks the automaton about the trace so far: whether it accepts the lasso that goes from the first of
-/// them to the second, again and again. Letters have a bit for each input, in the circuit's order.
+/// Runs a circuit through a stem and then repeatedly through a lap, until a lap begins with the same latch values as an
+/// earlier lap. The result states whether the automaton accepts the trace of this run, continued forever by repeating
+/// the letters between the two laps. Letters have a bit for each input, in the circuit's order.
 ///
 /// # Errors
 ///
-/// In this order: `Width`, `EmptyLap`, `Symbols`; out of memory.
+/// `Width`, `EmptyLap` or `Symbols`, whichever comes first in this order; or out of memory.
 pub fn lasso(
     alloc: Global,
     circuit: &Circuit,
@@ -122,7 +123,7 @@ pub fn lasso(
     Ok(verdict_of(alloc, circuit, automaton, &naming, stem, lap)?)
 }
 
-/// The verdict, if the names of the naming are those of the automaton.
+/// The verdict for a naming with the automaton's names. Fails if out of memory.
 fn verdict_of(
     alloc: Global,
     circuit: &Circuit,
@@ -163,15 +164,15 @@ fn are_wide(width: usize, letters: &[Vec<bool>]) -> bool
     true
 }
 
-/// The letters of a trace up to the first lap that begins with the latches of an earlier lap, and the number of that
-/// lap.
+/// The letters of a trace up to the first lap that begins with the latch values of an earlier lap, and the index of
+/// that earlier lap.
 #[derive(Drop)]
 struct Repetition {
     letters: Vec<u64>,
     first: usize,
 }
 
-/// Reads the stem, and laps until one begins with the latches of an earlier lap.
+/// Reads the stem, and then laps until a lap begins with the latch values of an earlier lap. Fails if out of memory.
 fn first_repetition(
     alloc: Global,
     circuit: &Circuit,
@@ -194,7 +195,7 @@ fn first_repetition(
     })
 }
 
-/// A running circuit, and the automaton's letters so far.
+/// A running circuit, and the letters that the automaton has read so far.
 #[derive(Drop)]
 struct Run<'a> {
     simulator: Simulator<'a>,
@@ -203,7 +204,7 @@ struct Run<'a> {
 }
 
 impl<'a> Run<'a> {
-    /// The latches are at their resets, and nothing was read.
+    /// The state before the first letter: the latches have their first values. Fails if out of memory.
     fn new(alloc: Global, circuit: &'a Circuit) -> Result<Run<'a>, AllocError>
         ensures circuit { IfOk result (λ run. run.simulator.circuit ≡ circuit.now) }
         ensures latches { IfOk result (λ run. run.simulator.latches ≡ resets circuit.now) }
@@ -219,7 +220,8 @@ impl<'a> Run<'a> {
         })
     }
 
-    /// Reads the stem, and laps until one begins with the latches of an earlier lap, whose number is returned.
+    /// Reads the stem, and then laps until a lap begins with the latch values of an earlier lap. Returns the index of
+    /// that earlier lap. Fails if out of memory.
     fn first_repetition(
         &mut self,
         alloc: Global,
@@ -260,8 +262,8 @@ impl<'a> Run<'a> {
     }
 }
 
-/// Adds latches to those that were seen, unless they were seen before; then returns their place. The places are in a
-/// tree, so that no choice of latches makes a search long.
+/// Adds a list of latch values to the lists that were seen, or returns its index if it was seen before. The lists are
+/// in a tree, so that every search is short. Fails if out of memory.
 fn see(
     alloc: Global,
     seen: &mut BTreeMap<Vec<bool>, usize>,
@@ -279,7 +281,7 @@ fn see(
     Ok(None)
 }
 
-/// Runs a circuit through letters, and appends the automaton's letters to others.
+/// Runs a circuit through a word, and appends the corresponding letters of the automaton to `letters`.
 fn read_word(
     naming: &Naming,
     simulator: &mut Simulator,

@@ -1,4 +1,4 @@
-//! Laws of circuits.
+//! Laws about circuits and their runs.
 
 ghost use Rattle.std.specs.Prelude.{Bool, List};
 ghost use Rattle.ps_circuit.specs.Circuits.{CircuitData, IsCircuit};
@@ -9,22 +9,20 @@ ghost use Rattle.ps_simulate.specs.Lassos.{HasOneVerdict};
 ghost use Rattle.ps_simulate.specs.Symbols.{HasSymbols};
 ghost use Rattle.ps_simulate.specs.declared.role.Role.{Role};
 
-/// A law: for given inputs and latches a circuit has values, and any two agree at each literal whose variable is 0 or
-/// defined.
+/// For given inputs and latches, a circuit has values, and any two lists of values agree at each literal whose variable
+/// is 0 or defined.
 pub fn circuit_has_one_values()
     ensures { (c : CircuitData) → IsCircuit c → HasOneValues c }
 {}
 
-/// A law: a circuit that takes letters in 256 lanes at once does in each lane what a plain run does on that lane's
-/// letters.
+/// If a circuit takes letters in 256 lanes at once, each lane does the same as a plain run on the letters of that lane.
 pub fn lanes_are_plain_runs()
     ensures { (c : CircuitData) → IsCircuit c → AreLanesPlain c }
 {
     circuit_has_one_values();
 }
 
-/// A law: for a circuit with the inputs and outputs of a role, an automaton, a stem and a lap there is at most one
-/// verdict.
+/// For a circuit with the inputs and outputs of a role, an automaton, a stem and a lap, there is at most one verdict.
 pub fn verdict_is_one()
     ensures { (role : Role) (file : FileData) (c : CircuitData) (stem lap : List (List Bool)) → IsCircuit c →
         HasSymbols role file.names file.controllable c → HasOneVerdict file c stem lap }

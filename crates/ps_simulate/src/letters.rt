@@ -1,4 +1,4 @@
-//! Letters in one list, read from their text.
+//! Letters of a stimulus in a single list, and their parser.
 
 ghost use Rattle.std.specs.Prelude.{◌≡◌, ◌*◌, ◌<◌, ◌↔◌, IsTrue, Some, [], length, slice_get};
 ghost use Rattle.ps_simulate.specs.StimulusTexts.{IsLettersAnswer};
@@ -8,7 +8,7 @@ use crate::stimulus::{line_end, read_letter};
 use std::alloc::Global;
 use std::marker::Model;
 
-/// Letters, each with a bit for each input of a circuit. Their bits are in one list.
+/// Letters, each with a bit for each input of a circuit. All bits are in a single list.
 #[derive(Debug, Drop)]
 pub struct Letters {
     bits: Vec<bool>,
@@ -28,21 +28,21 @@ impl Model for Letters {
 }
 
 impl Letters {
-    /// How many letters there are.
+    /// The number of letters.
     pub fn len(&self) -> usize
         ensures { result ≡ length self.now }
     {
         self.count
     }
 
-    /// Whether there is no letter.
+    /// Whether the list is empty.
     pub fn is_empty(&self) -> bool
         ensures { IsTrue result ↔ (self.now ≡ []) }
     {
         self.count == 0
     }
 
-    /// The letter at that place.
+    /// The letter at an index.
     pub fn letter(&self, place: usize) -> &[bool]
         requires { place < length self.now }
         ensures { slice_get self.now place ≡ Some result.now }
@@ -52,11 +52,11 @@ impl Letters {
     }
 }
 
-/// Reads a stimulus that has only a stem: a line of digits for each letter.
+/// Parses a stimulus without a lap: a line of digits for each letter.
 ///
 /// # Errors
 ///
-/// [`StimulusFault::Text`] with the first cause in the text's order, at its byte; out of memory.
+/// [`StimulusFault::Text`] with the first error in the text and its offset, or out of memory.
 pub fn parse_letters(alloc: Global, text: &[u8], width: usize) -> Result<Letters, StimulusFault>
     ensures { IsLettersAnswer text.now width result }
 {

@@ -1,30 +1,30 @@
-//! Runs circuits, letter by letter, once or on 256 stimuli at once, and reads stimuli. It also tells whether an
-//! automaton accepts what a circuit does on a stem and a repeated lap.
+//! Runs circuits letter by letter, either a single run or 256 runs at once. The crate also parses stimuli, and decides
+//! whether an automaton accepts what a circuit does on a stem and a repeated lap.
 //!
 //! | Call | What it gives |
 //! |---|---|
 //! | `Simulator::new(circuit)`, `step`, `latches`, `latch` | one run: a step takes a letter and gives the outputs |
-//! | `LaneSimulator::new(circuit)`, `step_lanes`, `latch` | 256 runs at once: bit b of word w is run 64·w + b |
+//! | `LaneSimulator::new(circuit)`, `step_lanes`, `latch` | 256 runs at once: bit b of word w belongs to run 64·w + b |
 //! | `parse_stimulus(text, width, split)` | the letters of a text, a line of digits each, or the first fault |
-//! | `parse_letters(text, width)` | the same for a text without a lap; the bits are in one list |
-//! | `Places::new(circuit)`, `wire(literal)` | the place of a literal's variable in a table without gaps |
+//! | `parse_letters(text, width)` | the same for a text without a lap, with all bits in a single list |
+//! | `Places::new(circuit)`, `wire(literal)` | the index of a literal's variable in a table without gaps |
 //! | `output_wires(circuit, places)`, `next_wires` | the wires of the outputs and of the latches' next literals |
 //! | `lasso(circuit, automaton, role, stem, lap)` | the `Verdict` at the first repetition, or a `LassoFault` |
-//! | `LassoFault::number`, `StimulusCause::number`, `name` | a fault or a cause in psyn's list of faults |
+//! | `LassoFault::number`, `StimulusCause::number`, `name` | the number and the name of a fault or cause |
 //!
-//! `Role` says whether a circuit is a controller's or an environment's.
+//! `Role` states whether a circuit is a controller or an environment.
 //!
-//! | Law | What it says |
+//! | Law | What it states |
 //! |---|---|
-//! | `circuit_has_one_values` | values of given inputs and latches exist, and agree at each literal that is defined |
-//! | `lanes_are_plain_runs` | what a lane does on its letters is what a plain run does on them |
+//! | `circuit_has_one_values` | values for given inputs and latches exist, and agree at each defined literal |
+//! | `lanes_are_plain_runs` | a lane does the same on its letters as a plain run |
 //! | `verdict_is_one` | there is at most one verdict on a circuit with the symbols of its role |
 //! | `stimulus_text_has_one_answer`, `stimulus_text_has_some_answer` | a text has exactly one answer |
 //!
-//! A step puts the outputs' bits of the circuit's values, and moves each latch to its next literal's bit; latches begin
-//! with their resets. Steps take no memory, and time proportional to the gates. A lasso is run until the latches repeat
-//! at the beginning of a lap, which may take as many laps as there are values of the latches. Those that were seen are
-//! in a tree.
+//! A step stores the values of the outputs, and sets each latch to the value of its next literal. Latches begin with
+//! their resets. A step allocates no memory, and takes time proportional to the number of gates. A lasso is run until a
+//! lap begins with the same latch values as an earlier lap, which may take as many laps as the latches have
+//! combinations of values. The combinations that were seen are in a tree.
 #![tactic(auto)]
 
 mod fault;

@@ -1,4 +1,4 @@
-//! Which input or output of a circuit is which proposition of an automaton.
+//! The relation between the inputs and outputs of a circuit and the propositions of an automaton, by name.
 
 ghost use Rattle.std.specs.Prelude.{◌≡◌, ◌≢◌, ◌^◌, ◌<◌, ◌≤◌, ◌||◌, ℕ, true, false, None, Some, IfOk, IfSome, IfNone};
 ghost use Rattle.std.specs.Prelude.{length, map, slice_index_or};
@@ -16,19 +16,20 @@ use ps_automaton::Automaton;
 use ps_circuit::Circuit;
 use std::alloc::{AllocError, Global};
 
-/// For each proposition the input or output that has its name.
+/// For each proposition, the input or output that has its name.
 #[derive(Drop)]
 pub(crate) struct Naming<'a> {
     /// The names of the propositions.
     pub names: &'a [Vec<u8>],
-    /// For each proposition the place of the input that has its name, if one has.
+    /// For each proposition, the index of the input that has its name, if there is one.
     pub inputs: Vec<Option<usize>>,
-    /// For each proposition the place of the output that has its name, if one has.
+    /// For each proposition, the index of the output that has its name, if there is one.
     pub outputs: Vec<Option<usize>>,
 }
 
 impl<'a> Naming<'a> {
-    /// The naming of a circuit with that role, if its symbols are the role's. Fails if out of memory.
+    /// The naming of a circuit with this role, or `None` if the circuit's symbols are not those of the role. Fails if
+    /// out of memory.
     pub fn new(
         alloc: Global,
         circuit: &Circuit,
@@ -61,7 +62,7 @@ impl<'a> Naming<'a> {
         }))
     }
 
-    /// The letter of a step.
+    /// The letter of a step, given the values of the inputs and of the outputs.
     pub fn letter(&self, inputs: &[bool], outputs: &[bool]) -> u64
         requires few { length self.now.names.now ≤ 64 }
         requires inputs_within { (p k : ℕ) → slice_index_or self.now.inputs.items p None ≡ Some k →
@@ -78,7 +79,7 @@ impl<'a> Naming<'a> {
     }
 }
 
-/// The names of the inputs.
+/// The optional names of the inputs. Fails if out of memory.
 fn input_symbols(alloc: Global, circuit: &Circuit) -> Result<Vec<Option<&[u8]>>, AllocError>
     ensures symbols { IfOk result (λ symbols. map option_copied symbols.items ≡ circuit.now.input_names) }
     ensures each { length circuit.now.input_names ≡ length circuit.now.inputs }
@@ -90,7 +91,7 @@ fn input_symbols(alloc: Global, circuit: &Circuit) -> Result<Vec<Option<&[u8]>>,
     Ok(symbols)
 }
 
-/// The names of the outputs.
+/// The optional names of the outputs. Fails if out of memory.
 fn output_symbols(alloc: Global, circuit: &Circuit) -> Result<Vec<Option<&[u8]>>, AllocError>
     ensures symbols { IfOk result (λ symbols. map option_copied symbols.items ≡ circuit.now.output_names) }
     ensures each { length circuit.now.output_names ≡ length circuit.now.outputs }
@@ -114,7 +115,8 @@ fn is_controllable(controllable: &[u32], proposition: usize) -> bool
     false
 }
 
-/// The proposition that a symbol names, if it is a controllable one (or one that is not controllable).
+/// The proposition that a symbol names. If `wanted` is true, the proposition must be controllable; otherwise it must
+/// not be controllable.
 fn proposition_of(
     names: &[Vec<u8>],
     controllable: &[u32],
@@ -131,8 +133,9 @@ fn proposition_of(
     None
 }
 
-/// For each proposition the place of the symbol that names it. There are such places if the symbols name the
-/// propositions that are controllable (or those that are not), each once.
+/// For each proposition, the index of the symbol that names it. The result is `None` unless the symbols are exactly the
+/// names of the controllable propositions, each once. If `wanted` is false, the propositions that are not controllable
+/// count instead.
 fn places_of(
     alloc: Global,
     names: &[Vec<u8>],
@@ -154,7 +157,8 @@ fn places_of(
     }
 }
 
-/// Puts each symbol's place at the proposition that it names, if no two symbols name the same.
+/// Stores the index of each symbol at the proposition that it names. The result is `None` if a symbol does not name a
+/// proposition of the wanted kind, or if two symbols name the same proposition.
 fn put_places(
     alloc: Global,
     names: &[Vec<u8>],
@@ -181,7 +185,7 @@ fn put_places(
     Ok(Some(places))
 }
 
-/// Whether each proposition that is controllable (or each that is not) has a place.
+/// Whether each controllable proposition has an index (or each that is not controllable, if `wanted` is false).
 fn is_full(controllable: &[u32], wanted: bool, places: &[Option<usize>]) -> bool
     ensures full { result ≡ true → (p : ℕ) → p < length places.now → is_among p controllable.now ≡ wanted →
         slice_index_or places.now p None ≢ None }
@@ -196,7 +200,7 @@ fn is_full(controllable: &[u32], wanted: bool, places: &[Option<usize>]) -> bool
     true
 }
 
-/// The letter in which each proposition's bit is the one at its place; without a place it is 0.
+/// The letter in which each proposition has the bit at its index. A proposition without an index has the bit 0.
 fn part_of(places: &[Option<usize>], bits: &[bool]) -> u64
     requires few { length places.now ≤ 64 }
     requires within { (p k : ℕ) → slice_index_or places.now p None ≡ Some k → k < length bits.now }
@@ -210,7 +214,7 @@ fn part_of(places: &[Option<usize>], bits: &[bool]) -> u64
     letter
 }
 
-/// The bit at a place; without a place it is 0.
+/// The bit at an index, or 0 if there is no index.
 fn bit_at(bits: &[bool], place: Option<usize>) -> bool
     requires { IfSome place (λ k. k < length bits.now) }
     ensures { result ≡ bit_at_place bits.now place }
@@ -221,7 +225,7 @@ fn bit_at(bits: &[bool], place: Option<usize>) -> bool
     }
 }
 
-/// A letter with one more bit.
+/// A letter in which the bit of one more proposition is set if `bit` is true.
 fn with_bit(letter: u64, p: usize, bit: bool) -> u64
     requires { p < 64 }
     ensures at { is_in p letter ≡ false → is_in p result ≡ bit }

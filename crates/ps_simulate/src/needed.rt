@@ -9,7 +9,7 @@ use crate::plan::{Plan, Row, Wire};
 use ps_circuit::Circuit;
 use std::alloc::{AllocError, Global};
 
-/// The plan of a circuit without the gates that neither an output nor a latch needs. Fails if out of memory.
+/// The plan of a circuit without the gates that no output and no latch needs. Fails if out of memory.
 pub fn plan_of_needed(alloc: Global, circuit: &Circuit) -> Result<Plan, AllocError>
     ensures { IfOk result (λ cut. (whole : Plan) × IsPlan circuit.now whole × IsCut whole cut) }
 {
@@ -20,7 +20,7 @@ pub fn plan_of_needed(alloc: Global, circuit: &Circuit) -> Result<Plan, AllocErr
     Ok(plan)
 }
 
-/// Whether the value at each place is needed.
+/// For each index of the table, whether a step needs its value. Fails if out of memory.
 fn needed_places(alloc: Global, plan: &Plan) -> Result<Vec<bool>, AllocError>
     requires rows { All (IsWithin plan.now.size) plan.now.rows.items }
     requires outputs { All (λ w. w.place < plan.now.size) plan.now.outputs.items }
@@ -35,7 +35,7 @@ fn needed_places(alloc: Global, plan: &Plan) -> Result<Vec<bool>, AllocError>
     Ok(needed)
 }
 
-/// Marks what the literals read as needed.
+/// Marks as needed the values that the given wires read.
 fn need_each(wires: &[Wire], needed: &mut [bool])
     requires within { All (λ w. w.place < length needed.old) wires.now }
     ensures needed { All (NeedsWire needed.new) wires.now }
@@ -46,7 +46,7 @@ fn need_each(wires: &[Wire], needed: &mut [bool])
     }
 }
 
-/// Marks what the needed rows read as needed, the last row first.
+/// Marks as needed the values that needed rows read, from the last row to the first.
 fn need_what_is_read(rows: &[Row], needed: &mut [bool])
     requires within { All (IsWithin (length needed.old)) rows.now }
     requires scheduled { IsScheduled rows.now }

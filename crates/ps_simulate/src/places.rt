@@ -1,4 +1,4 @@
-//! The places of a circuit's variables in a table that has no gaps.
+//! The indices of a circuit's variables in a table without gaps.
 
 ghost use Rattle.std.specs.Prelude.{◌≡◌, ◌≢◌, length, AllPairs, IfOk};
 ghost use Rattle.ps_circuit.specs.Circuits.{IsCircuit};
@@ -11,7 +11,7 @@ use std::alloc::{AllocError, Global};
 use std::iter::once;
 use std::marker::Model;
 
-/// The place of each variable of a circuit: variable 0 comes first, then those of the inputs, the latches and the
+/// The index of each variable of a circuit: first variable 0, then the variables of the inputs, the latches and the
 /// gates.
 #[derive(Drop)]
 pub struct Places<'a> {
@@ -35,7 +35,7 @@ impl<'a> Places<'a> {
     ghost use Rattle.ps_circuit.specs.Circuits.{IsKnown, definitions};
     ghost use Rattle.ps_simulate.specs.Plans.{variables, wire_of};
 
-    /// The places of a circuit. Fails if out of memory.
+    /// The indices of the variables of a circuit. Fails if out of memory.
     pub fn new(alloc: Global, circuit: &'a Circuit) -> Result<Self, AllocError>
         ensures { IfOk result (λ places. places ≡ circuit.now) }
     {
@@ -44,14 +44,14 @@ impl<'a> Places<'a> {
         Ok(Places { circuit, ids })
     }
 
-    /// How many places there are.
+    /// The number of indices.
     pub fn count(&self) -> usize
         ensures { result ≡ length (variables self.now) }
     {
         self.ids.list().len()
     }
 
-    /// The place of a literal's variable, with the literal's sign.
+    /// The index of a literal's variable, with the literal's sign.
     pub fn wire(&self, literal: Literal) -> Wire
         requires { IsKnown (definitions self.now) literal }
         ensures { result ≡ wire_of self.now literal }
@@ -64,7 +64,7 @@ impl<'a> Places<'a> {
     }
 }
 
-/// The variables by their places.
+/// The variables in the order of their indices. Fails if out of memory.
 fn variables_of(alloc: Global, circuit: &Circuit) -> Result<Vec<u32>, AllocError>
     ensures variables { IfOk result (λ all. all.items ≡ variables circuit.now) }
     ensures well_formed { IsCircuit circuit.now }
@@ -78,7 +78,7 @@ fn variables_of(alloc: Global, circuit: &Circuit) -> Result<Vec<u32>, AllocError
         .collect(alloc)
 }
 
-/// These variables with their places.
+/// A list of variables, with a search for their indices. Fails if out of memory.
 fn ids_of(alloc: Global, variables: &[u32]) -> Result<Ids, AllocError>
     requires { AllPairs (λ v w. v ≢ w) variables.now }
     ensures { IfOk result (λ ids. ids ≡ variables.now) }

@@ -8,35 +8,35 @@ use crate::places::Places;
 use ps_circuit::Circuit;
 use std::alloc::{AllocError, Global};
 
-/// A literal of a circuit, by the place of its variable in the table of values. Places have 4 bytes, since a circuit
-/// has fewer than 2^31 variables, and a step reads three of them for each gate.
+/// A literal of a circuit, with the index of its variable in the table of values. An index has only 4 bytes, since a
+/// circuit has fewer than 2^31 variables, and a step reads three indices for each gate.
 #[derive(Clone, Copy)]
 pub struct Wire {
-    /// The place.
+    /// The index of the literal's variable.
     pub place: u32,
     /// Whether the literal is negated.
     pub is_negated: bool,
 }
 
-/// A gate: the place of its value, and the two literals that it reads.
+/// A gate: the index of its value, and the two literals that it reads.
 #[derive(Clone, Copy)]
 pub struct Row {
-    /// The place of its value.
+    /// The index of the gate's value.
     pub target: u32,
-    /// The first literal that it reads.
+    /// The first literal that the gate reads.
     pub first: Wire,
-    /// The second one.
+    /// The second literal that the gate reads.
     pub second: Wire,
 }
 
-/// What a step of a circuit evaluates: the gates, each after those that it reads, and then the outputs and the next
-/// values of the latches. Places are those of a table of `size` values: the constant 0, the inputs, the latches and the
+/// What a step of a circuit evaluates: the gates, each after the gates that it reads, and then the outputs and the next
+/// values of the latches. Indices refer to a table of `size` values: the constant 0, the inputs, the latches and the
 /// gates.
 #[derive(Drop)]
 pub struct Plan {
-    /// How many places there are.
+    /// The length of the table of values.
     pub size: usize,
-    /// The gates, each after those that it reads.
+    /// The gates, each after the gates that it reads.
     pub rows: Vec<Row>,
     /// The literals of the outputs.
     pub outputs: Vec<Wire>,
@@ -57,7 +57,7 @@ impl Plan {
         Plan::by_places(alloc, circuit, &places)
     }
 
-    /// The plan of a circuit, given the place of each of its variables.
+    /// The plan of a circuit, given the index of each of its variables. Fails if out of memory.
     fn by_places(alloc: Global, circuit: &Circuit, places: &Places) -> Result<Self, AllocError>
         requires { places.now ≡ circuit.now }
         ensures plan { IfOk result (IsPlan circuit.now) }
@@ -72,7 +72,7 @@ impl Plan {
     }
 }
 
-/// A row for each gate, in the circuit's order.
+/// A row for each gate, in an order in which each gate comes after the gates that it reads. Fails if out of memory.
 fn rows_of(alloc: Global, circuit: &Circuit, places: &Places) -> Result<Vec<Row>, AllocError>
     requires { places.now ≡ circuit.now }
     ensures rows { IfOk result (λ rows. AreRows circuit.now rows.items) }
@@ -92,11 +92,11 @@ fn rows_of(alloc: Global, circuit: &Circuit, places: &Places) -> Result<Vec<Row>
     Ok(rows)
 }
 
-/// The outputs' literals.
+/// The wires of the outputs.
 ///
 /// # Errors
 ///
-/// Fails if memory runs out.
+/// Fails if out of memory.
 pub fn output_wires(
     alloc: Global,
     circuit: &Circuit,
@@ -112,11 +112,11 @@ pub fn output_wires(
     Ok(wires)
 }
 
-/// The literals of the latches' next values.
+/// The wires of the latches' next values.
 ///
 /// # Errors
 ///
-/// Fails if memory runs out.
+/// Fails if out of memory.
 pub fn next_wires(
     alloc: Global,
     circuit: &Circuit,

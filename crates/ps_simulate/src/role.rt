@@ -1,11 +1,11 @@
-//! What part a circuit plays.
+//! The role of a circuit.
 
-/// Whether a circuit is a controller or an environment.
+/// The role of a circuit, which is a controller or an environment.
 #[derive(Clone, Copy, Debug, PartialEq, Eq)]
 pub enum Role {
-    /// Its inputs are the propositions that are not controllable, its outputs the controllable ones.
+    /// The inputs are the propositions that are not controllable, and the outputs are the controllable propositions.
     Controller,
-    /// The reverse.
+    /// The inputs are the controllable propositions, and the outputs are those that are not controllable.
     Environment,
 }
 

@@ -1,4 +1,4 @@
-//! Running a circuit.
+//! Runs a circuit.
 
 ghost use Rattle.std.specs.Prelude.{◌≡◌, ℕ, ◌+◌, ◌<◌, ◌≤◌, ◌⊎◌, length, map, slice_get, slice_index_or, All, IfOk};
 ghost use Rattle.std.specs.Prelude.{Some, false};
@@ -39,7 +39,7 @@ impl<'a> Simulator<'a> {
     ghost use Rattle.ps_circuit.specs.Values.{Steps, resets};
     ghost use Rattle.ps_simulate.specs.Plans.{variables};
 
-    /// Starts a circuit, its latches at their resets. Fails if out of memory.
+    /// Starts a circuit, with its latches at their resets. Fails if out of memory.
     pub fn new(alloc: Global, circuit: &'a Circuit) -> Result<Self, AllocError>
         ensures circuit { IfOk result (λ s. s.circuit ≡ circuit.now) }
         ensures latches { IfOk result (λ s. s.latches ≡ resets circuit.now) }
@@ -55,7 +55,7 @@ impl<'a> Simulator<'a> {
         })
     }
 
-    /// Takes a letter: puts the outputs' bits into `outputs`, and updates the latches. Takes no memory.
+    /// Takes a letter: stores the values of the outputs in `outputs`, and updates the latches. Allocates no memory.
     pub fn step(&mut self, inputs: &[bool], outputs: &mut [bool])
         requires inputs_fit { length inputs.now ≡ length self.old.circuit.inputs }
         requires outputs_fit { length outputs.old ≡ length self.old.circuit.outputs }
@@ -67,14 +67,14 @@ impl<'a> Simulator<'a> {
         read_all(&self.plan.nexts, &self.values, &mut self.latches);
     }
 
-    /// The current values of all latches. Takes no memory.
+    /// The current values of all latches. Allocates no memory.
     pub fn latches(&self) -> &[bool]
         ensures { result.now ≡ self.now.latches }
     {
         self.latches.as_slice()
     }
 
-    /// The current value of a latch. Takes no memory.
+    /// The current value of a latch. Allocates no memory.
     pub fn latch(&self, number: usize) -> bool
         requires { number < length self.now.circuit.latches }
         ensures { slice_get self.now.latches number ≡ Some result }
@@ -83,7 +83,7 @@ impl<'a> Simulator<'a> {
     }
 }
 
-/// The latches' resets.
+/// The resets of the latches. Fails if out of memory.
 fn first_latches(alloc: Global, circuit: &Circuit) -> Result<Vec<bool>, AllocError>
     ensures latches { IfOk result (λ bits. bits.items ≡ map (λ l. l.reset) circuit.now.latches) }
     ensures well_formed { IsCircuit circuit.now }
@@ -95,7 +95,7 @@ fn first_latches(alloc: Global, circuit: &Circuit) -> Result<Vec<bool>, AllocErr
         .collect(alloc)
 }
 
-/// Puts bits into a table, from a place on.
+/// Copies bits into a table, from an index on.
 fn put(values: &mut [bool], start: usize, bits: &[bool])
     requires { start + length bits.now ≤ length values.old }
     ensures put { (k : ℕ) → k < length bits.now → slice_index_or values.new (start + k) false ≡ slice_index_or
@@ -108,7 +108,7 @@ fn put(values: &mut [bool], start: usize, bits: &[bool])
     }
 }
 
-/// The bit of a literal.
+/// The value of a literal.
 fn bit(values: &[bool], wire: Wire) -> bool
     requires { wire.place < length values.now }
     ensures { result ≡ read values.now wire }
@@ -116,7 +116,7 @@ fn bit(values: &[bool], wire: Wire) -> bool
     values[wire.place as usize] ^ wire.is_negated
 }
 
-/// Evaluates the gates, each once.
+/// Evaluates each gate once.
 fn work(rows: &[Row], values: &mut [bool])
     requires { All (IsWithin (length values.old)) rows.now }
     ensures { values.new ≡ work_out rows.now values.old }
@@ -128,7 +128,7 @@ fn work(rows: &[Row], values: &mut [bool])
     }
 }
 
-/// Fills the table for a step. The constant is already there.
+/// Fills the table for a step. The constant 0 is already in the table.
 fn fill(rows: &[Row], inputs: &[bool], latches: &[bool], values: &mut [bool])
     requires within { All (IsWithin (length values.old)) rows.now }
     requires room { 1 + length inputs.now + length latches.now ≤ length values.old }
@@ -140,7 +140,7 @@ fn fill(rows: &[Row], inputs: &[bool], latches: &[bool], values: &mut [bool])
     work(rows, values);
 }
 
-/// Reads literals, each into its own bit.
+/// Evaluates literals, and stores the value of each literal.
 fn read_all(wires: &[Wire], values: &[bool], bits: &mut [bool])
     requires within { All (λ w. w.place < length values.now) wires.now }
     requires fit { length bits.old ≡ length wires.now }

@@ -1,4 +1,4 @@
-//! Stimuli: the letters that a circuit is given, read from their texts.
+//! Stimuli, which are the letters that a circuit reads, and their parser.
 
 ghost use Rattle.std.specs.Prelude.{◌≡◌, ◌+◌, ◌-◌, ◌^◌, ◌<◌, ◌≤◌, ◌↔◌, ◌∷◌, ℕ, Bool, List, length, take, drop};
 ghost use Rattle.std.specs.Prelude.{slice_index, All, IsTrue, IfOk, IfSome, IfNone};
@@ -14,9 +14,9 @@ use std::marker::Model;
 /// Letters, each with a bit for each input of a circuit, in the circuit's order.
 #[derive(Debug, Drop)]
 pub struct Stimulus {
-    /// The letters that come once.
+    /// The letters that are read once.
     pub stem: Vec<Vec<bool>>,
-    /// The letters that repeat.
+    /// The letters that are read repeatedly.
     pub lap: Vec<Vec<bool>>,
 }
 
@@ -28,12 +28,12 @@ impl Model for Stimulus {
     ghost view = { λ s. record { stem = letters_of s.stem.items; lap = letters_of s.lap.items } };
 }
 
-/// Reads a stimulus: a line of digits for each letter. With `split` a line `-` separates stem and lap; without it all
-/// letters are the stem.
+/// Parses a stimulus: a line of digits for each letter. With `split`, a line `-` separates the stem from the lap;
+/// without it, all letters belong to the stem.
 ///
 /// # Errors
 ///
-/// [`StimulusFault::Text`] with the first cause in the text's order, at its byte; out of memory.
+/// [`StimulusFault::Text`] with the first error in the text and its offset, or out of memory.
 pub fn parse_stimulus(
     alloc: Global,
     text: &[u8],
@@ -67,18 +67,18 @@ pub fn parse_stimulus(
     Ok(Stimulus { stem, lap })
 }
 
-/// A law: the text of a stimulus has at most one answer.
+/// The text of a stimulus has at most one answer.
 pub fn stimulus_text_has_one_answer()
     ensures { (text : List ℕ) (width : ℕ) (split : Bool) → HasOneAnswer text width split }
 {}
 
-/// A law: the text of a stimulus has an answer. The law is about texts, not about calls: out of memory is not one of
-/// the answers.
+/// The text of a stimulus has an answer. This law is about texts, not about calls: a call may also fail because it is
+/// out of memory.
 pub fn stimulus_text_has_some_answer()
     ensures { (text : List ℕ) (width : ℕ) (split : Bool) → HasSomeAnswer text width split }
 {}
 
-/// Where the line that begins at `start` ends: at a newline, or at the end of the text.
+/// The end of the line that begins at `start`: the next newline, or the end of the text.
 pub(crate) fn line_end(text: &[u8], start: usize) -> usize
     requires { start < length text.now }
     ensures from { start ≤ result }
@@ -89,14 +89,14 @@ pub(crate) fn line_end(text: &[u8], start: usize) -> usize
     start + run_length(&text[start..], Class::Inner)
 }
 
-/// Whether the line is `-`.
+/// Whether a line is `-`.
 fn is_divider(line: &[u8]) -> bool
     ensures { IsTrue result ↔ (line.now ≡ divider) }
 {
     line.len() == 1 && line[0] == b'-'
 }
 
-/// The first byte of a line that is not a digit.
+/// The index of the first byte of a line that is not a digit.
 fn first_wrong(line: &[u8]) -> Option<usize>
     ensures digits { IfNone result (All IsDigit line.now) }
     ensures wrong { IfSome result (λ j. (j < length line.now) × ¬ IsDigit (slice_index line.now j)) }
@@ -110,7 +110,7 @@ fn first_wrong(line: &[u8]) -> Option<usize>
     None
 }
 
-/// The letter of a line of digits.
+/// The letter that a line of digits represents. Fails if out of memory.
 fn bits_of(alloc: Global, line: &[u8]) -> Result<Vec<bool>, AllocError>
     requires { All IsDigit line.now }
     ensures { IfOk result (λ bits. digits_of bits.items ≡ line.now) }
@@ -122,7 +122,7 @@ fn bits_of(alloc: Global, line: &[u8]) -> Result<Vec<bool>, AllocError>
     Ok(bits)
 }
 
-/// Reads the line of a letter, which begins at this offset.
+/// Parses the line of a letter. The line begins at the offset `start`.
 pub(crate) fn read_letter(
     alloc: Global,
     line: &[u8],

@@ -1,8 +1,8 @@
--- How the number lines of a circuit that is written are read again, all of one kind at a time.
---     IsSection kind all before read d      the lines of one kind were read: their items are those, and what is defined
---               and read up to there is before and read, and what they define and read
+-- Lemmas about parsing the number lines of a written circuit, all lines of one kind at a time.
+--     IsSection kind all before read d      the lines of one kind were parsed: their items are `all`, and the
+--               definitions and readings so far are `before` and `read`, followed by those of the items
 --     reread_section      the lines of one kind
---     reread_inputs, reread_latches, reread_outputs, reread_gates      of each kind
+--     reread_inputs, reread_latches, reread_outputs, reread_gates      the lines of each kind
 use Rattle.std.proofs.Common.{◌≡◌, ℕ, ◌+◌, ◌*◌, ◌<◌, ◌≤◌, ◌⊎◌, List, [], ◌∷◌, ◌++◌, length, get_or, map, rules}
 use Rattle.std.proofs.Common.{flat_map, All, Contains, refl, sym, ap, subst, inl, inr, ◌∙◌, arith, append_assoc}
 use Rattle.std.proofs.Common.{append-nil, length-append}
@@ -28,7 +28,7 @@ use Rattle.ps_circuit.proofs.Rereading.RereadLines.{IsNew, reread_input, reread_
 
 -- ## The literals of a circuit
 
--- own is in the whole, after front
+-- `whole` consists of `front`, `own` and `rest`
 module _ (front own rest : List ℕ) {whole : List ℕ} (split : whole ≡ front ++ (own ++ rest)) where
   place_within : (k : ℕ) → k < length own → length front + k < length whole
   place_within k lt = omega (arith, ap length split, length-append front (own ++ rest), length-append own rest)
@@ -48,7 +48,7 @@ module _ {c : CircuitData} (draft : IsDraft c) where
       fits : IsDefinition c.most (get_or own k d)
       fits = all_of_own front own rest split (IsDefinition c.most) draft.defined k d lt
 
-      -- its variable was not defined before
+      -- the variable of this literal was not defined before
       fresh : Contains (map variable front) (variable (get_or own k d)) → ⊥
       fresh (i, l, h) =
           let small : i < length front = omega (arith, l, length-map front variable) in
@@ -84,7 +84,7 @@ module _ {c : CircuitData} (draft : IsDraft c) {X : Type 0} (kind : LineKind X) 
     (none : texts [] ≡ []) (some : (x : X) (xs : List X) → texts (x ∷ xs) ≡ text x ++ texts xs)
     (reread : (rest : List ℕ) (Good : Lines X → Type 0) (d : Lines X) (x : X) → IsNew kind c.most d x →
     ((e : Lines X) → AddsItem kind d e x → Good e) → Rereads (line d) Good (text x ++ rest) rest) where
-  -- one item is in the middle
+  -- one item between the items before it and after it
   middle : (of : List X → List ℕ) → ((xs ys : List X) → of (xs ++ ys) ≡ of xs ++ of ys) →
       (front back whole : List ℕ) → whole ≡ front ++ (of all ++ back) → (a xs : List X) (x : X) → a ++ x ∷ xs ≡ all →
       whole ≡ (front ++ of a) ++ (of (x ∷ []) ++ (of xs ++ back))

@@ -1,11 +1,11 @@
--- How the fields of a written line are read again.
---     from e at text      the pieces of text from the offset at on, in a text that ends at e
---     Rereads part Good text rest      the part is read from text, wherever that is: its value is Good, and rest is
---               left
---     reread_then, reread_mapped      one part after another; a value seen by another function
+-- Lemmas about parsing the fields of a written line.
+--     from e at text      the stream of `text`, from the offset `at` to the end `e`
+--     Rereads part Good text rest      wherever `text` is, the part is parsed from it: its value satisfies `Good`, and
+--               `rest` remains
+--     reread_then, reread_mapped      one part after another; a value under a function
 --     reread_as, reread_branch      another text; one of several forms
---     number_then, field_then      a number, and a number after a space, and what follows it
---     reread_end, reread_more, reread_no_more      the end of a line; a further field comes, or none
+--     number_then, field_then      a number, or a space and a number, and what follows
+--     reread_end, reread_more, reread_no_more      the end of a line; a further field follows, or none
 use Rattle.std.proofs.Common.{◌≡◌, ℕ, ◌+◌, ◌^◌, ◌<◌, Bool, true, false, List, [], ◌∷◌, ◌++◌, length, refl, sym, ap}
 use Rattle.std.proofs.Common.{subst, ◌∙◌, arith, rules}
 use Rattle.std.specs.Prelude.{decimal}
@@ -80,7 +80,7 @@ pub reread_give : {V : Type 0} {Good : V → Type 0} (v : V) {rest : List ℕ} �
 reread_give v {rest} g =
     record { there = λ e at. record { value = v; good = g; to = at; reads = reads_give (from e at rest) v } }
 
--- nothing is known of a value
+-- the property that every value has
 abbrev pub AnyValue : {V : Type 0} → V → Type 0
 AnyValue v = Unit {0}
 
@@ -106,7 +106,7 @@ reread_run p see Bad text {rest} some all longest clean good = record {
       };
 }
 
--- digits are not spaces
+-- a digit is not a space
 digit_no_space : (b : ℕ) → is_digit b ≡ true → is_space b ≡ false
 digit_no_space b h = search (rules, eqb-true)
 
@@ -118,7 +118,7 @@ digits_no_space (b ∷ digits) rest some all = digit_no_space b all.0
 abbrev pub HasValue : ℕ → Number → Type 0
 HasValue n x = x.value ≡ n
 
--- it can be written, and is not wrong
+-- the number fits into 64 bits, and is not an error
 pub record IsGood (Wrong : ℕ → AigCause → Type 0) (n : ℕ) : Type 0 where
   pub small : n < 2 ^ 64
   pub right : (f : AigCause) → Wrong n f → ⊥
@@ -158,7 +158,7 @@ pub reread_word : (bytes : List ℕ) {rest : List ℕ} → Rereads (word bytes) 
 reread_word [] = reread_give tt tt
 reread_word (b ∷ bytes) = reread_then (chain_word b bytes) (reread_byte b) (λ _ _. reread_word bytes)
 
--- one space that a number follows
+-- one space before a number
 reread_space : (n : ℕ) (rest : List ℕ) → n < 2 ^ 64 → Rereads gap AnyValue (32 ∷ decimal n ++ rest) (decimal n ++ rest)
 unfolding gap
 reread_space n rest small =
@@ -166,7 +166,7 @@ reread_space n rest small =
     reread_run is_space (λ at bytes. tt) NoBadRun (32 ∷ []) (omega arith) (refl, tt)
     (digits_no_space (decimal n) rest t.some t.pass) (λ f x. x) (λ at. tt)
 
--- the next sign is not in A
+-- the next byte is not in the set A
 avoids_at : (A : Seen → Type 0) (e at b : ℕ) (rest : List ℕ) → ((t : Seen) → t.byte ≡ b → A t → ⊥) →
     Avoids A (next_of (from e at (b ∷ rest)))
 avoids_at A e at b rest none t x a = none t (ap (λ (s : Seen). s.byte) (sym (same_some _ t x))) a
@@ -203,7 +203,7 @@ reread_no_more {rest} = reread_branch (λ at. left_otherwise laws_ends_here.laws
 digit_newline : (t : Seen) → AtDigit t → At 10 t → ⊥
 digit_newline t d e = let h : is_digit 10 ≡ true = ap is_digit (sym e) ∙ d in cc
 
--- a further number comes
+-- a further number follows
 pub reread_more : (n : ℕ) (rest : List ℕ) → n < 2 ^ 64 →
     Rereads more (λ v. v ≡ true) (32 ∷ decimal n ++ rest) (decimal n ++ rest)
 unfolding more

@@ -1,8 +1,8 @@
--- How the first line and each number line of a circuit that is written are read again.
---     IsWritable      the counts can be written
+-- Lemmas about parsing the first line and each number line of a written circuit.
+--     IsWritable      the counts fit into 64 bits
 --     reread_header      the first line
---     IsNew kind most d x      after d it is allowed to define what the item defines, and what the item reads is not a
---               wrong literal
+--     IsNew kind most d x      after the lines d, the item x may define its literals, and the literals that it reads
+--               are allowed
 --     reread_input, reread_latch, reread_output, reread_gate      a line of each kind
 use Rattle.std.proofs.Common.{◌≡◌, ℕ, ◌^◌, ◌<◌, ◌≤◌, Bool, true, false, if◌then◌else◌, List, [], ◌∷◌, ◌++◌, rules}
 use Rattle.std.proofs.Common.{length, refl, sym, subst, arith, append_assoc}
@@ -37,7 +37,7 @@ use Rattle.ps_circuit.proofs.Rereading.RereadFields.{reread_more, reread_no_more
 abbrev pub field_text : ℕ → List ℕ → List ℕ
 field_text n rest = 32 ∷ (decimal n ++ rest)
 
--- the counts can be written
+-- the counts fit into 64 bits
 pub record IsWritable (c : CircuitData) : Type 0 where
   pub draft : IsDraft c
   pub inputs : length c.inputs < 2 ^ 64
@@ -78,7 +78,7 @@ reread_header c w rest = reread_as regrouped (reread_then chain_header (reread_w
 
 -- ## The parts of a line
 
--- fields, and what follows them
+-- fields, and the text that follows them
 abbrev pub fields_text : List ℕ → List ℕ → List ℕ
 fields_text [] rest = rest
 fields_text (x ∷ xs) rest = field_text x (fields_text xs rest)
@@ -90,7 +90,7 @@ fields_is (x ∷ xs) rest = search (rules, append_assoc, fields_is xs rest)
 line_is : (x : ℕ) (xs rest : List ℕ) → line x xs ++ rest ≡ decimal x ++ fields_text xs (10 ∷ rest)
 line_is x xs rest = grind (arith, append_assoc, fields_is)
 
--- what follows the next literal of a latch
+-- the text that follows the next literal of a latch
 abbrev reset_text : Bool → List ℕ → List ℕ
 reset_text r rest = if r then 32 ∷ decimal 1 ++ 10 ∷ rest else 10 ∷ rest
 
@@ -121,7 +121,7 @@ reread_reset true latch {rest} two = reread_then (chain_reset latch) (reread_mor
 
 -- ## Lines
 
--- after d it is allowed to define what the item defines, and what the item reads is not a wrong literal
+-- after the lines d, the item may define its literals, and the literals that it reads are allowed
 pub record IsNew {X : Type 0} (kind : LineKind X) (most : ℕ) (d : Lines X) (x : X) : Type 0 where
   pub definitions : All (λ l. (2 ≤ l) × IsGood (WrongDefinition most d.defined) l) (kind.defines (x ∷ []))
   pub literals : All (IsGood (WrongLiteral most)) (kind.reads (x ∷ []))

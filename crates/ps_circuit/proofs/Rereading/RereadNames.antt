@@ -1,6 +1,6 @@
--- How the names of a circuit that is written are read again.
+-- Lemmas about parsing the names of a written circuit.
 --     reread_names      the lines of the names of one kind, and what follows them
---     reread_no_names, reread_no_comment      the end of the text, where no name and no comment comes
+--     reread_no_names, reread_no_comment      the end of the text, with no further name and no comment
 use Rattle.std.proofs.Common.{◌≡◌, ◌≢◌, ℕ, ◌+◌, ◌^◌, ◌<◌, true, List, [], ◌∷◌, ◌++◌, length, Option, None, Some, All}
 use Rattle.std.proofs.Common.{slice_get, refl, sym, subst, arith, append_assoc, rules, length-append}
 use Rattle.std.specs.Prelude.{decimal}

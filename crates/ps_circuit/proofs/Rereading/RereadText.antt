@@ -1,7 +1,7 @@
--- The text of a circuit is read again as this circuit.
---     reread_text      the text is read as a draft of the circuit, and nothing is left
---     text_ends      its last byte is a newline
---     reads_again      so its answer is the circuit
+-- Lemmas about parsing the text of a written circuit, which gives the same circuit.
+--     reread_text      the text parses as a draft of the circuit, and nothing remains
+--     text_ends      the last byte of the text is a newline
+--     reads_again      the answer to the text is the circuit
 use Rattle.std.proofs.Common.{◌≡◌, ℕ, ◌+◌, ◌^◌, ◌<◌, ◌⊎◌, Bool, true, if◌then◌else◌, List, [], ◌∷◌, ◌++◌, length}
 use Rattle.std.proofs.Common.{get_or, map, Option, None, Some, All, Contains, Ok, refl, sym, ap, subst, inl, inr, rules}
 use Rattle.std.proofs.Common.{◌∙◌, arith, append_assoc, append-nil}
@@ -36,7 +36,7 @@ none_same [] (y ∷ ys) e = absurd (omega (arith, e))
 none_same (x ∷ xs) [] e = absurd (omega (arith, e))
 none_same (x ∷ xs) (y ∷ ys) e = ap (λ zs. None ∷ zs) (none_same xs ys (omega (arith, e)))
 
--- the draft is that of the circuit
+-- the draft has the circuit's parts, definitions and readings
 pub record IsDraftOf (c : CircuitData) (d : DraftData) : Type 0 where
   pub circuit : d.circuit ≡ c
   pub defined : d.defined ≡ map variable (definitions c)
@@ -102,7 +102,7 @@ module _ {c : CircuitData} (w : IsWritable c) where
               (a ++ (b ++ (c ++ (d ++ (e ++ (f ++ (g ++ [])))))))
           regroup h a b c d e f g = simp (append_assoc, append-nil)
 
--- ## The last line is ended
+-- ## The last line ends with a newline
 
 ends_newline : (xs : List ℕ) → ends_line (xs ++ 10 ∷ []) ≡ true
 ends_newline [] = refl
@@ -115,7 +115,7 @@ ends_behind (x ∷ []) [] h = absurd cc
 ends_behind (x ∷ []) (y ∷ ys) h = h
 ends_behind (x ∷ z ∷ xs) ys h = ends_behind (z ∷ xs) ys h
 
--- lines, or nothing
+-- whole lines, or nothing
 abbrev AreLines : List ℕ → Type 0
 AreLines xs = (xs ≡ []) ⊎ (ends_line xs ≡ true)
 
@@ -156,7 +156,7 @@ text_ends c = search (
   gate_lines_end,
 )
 
--- ## The circuit is read again
+-- ## The circuit is parsed again
 
 known_numbers : (defined : List ℕ) {literals : List ℕ} (numbers : List Number) → values numbers ≡ literals →
     All (λ x. (variable x ≡ 0) ⊎ Contains defined (variable x)) literals → All (IsDefined defined) numbers

@@ -1,6 +1,6 @@
--- What the private functions of the reader say of the signs that they move past.
---     Tells view part old result new      a part of the grammar was read, or its first fault was found
---     TellsNumber old result new      the function moved past a number, or none comes
+-- Contracts of the parser's private functions, in terms of the bytes that they move past.
+--     Tells view part old result new      either a part of the grammar was parsed, or the result is its first error
+--     TellsNumber old result new      either the function moved past a number, or there is no number here
 use Rattle.std.specs.Prelude.{◌≡◌, ℕ, ◌-◌, ◌^◌, ◌<◌, List, [], length, Result, Ok, Err, min}
 use Rattle.ps_text.specs.Answers.{Stream}
 use Rattle.ps_text.specs.Readers.{Meets}
@@ -14,11 +14,11 @@ use Rattle.ps_circuit.specs.declared.fault.AigCause.TheVariants.{Syntax}
 use Rattle.ps_circuit.specs.Causes.{AigFault}
 use Rattle.ps_text.specs.declared.faults.Fault.TheVariants.{Text}
 
--- the part was read from old, and new is left, or its first fault was found
+-- either the part was parsed, which leads from `old` to `new`, or the result is the first error of the part
 abbrev pub Tells : {V X : Type 0} → (X → V) → Field V → Stream Seen → Result X AigFault → Stream Seen → Type 0
 Tells view part old result new = Meets found_of aig_causes view part old result new
 
--- a number as a word of 64 bits stores it
+-- a number as it is stored in 64 bits
 abbrev pub saturated : ℕ → ℕ
 saturated n = min n (2 ^ 64 - 1)
 

@@ -1,4 +1,4 @@
--- The gates of a circuit as a graph: each has a place for each of the two literals that it reads.
+-- The gates of a circuit as a graph: each gate has up to two edges, which lead to the gates whose literals it reads.
 use Rattle.std.specs.Prelude.{◌≡◌, ℕ, List, length, slice_get, Option, Some, None, zero, suc}
 use Rattle.ps_components.specs.Graphs.{Digraph, Link}
 use Rattle.ps_circuit.specs.declared.links.Links.{Links}
@@ -17,7 +17,7 @@ abbrev pub graph_of : List Links → Digraph
 graph_of links =
     record { count = length links; degree = λ _. 2; target = λ i place. target_of (slice_get links i) place }
 
--- the links are from each gate to those that it reads
+-- there is a link from each gate to exactly the gates that it reads
 pub record AreLinksOf (gates : List Gate) (links : List Links) : Type 0 where
   pub each : length links ≡ length gates
   pub link_reads : (i j : ℕ) → Link (graph_of links) i j → ReadsGate gates i j

@@ -1,9 +1,9 @@
--- What the private functions of the reader say of what they have read.
---     lines_of items noted      what was read of the lines of one kind
---     TellsField, TellsCount, TellsHeader, TellsDraft      the answer to reading a number after a gap, a count, the
---               first line, and a text
+-- Contracts of the parser's private functions, in terms of what they have read.
+--     lines_of items noted      the lines of one kind that were read
+--     TellsField, TellsCount, TellsHeader, TellsDraft      the result of reading a gap and a number, a count, the first
+--               line, and a whole text
 --     AddsInput, AddsLatch, AddsOutput, AddsGate      one more line
---     IsRow, Grown      lines that are read one after another; any number of further lines
+--     IsRow, Grown      a kind of lines that are read one after another; the lines after any number of further lines
 use Rattle.std.specs.Prelude.{◌≡◌, ◌≢◌, ℕ, ◌-◌, ◌<◌, ◌⊎◌, Bool, List, [], ◌∷◌, ◌++◌, slice_index_or, slice_get, length}
 use Rattle.std.specs.Prelude.{map, All, AllPairs, Contains, Option, None, Some, Result, Ok, Err}
 use Rattle.ps_text.specs.Answers.{Stream, Found}
@@ -30,18 +30,18 @@ use Rattle.ps_circuit.specs.declared.header.Header.{Header}
 use Rattle.ps_circuit.specs.declared.lines.Noted.{Noted}
 use Rattle.ps_circuit.specs.declared.reader.Draft.{Draft}
 
--- the literals defined their variables, one after another
+-- each literal defines its variable, in order, and no variable is defined twice
 pub record Defines (most : ℕ) (old : List ℕ) (literals : List ℕ) (new : List ℕ) : Type 0 where
   pub variables : new ≡ old ++ map variable literals
   pub each : All (IsDefinition most) literals
   pub apart : AllPairs (λ v w. v ≢ w) old → AllPairs (λ v w. v ≢ w) new
 
--- the variable is a new one, appended to the others
+-- a new variable is appended to the list
 pub record AddsVariable (old : List ℕ) (v : ℕ) (new : List ℕ) : Type 0 where
   pub behind : new ≡ old ++ v ∷ []
   pub fresh : (k d : ℕ) → k < length old → slice_index_or old k d ≢ v
 
--- the literal's variable is 0 or one of these
+-- the literal's variable is 0 or in the list
 abbrev pub IsKnownIn : List ℕ → ℕ → Type 0
 IsKnownIn variables literal = (variable literal ≡ 0) ⊎ Contains variables (variable literal)
 
@@ -74,7 +74,7 @@ abbrev pub lines_of : {A : Type 0} → List A → Noted → Lines A
 lines_of items noted =
     record { items = items; defined = noted.variables; readings = noted.readings.items; starts = noted.starts.items }
 
--- one more line of each kind; a literal that defines its variable is new
+-- one more line of each kind; the variable that a line defines is new
 pub record AddsInput (most : ℕ) (c d : Lines ℕ) : Type 0 where
   pub literal : Number
   pub is : d ≡ add_input c literal
@@ -98,7 +98,8 @@ pub record AddsGate (most : ℕ) (c d : Lines Gate) : Type 0 where
   pub is : d ≡ add_gate c literal first second
   pub new : Defines most c.defined (literal.value ∷ []) d.defined
 
--- lines that are read one after another: each takes a sign, and after a line the others are read
+-- a kind of lines that are read one after another: each line moves past at least one byte, and the remaining lines are
+-- read after it
 pub record IsRow {C : Type 0} (line : C → Field C) : Type 0 where
   pub takes : (c d : C) (old new : Stream Seen) → ReadsPart (line c) old d new → length new.pieces < length old.pieces
   pub goes_on : (n : ℕ) (c d : C) (old mid new : Stream Seen) (r : Result C (Option (Found AigCause))) → 0 < n →
@@ -113,8 +114,8 @@ pub data Grown {C : Type 0} (Adds : C → C → Type 0) (c : C) : C → Type 0 w
 
 -- ## The text
 
--- if each literal that is read is defined, the circuit is a circuit except that a gate may depend on itself; and each
--- gate has its line
+-- If each literal that is read is defined, the parts form a circuit, except that a gate may depend on itself. Each gate
+-- has the offset of its line.
 pub record IsSoundDraft (d : DraftData) : Type 0 where
   pub draft : All (IsDefined d.defined) d.readings → IsDraft d.circuit
   pub starts : length d.starts ≡ length d.circuit.gates
@@ -136,13 +137,13 @@ abbrev pub TellsDraft : List ℕ → Result Draft AigFault → Type 0
 TellsDraft text (Ok d) = PartAnswers aig_causes circuit_text (stream_of text) (Ok (draft_data d))
 TellsDraft text (Err e) = FoundAnswers text (found_of e)
 
--- the refusal of the first literal that is not defined
+-- the fault for the first literal that is not defined
 abbrev pub TellsDefined : List ℕ → List Number → Result (Unit {0}) AigFault → Type 0
 TellsDefined defined readings (Ok u) = All (IsDefined defined) readings
 TellsDefined defined readings (Err e) =
     (l : Number) × (e ≡ Text Undefined l.offset) × IsFirstUndefined defined readings l
 
--- the refusal of the first gate that depends on itself
+-- the fault for the first gate that depends on itself
 abbrev pub TellsCyclic : List Gate → List ℕ → Option (Found AigCause) → Type 0
 TellsCyclic gates starts None = Unit {0}
 TellsCyclic gates starts (Some found) =

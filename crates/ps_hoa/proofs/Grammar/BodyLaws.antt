@@ -1,11 +1,11 @@
--- The laws of the body's sets, labels and edges, and how their parts are joined. proofs/Grammar/StateLaws continues
--- with states.
+-- The laws of the body's sets, labels and edges, and how their parts are joined. The laws of states are in
+-- proofs/Grammar/StateLaws.
 --     laws_marks, laws_label_in_brackets, laws_state_label, laws_labelled_edge, laws_plain_edge, laws_edge      the
 --               laws
 --     joint_braces, joint_sets      `{`, the numbers and `}`
 --     joint_bracket, joint_label      `[`, a label and `]`
---     joint_edge_label, joint_edge_target, joint_edge_marks, joint_plain_marks      the parts of an edge, from the
---               front
+--     joint_edge_label, joint_edge_target, joint_edge_marks, joint_plain_marks      the parts of an edge, from first to
+--               last
 use Rattle.std.proofs.Common.{arith, ℕ, Bool, List, [], Option, None, refl, ap}
 use Rattle.ps_label.specs.Expression.{Expression}
 use Rattle.ps_text.specs.Parts.{Part, give, one, then_by, many, mapped, barred}
@@ -35,11 +35,11 @@ use Rattle.ps_hoa.proofs.Grammar.InfixLaws.{is_start}
 use Rattle.ps_hoa.proofs.Grammar.LabelLaws.{laws_label}
 use Rattle.ps_hoa.proofs.Grammar.SignLaws.{laws_alternating}
 
--- the signs with which an edge continues
+-- the tokens that can continue an edge
 abbrev pub lengthens_edge : Kind → Bool
 lengthens_edge = union is_and is_left_brace
 
--- an INT at which only an INT may be bad: a target, a set or a state
+-- a target, a set or a state: only an `INT` can have an error at such a token
 pub laws_target_number : (Bad : ℕ → HoaCause → Type 0) → Tight (one int_in (BadIn Bad)) is_int
 laws_target_number Bad = laws_value is_int Int [] _ refl (λ _. refl) (λ t f b. b.1)
 
@@ -103,7 +103,7 @@ module _ (h : HeaderData) where
 pub number_barred : Apart Nothing (Bar IsAlternating)
 number_barred t h k = h
 
--- a target, which `&` may not follow, and marks
+-- a target, which `&` must not follow, and the marks after it
 module _ (h : HeaderData) (row : RowData) (label : Option Expression) (Bad : ℕ → HoaCause → Type 0) where
   abbrev target : Part Sign ℕ HoaCause
   target = barred (one int_in (BadIn Bad)) IsAlternating

@@ -1,4 +1,4 @@
--- The laws of a whole text after the version: header and body.
+-- The laws of a whole text after the version: the header, then the body.
 --     laws_file      the laws
 --     joint_file      the body after the header
 use Rattle.ps_text.specs.Parts.{mapped}

@@ -1,7 +1,7 @@
--- The single signs of a header, as parts of one sign.
---     reads_token      the answer to the next token is the reading of its part
---     signs_mark, .., signs_body      some sign is taken, and the end of the text is neither taken nor bad
---     takes_refused, takes_bad      the answer to a sign that is not allowed there, and to one that is bad
+-- The parts of a header that consist of a single token.
+--     reads_token      if a function returns the result for the next token, it has parsed the part of this token
+--     signs_mark, .., signs_body      some token is taken, and the end of the text is neither taken nor an error
+--     takes_refused, takes_bad      the result for a token that is not allowed here, and for a token with an error
 use Rattle.std.proofs.Common.{◌≡◌, ℕ, ◌≤◌, Bool, cond, List, [], codes, Option, None, Some, Result, Err}
 use Rattle.std.proofs.Common.{refl, sym, ap, inl, inr, arith}
 use Rattle.ps_text.specs.Answers.{Piece, Stream}
@@ -31,18 +31,18 @@ pub reads_token : {V X : Type 0} (view : X → V) {take : Sign → Option V} {Ba
     Meets found_of hoa_causes view (one take Bad) old r new
 reads_token view {take} {Bad} o piece old new r t e n = grind (arith, reads_one)
 
--- a sign of another kind
+-- a token of another kind is not taken
 pub mark_none : (test : Kind → Bool) (kind : Kind) (sign : Sign) → IsTestOf test kind → (sign.kind ≡ kind → ⊥) →
     mark_in test sign ≡ None
 mark_none test kind sign is differs = grind arith
 
--- some sign that is taken, by its kind, its text and its value
+-- some token is taken, given by its kind, its text and its value
 signs : {V : Type 0} {take : Sign → Option V} {Bad : Sign → HoaCause → Type 0} (kind : Kind) (text : List ℕ) (v : V) →
     take (record { kind = kind; text = text }) ≡ Some v → take (record { kind = Finish; text = [] }) ≡ None →
     ((f : HoaCause) → Bad (record { kind = Finish; text = [] }) f → ⊥) → IsOfSigns take Bad
 signs kind text v e n g = record { sign = record { kind = kind; text = text }; value = v; taken = e; end = n; good = g }
 
--- the end of the text does not pass the test of another kind
+-- the end of the text does not pass the test for another kind
 pub signs_mark : (test : Kind → Bool) (kind : Kind) → IsTestOf test kind → (kind ≡ Finish → ⊥) →
     IsOfSigns (mark_in test) NoBad
 signs_mark test kind is differs = signs kind [] tt (ap (λ (b : Bool). cond b (Some tt) None) is.0)
@@ -70,7 +70,7 @@ signs_read_over h = signs Word [] h refl refl (λ f b. b.1 refl)
 pub signs_body : (h : HeaderData) → IsOfSigns (body_in h) (IsBadBody h)
 signs_body h = signs Body [] h refl refl (λ f b. cc)
 
--- ## What is answered to one token
+-- ## The result for one token
 
 module _ {V X : Type 0} (view : X → V) (take : Sign → Option V) (Bad : Sign → HoaCause → Type 0) (piece : Piece Sign)
     (e : HoaFault) where
@@ -82,6 +82,6 @@ module _ {V X : Type 0} (view : X → V) (take : Sign → Option V) (Bad : Sign 
       cause_number f ≤ cause_number g) → e ≡ Fault f piece.start → Takes view take Bad piece (Err e)
   takes_bad f bad least is = rw is (refl, inl (record { stands = bad; least = least }))
 
--- the only cause that there is
+-- if only one error is possible, this error has the smallest number
 pub least_same : (f g : HoaCause) → g ≡ f → cause_number f ≤ cause_number g
 least_same f g e = rw e (omega arith)

@@ -1,9 +1,10 @@
--- The laws of grammars with connectives: rows of operands, and operands, whose forms are told apart by their first
--- signs.
---     laws_not, .., laws_right      signs by themselves
---     laws_both, laws_rows, laws_nested      rows of operands, and those in parentheses
---     laws_negation, laws_holding, laws_operand      an operand after `!`, one that contains another one, and any
---     joint_bar      a leaf where the nesting may be no deeper
+-- The laws of grammars with connectives: rows of operands, and operands, whose forms are distinguished by their first
+-- tokens.
+--     laws_not, .., laws_right      single tokens
+--     laws_both, laws_rows, laws_nested      rows of operands, and rows in parentheses
+--     laws_negation, laws_holding, laws_operand      an operand after `!`, an operand that contains another one, and
+--               any operand
+--     joint_bar      a leaf where no deeper nesting is allowed
 use Rattle.std.proofs.Common.{rules, arith, ◌≡◌, ℕ, zero, suc, Bool, true, List, Option, None, Some, refl}
 use Rattle.ps_text.specs.Parts.{Part, then_by}
 use Rattle.ps_text.proofs.Barred.{laws_barred}
@@ -23,7 +24,8 @@ use Rattle.ps_hoa.specs.declared.tokens.Kind.TheVariants.{Not, And, Or as OrSign
 use Rattle.ps_hoa.proofs.Grammar.KindSets.{union, within, within_both, apart, plain, laws_mark}
 use Rattle.ps_hoa.proofs.Grammar.OperandLaws.{Odd, Of, nothing_apart, laws_behind, laws_held, laws_row, Known, Tight}
 
--- the signs with which an operand may begin that holds another one, with which any may, and those between operands
+-- the tokens that begin an operand which contains another operand, the tokens that begin any operand, and the tokens
+-- between operands
 abbrev pub nests : Kind → Bool
 nests = union is_not is_left
 
@@ -61,7 +63,7 @@ module _ {V : Type 0} (negated : Option (V → V)) where
   pub single_holds : Apart (Of is_single) (Of (holds negated))
   single_holds t h k = apart is_single nests refl t h (holds_nests t k)
 
--- what may follow the operands of a row, and of rows of rows
+-- the tokens that may follow the operands of a row, or of a row of rows
 abbrev pub AndMore : Sign → Type 0
 AndMore = Of is_and
 
@@ -95,7 +97,7 @@ module _ {V : Type 0} {F : Sign → Type 0} (P : Part Sign V HoaCause) (together
   laws_holding (Some negated) = wider_first (laws_forms (laws_negation negated) laws_nested not_left)
       (within_both is_not is_left (holds (Some negated)) refl refl)
 
--- where no more may nest
+-- no operand that contains another operand is allowed here
 module _ {V : Type 0} (negated : Option (V → V)) where
   laws_bar : Known (bar negated) nests nests (Unit {0})
   laws_bar = weaker (laws_barred (λ _. IsTooDeep negated) (laws_give Odd tt)

@@ -1,10 +1,11 @@
--- Facts about sets of kinds, each found by trying all kinds: the answer to `Each` is `refl`. And the laws of one sign.
---     within, within_both, apart      the signs of a set, or of two, are in another one, or none is
---     test_of      a set has one kind
---     plain      no sign of a set is wrong by itself
---     laws_sign, laws_value, laws_mark      the laws of a sign whose kind is in a set: of any, of one that is bad only
---               if it has a value, of one without a value
---     laws_behind_option      a part after one that may be empty
+-- Lemmas about sets of kinds, and the laws of a single token. Each lemma about sets is checked by trying all kinds, so
+-- the proof of `Each` is `refl`.
+--     within, within_both, apart      a set, or two sets, are within another set; two sets have no common kind
+--     test_of      a set has exactly one kind
+--     plain      no kind of the set is an error by itself
+--     laws_sign, laws_value, laws_mark      the laws of a token whose kind is in a set: any token; a token that can
+--               have an error only if it has a value; a token without a value
+--     laws_behind_option      a part that follows a part which may be empty
 use Rattle.std.proofs.Common.{rules, ◌≡◌, ℕ, zero, suc, ◌<◌, Bool, true, not, cond, List, [], ◌∷◌, length, get_or}
 use Rattle.std.proofs.Common.{Option, None, Some, is_some, sym, ap, subst, ◌∙◌, arith, ◌&&◌, ◌||◌}
 use Rattle.std.proofs.lemmas.Bool.{and_parts, or_left, or_right}
@@ -47,7 +48,7 @@ at p [] n l e = absurd (omega (arith, l))
 at p (k ∷ ks) zero l e = (and_parts (p k) (all p ks) e).0
 at p (k ∷ ks) (suc n) l e = at p ks n (omega (arith, l)) (and_parts (p k) (all p ks) e).1
 
--- each kind is in the list, at its tag
+-- the index of a kind in the list is its tag
 place : (k : Kind) → (tag_of the_type k < length kinds) × (get_or kinds (tag_of the_type k) Finish ≡ k)
 place k = grind arith
 
@@ -84,7 +85,7 @@ test_of p kind is e = (
 
 -- ## One sign
 
--- of each text: the kinds of the set are right by themselves, and no sign of another kind has a value
+-- for every text: no kind of the set is an error by itself, and no token of another kind has a value
 abbrev pub AreSigns : {V : Type 0} → (Kind → Bool) → (Sign → Option V) → Type 0
 AreSigns p take = (text : List ℕ) → Each (λ k. cond (p k) (not (is_some (own_cause k text)))
     (not (is_some (take (record { kind = k; text = text })))))
@@ -119,7 +120,7 @@ module _ {V : Type 0} {take : Sign → Option V} {Bad : Sign → HoaCause → Ty
   pub laws_value : ((t : Sign) (f : HoaCause) → Bad t f → take t ≡ None → ⊥) → Tight (one take Bad) p
   laws_value bad = laws_sign (λ t h. has_kind p take are t (bad t h.0 h.1))
 
--- a part after one that may be empty, and that continues with the signs with which it begins
+-- a part that follows an optional part; the tokens that begin the optional part can also continue it
 pub laws_behind_option : {A V : Type 0} {P : Part Sign A HoaCause} {Q : A → Part Sign V HoaCause} {Null : Type 0}
     (p q m : Kind → Bool) → Known P p p (Unit {0}) → ((a : A) → Known (Q a) q m Null) → Each (beside p q) →
     Each (inside p m) → Known (then_by P Q) (union p q) m Null

@@ -1,11 +1,10 @@
--- The laws of signs by themselves, of operands in parentheses and of rows, and what a reading function of a row says at
--- its exits.
---     Known, Tight      the laws of a part by sets of kinds
+-- The laws of single tokens, of operands in parentheses and of rows. The second half has lemmas about the loop that
+-- parses a row: its invariant, and each way in which the function can return.
+--     Known, Tight      the laws of a part, stated with sets of kinds
 --     laws_behind, laws_held, laws_row      the laws
---     joint_mark, joint_closed, joint_operands      what follows a sign, a `)` after a part, further operands after the
---               first
---     row_fails, row_alone, row_begins, row_goes_on, row_stops, row_ends      the exits of a row and the invariant of
---               its loop
+--     joint_mark, joint_closed, joint_operands      what follows a token, a `)` after a part, further operands after
+--               the first operand
+--     row_fails, row_alone, row_begins, row_goes_on, row_stops, row_ends      the lemmas for the loop
 use Rattle.std.proofs.Common.{arith, ◌≡◌, Bool, true, false, cond, List, Option, None, Some, inl}
 use Rattle.ps_text.specs.Answers.{Stream, Found, next_of, signs}
 use Rattle.ps_text.specs.Parts.{Part, then_by, many, mapped}
@@ -30,12 +29,12 @@ use Rattle.ps_hoa.specs.declared.tokens.Kind.{Kind}
 abbrev pub Odd : Sign → Type 0
 Odd = Own hoa_causes
 
--- signs of a kind that passes a test
+-- tokens of a kind that passes a test
 abbrev pub Of : (Kind → Bool) → Sign → Type 0
 Of test sign = test sign.kind ≡ true
 
--- a part by the kinds of its signs: with which it begins, with which it continues, and whether it may be empty; and one
--- that is not empty and continues with no sign
+-- The laws of a part, stated with sets of kinds: the kinds with which the part begins, the kinds with which it
+-- continues, and whether it may be empty. A `Tight` part is not empty, and no token continues it.
 abbrev pub Known : {V : Type 0} → Part Sign V HoaCause → (Kind → Bool) → (Kind → Bool) → Type 0 → Type 0
 Known part first more null = Laws Odd part (Of first) (Of more) null
 
@@ -54,7 +53,7 @@ taken_mark test sign v e = was_true (test sign.kind) v e
 pub nothing_apart : (A : Sign → Type 0) → Apart Nothing A
 nothing_apart A t h k = h
 
--- a sign and then a part, a part and then `)`
+-- a token followed by a part, and a part followed by `)`
 module _ {V : Type 0} (test : Kind → Bool) {P : Part Sign V HoaCause} {First More : Sign → Type 0}
     (m : Tight (mark test) test) where
   pub joint_mark : {Null : Type 0} → Laws Odd P First More Null → Joint (mark test) (λ _. P)
@@ -92,13 +91,13 @@ module _ {V : Type 0} (sign : Kind → Bool) (operand : Part Sign V HoaCause) {F
       Stops hoa_causes operand old o → Stops hoa_causes (row sign join operand) old o
   row_fails join old o s = grind (arith, stops_mapped, stops_first, joint_operands)
 
-  -- no further one follows it
+  -- no further operand follows the first operand
   pub row_alone : (join : List V → V) {old new : Stream Sign} {v : V} → Reads operand old v new →
       Avoids (Of sign) (next_of new) → Reads (row sign join operand) old v new
   row_alone join {new = new} {v = v} r a = reads_mapped (joined join)
       (reads_then joint_operands (reads_mapped single r) (many_ends item laws_item apart (single v) new a))
 
-  -- after some operands
+  -- the invariant of the loop, after some operands
   abbrev pub InRow : Stream Sign → List V → Stream Sign → Type 0
   InRow old vs now = Carries hoa_causes (operands sign operand) old (many (λ ws. further sign operand ws) vs) now
 
@@ -124,7 +123,7 @@ module _ {V : Type 0} (sign : Kind → Bool) (operand : Part Sign V HoaCause) {F
       (enters_read (mark sign) (signs now.pieces) (signs mid.pieces) tt (λ w h. m.null w h) r.1))
       (stops_behind hoa_causes (joint_item vs) r o (stops_mapped hoa_causes (with_last vs) operand mid o s))))
 
-  -- no further one comes next
+  -- no further operand follows
   pub row_ends : (join : List V → V) {old now : Stream Sign} {vs : List V} → InRow old vs now →
       Avoids (Of sign) (next_of now) → Reads (row sign join operand) old (joined join vs) now
   row_ends join {now = now} {vs = vs} k a =

@@ -1,7 +1,7 @@
--- The laws of single signs of the header: names, numbers, strings and aliases.
---     Named name      the signs that are that name
+-- The laws of single tokens of the header: names, numbers, strings and aliases.
+--     Named name      the tokens that are this name
 --     laws_item_name, laws_int, laws_string, laws_proposition_name, laws_new_alias      the laws
---     laws_alternating      a sign that `&` may not follow
+--     laws_alternating      a token that `&` must not follow
 --     item_header      the name of an item is a name
 use Rattle.std.proofs.Common.{arith, ◌≡◌, ℕ, ◌||◌, Bool, true, false, cond, List, [], codes, Option, None, Some}
 use Rattle.std.proofs.Common.{is_some, refl, sym, ap, ◌∙◌, rules}
@@ -50,15 +50,15 @@ pub named_text : (name : List ℕ) (kind : Kind) (text : List ℕ) → name_valu
     (kind ≡ Header) × (text ≡ name)
 named_text name kind text e = grind (arith, bytes_eq-Decides text name)
 
--- a name is of no set of other kinds
+-- a name does not pass a test for other kinds
 pub header_apart : (test : Kind → Bool) → test Header ≡ false → (t : Sign) → t.kind ≡ Header → Of test t → ⊥
 header_apart test e t h k = false_true (sym e ∙ ap test (sym h) ∙ k)
 
--- a name that is there is that name
+-- an option of the unit type that is not `None` is `Some tt`
 pub some_there : (o : Option (Unit {0})) → (o ≡ None → ⊥) → o ≡ Some tt
 some_there o h = grind arith
 
--- a name that begins with a capital and that the grammar does not spell, as the specification has it
+-- the test for unknown names, written as in the specification
 abbrev pub is_unknown : List ℕ → Bool
 is_unknown name = cond (is_spelled name) false (begins_capital name)
 

@@ -1,6 +1,7 @@
 -- The laws of states and of the whole body, and how their parts are joined.
 --     laws_state, laws_states, laws_ended, laws_body      the laws
---     joint_state, joint_state_label, joint_number, joint_name, joint_marks      the parts of a state, from the front
+--     joint_state, joint_state_label, joint_number, joint_name, joint_marks      the parts of a state, from first to
+--               last
 --     joint_body      the states and `--END--`
 use Rattle.std.proofs.Common.{rules, arith, ◌≡◌, ℕ, Bool, List, [], codes, Option, Some, refl}
 use Rattle.ps_label.specs.Expression.{Expression}
@@ -27,7 +28,8 @@ use Rattle.ps_hoa.proofs.Grammar.SignLaws.{header_apart, is_string, some_there, 
 use Rattle.ps_hoa.proofs.Grammar.BodyLaws.{lengthens_edge, laws_target_number, laws_marks, laws_state_label, laws_edge}
 use Rattle.ps_hoa.proofs.Grammar.BodyLaws.{edge_apart}
 
--- the signs with which a state's marks and edges begin, and its name, marks and edges; those after its first one
+-- the tokens that begin the marks or edges of a state, those that begin its name, marks or edges, and those that can
+-- follow its first token
 abbrev begins_marks : Kind → Bool
 begins_marks = union is_left_brace begins_edge
 
@@ -61,7 +63,7 @@ module _ (h : HeaderData) (b : BodyData) where
   laws_state_begins = laws_first (record { kind = Header; text = codes "State:" }) tt refl
       (λ t k. plain_named (codes "State:") refl t k.1) (λ t k. k) (λ t k. (tt, some_there (state_value t) k.1.0))
 
-  -- the signs of a state from a part on
+  -- the rest of a state, from one of its parts on
   module _ (label : Option Expression) (n : ℕ) where
     abbrev from_edges : List ℕ → Part Sign BodyData HoaCause
     from_edges ns = mapped (with_row b) (edges h b.edges (empty_row n label ns))

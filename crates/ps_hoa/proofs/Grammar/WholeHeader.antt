@@ -1,7 +1,7 @@
--- The laws of any item of the header, and of the header.
+-- The laws of an arbitrary header item, and of the header.
 --     joint_item, joint_header      what follows a name, and `--BODY--` after the items
---     item_begins, item_elsewhere      an item comes next, or none
---     item_loop      the items, one after the other
+--     item_begins, item_elsewhere      the next token begins an item, or does not
+--     item_loop      the loop over the items
 --     laws_header      the laws
 use Rattle.std.proofs.Common.{◌≡◌, [], true, false, is_some, refl, ap, sym, ◌∙◌}
 use Rattle.ps_text.specs.Answers.{Stream, next_of as there_of}
@@ -31,7 +31,7 @@ use Rattle.ps_hoa.proofs.Reading.NextSign.{next_same}
 header_finish : Header ≡ Finish → ⊥
 header_finish e = cc
 
--- the names of items
+-- the tokens that are names of items
 abbrev pub ItemFirst : Sign → Type 0
 ItemFirst = Taken item_in
 

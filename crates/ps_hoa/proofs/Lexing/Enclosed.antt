@@ -10,7 +10,7 @@ use Rattle.ps_hoa.specs.Tokens.{Ends, closes_last, closes, opens, goes_on, IsQuo
 use Rattle.ps_hoa.specs.Scan.{one_more, comment_len, quoted_len}
 use Rattle.ps_hoa.proofs.Lexing.TokenSteps.{some_more, differ}
 
--- ## What a step says of the bytes
+-- ## What a step states about the bytes
 
 bool_cases : (t : Bool) → (t ≡ true) ⊎ (t ≡ false)
 bool_cases t = search rules

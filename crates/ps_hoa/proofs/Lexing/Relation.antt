@@ -1,6 +1,6 @@
--- The tokens that are related to the bytes are those that a scan of the bytes finds, and there is such a list.
---     only_lex, some_tokens      the list is the only one, and it exists
---     no_blanks, more_blanks, no_blank_begins      blanks from one place to another
+-- The scan over the bytes of a text gives the only list of tokens that is related to the bytes, and such a list exists.
+--     only_lex, some_tokens      the list is unique, and exists
+--     no_blanks, more_blanks, no_blank_begins      the blanks between two offsets
 use Rattle.std.proofs.Common.{rules, ◌≡◌, ℕ, suc, zero, ◌+◌, ◌<◌, ◌≤◌, false, List, [], ◌∷◌, ◌++◌, length, take, drop}
 use Rattle.std.proofs.Common.{subst, refl, ap, sym, ◌∙◌, arith, length-append, length-drop, append_assoc, append-nil}
 use Rattle.std.proofs.Common.{inl, inr}
@@ -22,7 +22,7 @@ use Rattle.ps_hoa.proofs.Lexing.TokenSteps.{class_47, by_class, comment_found, s
 use Rattle.ps_hoa.proofs.Lexing.Enclosed.{comment_sound}
 use Rattle.ps_hoa.proofs.Lexing.StepMeanings.{Sound, sound}
 
--- ## The two lists are one
+-- ## The two lists are equal
 
 pub whole : (n : ℕ) (bytes : List ℕ) → bytes ≡ take n bytes ++ drop n bytes
 whole n bytes = sym (take-append-drop n bytes)
@@ -95,7 +95,7 @@ only_lex at bytes [] run = sym (ap (λ (xs : List ℕ). lex at xs) (sym (append-
 only_lex at bytes (p ∷ ps) (rest, next, more) = sym (next_lex at bytes p rest next
     ∙ ap (λ (qs : List (Piece Sign)). p ∷ qs) (sym (only_lex (p.start + length p.sign.text) rest ps more)))
 
--- ## There is one
+-- ## There is a list of tokens
 
 behind_blank : (at : ℕ) (part rest : List ℕ) → IsBlankPart part → (ps : List (Piece Sign)) →
     AreTokens (at + length part) rest ps → AreTokens at (part ++ rest) ps
@@ -145,7 +145,7 @@ some_tokens (suc fuel) at (b ∷ bs) short =
           ),
         )
 
--- ## Blanks from one place to another
+-- ## Blanks between two offsets
 
 pub skip_sound : (bytes : List ℕ) (n : ℕ) → step_of bytes ≡ Skip n → Sound bytes (Skip n)
 skip_sound [] n is = absurd (nothing_begins n is)
@@ -177,7 +177,7 @@ more_blanks source from at n before is =
       end = total;
     }
 
--- where a token or the end is, there is no blank
+-- no blank begins at a token or at the end of the text
 pub no_blank_begins : (bytes : List ℕ) → IsNoBlank (step_of bytes) → (part more : List ℕ) → bytes ≡ part ++ more →
     IsBlankPart part → ⊥
 no_blank_begins bytes h part more e is = subst (λ (s : Step). IsNoBlank s) (ap step_of e ∙ (part_is part more is).0) h

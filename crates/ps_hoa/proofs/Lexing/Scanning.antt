@@ -1,4 +1,4 @@
--- One byte further in a string or a comment.
+-- Lemmas about moving forward by one byte in a string or a comment.
 use Rattle.std.proofs.Common.{◌≡◌, ◌≢◌, ℕ, suc, zero, ◌+◌, ◌-◌, ◌<◌, ◌≤◌, ◌&&◌, Bool, true, false, List, [], ◌∷◌, rules}
 use Rattle.std.proofs.Common.{length, get_or, take, drop, refl, ap, sym, ◌∙◌, arith, add-one, nat_eq}
 use Rattle.std.specs.Prelude.{Option, None, Some}
@@ -104,7 +104,7 @@ lex_skips [] (suc n) at = refl
 lex_skips (b ∷ bs) zero at = let e : at ≡ at + 0 = omega arith in ap (λ (k : ℕ). lex_behind (b ∷ bs) 0 k) e
 lex_skips (b ∷ bs) (suc n) at = grind (arith, lex_skips bs n (at + 1))
 
--- the list by what begins at the front
+-- the list of tokens, by what the first byte begins
 abbrev lex_by : ℕ → List ℕ → ℕ → Step → List (Piece Sign)
 lex_by b bs at s = elim s [
   | Skip n ↦ lex_behind bs (n - 1) (at + 1)
@@ -124,7 +124,7 @@ pub lex_nothing : (at : ℕ) → lex at [] ≡ []
 unfolding lex_behind
 lex_nothing at = refl
 
--- what is skipped changes no token
+-- skipping blanks does not change the tokens
 pub lex_skip : (bytes : List ℕ) (n at : ℕ) → step_of bytes ≡ Skip n → 0 < n → lex at bytes ≡ lex (at + n) (drop n bytes)
 lex_skip bytes n at h k = search (rules, nothing_begins, lex_is, lex_skips)
 
@@ -133,7 +133,7 @@ pub lex_token : (bytes : List ℕ) (kind : Kind) (n at : ℕ) → 0 < length byt
     (at + n) (drop n bytes)
 lex_token bytes kind n at h k m = search (rules, lex_is, lex_skips)
 
--- one turn of a loop over blanks
+-- one iteration of a loop over blanks
 pub lex_step : (source : List ℕ) (from at n : ℕ) → step_of (drop at source) ≡ Skip n → 0 < n →
     lex at (drop at source) ≡ lex from (drop from source) → lex (at + n) (drop (at + n) source) ≡ lex from
     (drop from source)

@@ -1,6 +1,6 @@
--- What a step over the bytes says of them: a blank part, or a token that is the longest one.
---     sound      of the step at any bytes
---     begins_is      of a word with which bytes begin
+-- Each step over the bytes is sound: a blank part begins there, or the longest possible token.
+--     sound      the step at any bytes is sound
+--     begins_is      the bytes begin with a given word
 use Rattle.std.proofs.Common.{◌≡◌, ℕ, suc, zero, ◌+◌, ◌<◌, ◌≤◌, ◌&&◌, Bool, true, false, cond, List, [], ◌∷◌, ◌++◌}
 use Rattle.std.proofs.Common.{length, take, drop, subst, length-take, refl, ap, sym, ◌∙◌, arith, inl, inr, rules}
 use Rattle.std.specs.Prelude.{Option, None, Some, codes, nat_eq}
@@ -24,7 +24,7 @@ use Rattle.ps_hoa.specs.declared.tokens.Step.TheVariants.{Skip, Found}
 use Rattle.ps_hoa.proofs.Lexing.TokenSteps.{class_47, step_is, by_class, run_sound, comment_found, stand_step}
 use Rattle.ps_hoa.proofs.Lexing.Enclosed.{comment_sound, quoted_sound}
 
--- ## What a class says of its byte
+-- ## What a class states about its byte
 
 abbrev is_sign : Kind → Bool
 is_sign Not = true
@@ -78,7 +78,7 @@ odd_here b bs is = (
     not_comment : (o : Option ℕ) → comment_by o ≡ Found Odd 1 → ⊥
     not_comment o e = grind arith
 
--- the test by which a step is chosen
+-- a step that is chosen by a test is sound if both alternatives are sound
 cond_sound : (bytes : List ℕ) (t : Bool) (x y : Step) → (t ≡ true → Sound bytes x) → (t ≡ false → Sound bytes y) →
     Sound bytes (cond t x y)
 cond_sound bytes t x y h k = search rules
@@ -95,7 +95,7 @@ number_sound b bs e =
     let r = run_sound is_digit bs in
     search (rules, length-prefix_len, cond_sound, and_true, ltb-true, eqb-true)
 
--- a byte that follows a front
+-- the byte after a prefix
 take_head : (k : ℕ) (bs : List ℕ) (c : ℕ) → 0 < c → head_or_zero (drop k bs) ≡ c →
     (take (suc k) bs ≡ take k bs ++ c ∷ []) × (suc k ≤ length bs)
 take_head zero [] c some e = absurd (omega arith)

@@ -1,4 +1,4 @@
--- The pieces still to come, and one token further.
+-- Lemmas about the stream of remaining tokens, and about moving past one token.
 use Rattle.std.proofs.Common.{◌≡◌, ℕ, ◌-◌, ◌<◌, ◌≤◌, ◌↔◌, Bool, false, cond, List, [], ◌∷◌, rules, length, take}
 use Rattle.std.proofs.Common.{drop, refl, ap, ◌∙◌, arith, length-drop}
 use Rattle.std.specs.List.{slice_range}
@@ -32,7 +32,7 @@ token_piece source l marks =
 abbrev pub marks_behind : List ℕ → Lexeme → Marks → Marks
 marks_behind source l marks = marks_after marks l.kind (slice_range source l.start l.stop)
 
--- nothing follows the end
+-- no token follows the end of the text
 pub pieces_none : (r : Reading) → length r.source ≤ r.at → (stream_of r).pieces ≡ []
 unfolding stream_of
 pieces_none r done = search (rules, drop_all, lex_nothing)
@@ -50,7 +50,7 @@ pub finish_here : (r : Reading) (kind : Kind) (n : ℕ) → length r.source ≤ 
     step_of (drop r.at r.source) ≡ Found kind n → (kind ≡ Finish) × (n ≡ 0)
 finish_here r kind n done is = step_nothing kind n (rw (drop_all r.at r.source done) at is)
 
--- the pieces still to come, known by their list
+-- the next piece is the first piece of the list
 pub next_at : (s : Stream Sign) (p : Piece Sign) (ps : List (Piece Sign)) → s.pieces ≡ p ∷ ps → next_of s ≡ p
 next_at s p ps is = rw is refl
 
@@ -68,7 +68,7 @@ behind_at_end s is = rw is refl
 take_nothing : (n : ℕ) → take n (let none : List ℕ = [] in none) ≡ []
 take_nothing n = search rules
 
--- the stream by its two parts
+-- a stream is given by its list of pieces and its end
 shown : (r : Reading) (ps : List (Piece Sign)) (end : ℕ) → marked r.marks (lex r.at (drop r.at r.source)) ≡ ps →
     length r.source ≡ end → stream_of r ≡ record { pieces = ps; end = end }
 unfolding stream_of
@@ -88,7 +88,7 @@ never : (m : Marks) (kind : Kind) (text : List ℕ) → is_finish kind ≡ false
 never m kind text h k = search (rules, other)
 
 module _ (source : List ℕ) (l : Lexeme) (marks : Marks) (h : IsLexeme source l) where
-  -- a token is here
+  -- the stream begins with this token
   found : l.start < length source →
       (stream_of (before source l marks)).pieces ≡ token_piece source l marks ∷ marked (marks_behind source l marks)
       (lex l.stop (drop l.stop source))
@@ -110,7 +110,7 @@ module _ (source : List ℕ) (l : Lexeme) (marks : Marks) (h : IsLexeme source l
       (before source l marks))
   rest_is at on same = search (rules, dec_lt, shown, behind_at, found, end_is, stream_none, behind_at_end, pieces_none)
 
-  -- the end of the text is at no token, and nothing else is
+  -- the kind is `Finish` exactly if no token remains
   pub finish_iff : ((token_piece source l marks).sign.kind ≡ Finish) ↔ ((stream_of (before source l marks)).pieces ≡ [])
   finish_iff = let r = before source l marks in
       (elim (dec_lt l.start (length source)) as (λ _. ((token_piece source l marks).sign.kind ≡ Finish) ↔
@@ -121,7 +121,7 @@ module _ (source : List ℕ) (l : Lexeme) (marks : Marks) (h : IsLexeme source l
             grind (arith, pieces_none r done, finish_here r l.kind (l.stop - l.start) done h.token)
       ])
 
--- what the kept token says of a reader
+-- the state of the tokenizer, given the token that it stores
 module _ {source : List ℕ} {marks : Marks} {kind : Kind} {token : Token} (k : IsKept source marks kind token)
     {r : Reading} (at : (let now : Reading = record { source = source; at = token.start; marks = marks } in now) ≡ r)
   where
@@ -142,7 +142,7 @@ module _ {source : List ℕ} {marks : Marks} {kind : Kind} {token : Token} (k : 
         stream_of (record { source = source; at = start; marks = behind }) ≡ behind_next (stream_of r)
     kept_rest {next = next} e f on same = grind (arith, rest_is source _ marks k.lexeme next on same)
 
--- the pieces from a place on, by their relation to the bytes
+-- the remaining tokens from an offset on, by their relation to the bytes
 pub pieces_new : (source : List ℕ) (from at start : ℕ) (marks : Marks) (pieces : List (Piece Sign)) → marks ≡ fresh →
     start ≡ at → lex at (drop at source) ≡ lex from (drop from source) → lex from (drop from source) ≡ pieces →
     (stream_of (record { source = source; at = start; marks = marks })).pieces ≡ marked fresh pieces

@@ -1,4 +1,4 @@
--- The step that going over the bytes takes at a token, by the token's form.
+-- The step that a scan of the bytes takes at a token, by the form of the token.
 --     run_len, run_sound      runs of bytes
 --     comment_found, quoted_found      comments and strings
 --     stand_step      the step at a token
@@ -19,7 +19,7 @@ use Rattle.ps_hoa.specs.declared.tokens.Class.{Class}
 use Rattle.ps_hoa.specs.declared.tokens.Class.TheVariants.{Digit, Letter, At, Quote, Dash, Slash, Sign as SignOf, Other}
 use Rattle.ps_hoa.specs.declared.tokens.Step.TheVariants.{Found}
 
--- ## What is known of single bytes
+-- ## Facts about single bytes
 
 class_45 : class_of 45 ≡ Dash
 unfolding class_of
@@ -45,7 +45,7 @@ pub step_is : (b : ℕ) (bs : List ℕ) → step_of (b ∷ bs) ≡ class_step (c
 unfolding step_of
 step_is b bs = refl
 
--- the step by the class of the first byte
+-- the step, by the class of the first byte
 pub by_class : (b : ℕ) (bs : List ℕ) (c : Class) → class_of b ≡ c → step_of (b ∷ bs) ≡ class_step c b bs
 by_class b bs c e = step_is b bs ∙ ap (λ (k : Class). class_step k b bs) e
 
@@ -72,7 +72,7 @@ run_sound p (b ∷ bs) = go (run_sound p bs) (p b) refl
 
 -- ## Comments and strings
 
--- what one more tells
+-- if an optional number has the successor n, it is the predecessor of n
 pub some_more : (o : Option ℕ) (n : ℕ) → one_more o ≡ Some n → (m : ℕ) × (o ≡ Some m) × (n ≡ suc m)
 some_more o n h = search rules
 
@@ -98,7 +98,7 @@ quoted_found more nothing = refl
 quoted_found more (plain {b} {bs} p q e) = rw (differ b 34 p, differ b 92 q, quoted_found more e) refl
 quoted_found more (escaped {b} {c} {bs} p e) = rw (p, quoted_found more e) refl
 
--- ## A token's step
+-- ## The step at a token
 
 no_number : (n : ℕ) → (1 + n ≡ 0) → ⊥
 no_number n e = omega arith

@@ -1,5 +1,5 @@
--- The body, and the whole text after the version, have an outcome from each list of signs: they are read, or have a
--- first fault.
+-- For each list of tokens, the body and the whole text after the version have an outcome: they are parsed, or they have
+-- a first error.
 --     has_file      the outcome
 use Rattle.std.proofs.Common.{ℕ, List, [], Option, None, rules}
 use Rattle.ps_label.specs.Expression.{Expression}
@@ -58,7 +58,7 @@ has_state_label h = has_either hoa_causes (laws_bracketed h) laws_no_label (λ t
 
 -- ## Edges
 
--- a target, which `&` may not follow
+-- a target, which `&` must not follow
 has_target : (Bad : ℕ → HoaCause → Type 0) → JudgesAll Bad → Has (barred (one int_in (BadIn Bad)) IsAlternating)
 has_target Bad judge = has_barred hoa_causes IsAlternating (laws_target_number Bad) number_barred judge_alternating
     (has_number Bad judge)

@@ -1,8 +1,8 @@
--- What is wrong with a header at `--BODY--`: the flaw with the least number, or none.
---     no_acceptance_least, .., none_is_sound      the flaw is the least if those with smaller numbers are absent
---     judge_header      of a header
---     judge_body_mark      of the sign
---     said_none, .., is_said_some      what the code's tests for nothing say
+-- The flaws of a header at `--BODY--`: either there is a flaw with the smallest number, or the header has no flaw.
+--     no_acceptance_least, .., none_is_sound      a flaw is the least if those with smaller numbers are absent
+--     judge_header      the least flaw of a header
+--     judge_body_mark      the least error at the token
+--     said_none, .., is_said_some      what the code's tests for `None` imply
 use Rattle.std.proofs.Common.{◌≡◌, ℕ, Bool, not, true, false, List, [], ◌∷◌, Option, None, Some, is_some, inl, inr}
 use Rattle.std.proofs.Common.{rules}
 use Rattle.std.specs.Option.{option_map}
@@ -77,7 +77,7 @@ start_large states start = search (rules, decide_below)
 range_broken : (h : HeaderData) → Decided (IsRangeBroken h)
 range_broken h = search (rules, decide_one, start_beyond, alias_beyond, condition_beyond, control_beyond)
 
--- ## The least flaw, by what is not
+-- ## The least flaw, given the absence of smaller ones
 
 module _ (h : HeaderData) where
   pub no_acceptance_least : h.acceptance ≡ None → IsLeastFlaw h MissingAcceptance
@@ -121,9 +121,9 @@ module _ (h : HeaderData) where
 pub judge_body_mark : (h : HeaderData) → JudgesAll (IsBadBody h)
 judge_body_mark h t = judge_also cause_number (search (rules, decide_kind, test_of)) (judge_header h)
 
--- ## What the code tests
+-- ## The tests of the code
 
--- whether something is said, where a test for nothing tells it
+-- whether an item is present, as computed by a test for `None`
 pub said_none : {A B : Type 0} (see : A → B) (o : Option A) {b : Bool} → is_some o ≡ not b → b ≡ true →
     option_map see o ≡ None
 said_none see o e t = search (rules, false_true)

@@ -1,4 +1,4 @@
--- The header has an outcome from each list of signs: it is read, or has a first fault.
+-- For each list of tokens, the header has an outcome: it is parsed, or it has a first error.
 use Rattle.ps_text.proofs.Outcomes.{has_then}
 use Rattle.ps_hoa.specs.Causes.{hoa_causes}
 use Rattle.ps_hoa.specs.Header.{HeaderData, no_items, item, header}

@@ -1,6 +1,7 @@
--- What may be wrong with a sign of labels, conditions, the header and the body: the least cause, or that there is none.
---     decide_kind      a sign's kind, if a test decides it
---     judge_above, .., judge_close      the least cause of each
+-- The errors that a token can have in labels, conditions, the header and the body. It is decidable whether a token has
+-- an error, and which of its errors has the smallest number.
+--     decide_kind      the kind of a token is decided by a test
+--     judge_above, .., judge_close      the error with the smallest number, for each form of token
 use Rattle.std.proofs.Common.{◌≡◌, ℕ, suc, ◌+◌, ◌<◌, ◌≤◌, Bool, true, List, length, Option, None, Some, rules, refl}
 use Rattle.std.proofs.Common.{sym, inr, ◌∙◌, subst}
 use Rattle.std.proofs.lemmas.Bool.{cases_eq}
@@ -32,12 +33,12 @@ use Rattle.ps_hoa.proofs.Grammar.KindSets.{test_of}
 abbrev pub JudgesAll : {A : Type 0} → (A → HoaCause → Type 0) → Type 0
 JudgesAll {A} Bad = (a : A) → Judged cause_number (Bad a)
 
--- ## Facts
+-- ## Lemmas
 
 pub decide_kind : (test : Kind → Bool) (kind : Kind) → IsTestOf test kind → (k : Kind) → Decided (k ≡ kind)
 decide_kind test kind i k = decide_as (i.1 k) (λ e. subst (λ x. test x ≡ true) (sym e) i.0) (decide_true (test k))
 
--- ## Causes
+-- ## Errors
 
 pub no_bad : {A : Type 0} → JudgesAll (NoBad {T = A} {F = HoaCause})
 no_bad a = judge_none cause_number
@@ -102,7 +103,7 @@ may_have_no_label l = search rules
 may_have_label : (l : Labelling) → Decided (MayHaveLabel l)
 may_have_label l = search rules
 
--- one edge too many
+-- the text already has the largest number of edges
 full : (before : ℕ) (row : RowData) →
     Judged cause_number (λ f. (edge_limit ≤ before + length row.edges) × (f ≡ causes.Limit))
 full before row = judge_cause cause_number causes.Limit (decide_below edge_limit (before + length row.edges))

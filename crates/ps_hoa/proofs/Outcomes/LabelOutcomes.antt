@@ -1,6 +1,7 @@
--- Labels and acceptance conditions have an outcome from each list of signs: they are read, or have a first fault.
---     has_signs, has_int, has_string, has_mark, has_loop      a part of one sign, a number, a string, a sign of a kind
---               by itself, and a loop
+-- For each list of tokens, labels and acceptance conditions have an outcome: they are parsed, or they have a first
+-- error.
+--     has_signs, has_int, has_string, has_mark, has_loop      a part of one token, a number, a string, a token of a
+--               given kind, and a loop
 --     has_infix      rows of the operands of a grammar
 --     has_label, has_condition      the outcomes
 use Rattle.std.proofs.Common.{arith, Option, None, Some, ℕ, zero, suc, Bool, true, false, List}
@@ -44,9 +45,9 @@ use Rattle.ps_hoa.proofs.Outcomes.Judging.{JudgesAll, no_bad, judge_above, judge
 abbrev pub Has : {V : Type 0} → Part Sign V HoaCause → Type 0
 Has part = HasOutcomes hoa_causes part
 
--- ## Signs by themselves, parentheses and rows
+-- ## Single tokens, parentheses and rows
 
--- a part of one sign
+-- a part of one token
 pub has_signs : {V : Type 0} {take : Sign → Option V} {Bad : Sign → HoaCause → Type 0} → IsOfSigns take Bad →
     JudgesAll Bad → Has (one take Bad)
 has_signs {take = take} {Bad = Bad} o judge = has_one hoa_causes take Bad o.sign o.value o.taken judge

@@ -1,6 +1,7 @@
--- Labels and acceptance conditions with room for so many `!` and `(` are those of the grammar without a limit, up to
--- that nesting.
---     to_operand, of_operand      for a grammar whose operands with more room are those with less in one more form
+-- The grammars of labels and conditions with a limit on the nesting of `!` and `(` equal the grammar without a limit,
+-- up to that nesting.
+--     to_operand, of_operand      for a grammar whose operands with more room are the operands with less room, in one
+--               more form
 use Rattle.std.proofs.Common.{◌≡◌, ◌↔◌, ◌⊎◌, ℕ, zero, suc, ◌≤◌, max, true, List, [], ◌∷◌, ◌++◌, refl, sym, ap, subst}
 use Rattle.std.proofs.Common.{inl, inr, ◌∙◌, arith}
 use Rattle.ps_label.specs.Expression.{Expression}
@@ -25,11 +26,11 @@ Negation {V} g P text v =
     (t : Sign) × (rest : List Sign) × (w : V) × (text ≡ t ∷ rest) × (is_not t.kind ≡ true) × g.Negates w v ×
     P.IsText rest w
 
--- an operand where one more may nest
+-- an operand in which one more level of nesting is allowed
 abbrev Form : {V : Type 0} → Grammar V → Part Sign V HoaCause → List Sign → V → Type 0
 Form g P text v = g.IsAtom text v ⊎ (Negation g P text v ⊎ (inner (rows g.together Or P)).IsText text v)
 
--- the operands of a grammar by its parts: atoms, and with more room also those after `!` and in parentheses
+-- the operands of a grammar: the atoms and, if there is room, operands after `!` and in parentheses
 record Operands {V : Type 0} (g : Grammar V) (part : ℕ → Part Sign V HoaCause) : Type 0 where
   pub atoms : (room : ℕ) (text : List Sign) (v : V) → g.IsAtom text v → (part room).IsText text v
   pub negations : (room : ℕ) (text : List Sign) (v : V) → Negation g (part room) text v →
@@ -84,7 +85,7 @@ module _ {V : Type 0} (g : Grammar V) (part : ℕ → Part Sign V HoaCause) (is 
         row_text (is_sign_of k) (between g.together k (part room)) (g.together k) left rest w ws
         (to_part room k a left w n (omega (arith, l))) (to_more room k b rest ws m (omega (arith, l)))
 
-  -- ## To it
+  -- ## To the grammar without a limit
 
   module _ (room : ℕ) (c : Connective) (h : (text : List Sign) (v : V) →
       (between g.together c (part room)).IsText text v → Within room (IsPart g c) text v) where
@@ -109,7 +110,7 @@ module _ {V : Type 0} (g : Grammar V) (part : ℕ → Part Sign V HoaCause) (is 
         (λ z. Within room (IsRow g c) (j.left ++ j.right) z) (sym (i.2 ∙ ap (joined (g.together c)) all))
         (max q.0 r.2.0, omega (arith, q.1, r.2.1), row c q.0 r.2.0 j.left j.right j.is_left.0 r.0 q.2 r.2.2))
 
-  -- of which the operands are, so are the rows of them
+  -- if the operands are nested at most `room` deep, rows of these operands are nested at most `room` deep
   of_rows : (room : ℕ) → ((text : List Sign) (v : V) → (part room).IsText text v → Within room (IsOperand g) text v) →
       (text : List Sign) (v : V) → (rows g.together Or (part room)).IsText text v → Within room (IsRow g Or) text v
   of_rows room h = of_row room Or (λ text v i. let r = of_row room And (λ text v i. let q = h text v i in
@@ -147,7 +148,7 @@ module _ {V : Type 0} (g : Grammar V) (part : ℕ → Part Sign V HoaCause) (is 
 
 -- ## Labels and conditions
 
--- an atom is an operand whatever the room, and without room there is no other operand
+-- an atom is an operand for every room; without room, every operand is an atom
 module _ {V : Type 0} (g : InfixGrammar V) where
   atom_text : (room : ℕ) (text : List Sign) (v : V) → g.leaf.IsText text v → (operand_of g room).IsText text v
   unfolding operand_of

@@ -1,7 +1,7 @@
--- A text has one answer.
---     one_behind      the blanks at the front of a text are one run
---     one_version      so is its version
---     one_reading      and so is its answer
+-- A text has at most one answer.
+--     one_behind      the blanks at the start of a text are unique
+--     one_version      the version is unique
+--     one_reading      the answer is unique
 use Rattle.std.proofs.Common.{if◌then◌else◌, ◌≡◌, ℕ, ◌+◌, eqb, List, ◌++◌, length, codes, Result, refl, sym, ap, ap₂}
 use Rattle.std.proofs.Common.{subst, ◌∙◌, append_assoc, arith, rules}
 use Rattle.std.proofs.lemmas.List.{append_cancel_left}
@@ -22,7 +22,7 @@ use Rattle.ps_hoa.proofs.Grammar.FileLaws.{laws_file}
 use Rattle.ps_hoa.proofs.Lexing.Relation.{only_lex, part_is}
 use Rattle.ps_hoa.proofs.Lexing.TokenSteps.{run_len}
 
--- ## Causes have numbers of their own
+-- ## Different causes have different numbers
 
 abbrev of_number : ℕ → HoaCause
 of_number n = if eqb n 1 then causes.NotHoa else (if eqb n 2 then causes.Version else
@@ -50,7 +50,7 @@ NoBlankBegins rest = (part more : List ℕ) → rest ≡ part ++ more → IsBlan
 same_skip : (m n : ℕ) → Skip m ≡ Skip n → m ≡ n
 same_skip m n e = cc
 
--- two blanks at one place are one
+-- two blank parts that begin at the same offset are equal
 one_part : (p q more rest : List ℕ) → IsBlankPart p → IsBlankPart q → p ++ more ≡ q ++ rest → (p ≡ q) × (more ≡ rest)
 one_part p q more rest h k e = same_split p more q rest e (same_skip (length p) (length q)
     (sym (part_is p more h).0 ∙ ap step_of e ∙ (part_is q rest k).0))
@@ -89,7 +89,7 @@ same_meaning : (end : ℕ) (ps qs : List (Piece Sign)) (a b : Answer) → ps ≡
 same_meaning end ps qs a b e h k = has_one_answer file.IsText (IsWrong hoa_causes file) cause_number laws_file.one_value
     numbered (record { pieces = marked fresh qs; end = end }) a b (grind arith) k
 
--- what follows the version, and how long what precedes it is
+-- the lengths of the parts before the version, the version itself, and the rest of the text are unique
 place : (bytes a b m n f g x y t u v w : List ℕ) → IsBehindBlanks bytes a (codes "HOA:" ++ m) →
     IsBehindBlanks bytes b (codes "HOA:" ++ n) → IsBehindBlanks m f x → IsBehindBlanks n g y →
     IsVersion x v t → IsVersion y w u → (length a ≡ length b) × (length f ≡ length g) × (v ≡ w) × (t ≡ u)

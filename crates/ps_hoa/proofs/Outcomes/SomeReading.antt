@@ -1,6 +1,6 @@
 -- Each HOA text has an answer.
---     blanks_from      the blanks at a place of the text reach to another
---     some_reading      the answer: the stages one after the other, and what follows the version by its tokens
+--     blanks_from      the blanks at an offset of the text end at some offset
+--     some_reading      the answer: the stages in order, and the tokens after the version
 use Rattle.std.proofs.Common.{◌≡◌, ℕ, zero, suc, ◌+◌, ◌<◌, ◌≤◌, ◌⊎◌, Bool, true, false, List, length, take, drop, refl}
 use Rattle.std.proofs.Common.{sym, ap, subst, ◌∙◌, arith, length-drop, inl, inr}
 use Rattle.std.specs.Prelude.{codes, Result}
@@ -27,13 +27,13 @@ abbrev SomeAnswer : List ℕ → Type 0
 SomeAnswer text = (answer : Result FileData (Found HoaCause)) × ReadsFile text answer
 
 module _ (text : List ℕ) where
-  -- the place after all blanks from there on
+  -- the offset after all blanks from a given offset on
   record PastBlanks (from : ℕ) : Type 0 where
     at : ℕ
     blanks : AreBlanks text from at
     end : IsNoBlank (step_of (drop at text))
 
-  -- by recursion over how many bytes are left
+  -- by recursion on the number of remaining bytes
   past_blanks : (fuel from at : ℕ) → length text ≤ at + fuel → AreBlanks text from at → PastBlanks from
   past_blanks zero from at left before = grind (arith, skip_sound, length-drop)
   past_blanks (suc fuel) from at left before =
@@ -48,7 +48,7 @@ module _ (text : List ℕ) where
   blanks_from from = past_blanks (length text) from from (omega arith) (no_blanks text from)
 
   module _ (short : length text ≤ text_limit) where
-    -- what follows the version
+    -- the answer, by the version and what follows it
     by_version : (first second : ℕ) (o : Opens text first second) (same : Bool) →
         bytes_eq (take (prefix_len is_version_byte (drop second text)) (drop second text)) (codes "v1") ≡ same →
         SomeAnswer text

@@ -1,10 +1,11 @@
--- The answer to a text, from what was read of it: the exits of the reader of whole texts.
---     refused_answers      the text did not open
---     header_fails, body_fails      the header, or the body after it, stopped at its first fault
---     ends_answers      both were read, and the text ends after them
---     trails_answers      both were read, and a token follows them
--- `reads` says of the tokens after the version that what they mean, or the first cause in them, is the answer to the
--- text.
+-- The answer to a text, from the results of the parsing functions. There is a lemma for each way in which the parser of
+-- whole texts can return.
+--     refused_answers      the start of the text is rejected
+--     header_fails, body_fails      the header, or the body after it, has a first error
+--     ends_answers      header and body were parsed, and the text ends after them
+--     trails_answers      header and body were parsed, and a token follows them
+-- The hypothesis `reads` states that the meaning of the tokens after the version, or the first error in them, is the
+-- answer to the text.
 use Rattle.std.proofs.Common.{◌≡◌, ℕ, List, [], ◌∷◌, Some, Result, Ok, Err, IsErrAnd, refl, sym, ap, subst, ◌∙◌, rules}
 use Rattle.std.proofs.lemmas.Result.{err_from_is_err_and}
 use Rattle.ps_text.specs.Answers.{Piece, Stream, Found, signs}

@@ -1,12 +1,11 @@
--- The exits of the reading functions of edges.
---     int_signs, bracket_signs      single signs
---     int_begins      an INT comes next
---     target_reads, target_fails, target_alternates      a state that `&` must not follow: it is read, it is wrong, and
---               `&` follows it
---     edge_begins, bracket_serves, int_serves      how an edge begins, and what can be read in its place because of
---               that
---     braces_serve, no_braces_serve      and likewise with marks
---     pushed_edge      the edges of a row after one more
+-- Lemmas for each way in which the functions that parse edges can return.
+--     int_signs, bracket_signs      single tokens
+--     int_begins      the next token is an `INT`
+--     target_reads, target_fails, target_alternates      a target, which `&` must not follow: it is parsed, it has an
+--               error, or `&` follows it
+--     edge_begins, bracket_serves, int_serves      how an edge begins, and the form of edge that follows from this
+--     braces_serve, no_braces_serve      the same for marks
+--     pushed_edge      the edges of a row after an edge is appended
 use Rattle.std.proofs.Common.{◌⊎◌, ◌++◌, map, ◌≡◌, true, inl, ℕ, List, [], ◌∷◌, Option, Some, Ok, Err, refl, sym, inr}
 use Rattle.std.proofs.Common.{ap, ◌∙◌, rules}
 use Rattle.std.proofs.lemmas.List.{map-append}
@@ -111,7 +110,7 @@ module _ (h : HeaderData) (s : Stream Sign) where
   no_braces_serve differs = serves_as s (right_otherwise (laws_sets (sets_of h)) laws_no_sets (there_of s)
       (mark_elsewhere tests_left_brace s differs) (λ k. k))
 
--- the edges of a row after one more
+-- the edges of a row after an edge is appended
 pub pushed_edge : (es new : List Edge) (e : Edge) → new ≡ es ++ e ∷ [] →
     map edge_data es ++ edge_data e ∷ [] ≡ map edge_data new
 pushed_edge es new e q = sym (ap (map edge_data) q ∙ map-append edge_data es (e ∷ []))

@@ -1,16 +1,16 @@
--- The exits of the reading functions, for the causes of HOA texts.
---     Serves old P Q      what is said of P from old on is said of Q: it is read, or it stops at a fault
---     serves_as, itself, serves_both      by the next sign, a part of itself, and in two steps
---     serves_meets      the answer to P is that to Q
---     Leads P old Q now      where Q from now on stops at a fault, so does P from old on
---     here, first, behind, under, instead      the call itself, the first of two, one after a part that was read, one
---               whose value is seen otherwise, and one in place of another
---     exit      at a `?`: the function returns the fault that was met
---     entered      what begins the first of two parts begins both
---     value_is      what was read has that value
+-- Lemmas about the ways in which a parsing function can return, for the causes of HOA texts.
+--     Serves old P Q      from `old` on, each result of P is also a result of Q: it is parsed, or it stops at an error
+--     serves_as, itself, serves_both      by the next token; a part in place of itself; in two steps
+--     serves_meets      a result that meets the contract of P also meets that of Q
+--     Leads P old Q now      if Q, read from `now`, stops at an error, then P, read from `old`, stops at the same error
+--     here, first, behind, under, instead      for P itself, for the first of two parts, for a part after one that was
+--               parsed, for a part with another view of its value, and for a part in place of another
+--     exit      at a `?`: the function returns the error that was found
+--     entered      a token that begins the first of two parts begins both
+--     value_is      the parsed part has this value
 --     Loop item      the laws of the items of a loop
---     loop_more, loop_fails, loop_ends, loop_shrinks      after one more item, at one that fails, at the end, and that
---               the loop ends
+--     loop_more, loop_fails, loop_ends, loop_shrinks      after one more item, at an item that fails, at the end, and
+--               the decreasing measure of the loop
 use Rattle.std.proofs.Common.{arith, ◌≡◌, ◌<◌, length, Option, Result, IsErrAnd}
 use Rattle.ps_text.specs.Answers.{Stream, Found, next_of as there_of}
 use Rattle.ps_text.specs.Parts.{Part, then_by, mapped, many}
@@ -76,7 +76,7 @@ pub exit : {A V X : Type 0} (view : X → V) {P : Part Sign V HoaCause} {Q : Par
     Stops hoa_causes Q now (found_of e) → IsErrAnd r (λ y. y ≡ e) → Meets found_of hoa_causes view P old r new
 exit view {P} {old = old} new e r l s i = exits found_of hoa_causes view P old new e r (l.stops (found_of e) s) i
 
--- ## What begins, and values
+-- ## The tokens that begin a part, and values
 
 pub entered : {A B : Type 0} {P : Part Sign A HoaCause} {Q : A → Part Sign B HoaCause} → Joint P Q → (s : Stream Sign) →
     Enters P (there_of s) → Enters (then_by P Q) (there_of s)

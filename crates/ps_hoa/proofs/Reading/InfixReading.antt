@@ -1,9 +1,9 @@
--- How operands with connectives between them are read: the rows of them, and the forms of an operand.
---     operand_row      what the lemmas on rows need
---     leaf_serves, too_deep      an operand that contains no other one, and one that does although the nesting may be
---               no deeper
---     not_reads, not_fails      the exits of an operand after `!`
---     paren_reads, paren_fails, paren_stays_open      the exits of one in parentheses
+-- Lemmas for the functions that parse operands with connectives between them: rows of operands, and the forms of an
+-- operand.
+--     operand_row      the hypotheses of the lemmas about rows
+--     leaf_serves, too_deep      an operand that contains no other operand, and an operand that is nested too deep
+--     not_reads, not_fails      the results for an operand after `!`
+--     paren_reads, paren_fails, paren_stays_open      the results for an operand in parentheses
 use Rattle.std.proofs.Common.{◌≡◌, ℕ, zero, suc, ◌-◌, true, false, List, Option, None, Some, is_some, IfSome, refl}
 use Rattle.std.proofs.Common.{sym, ap, subst, ◌∙◌, arith, rules}
 use Rattle.ps_text.specs.Answers.{Stream, Piece, Found, next_of as there_of, offset_of}
@@ -40,14 +40,14 @@ use Rattle.ps_hoa.proofs.Reading.MarkReading.{mark_elsewhere, inner_fails, inner
 use Rattle.ps_hoa.proofs.Reading.NextSign.{next_there, next_same}
 use Rattle.ps_hoa.proofs.Reading.RowReading.{Row}
 
--- what may follow what is between connectives
+-- the tokens that may follow a part between connectives
 abbrev pub Behind : Connective → Sign → Type 0
 Behind connectives.And = Nothing
 Behind connectives.Or = AndMore
 
--- ## An operand that holds another one, by what it holds
+-- ## An operand that contains another one
 
--- it is in parentheses if it is not after `!`
+-- an operand that contains another operand is in parentheses, unless it begins with `!`
 other_holds : {V : Type 0} (n : Option (V → V)) (kind : Kind) → holds n kind ≡ true → (kind ≡ Not → ⊥) →
     kind ≡ LeftParen
 other_holds n kind h differs = grind arith
@@ -101,7 +101,7 @@ module _ {V : Type 0} (g : InfixGrammar V) (is : IsLeaf g.leaf) where
   bar_read old other = reads_barred (λ _. IsTooDeep g.negated) (laws_give Odd tt) (nothing_apart _) (λ t f e b.
       false_true (sym other ∙ ap (λ (s : Sign). holds g.negated s.kind) (next_same old t e) ∙ b.0)) (reads_give old tt)
 
-  -- the operand contains no other one
+  -- the operand contains no other operand
   pub leaf_serves : (room : ℕ) (old : Stream Sign) {p : Piece Sign} → p ≡ next_of old →
       holds g.negated p.sign.kind ≡ false → Serves old g.leaf (operand g room)
   unfolding operand
@@ -118,7 +118,7 @@ module _ {V : Type 0} (g : InfixGrammar V) (is : IsLeaf g.leaf) where
       (avoids_kind (holds g.negated) old
       (λ i. false_true (sym other ∙ ap (λ q. holds g.negated q.sign.kind) at ∙ i))) (λ b. b))
 
-  -- at a sign of a kind with which an operand begins that holds another one
+  -- the next token begins an operand that contains another operand
   module _ (room : ℕ) (old : Stream Sign) {p : Piece Sign} (at : p ≡ next_of old)
       (h : holds g.negated p.sign.kind ≡ true) where
     kind_there : (next_of old).sign.kind ≡ p.sign.kind

@@ -1,8 +1,8 @@
--- An INT that may be wrong in two ways, where the causes of the second way have no smaller numbers than those of the
--- first.
---     takes_err      it is wrong in the first way
---     takes_further      it is wrong in the second way only
---     takes_both      it is wrong in neither
+-- An `INT` that can be wrong in two ways, where no error of the second kind has a smaller number than an error of the
+-- first kind.
+--     takes_err      the `INT` is wrong in the first way
+--     takes_further      the `INT` is wrong in the second way only
+--     takes_both      the `INT` is wrong in neither way
 use Rattle.std.proofs.Common.{◌≡◌, ℕ, ◌≤◌, ◌⊎◌, Option, None, Some, IfSome, Result, Err, IsErrAnd, sym, subst, inl, inr}
 use Rattle.std.proofs.Common.{◌∙◌, rules}
 use Rattle.std.proofs.lemmas.Result.{err_from_is_err_and}
@@ -15,7 +15,7 @@ use Rattle.ps_hoa.specs.Body.{BadIn}
 use Rattle.ps_hoa.specs.Inner.Reads.{Takes, IsTaken, IsWorst, IsRefusal}
 use Rattle.ps_hoa.specs.declared.fault.HoaCause.{HoaCause}
 
--- what holds of the number that is there
+-- a property of the number, given that there is a number
 there : (o : Option ℕ) (P : ℕ → Type 0) → IfSome o P → (o ≡ None → ⊥) → (n : ℕ) × (o ≡ Some n) × P n
 there o P h k = search rules
 

@@ -1,8 +1,8 @@
--- How the leaves of labels and of acceptance conditions are read, and sets.
+-- Lemmas for the functions that parse the leaves of labels and of acceptance conditions, and sets.
 --     leaf_signs      a leaf of a label
---     visit_unopened, visit_fails, visit_stays_open, visit_reads      the exits after `Inf` or `Fin`
+--     visit_unopened, visit_fails, visit_stays_open, visit_reads      the results after `Inf` or `Fin`
 --     constant_serves      an operand without them
---     complement_meets, set_serves      a set after `!`, or without
+--     complement_meets, set_serves      a set with or without `!` before it
 use Rattle.std.proofs.Common.{◌≡◌, Bool, true, false, [], codes, None, Some, Result, Ok, refl, arith}
 use Rattle.ps_text.specs.Answers.{Stream, signs, next_of as there_of}
 use Rattle.ps_text.specs.Parts.{NoBad, one, then_by}
@@ -75,7 +75,7 @@ module _ {old mid : Stream Sign} {often : Bool} (e : often_in (next_of old).sign
       visit_reads q = served.reads _ _ (reads_then joint_visit often_read (reads_then (joint_set often) l
           (reads_then (joint_closed_set often) m (reads_mapped (before (visits often v)) q))))
 
--- neither comes next
+-- the next token is neither `Inf` nor `Fin`
 pub constant_serves : (old : Stream Sign) → often_in (next_of old).sign ≡ None →
     Serves old (one constant_in NoBad) atom
 constant_serves old e = serves_as old (grind (arith, laws_constant))

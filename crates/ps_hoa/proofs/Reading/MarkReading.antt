@@ -1,10 +1,10 @@
--- How signs by themselves are read, and what is between parentheses.
---     Tests test kind      the test passes that kind, and no other
---     sign_begins, avoids_kind      the next sign begins its part, and does not pass a test
---     mark_read, mark_begins, mark_elsewhere      the sign comes next: it was taken, and begins a part; it does not
---               come next
+-- Lemmas for the functions that read single tokens, and parts in parentheses.
+--     Tests test kind      only this kind passes the test
+--     sign_begins, avoids_kind      the next token begins its part; the next token does not pass a test
+--     mark_read, mark_begins, mark_elsewhere      the next token is of this kind: it is taken, and begins a part; or
+--               the next token is of another kind
 --     tests_not, .., tests_string      the tests of the grammar
---     inner_reads, inner_fails, inner_stays_open      the exits of a part in parentheses after its `(`
+--     inner_reads, inner_fails, inner_stays_open      the results for a part in parentheses, after its `(`
 use Rattle.std.proofs.Common.{◌≡◌, ◌≤◌, Bool, true, cond, length, Option, None, Some, Ok, refl, sym, ap, subst, ◌∙◌}
 use Rattle.std.proofs.Common.{inl, rules}
 use Rattle.ps_text.specs.Answers.{Stream, next_of as there_of}
@@ -36,13 +36,13 @@ pub record Tests (test : Kind → Bool) (kind : Kind) : Type 0 where
   pub is : IsTestOf test kind
   pub proper : kind ≡ Finish → ⊥
 
--- a sign that is taken begins its part
+-- a token that is taken begins its part
 pub sign_begins : {V : Type 0} (take : Sign → Option V) (Bad : Sign → HoaCause → Type 0) (s : Stream Sign) {v : V} →
     ((next_of s).sign.kind ≡ Finish → ⊥) → take (next_of s).sign ≡ Some v → Enters (one take Bad) (there_of s)
 sign_begins take Bad s {v} proper e =
     subst (Enters (one take Bad)) (sym (next_there s proper)) (enters_one take Bad (next_of s).sign (inl (v, e)))
 
--- no sign that passes a test is next, if the next token does not pass it
+-- the next token is not in a set of tokens if its kind does not pass the test of the set
 pub avoids_kind : (test : Kind → Bool) (s : Stream Sign) → (test (next_of s).sign.kind ≡ true → ⊥) →
     Avoids (Of test) (there_of s)
 avoids_kind test s h t e k = h (ap (λ (u : Sign). test u.kind) (next_same s t e) ∙ k)
@@ -62,7 +62,7 @@ module _ {test : Kind → Bool} {kind : Kind} (tests : Tests test kind) where
   pub mark_elsewhere : (s : Stream Sign) → ((next_of s).sign.kind ≡ kind → ⊥) → Avoids (Of test) (there_of s)
   mark_elsewhere s differs = avoids_kind test s (λ h. differs (tests.is.1 (next_of s).sign.kind h))
 
--- moving past a token leaves no more pieces
+-- moving past a token does not increase the number of remaining pieces
 pub behind_shrinks : (s new : Stream Sign) → new ≡ behind_next s → length new.pieces ≤ length s.pieces
 behind_shrinks s new e = search rules
 
@@ -99,7 +99,7 @@ tests_int = record { is = test_of is_int Int refl refl; proper = λ e. cc }
 pub tests_string : Tests is_string Text
 tests_string = record { is = test_of is_string Text refl refl; proper = λ e. cc }
 
--- what begins a form of `either` begins the whole
+-- a token that begins the first alternative of `either` begins the whole part
 pub enters_left : {V : Type 0} (P Q : Part Sign V HoaCause) (there : Option Sign) → Enters P there →
     Enters (either P Q) there
 enters_left P Q there h = search rules

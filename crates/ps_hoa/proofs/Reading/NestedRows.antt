@@ -1,4 +1,5 @@
--- Rows of operands, one after the other: what a grammar by parts says of them, and a grammar of its own.
+-- Rows of operands, one after the other. The lemmas relate a grammar that is built from parts to a grammar that is
+-- given by relations.
 use Rattle.std.proofs.Common.{rules, arith, ◌≡◌, ℕ, zero, suc, Bool, true, cond, List, [], ◌∷◌, ◌++◌, None, Some, refl}
 use Rattle.std.proofs.Common.{sym, ap, subst, ◌∙◌, append_assoc, append-nil}
 use Rattle.ps_text.specs.Parts.{Part, times}
@@ -14,7 +15,7 @@ mark_taken test t e = ap (λ (b : Bool). cond b (Some tt) None) e
 -- ## Rows
 
 module _ {V : Type 0} (sign : Kind → Bool) (P : Part Sign V HoaCause) where
-  -- these operands follow others, each after its sign
+  -- each of these operands comes after a connective
   abbrev pub Rest : List Sign → List V → Type 0
   Rest text vs = (k : ℕ) × ((ws : List V) → (times k (λ us. further sign P us) ws).IsText text (ws ++ vs))
 
@@ -57,7 +58,7 @@ module _ {V : Type 0} (sign : Kind → Bool) (P : Part Sign V HoaCause) where
     refl,
   )
 
-  -- and each such text is so
+  -- a relation that is closed under adding an operand holds for every list of further operands
   module _ (More : List Sign → List V → Type 0) (none : More [] [])
       (some : (t : Sign) (text rest : List Sign) (v : V) (vs : List V) → sign t.kind ≡ true → P.IsText text v →
       More rest vs → More (t ∷ text ++ rest) (v ∷ vs)) where

@@ -1,4 +1,4 @@
--- Which names of aliases are new.
+-- The check that the name of an alias is new.
 use Rattle.std.proofs.Common.{◌≡◌, ℕ, suc, ◌+◌, ◌<◌, ◌≤◌, Bool, true, false, cond, not, List, [], ◌∷◌, length, is_some}
 use Rattle.std.proofs.Common.{refl, rules}
 use Rattle.std.specs.List.{position_or_len}
@@ -40,13 +40,13 @@ module _ (text : List ℕ) where
   pub number-among : (names : List (List ℕ)) → is_some (alias_number names text) ≡ is_name_among text names
   number-among names = search (rules, lt-ltb, among_place, no_place, le-ltb)
 
-  -- a name that is new, and within the limit
+  -- a name that is new, within the limit of aliases
   pub new_alias_taken : (names : List (List ℕ)) (kind : Kind) → kind ≡ AliasName → length names < alias_limit →
       is_name_among text names ≡ false →
       IsTaken alias_name_in (IsBadAlias names) (record { kind = kind; text = text }) text
   new_alias_taken names kind e short new = search (rules, false_true)
 
-  -- a name of an earlier one
+  -- a name of an earlier alias
   module _ (names : List (List ℕ)) (kind : Kind) (e : kind ≡ AliasName) (short : length names < alias_limit)
       (old : is_name_among text names ≡ true) where
     pub old_alias_bad : IsBadAlias names (record { kind = kind; text = text }) Alias

@@ -1,4 +1,4 @@
--- How a text opens, and what its answer is by that.
+-- The opening of a text, and how it determines the answer to the text.
 use Rattle.std.proofs.Common.{Bool, ◌≡◌, ℕ, ◌+◌, ◌-◌, ◌≤◌, true, false, List, ◌++◌, length, take, drop, ap, sym, subst}
 use Rattle.std.proofs.Common.{◌∙◌, arith, length-drop, rules}
 use Rattle.std.specs.Prelude.{codes, Result}
@@ -22,7 +22,7 @@ use Rattle.ps_hoa.proofs.Lexing.Relation.{whole, no_blank_begins, some_tokens}
 use Rattle.ps_hoa.proofs.Lexing.StepMeanings.{begins_is}
 use Rattle.ps_hoa.proofs.Lexing.TokenSteps.{run_sound}
 
--- what a slice to the end is
+-- the slice from an offset to the end
 abbrev to_its_end : List ℕ → ℕ → List ℕ
 to_its_end text at = take (length text - at) (drop at text)
 
@@ -47,7 +47,7 @@ without_hoa text first short b h none = let e : length b.blanks ≡ first = omeg
     subst (λ (k : ℕ). ReadsFile text (at_offset causes.NotHoa k)) e
     (not_hoa short (behind text 0 first b h) (word_missing (drop first text) (codes "HOA:") none))
 
--- `HOA:` is there
+-- `HOA:` is present
 pub record Opens (text : List ℕ) (first second : ℕ) : Type 0 where
   pub short : length text ≤ text_limit
   pub before : AreBlanks text 0 first
@@ -56,7 +56,7 @@ pub record Opens (text : List ℕ) (first second : ℕ) : Type 0 where
   pub further : AreBlanks text (first + 4) second
   pub second_end : IsNoBlank (step_of (drop second text))
 
--- the same, as the code found it
+-- whether `HOA:` is at an offset, as the code tests it
 pub told_word : (text : List ℕ) (first : ℕ) {b : Bool} → begins_with (to_its_end text first) (codes "HOA:") ≡ b →
     begins_with (drop first text) (codes "HOA:") ≡ b
 told_word text first e = ap (λ (xs : List ℕ). begins_with xs (codes "HOA:")) (sym (to_end text first)) ∙ e
@@ -119,7 +119,7 @@ module _ (text : List ℕ) (first second : ℕ) (o : Opens text first second) wh
       let whole_stream : stream ≡ record { pieces = marked fresh found.0; end = length text } = grind arith in
       by_tokens found.0 o.short hoa_stands version_stands version tokens (grind arith)
 
--- what the code took as the version
+-- the length of the version, as the code computes it
 module _ (text : List ℕ) (second count : ℕ) (is : count ≡ prefix_len is_version_byte (to_its_end text second)) where
   pub told_count : count ≡ prefix_len is_version_byte (drop second text)
   told_count = is ∙ ap (λ (xs : List ℕ). prefix_len is_version_byte xs) (to_end text second)

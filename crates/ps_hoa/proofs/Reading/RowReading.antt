@@ -1,10 +1,10 @@
--- The loop that reads operands with a sign between them.
---     IsRow sign operand old vs now      from old on these operands were read; if there was only one, the sign is at
---               now
---     Row sign operand      the laws that the lemmas on rows need
---     first_fails, first_alone      the first operand fails, or is the only one
+-- The loop that parses operands with a connective between them.
+--     IsRow sign operand old vs now      the operands with the values `vs` were parsed from `old` to `now`; if there is
+--               only one operand, the next token is the connective
+--     Row sign operand      the hypotheses of the lemmas about rows
+--     first_fails, first_alone      the first operand fails, or is the only operand
 --     row_starts, row_more, row_shrinks      the invariant of the loop and its measure
---     row_fails, row_done      a later operand fails, and the end of the loop
+--     row_fails, row_done      a later operand fails; the end of the loop
 use Rattle.std.proofs.Common.{◌≡◌, ℕ, ◌+◌, ◌<◌, Bool, true, List, [], ◌∷◌, ◌++◌, length, map, refl, sym, ap, subst, ◌∙◌}
 use Rattle.std.proofs.Common.{arith, length-append, rules}
 use Rattle.std.proofs.lemmas.List.{map-append}
@@ -26,12 +26,12 @@ use Rattle.ps_hoa.proofs.Grammar.OperandLaws.{Odd, Of, row_alone, row_begins, ro
 use Rattle.ps_hoa.proofs.Reading.Exits.{Leads}
 use Rattle.ps_hoa.proofs.Reading.MarkReading.{Tests, mark_read, mark_elsewhere, behind_shrinks}
 
--- how many calls deep the reading of what is between connectives is
+-- the part of the recursion's measure that depends on the connective
 abbrev pub binding : Connective → ℕ
 binding connectives.And = 1
 binding connectives.Or = 3
 
--- the values of what a `Vec` holds, with one more appended
+-- the values of the entries of a `Vec` after an entry is appended
 pub last_value : {X V : Type 0} (view : X → V) (x : X) (some : List X) {all : List X} → all ≡ some ++ x ∷ [] →
     map view all ≡ with_last (map view some) (view x)
 last_value view x some e = ap (map view) e ∙ map-append view some (x ∷ [])

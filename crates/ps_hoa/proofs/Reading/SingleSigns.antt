@@ -1,5 +1,5 @@
--- A reading function of one sign: what it answers to the next token says that it read the part, or stopped at its first
--- fault.
+-- A function that reads one token meets its contract: its result for the next token implies that it parsed the part, or
+-- stopped at the part's first error.
 use Rattle.std.proofs.Common.{rules, arith, ◌≡◌, ℕ, ◌⊎◌, List, [], ◌∷◌, Option, None, Some, Result, Ok, Err, refl, sym}
 use Rattle.std.proofs.Common.{◌∙◌, ap, inl, inr}
 use Rattle.ps_text.specs.Answers.{Piece, Stream}
@@ -16,11 +16,11 @@ use Rattle.ps_text.specs.declared.faults.Fault.TheVariants.{Text, OutOfMemory}
 use Rattle.ps_hoa.specs.declared.tokens.Kind.{Kind}
 use Rattle.ps_hoa.specs.declared.tokens.Kind.TheVariants.{Finish}
 
--- the sign at the end of a text
+-- the sign that stands for the end of a text
 abbrev pub end_sign : Sign
 end_sign = record { kind = Finish; text = [] }
 
--- a part of one sign: some sign is taken, and the end is neither taken nor bad
+-- a part of one token: some token is taken, and the end of the text is neither taken nor an error
 pub record IsOfSigns {V : Type 0} (take : Sign → Option V) (Bad : Sign → HoaCause → Type 0) : Type 0 where
   pub sign : Sign
   pub value : V

@@ -1,9 +1,9 @@
--- The exits of the reading functions of states.
+-- Lemmas for each way in which the functions that parse states can return.
 --     next_signs, end_signs      `State:` and `--END--`
---     state_enters, avoids_state      `State:` comes next, or does not
---     label_serves, no_label_serves      a state has a label, or none
---     name_serves, no_name_serves      and likewise with its name
---     edges_serve      the edges of a row that has none yet
+--     state_enters, avoids_state      the next token is `State:`, or is not
+--     label_serves, no_label_serves      the state has a label, or has none
+--     name_serves, no_name_serves      the state has a name, or has none
+--     edges_serve      the edges of a row that has no edge yet
 --     state_loop, edge_loop, set_loop      the loops of the body
 use Rattle.std.proofs.Common.{arith, ◌≡◌, true, false, List, [], Option, None, Some, is_some, refl, sym, ap, ◌∙◌, rules}
 use Rattle.std.specs.Prelude.{codes, ℕ}

@@ -1,5 +1,5 @@
--- Numbers that are kept once: what holds of each holds of each of those that are kept, and they differ.
---     neither      a list that fails a test: the first fails it, and so do the others
+-- Numbers that are kept once. If all numbers have a property, the kept numbers have it, and the kept numbers differ.
+--     neither      if a list fails a test, its first entry and the rest of the list fail it
 --     all_once, different_once      after one more number
 use Rattle.std.proofs.Common.{◌≡◌, ℕ, Bool, true, false, cond, List, [], ◌∷◌, ◌++◌, refl, arith, rules}
 use Rattle.std.proofs.lemmas.Bool.{cond_both}

@@ -1,8 +1,9 @@
--- What the items so far keep: numbers within their limits, names that differ, aliases that each speak of earlier ones.
---     Kept h      so do the items that say h
---     keeps_number, keeps_int      of a number
+-- The invariant of the items so far: numbers are within their limits, names differ, and each alias uses only earlier
+-- aliases.
+--     Kept h      items that give h satisfy the invariant
+--     keeps_number, keeps_int      for a number
 --     one_more_alias, few_more      with one more alias
---     keeps_names      of the names of propositions
+--     keeps_names      for the names of propositions
 use Rattle.std.proofs.Common.{◌≡◌, ℕ, zero, suc, ◌+◌, ◌<◌, ◌≤◌, true, List, [], ◌∷◌, ◌++◌, length, Option, None}
 use Rattle.std.proofs.Common.{Some, refl, sym, subst, inl, ◌∙◌, arith, length-append}
 use Rattle.std.specs.Option.{IfSome}
@@ -29,11 +30,11 @@ use Rattle.ps_hoa.proofs.Soundness.SoundLabels.{NamesBelow, below}
 
 -- ## Numbers
 
--- what is there is bad
+-- `IfSome` holds for an option whose value has the property
 if_there : {X : Type 0} {o : Option X} (P : X → Type 0) {x : X} → o ≡ Some x → P x → IfSome o P × (o ≡ None → ⊥)
 if_there P {x} e h = (subst (λ o. IfSome o P) (sym e) h, λ k. none_is_some x (sym k ∙ e))
 
--- an INT that is not bad
+-- an INT without an error
 pub keeps_number : (Bad : ℕ → HoaCause → Type 0) → Keeps (one int_in (BadIn Bad)) (λ n. (f : HoaCause) → Bad n f → ⊥)
 keeps_number Bad = keeps_one int_in (BadIn Bad) (λ t n e good f b. good f (if_there (λ m. Bad m f) e b))
 
@@ -41,20 +42,20 @@ pub keeps_int : (limit : ℕ) → Keeps (int limit) (λ n. n ≤ limit)
 keeps_int limit =
     keeps_less (int limit) (λ n good. grind arith) (keeps_number (λ n f. (limit < n) × (f ≡ causes.Limit)))
 
--- ## What the items so far keep
+-- ## The invariant of the items so far
 
--- each of these expressions, the first of which stands for the alias with that number, uses only earlier aliases
+-- each expression uses only earlier aliases, where the first expression belongs to the alias with the number k
 abbrev pub NamesRise : ℕ → List Expression → Type 0
 NamesRise k [] = Unit {0}
 NamesRise k (e ∷ es) = NamesBelow k e × NamesRise (k + 1) es
 
--- the aliases have a name each, and speak of earlier ones alone
+-- there is one name for each alias, and each alias uses only earlier aliases
 pub record HasAliases (names : List (List ℕ)) (es : List Expression) : Type 0 where
   pub one_each : length names ≡ length es
   pub few : length es ≤ alias_limit
   pub rise : NamesRise 0 es
 
--- what the items so far say: the states, propositions, aliases, sets and controllable propositions
+-- the invariant: the states, propositions, aliases, sets and controllable propositions are within their limits
 abbrev pub Kept : HeaderData → Type 0
 Kept h = IfSome h.states (λ n. n ≤ state_limit) × ((length (names_of h) ≤ proposition_limit) × AreNames (names_of h)) ×
     HasAliases h.alias_names h.aliases × IfSome h.acceptance (λ a. a.sets ≤ set_limit) ×
@@ -76,7 +77,7 @@ not_named other name [] e d = rw d refl
 not_named other name (next ∷ names) e d = let f = neither (bytes_eq other next) (is_name_among other names) e in
     rw (f.0, not_named other name names f.1 d) refl
 
--- one more name, which is new
+-- the names differ after a new name is appended
 names_push : (names : List (List ℕ)) (name : List ℕ) → AreNames names → (is_empty name || has_control name) ≡ false →
     is_name_among name names ≡ false → AreNames (names ++ name ∷ [])
 names_push [] name a g e = (g, refl, tt)

@@ -1,7 +1,7 @@
--- What holds of the value of a part, if the part has no cause in its text.
---     Keeps part S      S holds of the value of each text of the part in which it has no cause
---     keeps_give, .., keeps_barred      for each combinator: of the parts of which it is made
---     keeps_read      so S holds of what was read
+-- Properties that hold for the value of a part if the part has no error in its text.
+--     Keeps part S      S holds for the value of each text of the part without an error
+--     keeps_give, .., keeps_barred      for each combinator, from the same for its parts
+--     keeps_read      S holds for the value of a part that was parsed
 use Rattle.std.proofs.Common.{◌≡◌, ℕ, zero, suc, List, [], ◌∷◌, ◌++◌, Option, Some, refl, sym, subst}
 use Rattle.std.proofs.Common.{inl, inr, append_assoc, arith, length-append}
 use Rattle.ps_text.specs.Parts.{Part, IsRead, give, one, then_by, either, times, many, mapped, barred}
@@ -13,7 +13,7 @@ IsQuiet {T} {V} {F} part text =
 abbrev pub Keeps : {T V F : Type 0} → Part T V F → (V → Type 0) → Type 0
 Keeps {T} {V} {F} part S = (text : List T) (v : V) → part.IsText text v → IsQuiet part text → S v
 
--- nothing is asked
+-- the property that holds for every value
 pub keeps_nothing : {T V F : Type 0} (part : Part T V F) → Keeps part (λ _. Unit {0})
 keeps_nothing part text v i q = tt
 

@@ -1,6 +1,6 @@
--- Two tests in one, and what is between quotes.
---     or_cond      the first test, or else the second
---     inside-range      a text without its first and its last byte, as a part of it
+-- A test that combines two tests, and the bytes between quotes.
+--     or_cond      a disjunction is a case distinction on the first test
+--     inside-range      a text without its first and its last byte, as a slice of the text
 use Rattle.std.proofs.Common.{◌≡◌, ℕ, suc, ◌-◌, ◌||◌, Bool, true, cond, List, [], ◌∷◌, length, take, refl, ap, ◌∙◌}
 use Rattle.std.proofs.Common.{arith, rules}
 use Rattle.std.specs.List.{slice_range}

@@ -1,5 +1,5 @@
--- What the states and edges of a body that was read are.
---     keeps_body      for each body
+-- Properties of the states and edges of a parsed body.
+--     keeps_body      the properties hold for each body
 use Rattle.std.proofs.Common.{◌≡◌, ℕ, suc, ◌+◌, ◌-◌, ◌<◌, ◌≤◌, ◌⊎◌, false, List, [], ◌∷◌, ◌++◌, length, Option, None}
 use Rattle.std.proofs.Common.{Some, refl, sym, ap, subst, inl, inr, ◌∙◌, arith, length-append, rules}
 use Rattle.std.specs.Option.{IfSome}
@@ -36,7 +36,7 @@ use Rattle.ps_hoa.proofs.Soundness.SoundLabels.{InScope, below, keeps_label, all
 
 -- ## Numbers
 
--- the states that there may be
+-- the numbers that are states
 abbrev pub IsStateOf : Option ℕ → ℕ → Type 0
 IsStateOf (Some states) n = n < states
 IsStateOf None n = n < state_limit
@@ -126,9 +126,9 @@ pub record IsRowKept (h : HeaderData) (row : RowData) : Type 0 where
   pub edges : AllByRecursion (IsEdgeKept h) row.edges
   pub labelled : LabelledBy row.label row.edges
 
--- after a number of edges of earlier states
+-- a row after a given number of edges of earlier states
 module _ (h : HeaderData) (before : ℕ) (n : ℕ) where
-  -- the row of that state, with no edge too many
+  -- the row of state n, within the limit on edges
   abbrev RowOf : RowData → Type 0
   RowOf row = IsRowKept h row × (row.state ≡ n) × (before + length row.edges ≤ edge_limit)
 

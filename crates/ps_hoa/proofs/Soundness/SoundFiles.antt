@@ -1,4 +1,4 @@
--- Each file that was read is sound.
+-- Every parsed file is sound.
 use Rattle.std.proofs.Common.{◌≡◌, ℕ, ◌^◌, ◌<◌, ◌≤◌, ◌≢◌, max, true, List, [], ◌∷◌, length, Option, None, Some, Ok}
 use Rattle.std.proofs.Common.{refl, inl, inr, arith, rules}
 use Rattle.std.specs.Option.{IfSome, unwrap_or}
@@ -29,7 +29,7 @@ use Rattle.ps_hoa.proofs.Soundness.SoundHeaders.{HasNoFlaw, keeps_header, sound_
 use Rattle.ps_hoa.proofs.Soundness.SoundLabels.{NamesBelow, below, label_from}
 use Rattle.ps_hoa.proofs.Soundness.SoundLaws.{all_at}
 
--- ## How many states there are
+-- ## The number of states
 
 target_rises : (s : ℕ) (es : List EdgeData) → s ≤ greatest_target s es
 target_rises s [] = omega arith
@@ -89,7 +89,7 @@ all_below (Some n) start rows a = a
 all_below None start rows a = all_map (λ r u. (omega arith, all_map (λ e m. omega arith) r.edges u.1)) rows
     (rows_up_to (greatest_state start rows) start rows (omega arith))
 
--- ## What the checks at `--BODY--` leave
+-- ## Consequences of the checks at `--BODY--`
 
 start_state : (states start : Option ℕ) → (start ≡ None → ⊥) → (IsStartTooLarge states start → ⊥) →
     (IsStartBeyond states start → ⊥) → IsStateOf states (unwrap_or start 0)

@@ -1,6 +1,6 @@
--- A header that was read has no flaw, at most 64 propositions, and aliases that each speak of earlier ones alone.
+-- A parsed header has no flaw, at most 64 propositions, and aliases that use only earlier aliases.
 --     keeps_header      for each header
---     sound_aliases      its aliases
+--     sound_aliases      the aliases of the header are sound
 use Rattle.std.proofs.Common.{◌≡◌, ℕ, ◌+◌, List, [], ◌∷◌, length, Some, refl, inl, inr, arith, rules}
 use Rattle.ps_label.specs.Expression.{Expression}
 use Rattle.ps_text.proofs.Simple.{none_is_some, same_some}

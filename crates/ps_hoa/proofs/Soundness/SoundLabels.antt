@@ -1,7 +1,7 @@
--- A label that was read speaks of propositions and aliases that there are.
---     NamesBelow count e      e speaks of aliases below that number
---     label_from      where it speaks of no proposition beyond, it is sound
---     keeps_label      for each label in its surroundings
+-- A parsed label uses only propositions and aliases that exist.
+--     NamesBelow count e      e uses only aliases with numbers below count
+--     label_from      if e uses no proposition that does not exist, e is sound
+--     keeps_label      for each label in its scope
 use Rattle.std.proofs.Common.{◌≡◌, ℕ, zero, suc, ◌<◌, ◌≤◌, Bool, List, [], ◌∷◌, ◌++◌, length, Some, refl, sym, subst}
 use Rattle.std.proofs.Common.{inl, inr, arith, rules}
 use Rattle.std.specs.List.{AllByRecursion}
@@ -42,7 +42,7 @@ abbrev mutual
 pub below : {count p : ℕ} → (count ≤ p → ⊥) → p < count
 below s = omega arith
 
--- what a label is, from what is read of it
+-- a label is sound because of what was checked when it was parsed
 mutual
   pub label_from : (count names : ℕ) (e : Expression) → NamesBelow names e → (SpeaksBeyond count e → ⊥) →
       IsOver names count e

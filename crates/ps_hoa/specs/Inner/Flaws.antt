@@ -1,6 +1,6 @@
--- What the code says of a header at `--BODY--`.
---     IsSoundHeader h      nothing is wrong with the header
---     IsLeastFlaw h f      f is wrong with it, and nothing with a smaller number
+-- The flaws that the code finds in a header at `--BODY--`.
+--     IsSoundHeader h      the header has no flaw
+--     IsLeastFlaw h f      f is a flaw of the header, and no flaw has a smaller number
 use Rattle.std.specs.Prelude.{◌≤◌, Option}
 use Rattle.ps_hoa.specs.Causes.{cause_number}
 use Rattle.ps_hoa.specs.Header.{HeaderData, IsBadHeader, body_value}

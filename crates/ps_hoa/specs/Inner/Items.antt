@@ -1,4 +1,4 @@
--- What the code's readers of items speak of: by a sign alone, whether it is one of a kind.
+-- The tests on single tokens in the parser of header items.
 use Rattle.std.specs.Prelude.{ℕ, Bool, true, false, List, Option}
 use Rattle.ps_hoa.specs.Header.{HeaderData, alias_value, read_over_value}
 use Rattle.ps_hoa.specs.Tokens.{Sign}

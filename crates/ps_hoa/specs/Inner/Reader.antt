@@ -1,4 +1,4 @@
--- What the code answers where a text must end.
+-- The result of the check whether a text ends.
 use Rattle.std.specs.Prelude.{◌≡◌, [], Some, Result, Ok, Err}
 use Rattle.ps_text.specs.Answers.{Stream}
 use Rattle.ps_text.specs.Parts.{refusal_of}
@@ -8,7 +8,7 @@ use Rattle.ps_hoa.specs.Tokens.{Sign}
 use Rattle.ps_hoa.specs.Causes.{HoaFault}
 use Rattle.ps_text.specs.declared.faults.Fault.TheVariants.{Text}
 
--- the text ends here, or what comes next is not allowed
+-- either the text ends here, or the next token is rejected
 abbrev pub EndsHere : Stream Sign → Result (Unit {0}) HoaFault → Type 0
 EndsHere stream (Ok u) = stream.pieces ≡ []
 EndsHere stream (Err e) =

@@ -1,7 +1,8 @@
--- What the reading functions say of the parts that they read.
---     ReadsAs view part old result new      the part was read from old, and new is left, or its first fault was found
---     Takes view take Bad piece result      the answer to one sign, or to the end of the text: it is taken, it is bad,
---               or it is not allowed there
+-- Contracts of the parsing functions.
+--     ReadsAs view part old result new      either the part was parsed, which leads from `old` to `new`, or the result
+--               is the first error of the part
+--     Takes view take Bad piece result      the result for a single token, or for the end of the text: the token is
+--               taken, has an error, or is not allowed here
 use Rattle.std.specs.Prelude.{◌≡◌, ◌≤◌, ◌⊎◌, Option, None, Some, Result, Ok, Err}
 use Rattle.ps_text.specs.Answers.{Piece}
 use Rattle.ps_text.specs.Parts.{Part, refusal_of}
@@ -16,19 +17,19 @@ use Rattle.ps_text.specs.declared.faults.Fault.TheVariants as faults
 abbrev pub ReadsAs : {V X : Type 0} → (X → V) → Part Sign V HoaCause → Reading → Result X HoaFault → Reading → Type 0
 ReadsAs view part old result new = Meets found_of hoa_causes view part (stream_of old) result (stream_of new)
 
--- of what is wrong with the sign, f has the smallest number
+-- f is an error of this token, and no error of this token has a smaller number
 pub record IsWorst (Bad : Sign → HoaCause → Type 0) (sign : Sign) (f : HoaCause) : Type 0 where
   pub stands : Bad sign f
   pub least : (g : HoaCause) → Bad sign g → cause_number f ≤ cause_number g
 
--- the sign is not taken, and f is its own cause or the grammar's
+-- the token is not taken, and f is the token's own cause or `Syntax`
 pub record IsRefusal {V : Type 0} (take : Sign → Option V) (Bad : Sign → HoaCause → Type 0) (sign : Sign)
     (f : HoaCause) : Type 0 where
   pub none : take sign ≡ None
   pub good : (g : HoaCause) → Bad sign g → ⊥
   pub cause : f ≡ refusal_of hoa_causes (Some sign)
 
--- the sign is taken
+-- the token is taken
 pub record IsTaken {V : Type 0} (take : Sign → Option V) (Bad : Sign → HoaCause → Type 0) (sign : Sign) (v : V) : Type 0
   where
     pub some : take sign ≡ Some v

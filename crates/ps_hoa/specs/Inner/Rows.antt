@@ -1,4 +1,4 @@
--- What the grammar sees of the rows of the code.
+-- The abstract value of the stored rows.
 use Rattle.std.specs.Prelude.{◌≡◌, Some, map}
 use Rattle.ps_hoa.specs.Files.{RowData}
 use Rattle.ps_hoa.specs.Header.{HeaderData}
@@ -9,6 +9,6 @@ use Rattle.ps_hoa.specs.declared.rows.Rows.{Rows}
 abbrev pub body_data : Rows → BodyData
 body_data r = record { rows = map row_data r.rows.items; edges = r.edges }
 
--- the last row has implicit labels that are not one for each letter
+-- the last row has implicit labels, but not exactly one edge for each letter
 abbrev pub IsEndWrong : HeaderData → BodyData → Type 0
 IsEndWrong h body = (row : RowData) × (last_row body ≡ Some row) × IsWrongCount h row

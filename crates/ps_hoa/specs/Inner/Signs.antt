@@ -1,8 +1,8 @@
--- Words for the code's readers of single signs.
---     IsTestOf test kind      this kind passes the test, and no other does
+-- Definitions that the parser of single tokens uses.
+--     IsTestOf test kind      only this kind passes the test
 --     inside text      a text without its first and its last byte
---     IsLeaf part      the part begins with a sign that is an operand by itself, and no text of it continues with any
---               sign
+--     IsLeaf part      each text of the part begins with a token that is an operand by itself, and cannot be continued
+--               by any further token
 use Rattle.std.specs.Prelude.{ℕ, ◌≡◌, Bool, true, false, List, drop}
 use Rattle.ps_text.specs.Parts.{Part}
 use Rattle.ps_text.proofs.Laws.{Laws, Nothing}

@@ -1,4 +1,4 @@
--- The lines of a text, and what is wrong in one line.
+-- The lines of a text, and the errors of a single line.
 use Rattle.std.proofs.Common.{◌≡◌, ◌≢◌, ℕ, zero, suc, ◌+◌, ◌-◌, ◌<◌, ◌≤◌, ◌==◌, ◌⊎◌, Bool, true, false, rules, List, []}
 use Rattle.std.proofs.Common.{◌∷◌, length, get_or, take, drop, ap, ap₂, ◌∙◌, arith, Some, slice_get, length-take}
 use Rattle.std.proofs.Common.{length-drop}
@@ -13,7 +13,7 @@ use Rattle.ps_simulate.specs.StimulusTexts.{lines_of, start_of, digit_of, digits
 
 -- ## Lines
 
--- the first line, up to a newline or the end
+-- the first line reaches to a newline or to the end
 lines_of-first : (bytes : List ℕ) → 0 < length bytes →
     lines_of bytes ≡ take (prefix_len is_inner bytes) bytes ∷ lines_of (drop (prefix_len is_inner bytes + 1) bytes)
 lines_of-first [] some = absurd (omega arith)
@@ -32,13 +32,13 @@ lines_of-drop text start {n} some is =
     lines_of-first bytes (omega (arith, length-drop start text)) ∙
     ap₂ (λ (k : ℕ) (others : List ℕ). take k bytes ∷ lines_of others) first rest
 
--- a line ends where it was found to end
+-- a line ends at the computed offset
 pub line_length : (text : List ℕ) (start end : ℕ) → start ≤ end → end ≤ length text →
     start + length (take (end - start) (drop start text)) ≡ end
 line_length text start end from within =
     omega (arith, length-take (end - start) (drop start text), length-drop start text)
 
--- a line ends before each later one begins
+-- a line ends before each later line begins
 pub start_of-later : (lines : List (List ℕ)) (k m : ℕ) {line : List ℕ} → slice_get lines k ≡ Some line → k < m →
     m ≤ length lines → start_of lines k + length line + 1 ≤ start_of lines m
 start_of-later [] k m there less within = absurd (omega arith)
@@ -57,18 +57,18 @@ digit_is bit = search rules
 pub digit_of-is : (byte : ℕ) → IsDigit byte → digit_of (byte == 49) ≡ byte
 digit_of-is byte h = search rules
 
--- a letter's line is not a divider
+-- the line of a letter is not a divider
 pub digits_of-divider : (letter : List Bool) → digits_of letter ≢ divider
 digits_of-divider [] e = cc
 digits_of-divider (true ∷ letter) e = omega (arith, ap (λ (l : List ℕ). get_or l 0 0) e)
 digits_of-divider (false ∷ letter) e = omega (arith, ap (λ (l : List ℕ). get_or l 0 0) e)
 
--- nothing is wrong with the line of a letter
+-- the line of a letter has no error
 pub letter_none : (letter : List Bool) {line : List ℕ} (start : ℕ) {width : ℕ} (cause : StimulusCause) (offset : ℕ)
     → line ≡ digits_of letter → length letter ≡ width → StandsInLine line start width cause offset → ⊥
 letter_none letter start cause offset h k m = search (rules, length-map, slice_get-map, digit_is)
 
--- the places of the causes of a line
+-- the errors of a line are not before the start of the line
 pub in_line_from : (line : List ℕ) (start width : ℕ) (cause : StimulusCause) (offset : ℕ) →
     StandsInLine line start width cause offset → start ≤ offset
 in_line_from line start width cause offset h = search rules

@@ -1,4 +1,4 @@
--- Each text of a stimulus has an answer: its letters, or the first cause, line by line.
+-- Each text of a stimulus has an answer: its letters, or its first error. The proof goes through the text line by line.
 use Rattle.std.proofs.Common.{◌≡◌, ℕ, zero, suc, ◌+◌, ◌<◌, ◌≤◌, ◌≢◌, ◌==◌, ◌⊎◌, inl, inr, Bool, true, false, cond, List}
 use Rattle.std.proofs.Common.{rules, [], ◌∷◌, length, take, drop, refl, sym, ap, ap₂, arith, Some, Ok, Err, slice_get}
 use Rattle.std.proofs.Common.{length-drop}
@@ -91,7 +91,7 @@ is_divider (b ∷ c ∷ line) = inr (λ e. cc)
 
 -- ## The text
 
--- the first line has that many bytes
+-- the first line has `size` bytes
 abbrev FirstLine : List ℕ → ℕ → Type 0
 FirstLine bytes size = (size ≤ length bytes) × (lines_of bytes ≡ take size bytes ∷ lines_of (drop (suc size) bytes))
 
@@ -119,7 +119,7 @@ module _ (text : List ℕ) (width : ℕ) (split : Bool) where
   at_end false false start s h past e = (Ok s, IsStimulus-end h past (sym e))
   at_end true wanted start s h past e = (Ok s, IsStimulus-end h past (sym (h.wanted refl)))
 
-  -- a line, given an answer from what follows it
+  -- the answer for a line, given an answer for the lines that follow
   module _ (in_lap : Bool) (start size : ℕ) (s : StimulusData) (h : HasRead text width split in_lap start s)
       (some : start < length text) (first : FirstLine (drop start text) size)
       (later : (b : Bool) (t : StimulusData) → HasRead text width split b (start + size + 1) t → Answer) where
@@ -149,7 +149,7 @@ module _ (text : List ℕ) (width : ℕ) (split : Bool) where
     by_line false true e x (inr other) = as_letter (grind (arith, at_line h next ends)) (line_answer line start width)
     by_line false true e x (inl is) = later true s (HasRead-divider (rw e at h) next ends is x)
 
-  -- by recursion over how many bytes are left
+  -- by recursion on the number of remaining bytes
   from_line : (n : ℕ) {in_lap : Bool} {start : ℕ} {s : StimulusData} → HasRead text width split in_lap start s →
       length text ≤ start + n → Answer
   from_line zero {in_lap} {start} {s} h left = at_end in_lap split start s h (omega (arith, left)) refl

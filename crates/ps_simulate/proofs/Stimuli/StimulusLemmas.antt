@@ -1,4 +1,4 @@
--- What the reader of stimuli keeps true, and the answers that it comes to.
+-- The invariant of the parser of stimuli, and the answers that follow from it.
 use Rattle.std.proofs.Common.{◌≡◌, ℕ, zero, suc, ◌+◌, ◌-◌, ◌<◌, ◌⊎◌, inl, inr, Bool, true, false, List, [], ◌∷◌, ◌++◌}
 use Rattle.std.proofs.Common.{map, length, refl, sym, ap, ◌∙◌, arith, Some, slice_get, option_map, All}
 use Rattle.std.proofs.lemmas.List.{length-map, append_assoc}
@@ -9,7 +9,7 @@ use Rattle.ps_simulate.specs.Stimuli.{StimulusData}
 use Rattle.ps_simulate.specs.StimulusTexts.{digits_of, divider, spelled, Divides, IsLetterLine, StandsInLine}
 use Rattle.ps_simulate.proofs.Stimuli.LineLemmas.{digits_of-divider, letter_none}
 
--- ## Elements
+-- ## Entries of lists
 
 slice_get-left : {X : Type 0} (xs ys : List X) (k : ℕ) → k < length xs → slice_get (xs ++ ys) k ≡ slice_get xs k
 slice_get-left [] ys k lt = absurd (omega arith)
@@ -26,7 +26,7 @@ All-slice_get : {X : Type 0} (P : X → Type 0) (xs : List X) (k : ℕ) {x : X} 
 All-slice_get P xs k {x} all there =
     rw (get_or_from_slice_get xs k x x there) at (all k x (slice_get_within xs k x there))
 
--- a line of letters is the line of one of them
+-- a line among the lines of some letters is the line of one of the letters
 pub mapped : (letters : List (List Bool)) (k : ℕ) {line : List ℕ} → slice_get (map digits_of letters) k ≡ Some line
     → (letter : List Bool) × (slice_get letters k ≡ Some letter) × (line ≡ digits_of letter)
 mapped letters k {line} there = grind (arith, slice_get-map, option_map)
@@ -57,7 +57,7 @@ divides_at s rest lines is wanted = record {
   first = grind (arith, no_divider, slice_get-left, length-map, append_assoc);
 }
 
--- nothing is wrong with the lines of the letters
+-- the lines of the letters have no error
 pub no_cause : {split : Bool} (in_lap : Bool) (s : StimulusData) (rest lines : List (List ℕ)) (width : ℕ) →
     lines ≡ spelled in_lap s ++ rest → All (λ letter. length letter ≡ width) s.stem →
     All (λ letter. length letter ≡ width) s.lap → (in_lap ≡ true → split ≡ true) →

@@ -1,4 +1,4 @@
--- The reader of stimuli, line by line.
+-- How the parser of stimuli proceeds, line by line.
 use Rattle.std.proofs.Common.{◌≡◌, ℕ, ◌+◌, ◌<◌, ◌≤◌, ◌⊎◌, inl, inr, Bool, true, false, List, [], ◌∷◌, ◌++◌, map, length}
 use Rattle.std.proofs.Common.{rules, drop, refl, sym, ap, ◌∙◌, arith, Some, Err, slice_get, All, length-append}
 use Rattle.std.specs.Prelude.{Vec}
@@ -57,7 +57,7 @@ module _ {text : List ℕ} {width : ℕ} {split in_lap : Bool} {start end : ℕ}
     end_is : end + 1 ≡ extent (spelled in_lap s ++ line ∷ [])
     end_is = search (rules, sum_by_push)
 
-    -- a letter's line
+    -- the line of a letter
     pub HasRead-letter : (letter : List Bool) → line ≡ digits_of letter → length line ≡ width →
         HasRead text width split in_lap (end + 1) (with_letter in_lap s letter)
     HasRead-letter letter is each = grind (
@@ -69,7 +69,7 @@ module _ {text : List ℕ} {width : ℕ} {split in_lap : Bool} {start end : ℕ}
       no_lap_with in_lap s letter h.no_lap,
     )
 
-    -- where line `length (spelled in_lap s)` begins
+    -- the next line after those that were read
     pub at_line : slice_get (lines_of text) (length (spelled in_lap s)) ≡ Some line
     at_line = ap (λ (ls : List (List ℕ)). slice_get ls (length (spelled in_lap s))) behind ∙ slice_get-right
         (spelled in_lap s) (line ∷ lines_of (drop (end + 1) text)) (length (spelled in_lap s)) 0 (omega arith)
@@ -77,7 +77,7 @@ module _ {text : List ℕ} {width : ℕ} {split in_lap : Bool} {start end : ℕ}
     start_here : start_of (lines_of text) (length (spelled in_lap s)) ≡ start
     start_here = search (rules, behind, take_at)
 
-    -- the first cause in a line is the first in the text
+    -- the first error in the current line is the first error in the text
     pub IsFirst-in_line : start < length text → end ≤ length text →
         ¬ Divides split (lines_of text) (length (spelled in_lap s)) → {cause : StimulusCause} {offset : ℕ} →
         IsFirst (StandsInLine line start width) cause offset → IsFirst (Stands text width split) cause offset
@@ -106,7 +106,7 @@ module _ {text : List ℕ} {width : ℕ} {split in_lap : Bool} {start end : ℕ}
                 let from = in_line_from l.line _ width other there l.in_line in
                 inl (grind (arith, bound, start_here)))
 
--- the divider's line
+-- the line of the divider
 pub HasRead-divider : {text : List ℕ} {width : ℕ} {split : Bool} {start end : ℕ} {s : StimulusData} →
     HasRead text width split false start s → {line : List ℕ}
     → lines_of (drop start text) ≡ line ∷ lines_of (drop (end + 1) text) → start + length line ≡ end → line ≡ divider →
@@ -114,7 +114,7 @@ pub HasRead-divider : {text : List ℕ} {width : ℕ} {split : Bool} {start end 
 HasRead-divider {text} {width} {split} {start} {end} {s} h {line} next length_is is wanted =
     grind (arith, pushed h next length_is, end_is h next length_is)
 
--- a letter's line is not a divider that is required
+-- the line of a letter is not the required divider
 pub not_divides : {text : List ℕ} {width : ℕ} {split : Bool} (in_lap : Bool) {start : ℕ} {s : StimulusData} →
     HasRead text width split in_lap start s
     → (in_lap ≡ true) ⊎ (¬ (slice_get (lines_of text) (length (spelled in_lap s)) ≡ Some divider) ⊎ (split ≡ false)) →
@@ -159,9 +159,9 @@ IsFirst-end {text} {width} {split} {start} {s} h past wanted = record {
   ];
 }
 
--- ## What the code has
+-- ## The values of the code
 
--- the same letters
+-- the invariant holds for lists of letters that are equal
 pub HasRead-same : (text : List ℕ) (width : ℕ) (split in_lap in_lap' : Bool) (start : ℕ)
     (stem stem' lap lap' : List (List Bool)) → in_lap ≡ in_lap' → stem ≡ stem' → lap ≡ lap'
     → HasRead text width split in_lap start (record { stem = stem; lap = lap }) →
@@ -172,7 +172,7 @@ pub letters_of-push : (letters : List (Vec Bool Global)) (letter : Vec Bool Glob
     letters_of (letters ++ letter ∷ []) ≡ letters_of letters ++ letter.items ∷ []
 letters_of-push letters letter = map_push (λ (l : Vec Bool Global). l.items) letters letter
 
--- the fault of a line is the answer to the text
+-- the first error in the current line is the answer to the text
 pub IsStimulusAnswer-line : {text : List ℕ} {width : ℕ} {split in_lap : Bool} {start end : ℕ} {s : StimulusData} →
     HasRead text width split in_lap start s → {line : List ℕ}
     → lines_of (drop start text) ≡ line ∷ lines_of (drop (end + 1) text) → start + length line ≡ end →

@@ -17,7 +17,7 @@ maps_agree f g (x ∷ xs) d same =
 -- ---- steps
 
 module _ (c : CircuitData) (is : IsCircuit c) (one : HasOneValues c) where
-  -- the outputs of a step, and the latches after it
+  -- the outputs of a step and the latches after it are unique
   steps_agree : (latches inputs outputs next outputs' next' : List Bool) → Steps c latches inputs outputs next →
       Steps c latches inputs outputs' next' → (outputs ≡ outputs') × (next ≡ next')
   steps_agree latches inputs outputs next outputs' next' a b =
@@ -28,7 +28,7 @@ module _ (c : CircuitData) (is : IsCircuit c) (one : HasOneValues c) where
       c.latches no_latch (λ k lt. agree _ (next_known is k no_latch lt)) in
       (a.outputs_are ∙ outputs_agree ∙ sym b.outputs_are, a.next_are ∙ next_agree ∙ sym b.next_are)
 
-  -- two first moments with the same inputs, and the latches after them
+  -- two steps from the same latch values with the same inputs are equal, and lead to the same latch values
   pub firsts_agree : (latches next next' : List Bool) (m n : Moment) → m.latches ≡ latches → n.latches ≡ latches →
       Steps c latches m.inputs m.outputs next → Steps c latches n.inputs n.outputs next' → m.inputs ≡ n.inputs →
       (m ≡ n) × (next ≡ next')

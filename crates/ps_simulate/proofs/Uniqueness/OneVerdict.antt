@@ -1,4 +1,4 @@
--- A circuit has one verdict at most.
+-- A circuit has at most one verdict.
 use Rattle.std.proofs.Common.{◌≡◌, ◌∙◌, ℕ, zero, suc, ◌<◌, ◌≤◌, inl, inr, Bool, List, [], ◌∷◌, ◌++◌, map, get_or}
 use Rattle.std.proofs.Common.{length, refl, sym, ap, arith, rules, append_assoc}
 use Rattle.std.specs.Prelude.{◌↔◌, IsTrue}
@@ -16,7 +16,7 @@ use Rattle.ps_simulate.proofs.Uniqueness.OneTrace.{firsts_agree}
 use Rattle.ps_simulate.proofs.Uniqueness.OneLetter.{one_letters}
 use Rattle.ps_simulate.proofs.LassoLemmas.{along_more, at_end, length_trace}
 
--- fewer laps come first
+-- the word of n laps begins with the word of j laps, if j is at most n
 laps_front : (lap : List (List Bool)) (j n : ℕ) → j ≤ n → (more : List (List Bool)) ×
     (laps_of lap n ≡ laps_of lap j ++ more)
 laps_front lap j zero le = search (rules, append-nil)
@@ -31,7 +31,7 @@ module _ {c : CircuitData} (is_circuit : IsCircuit c) (one : HasOneValues c) whe
   Behind ms last ns last' more =
       (rest : List Moment) × (ns ≡ ms ++ rest) × GoesOn c last rest last' × (map (λ m. m.inputs) rest ≡ more)
 
-  -- a trace whose letters begin with those of another begins with it
+  -- a trace whose letters begin with those of another trace begins with that trace
   goes_behind : (latches last last' : List Bool) (ms ns : List Moment) (more : List (List Bool)) →
       GoesOn c latches ms last → GoesOn c latches ns last'
       → map (λ m. m.inputs) ns ≡ map (λ m. m.inputs) ms ++ more → Behind ms last ns last' more

@@ -1,4 +1,5 @@
--- How the names of propositions are found among the symbols of a circuit. (For private functions.)
+-- How the code finds the names of propositions among the symbols of a circuit. Only private contracts use these
+-- definitions.
 use Rattle.std.specs.Prelude.{◌≡◌, ℕ, ◌<◌, ◌≤◌, Bool, false, List, [], length, map, Option, None, Some, slice_index_or}
 use Rattle.ps_hoa.specs.Files.{is_among}
 use Rattle.ps_hoa.specs.Memory.{bytes_of}
@@ -6,14 +7,14 @@ use Rattle.ps_circuit.specs.Circuits.{CircuitData}
 use Rattle.ps_simulate.specs.Symbols.{IsSymbol}
 use Rattle.ps_simulate.specs.declared.naming.Naming.{Naming}
 
--- the proposition that is looked for, or that there is none
+-- the proposition that the symbol names, or `None` if there is no such proposition
 abbrev pub IsPropositionOf : List (List ℕ) → List ℕ → Bool → List ℕ → Option ℕ → Type 0
 IsPropositionOf names controllable wanted symbol (Some p) =
     (p < length names) × (slice_index_or names p [] ≡ symbol) × (is_among p controllable ≡ wanted)
 IsPropositionOf names controllable wanted symbol None =
     (p : ℕ) → p < length names → is_among p controllable ≡ wanted → ¬ (slice_index_or names p [] ≡ symbol)
 
--- the first symbols have their places
+-- the indices of the first `count` symbols are stored at the propositions that they name
 pub record ArePut (names : List (List ℕ)) (controllable : List ℕ) (wanted : Bool) (symbols : List (Option (List ℕ)))
     (count : ℕ) (places : List (Option ℕ)) : Type 0 where
   pub size : length places ≡ length names
@@ -22,7 +23,7 @@ pub record ArePut (names : List (List ℕ)) (controllable : List ℕ) (wanted : 
   pub is : (p k : ℕ) → slice_index_or places p None ≡ Some k → IsSymbol names symbols k p
   pub side : (p k : ℕ) → slice_index_or places p None ≡ Some k → is_among p controllable ≡ wanted
 
--- a proposition has the place of the symbol that is its name, and has one only on that side
+-- a proposition has the index of the symbol that names it, and only propositions of the wanted kind have an index
 pub record ArePlacesOf (names : List (List ℕ)) (controllable : List ℕ) (wanted : Bool)
     (symbols : List (Option (List ℕ))) (places : List (Option ℕ)) : Type 0 where
   pub size : length places ≡ length names
@@ -33,7 +34,7 @@ pub record ArePlacesOf (names : List (List ℕ)) (controllable : List ℕ) (want
 abbrev pub names_of : Naming → List (List ℕ)
 names_of naming = map bytes_of naming.names.now
 
--- no input has the name of an output
+-- the naming belongs to the circuit, and no input has the name of an output
 pub record IsNaming (c : CircuitData) (naming : Naming) : Type 0 where
   pub few : length naming.names.now ≤ 64
   pub inputs_size : length naming.inputs.items ≡ length naming.names.now

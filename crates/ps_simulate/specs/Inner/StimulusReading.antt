@@ -1,4 +1,4 @@
--- The invariants of the reader of stimuli.
+-- The invariants of the parser of stimuli.
 use Rattle.std.specs.Prelude.{◌≡◌, ℕ, Bool, true, false, List, [], ◌++◌, length, drop, All, Result, Ok, Err, Vec}
 use Rattle.std.specs.Global.{Global}
 use Rattle.ps_simulate.specs.Faults.{StimulusFault}
@@ -6,7 +6,7 @@ use Rattle.ps_text.specs.declared.faults.Fault.TheVariants.{Text, OutOfMemory}
 use Rattle.ps_simulate.specs.Stimuli.{StimulusData}
 use Rattle.ps_simulate.specs.StimulusTexts.{lines_of, extent, spelled, digits_of, StandsInLine, IsFirst}
 
--- the lines before that place spell these letters, and the divider if the lap has begun
+-- the lines before this offset spell these letters, and the divider if the lap has begun
 pub record HasRead (text : List ℕ) (width : ℕ) (split in_lap : Bool) (start : ℕ) (s : StimulusData) : Type 0 where
   pub lines : lines_of text ≡ spelled in_lap s ++ lines_of (drop start text)
   pub start_is : start ≡ extent (spelled in_lap s)
@@ -15,7 +15,7 @@ pub record HasRead (text : List ℕ) (width : ℕ) (split in_lap : Bool) (start 
   pub wanted : in_lap ≡ true → split ≡ true
   pub no_lap : in_lap ≡ false → s.lap ≡ []
 
--- a line that begins there, as a letter: its bits, or the first cause in it
+-- the result for a line that should be a letter: its bits, or the first error in the line
 abbrev pub ReadsLine : List ℕ → ℕ → ℕ → Result (Vec Bool Global) StimulusFault → Type 0
 ReadsLine line start width (Ok letter) = (line ≡ digits_of letter.items) × (length line ≡ width)
 ReadsLine line start width (Err (Text cause offset)) = IsFirst (StandsInLine line start width) cause offset

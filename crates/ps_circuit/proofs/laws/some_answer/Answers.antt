@@ -1,4 +1,4 @@
--- The law is a lemma.
+-- This law is the lemma `some_reading`.
 use Rattle.ps_circuit.proofs.SomeReading.{some_reading}
 use Rattle.ps_circuit.proofs.laws.some_answer.Goals as goal
 

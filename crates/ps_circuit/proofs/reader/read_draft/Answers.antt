@@ -17,7 +17,7 @@ use Rattle.ps_circuit.proofs.reader.read_draft.Goals as goal
 use Rattle.ps_circuit.proofs.reader.read_draft.Goals.{After-lines, After-lines-2, After-lines-3, After-lines-4}
 use Rattle.ps_circuit.proofs.reader.read_draft.Goals.{After-symbols}
 
--- ## What is left after each section
+-- ## The rest of the text after each section
 
 abbrev one : After-lines-2 → After-lines
 one c = (goal.at.After-lines-2 c).After-lines
@@ -101,7 +101,7 @@ none_yet c =
     (omega (arith, c.len-2.ensures, c.in_ok-latches.latches.ok.0))
     (omega (arith, c.len-3.ensures, c.in_ok-outputs.outputs.ok.0))
 
--- ## The exits
+-- ## The ways in which the function can return
 
 pub returns-in_err-header-clause-exact : goal.returns-in_err-header-clause-exact
 returns-in_err-header-clause-exact c = draft_fails c.args.text.now _ _ c.of_lines-cursor.ensures.stream

@@ -41,7 +41,7 @@ labels_last : (before : ℕ) (row : RowData) → before + length row.edges < edg
     OfRow before row n g → cause_number Labels ≤ cause_number g
 labels_last before row room n g h = grind arith
 
--- how many edges there are, by what the code found
+-- whether the text has too many edges, as the code tests it
 module _ (edges : List Edge) {count len : ℕ} (is : count ≡ length edges) (told : len ≡ count) {before : ℕ} where
   is_full : 1048576 - before ≤ len → before ≤ 1048576 → edge_limit ≤ before + length (map edge_data edges)
   is_full h b = omega (arith, length-map edges edge_data)

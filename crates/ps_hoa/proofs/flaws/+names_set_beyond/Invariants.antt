@@ -7,7 +7,7 @@ use Rattle.ps_hoa.proofs.flaws.+names_set_beyond.Given as goal
 abbrev pub decreases-names_set_beyond : goal.decreases-names_set_beyond
 decreases-names_set_beyond l = goal.size-names_set_beyond l
 
--- the operands still to come decide
+-- the remaining operands decide the result
 abbrev pub invariant-loop-operand : goal.invariant-loop-operand
 invariant-loop-operand l =
     SomeNamesSetBeyond l.count (row_of (map condition_of (drop l.operand-index l.operand-items))) ↔ NamesSetBeyond

@@ -7,7 +7,7 @@ use Rattle.ps_hoa.proofs.flaws.+speaks_beyond.Given as goal
 abbrev pub decreases-speaks_beyond : goal.decreases-speaks_beyond
 decreases-speaks_beyond l = goal.size-speaks_beyond l
 
--- the operands still to come decide
+-- the remaining operands decide the result
 abbrev pub invariant-loop-operand : goal.invariant-loop-operand
 invariant-loop-operand l =
     SomeSpeaksBeyond l.count (row_of (expressions (drop l.operand-index l.operand-items))) ↔ SpeaksBeyond l.count

@@ -8,7 +8,7 @@ use Rattle.ps_hoa.proofs.Grammar.WholeHeader.{item_loop, item_begins, item_elsew
 use Rattle.ps_hoa.proofs.Reading.Exits.{exit, loop_more, loop_fails, loop_ends, loop_shrinks}
 use Rattle.ps_hoa.proofs.items.items.Goals as goal
 
--- an item comes next if the code finds one
+-- the next token begins an item exactly if the code finds an item
 at_next : (s : Stream Sign) {piece : Piece Sign} {o : Option Item} → piece ≡ next_of s → o ≡ item_in piece.sign →
     is_some (item_in (next_of s).sign) ≡ is_some o
 at_next s {piece} n e = sym (ap (λ (p : Piece Sign). is_some (item_in p.sign)) n) ∙ ap is_some (sym e)

@@ -1,4 +1,4 @@
--- The law is a lemma.
+-- This law is the lemma `some_reading`.
 use Rattle.ps_hoa.proofs.Outcomes.SomeReading.{some_reading}
 use Rattle.ps_hoa.proofs.laws.some_answer.Goals as goal
 

@@ -1,4 +1,4 @@
--- The law is a lemma.
+-- This law is the lemma `sound_file`.
 use Rattle.ps_hoa.proofs.Soundness.SoundFiles.{sound_file}
 use Rattle.ps_hoa.proofs.laws.sound_files.Goals as goal
 

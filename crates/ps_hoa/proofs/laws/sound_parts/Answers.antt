@@ -1,4 +1,4 @@
--- The laws are lemmas.
+-- Each clause of this law is a lemma.
 use Rattle.ps_hoa.proofs.Soundness.SoundLaws.{sound_row, row_of_state, sound_edge}
 use Rattle.ps_hoa.proofs.laws.sound_parts.Goals as goal
 

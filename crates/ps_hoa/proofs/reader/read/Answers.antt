@@ -21,7 +21,7 @@ use Rattle.ps_hoa.proofs.reader.read.Goals as goal
 abbrev seen : FileData → FileData
 seen x = x
 
--- what a header and a body that were read say together is sound
+-- the file of a parsed header and a parsed body is sound
 sound : {old mid new : Stream Sign} {h : HeaderData} {b : BodyData} → Reads header old h mid →
     Reads (body h) mid b new → IsSoundFile (file_of h b)
 sound {h = h} {b = b} m n =
@@ -48,7 +48,7 @@ returns-in_err-finish-clause-answer c =
 pub file-requires : goal.file-requires
 file-requires c = sound c.in_ok-header.ensures c.in_ok-rows.ensures
 
--- what holds of the file where it was made, and of the fault that there was no memory for it
+-- the assembly returns either a file with the right value, or out of memory
 made : (text : List ℕ) (v : FileData) (r : Result HoaFile HoaFault) →
     ((x : HoaFile) → seen x ≡ v → IsFileAnswer seen text (Ok x)) →
     IfOk r (λ x. seen x ≡ v) → IfErr r (λ e. e ≡ OutOfMemory) → IsFileAnswer seen text r

@@ -6,7 +6,7 @@ use Rattle.ps_simulate.specs.LassoRuns.{RepeatsBy}
 use Rattle.ps_simulate.proofs.LassoLemmas.{few_letters, lap_within_items, verdict}
 use Rattle.ps_simulate.proofs.lassos.verdict_of.Goals as goal
 
--- the letters of which the automaton is asked
+-- the letters that the automaton reads are letters over its propositions
 few : {names all : List (List ℕ)} {c : CircuitData} {stem lap : List (List Bool)} {i : ℕ} {letters : List ℕ} →
     names ≡ all → RepeatsBy names c stem lap i letters → All (λ letter. letter < 2 ^ length all) letters
 few {names} {c} {letters} same h = λ k d lt. rw same at (few_letters names c h.trace letters h.are_letters k d lt)

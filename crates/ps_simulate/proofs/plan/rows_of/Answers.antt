@@ -11,7 +11,7 @@ use Rattle.ps_simulate.proofs.PlacesLemmas.{gate_known, sides_known}
 use Rattle.ps_simulate.proofs.plan.rows_of.Goals as goal
 use Rattle.ps_simulate.proofs.plan.rows_of.Goals.{After-order-order}
 
--- an item of the order is the place of a gate
+-- an entry of the order is the index of a gate
 within : (c : After-order-order) (k : ℕ) → k < length c.order-order.result.now →
     get_or c.order-order.result.now k 0 < length c.args.circuit.now.gates
 within c k lt = c.order-order.ensures.within k _ (slice_get-get_or c.order-order.result.now k 0 lt)

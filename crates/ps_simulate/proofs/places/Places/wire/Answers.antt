@@ -7,7 +7,7 @@ use Rattle.ps_simulate.proofs.PlacesLemmas.{place_known, variables_once}
 use Rattle.ps_simulate.proofs.places.Places.wire.Goals as goal
 use Rattle.ps_simulate.proofs.places.Places.wire.Goals.{After-place}
 
--- the table has the place of the literal's variable
+-- the table has the index of the literal's variable
 found : (c : After-place) → c.place.result ≡ Some (place_of c.args.self.now (variable c.args.literal))
 found c = search (rules, place_known, position, position_here, variables_once)
 
@@ -17,6 +17,6 @@ unwrap-place-requires c = rw (found (goal.at.unwrap-place-requires c).After-plac
 pub returns : goal.returns
 returns c = grind (arith, found)
 
--- a circuit has fewer places than numbers of 4 bytes
+-- the number of a circuit's variables fits into 4 bytes
 pub overflow_cast-result : goal.overflow_cast-result
 overflow_cast-result c = grind (arith, few_variables c.self.invariant.1, c.place.ensures.within)
