@@ -4,4 +4,5 @@ pub mod ComponentLists
 pub mod Trails
 pub mod Orders
 pub mod Searching
+pub mod Searches
 pub mod Inner

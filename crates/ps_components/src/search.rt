@@ -4,8 +4,9 @@
 ghost use Rattle.std.specs.Prelude.{◌≡◌, ℕ, ◌<◌, ◌≤◌, ◌++◌, ◌∷◌, [], ◌-◌, All, length, slice_get, slice_set, Some};
 ghost use Rattle.std.specs.Prelude.{OnOk, IfOk, ◌^◌};
 ghost use Rattle.ps_components.specs.Graphs.{Way, Link};
-ghost use Rattle.ps_components.specs.Searching.{IsSoundSearch, IsSettled, KeepsMarks, ChangesReached, turns, waits};
-ghost use Rattle.ps_components.specs.Searching.{IsSoundBut, IsCut, AreListed, HasMet, close_all};
+ghost use Rattle.ps_components.specs.Searching.{IsSettled, IsCut, AreListed, close_all, waits};
+ghost use Rattle.ps_components.specs.Searches.{IsSound, IsSoundButFor, IsIdle, IsFresh, HasVisited, Visits, Runs};
+ghost use Rattle.ps_components.specs.Searches.{Advances, Enters, Merges, Takes};
 ghost use Rattle.ps_components.specs.declared.search.Pending.{Pending};
 
 use crate::graph::Graph;
@@ -34,10 +35,7 @@ pub struct Search {
 impl Search {
     /// A search that has visited no vertex. Fails if out of memory.
     pub fn new<G: Graph>(alloc: Global, graph: &G) -> Result<Self, AllocError>
-        ensures sound { IfOk result (λ s. IsSoundSearch (G.graph graph.now) s.marks s.active.items s.bounds.items
-            s.pending.items s.order.items) }
-        ensures ended { IfOk result (λ s. length s.bounds.items ≡ 0) }
-        ensures unseen { IfOk result (λ s. All (λ m. m ≡ Mark.Unseen) s.marks) }
+        ensures { IfOk result (IsFresh (G.graph graph.now)) }
     {
         Ok(Search {
             marks: Marks::unseen(alloc, graph.count())?,
@@ -75,10 +73,7 @@ impl Search {
     pub fn again<G: Graph>(&mut self, graph: &G, roots: &[usize]) -> Result<(), AllocError>
         requires listed { AreListed self.old.marks self.old.order.items }
         requires within { All (λ v. v < (G.graph graph.now).count) roots.now }
-        ensures sound { OnOk result (IsSoundSearch (G.graph graph.now) self.new.marks self.new.active.items
-            self.new.bounds.items self.new.pending.items self.new.order.items) }
-        ensures ended { OnOk result (length self.new.bounds.items ≡ 0) }
-        ensures met { OnOk result (HasMet (G.graph graph.now) roots.now self.new.marks) }
+        ensures { OnOk result (HasVisited (G.graph graph.now) roots.now self.new) }
     {
         self.renew(graph)?;
         self.visit_each(graph, roots)
@@ -87,10 +82,7 @@ impl Search {
     /// Resets the marks of all marked items, which `order` lists, and prepares for a graph. Fails if out of memory.
     fn renew<G: Graph>(&mut self, graph: &G) -> Result<(), AllocError>
         requires { AreListed self.old.marks self.old.order.items }
-        ensures sound { OnOk result (IsSoundSearch (G.graph graph.now) self.new.marks self.new.active.items
-            self.new.bounds.items self.new.pending.items self.new.order.items) }
-        ensures ended { OnOk result (length self.new.bounds.items ≡ 0) }
-        ensures unseen { OnOk result (All (λ m. m ≡ Mark.Unseen) self.new.marks) }
+        ensures { OnOk result (IsFresh (G.graph graph.now) self.new) }
     {
         unmark(&mut self.marks, &self.order);
         self.marks.resize(graph.count())?;
@@ -104,14 +96,8 @@ impl Search {
     /// Visits the roots and all vertices reachable from them. Fails if out of memory.
     fn visit_each<G: Graph>(&mut self, graph: &G, roots: &[usize]) -> Result<(), AllocError>
         requires within { All (λ v. v < (G.graph graph.now).count) roots.now }
-        requires sound { IsSoundSearch (G.graph graph.now) self.old.marks self.old.active.items
-            self.old.bounds.items self.old.pending.items self.old.order.items }
-        requires ended { length self.old.bounds.items ≡ 0 }
-        requires unseen { All (λ m. m ≡ Mark.Unseen) self.old.marks }
-        ensures sound { OnOk result (IsSoundSearch (G.graph graph.now) self.new.marks self.new.active.items
-            self.new.bounds.items self.new.pending.items self.new.order.items) }
-        ensures ended { OnOk result (length self.new.bounds.items ≡ 0) }
-        ensures met { OnOk result (HasMet (G.graph graph.now) roots.now self.new.marks) }
+        requires fresh { IsFresh (G.graph graph.now) self.old }
+        ensures { OnOk result (HasVisited (G.graph graph.now) roots.now self.new) }
     {
         for &root in roots {
             self.visit(graph, root)?;
@@ -122,16 +108,8 @@ impl Search {
     /// Visits an item and all items reachable from it, unless the item was seen before. Fails if out of memory.
     pub fn visit<G: Graph>(&mut self, graph: &G, item: usize) -> Result<(), AllocError>
         requires within { item < (G.graph graph.now).count }
-        requires sound { IsSoundSearch (G.graph graph.now) self.old.marks self.old.active.items
-            self.old.bounds.items self.old.pending.items self.old.order.items }
-        requires ended { length self.old.bounds.items ≡ 0 }
-        ensures sound { OnOk result (IsSoundSearch (G.graph graph.now) self.new.marks self.new.active.items
-            self.new.bounds.items self.new.pending.items self.new.order.items) }
-        ensures ended { OnOk result (length self.new.bounds.items ≡ 0) }
-        ensures kept { OnOk result (KeepsMarks self.old.marks self.new.marks) }
-        ensures seen { OnOk result (¬ (slice_get self.new.marks item ≡ Some Mark.Unseen)) }
-        ensures reached { OnOk result (ChangesReached (G.graph graph.now) (item ∷ []) self.old.marks
-            self.new.marks) }
+        requires idle { IsIdle (G.graph graph.now) self.old }
+        ensures { OnOk result (Visits (G.graph graph.now) item self.old self.new) }
     {
         if let Mark::Unseen = self.marks.at(item) {
             self.enter(graph, item)?;
@@ -142,14 +120,8 @@ impl Search {
 
     /// Visits all items reachable from the path. Fails if out of memory.
     fn run<G: Graph>(&mut self, graph: &G) -> Result<(), AllocError>
-        requires { IsSoundSearch (G.graph graph.now) self.old.marks self.old.active.items self.old.bounds.items
-            self.old.pending.items self.old.order.items }
-        ensures sound { OnOk result (IsSoundSearch (G.graph graph.now) self.new.marks self.new.active.items
-            self.new.bounds.items self.new.pending.items self.new.order.items) }
-        ensures ended { OnOk result (length self.new.bounds.items ≡ 0) }
-        ensures kept { OnOk result (KeepsMarks self.old.marks self.new.marks) }
-        ensures reached { OnOk result (ChangesReached (G.graph graph.now) self.old.active.items self.old.marks
-            self.new.marks) }
+        requires { IsSound (G.graph graph.now) self.old }
+        ensures { OnOk result (Runs (G.graph graph.now) self.old self.new) }
     {
         while let Some(&bound) = self.bounds.last() {
             self.step(graph, bound)?;
@@ -161,16 +133,8 @@ impl Search {
     /// memory.
     fn step<G: Graph>(&mut self, graph: &G, bound: usize) -> Result<(), AllocError>
         requires last { slice_get self.old.bounds.items (length self.old.bounds.items - 1) ≡ Some bound }
-        requires sound { IsSoundSearch (G.graph graph.now) self.old.marks self.old.active.items
-            self.old.bounds.items self.old.pending.items self.old.order.items }
-        ensures sound { OnOk result (IsSoundSearch (G.graph graph.now) self.new.marks self.new.active.items
-            self.new.bounds.items self.new.pending.items self.new.order.items) }
-        ensures fewer { OnOk result (turns (G.graph graph.now) self.new.marks self.new.bounds.items
-            self.new.pending.items < turns (G.graph graph.now) self.old.marks self.old.bounds.items
-            self.old.pending.items) }
-        ensures kept { OnOk result (KeepsMarks self.old.marks self.new.marks) }
-        ensures reached { OnOk result (ChangesReached (G.graph graph.now) self.old.active.items self.old.marks
-            self.new.marks) }
+        requires sound { IsSound (G.graph graph.now) self.old }
+        ensures { OnOk result (Advances (G.graph graph.now) self.old self.new) }
     {
         let Some(&pending) = self.pending.last() else {
             return self.close(graph, bound);
@@ -196,16 +160,8 @@ impl Search {
         requires unseen { slice_get self.old.marks pending.to ≡ Some Mark.Unseen }
         requires reached { (p v : ℕ) → slice_get self.old.active.items p ≡ Some v →
             Way (Link (G.graph graph.now)) v pending.to }
-        requires sound { IsSoundSearch (G.graph graph.now) self.old.marks self.old.active.items
-            self.old.bounds.items self.old.pending.items self.old.order.items }
-        ensures sound { OnOk result (IsSoundSearch (G.graph graph.now) self.new.marks self.new.active.items
-            self.new.bounds.items self.new.pending.items self.new.order.items) }
-        ensures fewer { OnOk result (turns (G.graph graph.now) self.new.marks self.new.bounds.items
-            self.new.pending.items < turns (G.graph graph.now) self.old.marks self.old.bounds.items
-            self.old.pending.items) }
-        ensures kept { KeepsMarks self.old.marks self.new.marks }
-        ensures entered { OnOk result (self.new.marks ≡ slice_set self.old.marks pending.to
-            (Mark.Active (length self.old.active.items))) }
+        requires sound { IsSound (G.graph graph.now) self.old }
+        ensures { OnOk result (Enters (G.graph graph.now) pending.to self.old self.new) }
     {
         self.pending.pop();
         self.enter(graph, pending.to)
@@ -217,17 +173,8 @@ impl Search {
         requires unseen { slice_get self.old.marks item ≡ Some Mark.Unseen }
         requires reached { (p v : ℕ) → slice_get self.old.active.items p ≡ Some v →
             Way (Link (G.graph graph.now)) v item }
-        requires sound { IsSoundBut (G.graph graph.now) item self.old.marks self.old.active.items
-            self.old.bounds.items self.old.pending.items self.old.order.items }
-        ensures sound { OnOk result (IsSoundSearch (G.graph graph.now) self.new.marks self.new.active.items
-            self.new.bounds.items self.new.pending.items self.new.order.items) }
-        ensures fewer { OnOk result (turns (G.graph graph.now) self.new.marks self.new.bounds.items
-            self.new.pending.items < turns (G.graph graph.now) self.old.marks self.old.bounds.items
-            self.old.pending.items) }
-        ensures kept { KeepsMarks self.old.marks self.new.marks }
-        ensures entered { OnOk result (self.new.marks ≡ slice_set self.old.marks item
-            (Mark.Active (length self.old.active.items))) }
-        ensures path { OnOk result (self.new.active.items ≡ self.old.active.items ++ item ∷ []) }
+        requires sound { IsSoundButFor (G.graph graph.now) item self.old }
+        ensures { OnOk result (Enters (G.graph graph.now) item self.old self.new) }
     {
         let place = self.active.len();
         self.active.push(item)?;
@@ -245,14 +192,8 @@ impl Search {
             Link (G.graph graph.now) v pending.to }
         requires last { (k b : ℕ) → slice_get self.old.bounds.items k ≡ Some b → b ≤ pending.from }
         requires marked { slice_get self.old.marks pending.to ≡ Some (Mark.Active place) }
-        requires sound { IsSoundSearch (G.graph graph.now) self.old.marks self.old.active.items
-            self.old.bounds.items self.old.pending.items self.old.order.items }
-        ensures sound { IsSoundSearch (G.graph graph.now) self.new.marks self.new.active.items
-            self.new.bounds.items self.new.pending.items self.new.order.items }
-        ensures settled { IsSettled self.new.marks self.new.bounds.items pending.from pending.to }
-        ensures marks { self.new.marks ≡ self.old.marks }
-        ensures shorter { length self.new.bounds.items ≤ length self.old.bounds.items }
-        ensures pending { self.new.pending.items ≡ self.old.pending.items }
+        requires sound { IsSound (G.graph graph.now) self.old }
+        ensures { Merges (G.graph graph.now) pending self.old self.new }
     {
         cut(&mut self.bounds, place);
     }
@@ -261,13 +202,8 @@ impl Search {
     fn take<G: Graph>(&mut self, graph: &G, pending: Pending)
         requires last { slice_get self.old.pending.items (length self.old.pending.items - 1) ≡ Some pending }
         requires settled { IsSettled self.old.marks self.old.bounds.items pending.from pending.to }
-        requires sound { IsSoundSearch (G.graph graph.now) self.old.marks self.old.active.items
-            self.old.bounds.items self.old.pending.items self.old.order.items }
-        ensures sound { IsSoundSearch (G.graph graph.now) self.new.marks self.new.active.items
-            self.new.bounds.items self.new.pending.items self.new.order.items }
-        ensures fewer { turns (G.graph graph.now) self.new.marks self.new.bounds.items self.new.pending.items <
-            turns (G.graph graph.now) self.old.marks self.old.bounds.items self.old.pending.items }
-        ensures marks { self.new.marks ≡ self.old.marks }
+        requires sound { IsSound (G.graph graph.now) self.old }
+        ensures { Takes (G.graph graph.now) self.old self.new }
     {
         self.pending.pop();
     }
@@ -276,16 +212,8 @@ impl Search {
     fn close<G: Graph>(&mut self, graph: &G, bound: usize) -> Result<(), AllocError>
         requires last { slice_get self.old.bounds.items (length self.old.bounds.items - 1) ≡ Some bound }
         requires done { (i : ℕ) (e : Pending) → slice_get self.old.pending.items i ≡ Some e → e.from < bound }
-        requires sound { IsSoundSearch (G.graph graph.now) self.old.marks self.old.active.items
-            self.old.bounds.items self.old.pending.items self.old.order.items }
-        ensures sound { OnOk result (IsSoundSearch (G.graph graph.now) self.new.marks self.new.active.items
-            self.new.bounds.items self.new.pending.items self.new.order.items) }
-        ensures fewer { OnOk result (turns (G.graph graph.now) self.new.marks self.new.bounds.items
-            self.new.pending.items < turns (G.graph graph.now) self.old.marks self.old.bounds.items
-            self.old.pending.items) }
-        ensures kept { OnOk result (KeepsMarks self.old.marks self.new.marks) }
-        ensures reached { OnOk result (ChangesReached (G.graph graph.now) self.old.active.items self.old.marks
-            self.new.marks) }
+        requires sound { IsSound (G.graph graph.now) self.old }
+        ensures { OnOk result (Advances (G.graph graph.now) self.old self.new) }
     {
         let number = self.order.len();
         let segment = &self.active[bound..];

@@ -21,9 +21,9 @@ returns g c =
     ∙ ap (close_all s.marks (drop c.args.bound s.active.items)) (c.len-number.ensures ∙ s.order.ok.0) in
     let bounds = c.pop.ensures.rest ∙ ap (λ n. take (n - 1) s.bounds.items) s.bounds.ok.0 in
     let order = c.in_ok-extend_from_slice.ensures.items ∙ ap (λ vs. s.order.items ++ vs) segment in
-    rw (marks, c.truncate.ensures.items, bounds, order) (record {
-      sound = sound-closed r.sound r.last r.done;
-      fewer = fewer-closed r.sound r.last r.done;
-      kept = kept-closed r.sound r.last r.done;
-      reached = reached-closed (g.G.Graph.graph c.args.graph.now) s.marks s.active.items c.args.bound _;
-    })
+    record {
+      sound = rw (marks, c.truncate.ensures.items, bounds, order) (sound-closed r.sound r.last r.done);
+      fewer = rw (marks, bounds) (fewer-closed r.sound r.last r.done);
+      kept = rw marks (kept-closed r.sound r.last r.done);
+      reached = rw marks (reached-closed (g.G.Graph.graph c.args.graph.now) s.marks s.active.items c.args.bound _);
+    }

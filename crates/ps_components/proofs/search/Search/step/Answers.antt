@@ -33,10 +33,16 @@ merge-requires-clause-marked g c = c.at.ensures ∙ ap Some c.in-Active.is
 pub take-requires-in-Closed-clause-settled : goal.take-requires-in-Closed-clause-settled
 take-requires-in-Closed-clause-settled g c = closed _ (c.at.ensures ∙ ap Some c.in-Closed.is)
 
-pub returns-in-Unseen-clause-reached : goal.returns-in-Unseen-clause-reached
-returns-in-Unseen-clause-reached g c =
+pub returns-in-Unseen : goal.returns-in-Unseen
+returns-in-Unseen g c =
     let s = c.args.self.now in
     let e = c.in-Some.field-0.now in
     let l = c.requires.sound.pending_links _ e (sym (rw c.deref.ensures.value at c.in-Some.ensures.value)) in
-    on_ok_weaker c.follow.result (λ is. rw is (reached-entered s.marks s.active.items (Active (length s.active.items))
-    (e.from, l.0, l.1, inr (last l.2)))) c.follow.ensures.entered
+    let reached = reached-entered s.marks s.active.items (Active (length s.active.items))
+    (e.from, l.0, l.1, inr (last l.2)) in
+    on_ok_weaker c.follow.result (λ is. record {
+      sound = is.sound;
+      fewer = is.fewer;
+      kept = is.kept;
+      reached = rw is.entered reached;
+    }) c.follow.ensures

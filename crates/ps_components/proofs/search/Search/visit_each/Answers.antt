@@ -11,8 +11,7 @@ loop-root-preserved g c =
     let roots = c.args.roots.now in
     let visited = c.in_ok-visit.ensures in
     record {
-      sound = visited.sound;
-      ended = visited.ended;
+      idle = visited.idle;
       seen = search (rules, cases_lt, get_or_from_slice_get);
       reached = λ v n h. elim (visited.reached v) [
         | inl e ↦ c.loop-root.invariant.reached v n (sym e ∙ h)
@@ -20,17 +19,14 @@ loop-root-preserved g c =
       ];
     }
 
-pub visit-requires-clause-ended : goal.visit-requires-clause-ended
-visit-requires-clause-ended c κs = grind (arith, common_steps)
-
-pub visit-requires-clause-sound : goal.visit-requires-clause-sound
-visit-requires-clause-sound c κs = grind (arith, common_steps)
+pub visit-requires-clause-idle : goal.visit-requires-clause-idle
+visit-requires-clause-idle c κs = grind (arith, common_steps)
 
 pub visit-requires-clause-within : goal.visit-requires-clause-within
 visit-requires-clause-within c κs = grind (arith, common_steps)
 
-pub returns-clause-met : goal.returns-clause-met
-returns-clause-met c = grind (arith, elements)
+pub returns : goal.returns
+returns c = grind (arith, elements)
 
 pub loop-root-init : goal.loop-root-init
 loop-root-init c = grind (arith, elements)

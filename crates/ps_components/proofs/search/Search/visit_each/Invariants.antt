@@ -1,14 +1,12 @@
-use Rattle.std.proofs.Common.{◌≡◌, ℕ, ◌<◌, length, slice_get, Some}
+use Rattle.std.proofs.Common.{◌≡◌, ℕ, ◌<◌, slice_get, Some}
 use Rattle.ps_components.specs.declared.marks.Mark.TheVariants.{Unseen, Closed}
 use Rattle.ps_components.specs.Graphs.{IsReached}
-use Rattle.ps_components.specs.Searching.{IsSoundSearch}
+use Rattle.ps_components.specs.Searches.{IsIdle}
 use Rattle.ps_components.proofs.search.Search.visit_each.Given as goal
 
 abbrev pub invariant-loop-root : goal.invariant-loop-root
 invariant-loop-root g l = record {
-  sound : IsSoundSearch (g.G.Graph.graph l.graph) l.self.marks l.self.active.items l.self.bounds.items
-      l.self.pending.items l.self.order.items;
-  ended : length l.self.bounds.items ≡ 0;
+  idle : IsIdle (g.G.Graph.graph l.graph) l.self;
   seen : (i v : ℕ) → i < l.root-index → slice_get l.roots i ≡ Some v →
       ¬ (slice_get l.self.marks v ≡ Some Unseen);
   reached : (v k : ℕ) → slice_get l.self.marks v ≡ Some (Closed k) →

@@ -1,0 +1,79 @@
+-- The search for components, as a state that its steps change.
+--     IsSound g s      the lists of the search are sound
+--     IsIdle, IsFresh      it is sound and its path is empty; nothing is marked either
+--     Visits, Runs, Advances, Enters, Merges, Takes      what its methods do
+use Rattle.std.specs.Prelude.{◌≡◌, ℕ, ◌<◌, ◌≤◌, List, [], ◌∷◌, ◌++◌, length, slice_get, slice_set, Some, All}
+use Rattle.ps_components.specs.Graphs.{Digraph}
+use Rattle.ps_components.specs.Searching.{IsSoundSearch, IsSoundBut, IsSettled, KeepsMarks, ChangesReached, HasMet}
+use Rattle.ps_components.specs.Searching.{turns}
+use Rattle.ps_components.specs.declared.marks.Mark.TheVariants.{Unseen, Active}
+use Rattle.ps_components.specs.declared.search.Pending.{Pending}
+use Rattle.ps_components.specs.declared.search.Search.{Search}
+
+abbrev pub IsSound : Digraph → Search → Type 0
+IsSound g s = IsSoundSearch g s.marks s.active.items s.bounds.items s.pending.items s.order.items
+
+-- sound except for pending links to the item that were taken off
+abbrev pub IsSoundButFor : Digraph → ℕ → Search → Type 0
+IsSoundButFor g item s = IsSoundBut g item s.marks s.active.items s.bounds.items s.pending.items s.order.items
+
+-- a bound on the turns that are left
+abbrev pub turns_left : Digraph → Search → ℕ
+turns_left g s = turns g s.marks s.bounds.items s.pending.items
+
+-- the path is empty
+pub record IsIdle (g : Digraph) (s : Search) : Type 0 where
+  pub sound : IsSound g s
+  pub ended : length s.bounds.items ≡ 0
+
+-- and nothing was seen
+pub record IsFresh (g : Digraph) (s : Search) : Type 0 where
+  pub idle : IsIdle g s
+  pub unseen : All (λ m. m ≡ Unseen) s.marks
+
+-- exactly what the roots lead to was met
+pub record HasVisited (g : Digraph) (roots : List ℕ) (s : Search) : Type 0 where
+  pub idle : IsIdle g s
+  pub met : HasMet g roots s.marks
+
+-- the item was seen, and only what it leads to was marked
+pub record Visits (g : Digraph) (item : ℕ) (old new : Search) : Type 0 where
+  pub idle : IsIdle g new
+  pub kept : KeepsMarks old.marks new.marks
+  pub seen : ¬ (slice_get new.marks item ≡ Some Unseen)
+  pub reached : ChangesReached g (item ∷ []) old.marks new.marks
+
+-- the path came to its end, and only what it leads to was marked
+pub record Runs (g : Digraph) (old new : Search) : Type 0 where
+  pub idle : IsIdle g new
+  pub kept : KeepsMarks old.marks new.marks
+  pub reached : ChangesReached g old.active.items old.marks new.marks
+
+-- one turn
+pub record Advances (g : Digraph) (old new : Search) : Type 0 where
+  pub sound : IsSound g new
+  pub fewer : turns_left g new < turns_left g old
+  pub kept : KeepsMarks old.marks new.marks
+  pub reached : ChangesReached g old.active.items old.marks new.marks
+
+-- the item is at the end of the path
+pub record Enters (g : Digraph) (item : ℕ) (old new : Search) : Type 0 where
+  pub sound : IsSound g new
+  pub fewer : turns_left g new < turns_left g old
+  pub kept : KeepsMarks old.marks new.marks
+  pub entered : new.marks ≡ slice_set old.marks item (Active (length old.active.items))
+  pub path : new.active.items ≡ old.active.items ++ item ∷ []
+
+-- the pending link leads into the last segment
+pub record Merges (g : Digraph) (link : Pending) (old new : Search) : Type 0 where
+  pub sound : IsSound g new
+  pub settled : IsSettled new.marks new.bounds.items link.from link.to
+  pub marks : new.marks ≡ old.marks
+  pub shorter : length new.bounds.items ≤ length old.bounds.items
+  pub pending : new.pending.items ≡ old.pending.items
+
+-- the last pending link is taken off
+pub record Takes (g : Digraph) (old new : Search) : Type 0 where
+  pub sound : IsSound g new
+  pub fewer : turns_left g new < turns_left g old
+  pub marks : new.marks ≡ old.marks
