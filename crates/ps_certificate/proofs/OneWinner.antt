@@ -58,7 +58,7 @@ module _ (game : ParityGame) (one other : CertificateData) (owners : (v : ℕ) �
   next_if true v = unwrap_or (choice_of one v) 0
   next_if false v = unwrap_or (choice_of other v) 0
 
-  -- player p moves by the first certificate, and player q by the other
+  -- player p moves as the first certificate states, and player q as the second one does
   next : ℕ → ℕ
   next v = next_if (eqb (owner_of game v) p) v
 

@@ -31,19 +31,19 @@ pub record IsFresh (g : Digraph) (s : Search) : Type 0 where
   pub idle : IsIdle g s
   pub unseen : All (λ m. m ≡ Unseen) s.marks
 
--- exactly what the roots lead to was met
+-- the items that were visited are exactly those to which the roots lead
 pub record HasVisited (g : Digraph) (roots : List ℕ) (s : Search) : Type 0 where
   pub idle : IsIdle g s
   pub met : HasMet g roots s.marks
 
--- the item was seen, and only what it leads to was marked
+-- the item was visited, and only items to which it leads changed their marks
 pub record Visits (g : Digraph) (item : ℕ) (old new : Search) : Type 0 where
   pub idle : IsIdle g new
   pub kept : KeepsMarks old.marks new.marks
   pub seen : ¬ (slice_get new.marks item ≡ Some Unseen)
   pub reached : ChangesReached g (item ∷ []) old.marks new.marks
 
--- the path came to its end, and only what it leads to was marked
+-- the path is empty again, and only items to which it leads changed their marks
 pub record Runs (g : Digraph) (old new : Search) : Type 0 where
   pub idle : IsIdle g new
   pub kept : KeepsMarks old.marks new.marks

@@ -7,11 +7,11 @@ use Rattle.std.proofs.lemmas.Bool.Decides.{nat_tests}
 use Rattle.ps_game.specs.Games.{ParityGame}
 use Rattle.ps_game.specs.Drafts.{IsFirstUnknown, NoneUnknown}
 
--- if no number is found, the head is less than n, and no number is found after it
+-- if the search finds no number, the head is less than n, and the search finds none in the tail
 parts : (n x : ℕ) (found : Option ℕ) → cond (nat_le n x) (Some x) found ≡ None → (x < n) × (found ≡ None)
 parts n x found none = grind (arith, nat_tests)
 
--- if the head is less than n, the number that is found is after it
+-- if the head is less than n, the search finds its number in the tail
 behind : (n x w : ℕ) (found : Option ℕ) → cond (nat_le n x) (Some x) found ≡ Some w → x < n → found ≡ Some w
 behind n x w found is small = grind (arith, nat_tests)
 

@@ -24,7 +24,7 @@ fn leads_to<A: Arena>(arena: &A, vertex: usize, successors: &[usize]) -> bool {
     true
 }
 
-/// Whether an arena reports the given vertices.
+/// Whether the methods of an arena return the given vertices.
 fn reads_as<A: Arena>(arena: &A, rows: &[Row]) -> bool {
     if arena.count() != rows.len() {
         return false;

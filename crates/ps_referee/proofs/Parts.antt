@@ -63,7 +63,7 @@ module _ (game : ParityGame) (won : List Bool) (first second : List (Option ℕ)
   part (suc zero) is_player = search (rules, cases_Bool, winner_is, choice_is)
   part (suc (suc n)) is_player = absurd (omega arith)
 
--- a player who keeps to the set has right moves there, and no remaining edge leaves it
+-- if a player keeps to the set, the player's moves there are right, and no edge that remains leaves the set
 module _ {game : ParityGame} {c : CertificateData} {player : ℕ} {set : ℕ → Bool} {table : ℕ → Option ℕ}
     (is_game : IsGame game) (p : IsPart game c player set table) (keeps : KeepsTo game player set table) where
   pub right_move : (v : ℕ) → v < vertex_count game → winner_of c v ≡ player → HasRightMove game c v

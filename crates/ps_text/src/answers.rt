@@ -19,7 +19,7 @@ pub trait Format {
     /// A list of signs is a text of the grammar with a given meaning.
     ghost is_text: { List Self.Sign → Self.Value → Type 0 };
 
-    /// A list of signs is followed by an error, at the given sign or, for `None`, at the end.
+    /// Parsing a list of signs ends with an error, at the sign that follows the list or, for `None`, at the end.
     ghost is_cause: { List Self.Sign → Option Self.Sign → Self.Cause → Type 0 };
 
     /// The number of a cause. If one sign has two errors, the error with the smaller number is the answer.

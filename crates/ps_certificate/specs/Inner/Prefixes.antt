@@ -8,12 +8,12 @@ use Rattle.ps_certificate.specs.declared.flaw.Flaw.TheVariants.{Move, Escape, Ra
 use Rattle.ps_certificate.specs.Certificates.{CertificateData, Remains, HasRightMove, IsFlaw, Precedes, StandsBefore}
 use Rattle.ps_certificate.specs.Certificates.{winner_of, choice_of, counts_of, opposing, KeepsCount, opposing_at}
 
--- each remaining edge of a vertex stays with the winner
+-- each remaining edge of a vertex leads to a vertex with the same winner
 abbrev pub StaysInside : ParityGame → CertificateData → ℕ → Type 0
 StaysInside game certificate v =
     (w : ℕ) → Remains game certificate v w → winner_of certificate w ≡ winner_of certificate v
 
--- the move of a vertex is right, and its remaining edges stay with the winner
+-- the move of a vertex is right, and its remaining edges lead to vertices with the same winner
 pub record IsSoundAt (game : ParityGame) (certificate : CertificateData) (v : ℕ) : Type 0 where
   pub right_move : HasRightMove game certificate v
   pub inside : StaysInside game certificate v

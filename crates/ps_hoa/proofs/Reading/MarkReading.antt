@@ -42,7 +42,7 @@ pub sign_begins : {V : Type 0} (take : Sign → Option V) (Bad : Sign → HoaCau
 sign_begins take Bad s {v} proper e =
     subst (Enters (one take Bad)) (sym (next_there s proper)) (enters_one take Bad (next_of s).sign (inl (v, e)))
 
--- the next token is not in a set of tokens if its kind does not pass the test of the set
+-- if the set's test rejects the kind of the next token, that token is not in the set
 pub avoids_kind : (test : Kind → Bool) (s : Stream Sign) → (test (next_of s).sign.kind ≡ true → ⊥) →
     Avoids (Of test) (there_of s)
 avoids_kind test s h t e k = h (ap (λ (u : Sign). test u.kind) (next_same s t e) ∙ k)
