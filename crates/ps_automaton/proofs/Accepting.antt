@@ -1,5 +1,5 @@
--- The deterministic automaton of a file accepts what the file does: along a part that returns, the greatest priority is
--- even exactly where some run of the file accepts.
+-- The deterministic automaton of a file accepts the same words as the file. In a part of its run that returns, the
+-- greatest priority is even exactly if some run of the file accepts.
 use Rattle.std.proofs.Common.{◌≡◌, ℕ, ◌+◌, ◌-◌, ◌*◌, ◌^◌, ◌<◌, ◌≤◌, inl, inr, suc, zero, Bool, true, rules}
 use Rattle.std.proofs.Common.{false, List, length, Some, refl, ap, sym, ◌∙◌, arith, add-one, add-zero}
 use Rattle.std.specs.Prelude.{◌↔◌, IsTrue, All}
@@ -16,7 +16,7 @@ use Rattle.ps_automaton.proofs.ChainLaws.{greatest_decides}
 use Rattle.ps_automaton.proofs.Orbits.{any_return_decides, priorities_repeat, word_repeats, word_within, word_behind}
 use Rattle.ps_automaton.proofs.Orbits.{all_below, place_below, laps_are_read, greatest_is_read}
 
--- levels and sets at the same places
+-- the greatest number of the edges in a part, where f gives the number of each edge
 levels_are : (chain : Chain) (f : ℕ → ℕ) (sets : ℕ → ℕ → Bool) (from count : ℕ) →
     ((t : ℕ) → from ≤ t → t < from + count → f t ≡ level chain (sets t)) →
     greatest_level chain (part sets from count) ≡ greatest_from f from count
@@ -41,7 +41,7 @@ module _ {file : FileData} {chain : Chain} {a : Auto} (is_chain : chain_of file.
   sink_stays_from t is (suc n) =
       rw add-suc (cc (sink_stays_from t is n, (is_auto.sink_stays (w (t + n)) (letters (t + n))).0))
 
-  -- in a part that begins in the sink each priority is 1
+  -- every priority in the sink is 1
   priority_in_sink : (t : ℕ) → state_at a w t ≡ file.states → priority_at a w t ≡ 1
   priority_in_sink t is = cc (is, (is_auto.sink_stays (w t) (letters t)).1)
 
@@ -52,7 +52,7 @@ module _ {file : FileData} {chain : Chain} {a : Auto} (is_chain : chain_of file.
         priority_in_sink t (ap (state_at a w) (omega arith) ∙ sink_stays_from from is (t - from)) in
         grind (arith, all_below, place_below)
 
-    -- where the greatest priority is even the sink is not reached
+    -- if the greatest priority is even, the sink is not reached
     outside_sink : is_even (greatest_from (priority_at a w) from count) ≡ true → (t : ℕ) → t ≤ from + count →
         state_at a w t ≡ file.states → ⊥
     outside_sink even t before is = grind (
@@ -77,7 +77,7 @@ module _ {file : FileData} {chain : Chain} {a : Auto} (is_chain : chain_of file.
         | inr behind ↦ (λ set. false, λ h. absurd (omega arith))
       ]
 
-      -- the run of the automaton, and that the condition is true of its sets
+      -- the automaton's run is a run of the file, and the condition is true for the sets of its part
       pub run_of_auto : (sets : ℕ → ℕ → Bool) × IsRun file w (from + count) (state_at a w) sets ×
           IsTrue (holds (is_met (part sets from count)) file.condition)
       run_of_auto =
@@ -88,7 +88,7 @@ module _ {file : FileData} {chain : Chain} {a : Auto} (is_chain : chain_of file.
             sym (search (rules, greatest_decides, part_length)) ∙ ap is_even levels ∙ even,
           )
 
-  -- a run of the file goes as the automaton does
+  -- a run of the file has the same states as the automaton's run
   run_states : {count : ℕ} {states : ℕ → ℕ} {sets : ℕ → ℕ → Bool} → IsRun file w count states sets → (t : ℕ) →
       t ≤ count → states t ≡ state_at a w t
   run_states run zero within = run.begins ∙ sym is_auto.start
@@ -160,7 +160,7 @@ module _ (file : FileData) (chain : Chain) (a : Auto) (is_chain : chain_of file.
           ∙ run_is_even is_chain is_auto w letters_are from count (some_letters accepted.laps accepted.some) run
           accepted.met
 
--- laps that lead back to a state decide
+-- Laps that lead back to a state decide whether the word is accepted.
 pub laps_decide : (file : FileData) (chain : Chain) (a : Auto) (stem lap : List ℕ) (before laps s : ℕ) →
     chain_of file.condition ≡ Some chain → IsAutoOf file chain a → 0 < length lap →
     All (λ letter. letter < 2 ^ length file.names) stem → All (λ letter. letter < 2 ^ length file.names) lap →

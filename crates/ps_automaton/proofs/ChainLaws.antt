@@ -1,4 +1,4 @@
--- A chain decides as its condition does, and the greatest number that is met along edges decides as the chain does.
+-- A chain decides like its condition, and the greatest number along edges decides like the chain.
 use Rattle.std.proofs.Common.{rules, ◌≡◌, ℕ, ◌<◌, ◌≤◌, Bool, true, false, cond, List, [], ◌∷◌, ◌++◌, length, Some, refl}
 use Rattle.std.proofs.Common.{ap, sym, ◌∙◌, arith}
 use Rattle.ps_hoa.specs.Conditions.{Condition, Conditions, constant, infinitely, finitely, all_hold, any_holds}
@@ -23,7 +23,7 @@ pub level_below_first : (base : Bool) (links : List Link) (has : ℕ → Bool) �
 level_below_first base [] has = omega arith
 level_below_first base (link ∷ links) has = grind (arith, level_below_first base links has, raised_more)
 
--- the greatest number of the links along edges
+-- the greatest number that a chain gives along edges
 abbrev greatest : Bool → List Link → List (ℕ → Bool) → ℕ
 greatest base links edges = greatest_level (record { links = links; base = base }) edges
 
@@ -43,7 +43,7 @@ first_left_out : (base : Bool) (link : Link) (links : List Link) (edges : List (
 first_left_out base link links [] unmet = refl
 first_left_out base link links (has ∷ edges) unmet = grind (arith, first_left_out base link links edges)
 
--- without links each number is the base's
+-- without links, each number is that of the base
 greatest_of_base : (base : Bool) (has : ℕ → Bool) (edges : List (ℕ → Bool)) →
     greatest base [] (has ∷ edges) ≡ base_number base
 greatest_of_base base has [] = omega arith
@@ -58,7 +58,7 @@ key_law base (link ∷ links) edges some =
 
 -- ## The chain of a condition
 
--- the truth of operands together: of one of them, or of all
+-- the truth value of all operands together: whether one is true, or whether all are true
 abbrev together : (ℕ → Bool) → Bool → Conditions → Bool
 together met true cs = one_of_them met cs
 together met false cs = all_of_them met cs
@@ -67,12 +67,12 @@ abbrev joined : Bool → Bool → Bool → Bool
 joined true a b = cond a true b
 joined false a b = cond a b false
 
--- a link decides where its set is met, and else the others do
+-- a link decides if its set is met, and otherwise the other operands decide
 link_decides : (met : ℕ → Bool) (accepts : Bool) (c : Condition) {link : Link} (b : Bool) →
     link_of accepts c ≡ Some link → joined accepts (holds met c) b ≡ cond (met link.colour) link.accepts b
 link_decides met accepts c b e = grind arith
 
--- operands that are all links decide before what stands behind them
+-- operands that are all links decide before the rest of the chain decides
 links_decide : (met : ℕ → Bool) (accepts : Bool) (cs : Conditions) (base : Bool) (rest links : List Link) →
     links_of accepts cs ≡ Some links → chain_holds base (links ++ rest) met ≡ joined accepts (together met accepts cs)
     (chain_holds base rest met)

@@ -1,4 +1,4 @@
--- A file is admitted or refused: each cause can be told, and of the edges that clash the first ones are found.
+-- A file is either accepted or rejected: each fault can be decided, and the first of the clashes can be found.
 use Rattle.std.proofs.Common.{◌≡◌, ◌≢◌, ◌∙◌, ℕ, zero, suc, ◌+◌, ◌^◌, ◌<◌, ◌≤◌, ◌⊎◌, inl, inr, Bool, true, false, rules}
 use Rattle.std.proofs.Common.{List, [], ◌∷◌, length, Option, Some, None, slice_get, refl, sym, arith}
 use Rattle.std.proofs.lemmas.Bool.{cases_eq, cases_lt}
@@ -16,7 +16,7 @@ use Rattle.ps_automaton.specs.declared.fault.AutomatonFault.TheVariants.{OutOfMe
 use Rattle.ps_text.proofs.Simple.{same_some}
 use Rattle.ps_automaton.proofs.TakenEdges.{clash_of}
 
--- what can be told of each number can be told of those below a bound, and the least is found
+-- a decidable property of numbers holds for no number less than n, or for a smallest number
 least_below : (P : ℕ → Type 0) → ((k : ℕ) → Decided (P k)) → (n : ℕ) →
     ((m : ℕ) × P m × ((k : ℕ) → P k → m ≤ k)) ⊎ ((k : ℕ) → k < n → P k → ⊥)
 least_below P tell zero = inr (λ k lt h. absurd (omega arith))
@@ -28,16 +28,16 @@ least_below P tell (suc n) = elim (least_below P tell n) [
   ]
 ]
 
--- where all that have a property are below a bound, some one has it or none
+-- if a decidable property holds only for numbers less than n, it is decidable whether it holds for some number
 pub some_or_none : (P : ℕ → Type 0) → ((k : ℕ) → Decided (P k)) → (n : ℕ) → ((k : ℕ) → P k → k < n) →
     Decided ((k : ℕ) × P k)
 some_or_none P tell n within = grind (arith, least_below P tell n)
 
--- and of those that have it the least is found
+-- if a decidable property holds for some number, it holds for a smallest number
 least_of : (P : ℕ → Type 0) → ((k : ℕ) → Decided (P k)) → (k : ℕ) → P k → (m : ℕ) × P m × ((k : ℕ) → P k → m ≤ k)
 least_of P tell k h = elim (least_below P tell (suc k)) [ inl m ↦ m | inr none ↦ absurd (none k (omega arith) h) ]
 
--- what can be told of each value can be told of the value that there is, if there is one
+-- a property that is decidable for each value is decidable for an optional value
 pub decide_some : {X : Type 0} (o : Option X) (P : X → Type 0) → ((x : X) → Decided (P x)) →
     Decided ((x : X) × (o ≡ Some x) × P x)
 decide_some None P tell = inr (λ h. (let e = h.1 in cc))
@@ -46,14 +46,14 @@ decide_some (Some x) P tell = decide_as (λ p. (x, refl, p)) (λ h. rw (same_som
 same_or_not : (a b : Bool) → Decided (a ≡ b)
 same_or_not a b = grind arith
 
--- tests that agree from a bound on
+-- it is decidable whether two tests always agree, if they agree from the number n on
 same_tests : (f g : ℕ → Bool) (n : ℕ) → ((k : ℕ) → n ≤ k → f k ≡ g k) → Decided ((k : ℕ) → f k ≡ g k)
 same_tests f g n far = elim (least_below (λ k. f k ≢ g k) (λ k. decide_not (same_or_not (f k) (g k))) n) [
   | inl m ↦ inr (λ same. m.1 (same m.0))
   | inr none ↦ inl (λ k. search (rules, same_or_not, cases_lt))
 ]
 
--- a number above all of a list
+-- a number greater than each number in a list
 abbrev above : List ℕ → ℕ
 above [] = 0
 above (m ∷ ms) = suc m + above ms

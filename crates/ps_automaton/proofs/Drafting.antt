@@ -1,4 +1,4 @@
--- The states one by one.
+-- The steps of the states, one state after another.
 use Rattle.std.proofs.Common.{rules, ◌≡◌, ℕ, ◌+◌, ◌<◌, ◌≤◌, ◌⊎◌, inl, inr, List, [], ◌∷◌, ◌++◌, length, get_or, Option}
 use Rattle.std.proofs.Common.{sym, subst, arith}
 use Rattle.std.specs.Option.{IsSomeAnd}
@@ -29,7 +29,7 @@ within_kept : (old new : List Step) → Extends old new → (o : Option ℕ) →
     IsSomeAnd o (λ k. k < length new)
 within_kept old new extends o h = grind (arith, extended_within)
 
--- a state's steps stay where a store and the steps grow
+-- the steps of a state stay right when the store and the list of steps grow
 pub steps_kept : {file : FileData} {chain : Chain} {q : ℕ} {old new : List Step} {t u : Table} {node : ℕ} →
     Extends old new → Keeps t u → IsStepsOf file chain q old t node → IsStepsOf file chain q new u node
 steps_kept {file} {chain} {q} {old} {new} {t} {u} {node} extends keeps s =
@@ -50,14 +50,14 @@ module _ (file : FileData) (chain : Chain) (steps : List Step) (t : Table) (node
   abbrev pub AreStepsOf : ℕ → Type 0
   AreStepsOf count = (q : ℕ) → q < count → IsStepsOf file chain q steps t (get_or nodes q 0)
 
-  -- one state more
+  -- one more state
   pub one_more : {count node : ℕ} {more : List ℕ} → length nodes ≡ count → more ≡ nodes ++ node ∷ [] →
       AreStepsOf count → IsStepsOf file chain count steps t node →
       (q : ℕ) → q < count + 1 → IsStepsOf file chain q steps t (get_or more q 0)
   one_more {count} {node} {more} size is each last q within =
       grind (arith, cases_lt q count, get_or_append_left, get_or_push)
 
-  -- the first fault of a state is that of the file, where no earlier state has a clash
+  -- the first fault of a state is the first fault of the file, if no earlier state has a clash
   pub first_fault : (count : ℕ) → AreStepsOf count → (f : AutomatonFault) → IsStateFault file count f →
       IsDraftFault file f
   first_fault count each ComplementedSet h = h

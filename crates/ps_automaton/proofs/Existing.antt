@@ -1,4 +1,5 @@
--- An admitted file has an automaton: at each state and letter the edge that is taken, or the step to the sink.
+-- An accepted file has an automaton: at each state and letter, its step is the edge that is taken, or leads to the
+-- sink.
 use Rattle.std.proofs.Common.{◌≡◌, ◌∙◌, ℕ, ◌^◌, ◌<◌, ◌⊎◌, inl, inr, Bool, length, Some, slice_get, rules}
 use Rattle.std.proofs.Common.{refl, sym, suc, arith}
 use Rattle.std.proofs.lemmas.Bool.{cases_order}
@@ -54,7 +55,7 @@ module _ (file : FileData) (sound : IsSoundFile file) (chain : Chain) (determini
       (decide_both (decide_below (suc letter) (2 ^ length file.names)) (decide_some (row_of file q)
       (λ row. TakenEdge file row (length row.edges) letter) (λ row. taken_or_not file row letter)))
 
-  -- a step by an edge, or to the sink where there is none
+  -- a step by an edge, or to the sink if no edge is taken
   abbrev IsStep : ℕ → ℕ → ℕ → ℕ → Type 0
   IsStep q letter next priority =
       ((sets : ℕ → Bool) × Goes file q letter sets next × (priority ≡ level chain sets)) ⊎

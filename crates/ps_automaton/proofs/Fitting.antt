@@ -1,4 +1,4 @@
--- What is known of the edges of a sound row.
+-- Facts about the edges of a sound row.
 use Rattle.std.proofs.Common.{◌≡◌, ℕ, zero, suc, ◌+◌, ◌^◌, ◌<◌, ◌≤◌, inl, inr, false, List, [], ◌∷◌, length, map}
 use Rattle.std.proofs.Common.{get_or, Option, Some, None, refl, sym, ap, ◌∙◌, arith, add-zero}
 use Rattle.std.specs.List.{All, slice_get}
@@ -33,7 +33,7 @@ labelled_letter count (Some l) es a j {e} at k is = cc (all_get IsOfState es (al
 labelled_letter count None es (inl a) j {e} at k is = cc ((all_get IsStated es (all_at IsStated es a) j e at).1)
 labelled_letter count None es (inr a) j {e} at k is = grind (arith, by_letter, slice_get_within)
 
--- a row with one edge that is taken at a letter alone has one for each letter
+-- if the first edge of a row is for one letter, the row has an edge for each letter
 pub by_letters_of : {file : FileData} {row : RowData} → IsSoundRow file row → {e : EdgeData} (k : ℕ) →
     slice_get row.edges 0 ≡ Some e → e.guard ≡ at_letter k → IsByLetters file row
 by_letters_of {file} {row} s {e} k at is = by_label row.label s.labelled

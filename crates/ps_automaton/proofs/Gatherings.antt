@@ -1,4 +1,4 @@
--- The links of operands, gathered one by one.
+-- The links of operands, collected one by one.
 use Rattle.std.proofs.Common.{rules, ◌≡◌, ℕ, ◌+◌, ◌<◌, ◌≤◌, Bool, true, false, not, List, [], ◌∷◌, ◌++◌, length, map}
 use Rattle.std.proofs.Common.{drop, get_or, Option, None, Some, ap, append_assoc, append-nil, add-one, add-zero}
 use Rattle.std.proofs.Common.{drop-cons, arith}
@@ -18,11 +18,11 @@ use Rattle.ps_automaton.specs.declared.chain.Gathered.TheVariants as gathered
 use Rattle.std.specs.declared.vec.Vec.{Vec}
 use Rattle.std.specs.declared.alloc.Global.{Global}
 
--- the operands from place k on
+-- the operands from the index k on
 abbrev pub from_place : List Cond → ℕ → Conditions
 from_place operands k = row_of (map condition_of (drop k operands))
 
--- what is gathered before place k, where the remaining operand has not come, or has
+-- the collection before the index k: the links so far, and the index of the remaining operand if it has occurred
 abbrev pub IsGathering : Bool → List Cond → List Link → List Link → ℕ → Option ℕ → Type 0
 IsGathering accepts operands before after k None =
     whole accepts operands before ≡ in_front (Some (map link_data after)) (chain_of_all accepts (from_place operands k))
@@ -34,7 +34,7 @@ pub in_front_twice : (a b : List chains.Link) (chain : Option Chain) →
     in_front (Some a) (in_front (Some b) chain) ≡ in_front (Some (a ++ b)) chain
 in_front_twice a b chain = grind (arith, append_assoc)
 
--- the element at a place and those behind it
+-- the entries from the index k on are the entry at k and those after it
 pub from_here : (operands : List Cond) (k : ℕ) {c : Cond} → k < length operands → c ≡ get_or operands k c →
     drop k operands ≡ c ∷ drop (k + 1) operands
 from_here operands k {c} within is = grind (arith, add-one, drop-cons)
@@ -124,7 +124,7 @@ pub behind_all : {condition : Cond} (v : Vec Cond Global) {operands : List Cond}
     in_front (Some (map link_data before)) (chain_of (condition_of condition)) ≡ whole false operands before
 behind_all v before is items = cc (is, condition_of-All v, items)
 
--- the chain of the remaining operand behind all links is that of the whole
+-- the collected links, followed by the chain of the remaining operand, are the whole chain
 pub but_gathered : (accepts : Bool) {operands items : List Cond} (before after : List Link) {is : Gathered} (k : ℕ)
     {c : Cond} → is ≡ gathered.AllBut k → operands ≡ items → c ≡ get_or items k c →
     IsGathered accepts operands before after is → in_front (Some (map link_data after)) (chain_of (condition_of c)) ≡

@@ -23,7 +23,7 @@ pub mapped_some : (f : ℕ → ℕ) (o : Option ℕ) {x : ℕ} → option_map f 
 mapped_some f None {x} e = absurd (none_is_some x e)
 mapped_some f (Some y) e = (y, refl)
 
--- a clash of two guarded diagrams is a letter at which both have leaves
+-- if two guarded diagrams clash, both diagrams have a leaf at some letter
 pub guarded_meet : {t u v : Table} {one other zero_node : ℕ} (one_node : ℕ) {x y : ℕ} (letter : ℕ) → Keeps t u →
     Keeps u v → IsNode t one → IsNode t other → IsNode u zero_node →
     ((n : ℕ) → leaf_of u zero_node n ≡ option_map (λ _. 0) (leaf_of t one n)) →

@@ -1,4 +1,4 @@
--- The number of an edge is the greatest of those of its sets in the table, or the base's.
+-- The number of an edge is the greatest of the numbers that the table has for its sets, or the number of the base.
 use Rattle.std.proofs.Common.{◌≡◌, ℕ, ◌+◌, ◌-◌, ◌<◌, ◌≤◌, ◌⊎◌, inl, inr, max, suc, zero, Bool, true, false, cond, List}
 use Rattle.std.proofs.Common.{rules, [], ◌∷◌, length, map, drop, set, drop-cons, get_or, refl, arith}
 use Rattle.std.specs.Prelude.{nat_eq}
@@ -11,7 +11,7 @@ use Rattle.ps_automaton.specs.Inner.Views.{link_data}
 use Rattle.ps_automaton.specs.declared.chain.Link as code
 use Rattle.ps_automaton.proofs.ChainLaws.{level_below_first, raised_more}
 
--- the greatest number of those of the first sets that an edge has
+-- the greatest number of those of the first k sets that an edge has, or the number of the base
 abbrev pub most : ℕ → List ℕ → (ℕ → Bool) → ℕ → ℕ
 most base numbers has zero = base
 most base numbers has (suc k) =
@@ -52,14 +52,14 @@ alone_below_level base [] has s is = omega arith
 alone_below_level base (link ∷ links) has s is =
     grind (arith, alone_below_level base links has s is, level_grows base link links has)
 
--- one of the edge's sets alone has its number, or the base has
+-- the edge has a set that alone gives the edge's number
 record Attained (base : Bool) (links : List Link) (has : ℕ → Bool) : Type 0 where
   set : ℕ
   small : set < 64
   has_it : has set ≡ true
   is : level_by base links has ≡ alone base links set
 
--- by the first link, if it is the edge's; else what the others say stays, whose set has another number
+-- if the edge has the first link's set, the number is that of the first link; otherwise the other links give the number
 attained : (base : Bool) (links : List Link) (has : ℕ → Bool) → AreSetsBelow 64 links →
     (level_by base links has ≡ base_number base) ⊎ Attained base links has
 attained base [] has small = inl refl
@@ -87,7 +87,7 @@ most_is_level {chain} {base} {numbers} has small table = le_antisymm (most_below
       | inr a ↦ grind (arith, set_below_most base numbers has 64 a.set a.small a.has_it)
     ])
 
--- ## The table is filled from the end of the chain
+-- ## Filling the table from the end of the chain
 
 pub raised_at_most : (accepts : Bool) (next : ℕ) → raised accepts next ≤ next + 1
 raised_at_most accepts next = grind arith

@@ -1,11 +1,11 @@
--- A file is admitted, or refused for one cause.
+-- A file is either accepted, or rejected for exactly one fault.
 use Rattle.std.proofs.Common.{◌≡◌, ◌≢◌, ℕ, refl, arith}
 use Rattle.ps_hoa.specs.Files.{FileData}
 use Rattle.ps_automaton.specs.Answers.{IsAdmitted, IsFirstClash, IsRefused}
 use Rattle.ps_automaton.specs.declared.fault.AutomatonFault.{AutomatonFault}
 use Rattle.ps_automaton.specs.declared.fault.AutomatonFault.TheVariants.{Nondeterministic, OutOfMemory}
 
--- the first clash is one
+-- the first clash is unique
 module _ {file : FileData} {q first second p one two : ℕ} (a : IsFirstClash file q first second)
     (b : IsFirstClash file p one two) where
   same_state : q ≡ p

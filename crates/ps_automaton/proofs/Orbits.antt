@@ -1,5 +1,5 @@
--- Where a deterministic automaton reads a word that repeats, any two parts that return to their state have the same
--- greatest priority.
+-- When a deterministic automaton reads a word that repeats, any two parts of the run that return to their first state
+-- have the same greatest priority.
 use Rattle.std.proofs.Common.{◌≡◌, ℕ, ◌+◌, ◌-◌, ◌*◌, ◌/◌, ◌%◌, ◌<◌, ◌≤◌, inl, inr, max, suc, zero, List, [], rules, ◌∷◌}
 use Rattle.std.proofs.Common.{length, get_or, refl, ap, ◌∙◌, arith, add-one, add-zero, zero-add}
 use Rattle.std.proofs.Math.Nat.{eq-or-lt_of_le, le_antisymm, mod-lt, div-add-mod, add-mul-mod_self_right}
@@ -10,7 +10,7 @@ use Rattle.ps_automaton.specs.Words.{word, Repeats}
 use Rattle.ps_automaton.specs.Autos.{Auto, state_at, priority_at, greatest_from, state_behind, greatest_along}
 use Rattle.ps_automaton.specs.Autos.{state_after, greatest_of_laps}
 
--- ## The greatest value of places
+-- ## The greatest of some values
 
 pub place_below : (f : ℕ → ℕ) (from count t : ℕ) → from ≤ t → t < from + count → f t ≤ greatest_from f from count
 place_below f from zero t low high = absurd (omega arith)
@@ -39,7 +39,7 @@ repeats_often : {f : ℕ → ℕ} {from : ℕ} (count : ℕ) → Repeats f from 
 repeats_often {f} count again zero t low = ap f (omega arith)
 repeats_often {f} count again (suc often) t low = grind (arith, repeats_often count again often t low)
 
--- each later value is one of the first
+-- each later value is at most the greatest of the first `count` values
 later_below : {f : ℕ → ℕ} {from count : ℕ} → Repeats f from count → 0 < count → (t : ℕ) → from ≤ t →
     f t ≤ greatest_from f from count
 later_below {f} {from} {count} again some t low =
@@ -132,7 +132,7 @@ pub laps_together : (a : Auto) (q : ℕ) (lap : List ℕ) (m n : ℕ) →
 laps_together a q lap m zero = ap (state_after a q lap) (add-zero m)
 laps_together a q lap m (suc n) = rw add-suc (ap (λ s. state_behind a s lap) (laps_together a q lap m n))
 
--- the greatest priority along laps behind earlier ones
+-- the greatest priority along some laps that follow earlier laps
 pub greatest_is_read : (a : Auto) (stem lap : List ℕ) (before laps : ℕ) →
     greatest_from (priority_at a (word stem lap)) (length stem + before * length lap) (laps * length lap)
     ≡ greatest_of_laps a (state_after a (state_behind a a.start stem) lap before) lap laps

@@ -1,4 +1,4 @@
--- A table of places, where a target is new.
+-- A table of indices to which a new target is added.
 use Rattle.std.proofs.Common.{◌≡◌, ℕ, ◌⊎◌, inl, inr, true, cond, List, [], ◌∷◌, ◌++◌, length, Option, None, Some, arith}
 use Rattle.std.specs.List.{slice_get}
 use Rattle.std.specs.Ordering.{is_eq}
@@ -14,13 +14,13 @@ same_target s t e = grind arith
 target_tied : (t : Target) → is_eq (pair_cmp (t.state, t.sets) (t.state, t.sets)) ≡ true
 target_tied t = grind arith
 
--- ## Places
+-- ## Indices
 
 module _ {old new : List Target} {t : Target} {place : ℕ} (is : IsPlaced old new t place) where
   pub placed_keeps : (i : ℕ) (x : Target) → slice_get old i ≡ Some x → slice_get new i ≡ Some x
   placed_keeps i x e = elim is.list [ inl same ↦ rw same e | inr more ↦ rw more (at_left old (t ∷ []) i e) ]
 
-  -- a target was there, or is the one that was placed
+  -- each target is an old target or the new one
   pub placed_is : (i : ℕ) (x : Target) → slice_get new i ≡ Some x → (slice_get old i ≡ Some x) ⊎ (x ≡ t)
   placed_is i x e = grind (arith, at_last)
 

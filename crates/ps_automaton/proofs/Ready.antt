@@ -1,4 +1,4 @@
--- What guards need is kept where a store grows.
+-- The diagrams for guards stay right when the store grows.
 use Rattle.std.proofs.Common.{arith, ℕ, List, Option, Some, None}
 use Rattle.ps_label.specs.Expression.{Expression}
 use Rattle.ps_diagram.specs.Labels.{AreNodesOf}

@@ -1,4 +1,4 @@
--- Steps that are put behind others, each once.
+-- Steps are appended to a list, each step only once.
 use Rattle.std.proofs.Common.{◌≡◌, ℕ, ◌≤◌, inl, inr, Bool, List, [], ◌∷◌, ◌++◌, length, Some, arith, eqb, ◌&&◌}
 use Rattle.std.specs.List.{slice_get}
 use Rattle.std.specs.Bool.{Decides}
@@ -10,7 +10,7 @@ use Rattle.ps_automaton.specs.declared.targets.Target.{Target}
 use Rattle.ps_automaton.specs.declared.step.Step.{Step}
 use Rattle.ps_automaton.proofs.Distinct.{at_last, inserted_keeps, inserted_is}
 
--- the test of `==`
+-- the equality test of steps
 abbrev pub step_eq : Step → Step → Bool
 step_eq s t = eqb s.state t.state && eqb s.priority t.priority
 
@@ -23,7 +23,7 @@ extends_both a b c f g = λ place step e. g place step (f place step e)
 pub extends_same : (a : List Step) → Extends a a
 extends_same a = λ place step e. e
 
--- one step more
+-- one more step
 module _ (steps : List Step) {new : List Step} (step : Step) (keys : new ≡ insert_key step_eq steps step) where
   pub step_extends : Extends steps new
   step_extends = λ place s e. rw keys (inserted_keeps step_eq steps step place e)

@@ -1,4 +1,4 @@
--- The edges of a row joined, one by one.
+-- The edges of a row are joined, one by one.
 use Rattle.std.proofs.Common.{◌≡◌, ◌≢◌, ℕ, ◌+◌, ◌^◌, ◌<◌, ◌≤◌, ◌⊎◌, inl, inr, List, length, Option, Some, None, sym}
 use Rattle.std.proofs.Common.{rules, subst, ◌∙◌, arith}
 use Rattle.std.specs.List.{slice_get}
@@ -19,7 +19,7 @@ use Rattle.ps_automaton.proofs.Fitting.{alike_of_target, target_of_alike}
 use Rattle.ps_automaton.proofs.TakenEdges.{clash_of}
 use Rattle.ps_automaton.proofs.Meeting.{kept_leaf, shown_is_taken, taken_is_shown}
 
--- a guarded diagram shows its edge by that leaf
+-- a guarded diagram has the given leaf at the letters at which its edge is taken
 pub marked_shows : (file : FileData) (row : RowData) (edge : EdgeData) (t u : Table) (node marked value : ℕ) →
     ShowsEdge file row edge t node 1 → ((letter : ℕ) → leaf_of u marked letter ≡ option_map (λ _. value)
     (leaf_of t node letter)) → ShowsEdge file row edge u marked value
@@ -57,7 +57,7 @@ module _ {file : FileData} (sound : IsSoundFile file) {row : RowData} (row_sound
           let same : g.0 ≡ h.0 = same_some g.0 h.0 (sym g.1 ∙ h.1) in
           alike_of_target sound row_sound a b k.at_first k.at_second h.2 (rw same at g.2)
 
-  -- one edge more
+  -- one more edge
   module _ {count : ℕ} {edge : EdgeData} (at : slice_get row.edges count ≡ Some edge) {target : Target}
       (is : IsTargetOf row edge target) {old : List Target} (new : List Target) (place : ℕ)
       (grows : (i : ℕ) (x : Target) → slice_get old i ≡ Some x → slice_get new i ≡ Some x)
@@ -93,7 +93,7 @@ module _ {file : FileData} (sound : IsSoundFile file) {row : RowData} (row_sound
             grind arith
         by_place letter small e (inr high) = search (rules, same_some, taken_is_shown, joined_second)
 
-    -- a clash of the diagrams is one of edges
+    -- a clash of the diagrams is a clash of two edges
     pub union_clash : AreDistinct new → (letter : ℕ) {x y : ℕ} → letter < 2 ^ length file.names →
         leaf_of t node letter ≡ Some x → leaf_of t marked letter ≡ Some y → x ≢ y →
         (first : ℕ) × AreClashing file row first count

@@ -1,19 +1,19 @@
--- When an automaton, as its text says it, accepts a word that repeats.
---     IsRun file w count states sets      a run over the first letters of a word
---     IsAccepted file stem lap      the lap has a letter; some run reads the stem and some laps to a state, and some
---               more laps, at least one, back to it; and the condition is true of the sets met in that last part
+-- When an automaton, as its text states it, accepts a word that repeats.
+--     IsRun file w count states sets      a run over the first `count` letters of the word w
+--     IsAccepted file stem lap      the lap is not empty; some run reads the stem and some laps to a state, and then at
+--               least one more lap back to this state; and the condition is true for the sets met in that last part
 use Rattle.std.specs.Prelude.{◌≡◌, ℕ, zero, suc, ◌+◌, ◌*◌, ◌<◌, Bool, IsTrue, List, [], ◌∷◌, length}
 use Rattle.ps_hoa.specs.Files.{FileData}
 use Rattle.ps_hoa.specs.Edges.{Goes}
 use Rattle.ps_automaton.specs.Chains.{holds, is_met}
 use Rattle.ps_automaton.specs.Words.{word}
 
--- the state before each place, and the sets of the edge that is taken there
+-- the state before each letter, and the sets of the edge that is taken at this letter
 pub record IsRun (file : FileData) (w : ℕ → ℕ) (count : ℕ) (states : ℕ → ℕ) (sets : ℕ → ℕ → Bool) : Type 0 where
   pub begins : states 0 ≡ file.start
   pub goes : (t : ℕ) → t < count → Goes file (states t) (w t) (sets t) (states (t + 1))
 
--- a number of values, from one place on
+-- `count` values of a function, from the index `from` on
 abbrev pub part : (ℕ → ℕ → Bool) → ℕ → ℕ → List (ℕ → Bool)
 part sets from zero = []
 part sets from (suc count) = sets from ∷ part sets (from + 1) count

@@ -1,10 +1,10 @@
--- Which answer of `build` is right: the automaton of a file, or the first of three causes for which there is none.
---     AreAlike row one other      two edges of a row have the same target and the same joined sets
---     Clash file q first second      these edges of the state q, by their places, are both taken at some letter and
---               differ
+-- The correct results of `build`: the automaton of a file, or the first of three faults for which the file has none.
+--     AreAlike row one other      two edges of a row have the same target, and the same sets with those of the row
+--     Clash file q first second      two edges of the state q, given by their indices, are both taken at some letter
+--               and differ
 --     IsDeterministic file      no edges clash
---     IsAdmitted file      none of the three causes holds
---     IsRefused file fault      that cause holds, and none before it
+--     IsAdmitted file      the file has none of the three faults
+--     IsRefused file fault      the file has this fault, and none of the faults before it
 use Rattle.std.specs.Prelude.{◌≡◌, ℕ, ◌^◌, ◌<◌, ◌≤◌, true, false, length, None, Some, slice_get}
 use Rattle.ps_hoa.specs.Files.{EdgeData, RowData, FileData}
 use Rattle.ps_hoa.specs.Edges.{row_of, IsTaken, is_marked}
@@ -13,7 +13,7 @@ use Rattle.ps_automaton.specs.declared.fault.AutomatonFault.{AutomatonFault}
 use Rattle.ps_automaton.specs.declared.fault.AutomatonFault.TheVariants.{ComplementedSet, NonParity, Nondeterministic}
 use Rattle.ps_automaton.specs.declared.fault.AutomatonFault.TheVariants.{OutOfMemory}
 
--- sets are compared as sets, so the order in which they are written makes no difference
+-- sets are compared as sets, so their order in the text makes no difference
 abbrev pub AreAlike : RowData → EdgeData → EdgeData → Type 0
 AreAlike row one other = (one.target ≡ other.target) × ((set : ℕ) → is_marked row one set ≡ is_marked row other set)
 
@@ -35,11 +35,11 @@ pub record Clash (file : FileData) (q first second : ℕ) : Type 0 where
   pub of_state : row_of file q ≡ Some row
   pub clashing : AreClashing file row first second
 
--- every state counts, reachable or not
+-- every state counts, whether it can be reached or not
 abbrev pub IsDeterministic : FileData → Type 0
 IsDeterministic file = (q first second : ℕ) → Clash file q first second → ⊥
 
--- the least state, then the least later edge, then the least earlier one
+-- the clash with the smallest state, then with the smallest later edge, and then with the smallest earlier edge
 pub record IsFirstClash (file : FileData) (q first second : ℕ) : Type 0 where
   pub clash : Clash file q first second
   pub least_state : (p a b : ℕ) → Clash file p a b → q ≤ p

@@ -1,7 +1,8 @@
--- What clauses see of an automaton that was built: its steps are in diagrams, one for each state and one for the sink.
---     step_of a q letter      the step from the state q (or the sink) by that letter
---     auto_of a      the same as functions
---     IsBuiltFrom file chain a      it is that of the file, whose condition is that chain
+-- The definitions by which contracts describe an automaton that was built. The automaton's steps are in decision
+-- diagrams, one for each state and one for the sink.
+--     step_of a q letter      the step from the state q (or from the sink) by the letter
+--     auto_of a      the automaton as functions
+--     IsBuiltFrom file chain a      this is the automaton of the file, whose condition is the chain
 use Rattle.std.specs.Prelude.{◌≡◌, ℕ, ◌+◌, ◌<◌, ◌≤◌, List, length, Some, IsSomeAnd, slice_index, slice_index_or}
 use Rattle.std.specs.Option.{unwrap_or}
 use Rattle.ps_diagram.specs.Table.{Table, IsNode, leaf_of}
@@ -11,7 +12,7 @@ use Rattle.ps_automaton.specs.Chains.{Chain, chain_of}
 use Rattle.ps_automaton.specs.Autos.{Auto, IsAutoOf}
 use Rattle.ps_automaton.specs.declared.step.Step.{Step}
 
--- the sink is the state numbered by the count of states
+-- the sink is the state whose number equals the count of states
 pub record AutomatonData : Type 0 where
   pub names : List (List ℕ)
   pub controllable : List ℕ
@@ -39,7 +40,8 @@ auto_of a =
       priority = λ q letter. (step_of a q letter).priority;
     }
 
--- names are few, and differ; each letter leads to a leaf that names a step, and no two leaves name the same one
+-- There are at most 64 names, and they differ. Each letter leads to a leaf that names a step, and different leaves name
+-- different steps.
 pub record IsWhole (a : AutomatonData) : Type 0 where
   pub few_names : length a.names ≤ 64
   pub are_names : AreNames a.names

@@ -1,6 +1,7 @@
--- Total, deterministic automata with a priority on each edge, and what it means that one is that of a file.
---     Auto      a start, and for each state and letter the next state and the priority
---     IsAutoOf file chain a      it is that of the file, whose condition is that chain
+-- Total, deterministic automata with a priority on each edge, and what it means that such an automaton belongs to a
+-- file.
+--     Auto      a start state, and for each state and letter the next state and the priority
+--     IsAutoOf file chain a      this is the automaton of the file, whose condition is the chain
 use Rattle.std.specs.Prelude.{◌≡◌, ℕ, zero, suc, ◌+◌, ◌^◌, ◌<◌, ◌≤◌, ◌⊎◌, max, Bool, List, [], ◌∷◌, length}
 use Rattle.ps_hoa.specs.Files.{FileData}
 use Rattle.ps_hoa.specs.Edges.{Goes}
@@ -11,13 +12,13 @@ pub record Auto : Type 0 where
   pub next : ℕ → ℕ → ℕ
   pub priority : ℕ → ℕ → ℕ
 
--- the step takes an edge
+-- the step is an edge of the file
 pub record TakesEdge (file : FileData) (chain : Chain) (a : Auto) (q letter : ℕ) : Type 0 where
   pub sets : ℕ → Bool
   pub goes : Goes file q letter sets (a.next q letter)
   pub priority : a.priority q letter ≡ level chain sets
 
--- no edge is taken, and the step leads to the sink, which is the state numbered by the count of states
+-- no edge is taken, so the step leads to the sink, which is the state whose number equals the count of states
 pub record TakesNone (file : FileData) (a : Auto) (q letter : ℕ) : Type 0 where
   pub none : (sets : ℕ → Bool) (next : ℕ) → Goes file q letter sets next → ⊥
   pub to_sink : a.next q letter ≡ file.states
@@ -29,7 +30,7 @@ pub record IsAutoOf (file : FileData) (chain : Chain) (a : Auto) : Type 0 where
   pub within : (q letter : ℕ) → q ≤ file.states → letter < 2 ^ length file.names → a.next q letter ≤ file.states
   pub steps : (q letter : ℕ) → q < file.states → letter < 2 ^ length file.names →
       TakesEdge file chain a q letter ⊎ TakesNone file a q letter
-  -- each edge is the step's
+  -- each edge that is taken at a letter gives the step at this letter
   pub by_edge : (q letter : ℕ) (sets : ℕ → Bool) (next : ℕ) → Goes file q letter sets next →
       (a.next q letter ≡ next) × (a.priority q letter ≡ level chain sets)
   -- every letter leads the sink to itself
@@ -38,7 +39,7 @@ pub record IsAutoOf (file : FileData) (chain : Chain) (a : Auto) : Type 0 where
 
 -- ## Runs
 
--- the state before that place of a word
+-- the state before the letter at the index t of a word
 abbrev pub state_at : Auto → (ℕ → ℕ) → ℕ → ℕ
 state_at a w zero = a.start
 state_at a w (suc t) = a.next (state_at a w t) (w t)
@@ -46,7 +47,7 @@ state_at a w (suc t) = a.next (state_at a w t) (w t)
 abbrev pub priority_at : Auto → (ℕ → ℕ) → ℕ → ℕ
 priority_at a w t = a.priority (state_at a w t) (w t)
 
--- the greatest of a number of values, from one place on
+-- the greatest of `count` values of a function, from the index `from` on
 abbrev pub greatest_from : (ℕ → ℕ) → ℕ → ℕ → ℕ
 greatest_from f from zero = 0
 greatest_from f from (suc count) = max (f from) (greatest_from f (from + 1) count)
@@ -61,7 +62,7 @@ abbrev pub greatest_along : Auto → ℕ → List ℕ → ℕ
 greatest_along a q [] = 0
 greatest_along a q (letter ∷ letters) = max (a.priority q letter) (greatest_along a (a.next q letter) letters)
 
--- after a number of laps
+-- the state after `laps` laps
 abbrev pub state_after : Auto → ℕ → List ℕ → ℕ → ℕ
 state_after a q lap zero = q
 state_after a q lap (suc laps) = state_behind a (state_after a q lap laps) lap

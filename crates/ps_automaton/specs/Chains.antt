@@ -1,14 +1,14 @@
--- Conditions that are chains, and the numbers that a chain gives to edges.
--- A chain is a list of links, each a set and whether meeting that set accepts, and a base. Of a part of a run, the
--- first link whose set is met decides; where none is, the base does.
---     chain_of condition      the chain that the condition is, if it is one
---     level chain has      the number of an edge: of the first link whose set it has, or of the base
+-- Conditions that are chains, and the numbers that a chain gives to edges. A chain is a list of links and a base. A
+-- link is a set of edges together with a flag, which states whether meeting the set accepts. For a part of a run, the
+-- first link whose set is met decides; if no such set is met, the base decides.
+--     chain_of condition      the chain of the condition, if the condition is a chain
+--     level chain has      the number of an edge: that of the first link whose set the edge has, or that of the base
 use Rattle.std.specs.Prelude.{ℕ, ◌+◌, ◌%◌, max, Bool, true, false, not, List, [], ◌∷◌, ◌++◌, Option, None, Some}
 use Rattle.std.specs.Prelude.{if◌then◌else◌, nat_eq}
 use Rattle.ps_hoa.specs.Conditions.{SetData, Condition, Conditions, constant, infinitely, finitely, all_hold, any_holds}
 use Rattle.ps_hoa.specs.Conditions.{last, more}
 
--- a set, and whether meeting it accepts
+-- a set, and whether meeting the set accepts
 pub record Link : Type 0 where
   pub colour : ℕ
   pub accepts : Bool
@@ -25,13 +25,13 @@ base_alone base = Some (record { links = []; base = base })
 abbrev pub link_to : Bool → SetData → Option Link
 link_to accepts set = if set.complemented then None else Some (record { colour = set.number; accepts = accepts })
 
--- the link that an operand of a disjunction (`Inf`) or of a conjunction (`Fin`) is
+-- the link of an operand: of an `Inf` in a disjunction, or of a `Fin` in a conjunction
 abbrev pub link_of : Bool → Condition → Option Link
 link_of true (infinitely set) = link_to true set
 link_of false (finitely set) = link_to false set
 link_of accepts c = None
 
--- the links that all these operands are
+-- the links of the operands, if every operand is a link
 abbrev pub links_of : Bool → Conditions → Option (List Link)
 links_of accepts last = Some []
 links_of accepts (more c cs) = elim (link_of accepts c) [
@@ -39,7 +39,7 @@ links_of accepts (more c cs) = elim (link_of accepts c) [
   | Some link ↦ elim (links_of accepts cs) [ None ↦ None | Some links ↦ Some (link ∷ links) ]
 ]
 
--- links in front of a chain
+-- the given links followed by a chain, if both exist
 abbrev pub in_front : Option (List Link) → Option Chain → Option Chain
 in_front None chain = None
 in_front (Some links) None = None
@@ -49,9 +49,10 @@ abbrev pub one_link : Option Link → Option (List Link)
 one_link None = None
 one_link (Some link) = Some (link ∷ [])
 
--- `t` and `f` are a base alone. `Inf` of a set is one link with the base f, `Fin` one link with the base t. In a
--- disjunction all operands but at most one are `Inf`: their links in order, then the chain of the remaining operand, or
--- else the base f. A conjunction is the same with `Fin` and t.
+-- The conditions `t` and `f` are chains that consist of a base alone. `Inf` of a set is one link with the base f, and
+-- `Fin` of a set is one link with the base t. In a disjunction, all operands except at most one are `Inf`. The chain of
+-- the disjunction has their links in order, and then the chain of the remaining operand, or else the base f. A
+-- conjunction is the same with `Fin` and t.
 abbrev mutual
   pub chain_of : Condition → Option Chain
   chain_of (constant base) = base_alone base
@@ -69,7 +70,7 @@ abbrev mutual
 
 -- ## Complemented sets
 
--- the condition contains a complemented set
+-- whether the condition contains a complemented set
 abbrev mutual
   pub has_complement : Condition → Bool
   has_complement (constant b) = false
@@ -84,7 +85,7 @@ abbrev mutual
 
 -- ## The truth of a condition
 
--- the truth where these sets are met infinitely often and no others; complemented sets have no meaning here
+-- the truth value of a condition if exactly these sets are met infinitely often; complemented sets have no meaning here
 abbrev mutual
   pub holds : (ℕ → Bool) → Condition → Bool
   holds met (constant b) = b
@@ -101,7 +102,7 @@ abbrev mutual
   one_of_them met last = false
   one_of_them met (more c cs) = if holds met c then true else one_of_them met cs
 
--- the truth that a chain gives: that of the first link whose set is met
+-- the truth value that a chain gives: that of the first link whose set is met, or of the base
 abbrev pub chain_holds : Bool → List Link → (ℕ → Bool) → Bool
 chain_holds base [] met = base
 chain_holds base (link ∷ links) met = if met link.colour then link.accepts else chain_holds base links met
@@ -111,16 +112,16 @@ chain_holds base (link ∷ links) met = if met link.colour then link.accepts els
 abbrev pub is_even : ℕ → Bool
 is_even n = nat_eq (n % 2) 0
 
--- an accepting number is even
+-- the number of the base: a number that accepts is even
 abbrev pub base_number : Bool → ℕ
 base_number base = if base then 0 else 1
 
--- the next link's number if both accept or neither does, else one more
+-- the number of the next link if both links accept or both do not, and otherwise one more
 abbrev pub raised : Bool → ℕ → ℕ
 raised true next = if is_even next then next else next + 1
 raised false next = if is_even next then next + 1 else next
 
--- the number of the first link, or of the base; given from the end of the chain
+-- the number of the first link, or of the base; computed from the end of the chain
 abbrev pub first_number : Bool → List Link → ℕ
 first_number base [] = base_number base
 first_number base (link ∷ links) = raised link.accepts (first_number base links)
@@ -135,7 +136,7 @@ level chain has = level_by chain.base chain.links has
 
 -- ## Parts of a run
 
--- the sets that are met along edges, of which each is given by the sets that it has
+-- whether a set is met along edges, each of which is given by the sets that it has
 abbrev pub is_met : List (ℕ → Bool) → ℕ → Bool
 is_met [] set = false
 is_met (has ∷ edges) set = if has set then true else is_met edges set

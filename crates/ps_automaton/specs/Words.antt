@@ -1,10 +1,10 @@
--- Words that repeat: a stem, and then a lap again and again. A word is read by place, from 0.
+-- Words that repeat: a stem, and then a lap for ever. A word is a function from indices, which begin at 0, to letters.
 use Rattle.std.specs.Prelude.{◌≡◌, ℕ, ◌+◌, ◌-◌, ◌%◌, ◌≤◌, List, length, nat_lt, if◌then◌else◌, slice_index}
 
 abbrev pub word : List ℕ → List ℕ → ℕ → ℕ
 word stem lap t =
     if nat_lt t (length stem) then slice_index stem t else slice_index lap ((t - length stem) % length lap)
 
--- from that place on, each value comes again after the given number of places
+-- from the index `from` on, each value occurs again `count` indices later
 abbrev pub Repeats : (ℕ → ℕ) → ℕ → ℕ → Type 0
 Repeats w from count = (t : ℕ) → from ≤ t → w (t + count) ≡ w t

@@ -1,4 +1,4 @@
--- The tree of one letter, made from the last proposition up.
+-- The tree of one letter, made from the last proposition to the first.
 use Rattle.std.proofs.Common.{◌≡◌, ℕ, zero, suc, ◌+◌, ◌-◌, ◌/◌, ◌^◌, ◌<◌, ◌≤◌, Bool, true, false, cond, nat_eq}
 use Rattle.std.proofs.Common.{Some, None, ap, sym, ◌∙◌, arith, inl, inr, ◌⊎◌}
 use Rattle.std.proofs.lemmas.Bool.{eq-eqb, eqb-true, false_from_ne_true, true_from_ne_false}
@@ -11,8 +11,8 @@ use Rattle.ps_diagram.specs.Letters.{assignment}
 use Rattle.ps_diagram.specs.Tree.{Tree, leaf_at, IsBlind, IsTestOf}
 use Rattle.ps_diagram.proofs.Cells.{bool_cases, true_is_not_false}
 
--- of the propositions from the level on and below n, the tree has the leaf 1 where all are as in the letter, and else
--- none
+-- The tree reads only propositions from `level` on. The tree has the leaf 1 if the propositions that are at least
+-- `level` and less than n are as in the letter, and no leaf otherwise.
 pub record IsAlone (n level letter : ℕ) (t : Tree) : Type 0 where
   pub blind : IsBlind level t
   pub here : (f : ℕ → Bool) → ((q : ℕ) → level ≤ q → q < n → f q ≡ is_in q letter) → leaf_at t f ≡ Some 1
@@ -25,11 +25,11 @@ test_blind p low high t h bl bh f g e = grind arith
 pub empty_blind : (level : ℕ) (t : Tree) → ((f : ℕ → Bool) → leaf_at t f ≡ None) → IsBlind level t
 empty_blind level t e f g _ = e f ∙ sym (e g)
 
--- two letters are alike below n, or differ somewhere
+-- two truth values are equal or differ
 bool_same : (a b : Bool) → (a ≡ b) ⊎ (a ≡ b → ⊥)
 bool_same a b = grind (arith, true_is_not_false)
 
--- what a proposition more adds: the tree so far where it is as in the letter, and else no leaf
+-- one more proposition: the new tree is the old tree if the proposition is as in the letter, and has no leaf otherwise
 alone_step : {n : ℕ} (p letter : ℕ) (v : Bool) (node made : Tree) → IsAlone n (p + 1) letter node →
     is_in p letter ≡ v → p < n → IsBlind p made → ((f : ℕ → Bool) → f p ≡ v → leaf_at made f ≡ leaf_at node f) →
     ((f : ℕ → Bool) → (f p ≡ v → ⊥) → leaf_at made f ≡ None) → IsAlone n p letter made
@@ -76,7 +76,7 @@ alone_end {n} {letter} lt same done alone other olt =
       ]
     ]
 
--- one step of the loop, which counts down
+-- one iteration of the loop, which counts down
 pub alone_next : {n m i letter : ℕ} (v : Bool) (none node made : Tree) → m ≡ n → 0 < i → i ≤ n →
     ((f : ℕ → Bool) → leaf_at none f ≡ None) → IsAlone n i letter node → is_in (i - 1) letter ≡ v →
     IsTestOf (i - 1) (cond v none node) (cond v node none) made → IsAlone m (i - 1) letter made
@@ -84,7 +84,7 @@ alone_next {n} {m} {i} {letter} v none node made same some le e a is h =
     let next : i ≡ i - 1 + 1 = omega arith in
     rw same (alone_made (i - 1) letter v none node made e (rw next at a) is (omega arith) h)
 
--- the test of a bit, as the code makes it
+-- the test of a bit, as the code does it
 pub bit_true : (letter p : ℕ) → bit_and (letter / 2 ^ p) 1 ≡ 1 → is_in p letter ≡ true
 bit_true letter p e = eq-eqb (bit_at letter p) 1 (sym (shr_and_one letter p) ∙ e)
 

@@ -1,5 +1,5 @@
--- Ordered and reduced trees with the same leaves are one tree; and a tree that heeds no proposition below a level
--- tests none.
+-- Ordered and reduced trees with the same leaves are equal. A tree whose leaves depend only on propositions from a
+-- level on tests no earlier proposition.
 use Rattle.std.proofs.Common.{◌≡◌, ℕ, ◌+◌, ◌<◌, ◌≤◌, Bool, true, false, cond, Option, Some, None, eqb, refl, ap}
 use Rattle.std.proofs.Common.{sym, ◌∙◌, arith, inl, inr}
 use Rattle.std.proofs.lemmas.Bool.{cases_lt, cases_order, eq-eqb, eqb-false}
@@ -8,7 +8,7 @@ use Rattle.ps_diagram.specs.Tree.{IsTestOf}
 use Rattle.ps_diagram.specs.Table.{Table, IsNode, IsSoundTable, tree_of}
 use Rattle.ps_diagram.proofs.Cells.{bool_cases}
 
--- a letter changed at one proposition
+-- a letter that is changed at one proposition
 abbrev pub changed : (ℕ → Bool) → ℕ → Bool → ℕ → Bool
 changed f p b q = cond (eqb q p) b (f q)
 
@@ -24,7 +24,7 @@ changed-later f p b q le = changed-other f p b q (λ e. omega arith)
 pub same_cond : (b : Bool) (x : Option ℕ) → x ≡ cond b x x
 same_cond b x = grind arith
 
--- only propositions from the level on and below n matter
+-- the leaves depend only on propositions that are at least `level` and less than n
 pub from-blind : (level n : ℕ) (t : Tree) → IsFrom level n t → (f g : ℕ → Bool) →
     ((q : ℕ) → level ≤ q → q < n → f q ≡ g q) → leaf_at t f ≡ leaf_at t g
 from-blind level n empty o f g e = refl
@@ -36,7 +36,7 @@ from-blind level n (choice p low high) o f g e =
 pub blind-from : (level n : ℕ) (t : Tree) → IsFrom level n t → IsBlind level t
 blind-from level n t o f g e = from-blind level n t o f g (λ q h b. e q h)
 
--- the side of a test is the test's leaf at a letter changed there
+-- the leaf of a side is the leaf of the test at the letter whose tested proposition is set to this side
 pub side_leaf : (p : ℕ) (v : Bool) (t low high : Tree) → IsTestOf p low high t → IsBlind (p + 1) low →
     IsBlind (p + 1) high → (f : ℕ → Bool) → leaf_at t (changed f p v) ≡ cond v (leaf_at high f) (leaf_at low f)
 side_leaf p v t low high h bl bh f = grind (arith, changed-here, changed-later)
@@ -45,7 +45,7 @@ choice_side : (n p : ℕ) (v : Bool) (low high : Tree) → IsFrom (p + 1) n low 
     leaf_at (choice p low high) (changed f p v) ≡ cond v (leaf_at high f) (leaf_at low f)
 choice_side n p v low high ol oh = grind (arith, blind-from (p + 1) n low ol, blind-from (p + 1) n high oh)
 
--- the tree that is that leaf at every letter
+-- the tree that has the given leaf, or no leaf, at every letter
 abbrev pub leaf_tree : Option ℕ → Tree
 leaf_tree None = empty
 leaf_tree (Some k) = final k
@@ -58,11 +58,11 @@ only_leaf level n (choice p low high) o r x e =
     let same = λ (v : Bool) (f : ℕ → Bool). sym (choice_side n p v low high o.2 o.3 f) ∙ e (changed f p v) in
     absurd (r.0 (only_leaf (p + 1) n low o.2 r.1 x (same false) ∙ sym (only_leaf (p + 1) n high o.3 r.2 x (same true))))
 
--- what is known of the low and of the high side: they are the only trees with their leaves
+-- every ordered and reduced tree with the same leaves is equal to this tree
 abbrev Only : ℕ → Tree → Type 0
 Only n t = (u : Tree) (b : ℕ) → IsFrom b n u → IsReduced u → HaveSameLeaves t u → t ≡ u
 
--- choices by one proposition with the same leaves have them on both sides
+-- if two choices by one proposition have the same leaves, their sides have the same leaves
 sides_alike : (n p : ℕ) (l h m g : Tree) → IsFrom (p + 1) n l → IsFrom (p + 1) n h → IsFrom (p + 1) n m →
     IsFrom (p + 1) n g → HaveSameLeaves (choice p l h) (choice p m g) → (v : Bool) (f : ℕ → Bool) →
     cond v (leaf_at h f) (leaf_at l f) ≡ cond v (leaf_at g f) (leaf_at m f)
@@ -110,7 +110,7 @@ from-level n (choice p low high) level o r b = elim (cases_lt p level) [
   | inr le ↦ (le, o.1, o.2, o.3)
 ]
 
--- what a test of a proposition asks of the table
+-- the conditions under which a test can be added to the table
 pub record Ready (t : Table) (p low high : ℕ) : Type 0 where
   pub ordered : IsFrom 0 t.propositions (choice p (tree_of t low) (tree_of t high))
   pub reduced : IsReduced (choice p (tree_of t low) (tree_of t high))

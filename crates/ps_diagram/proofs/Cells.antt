@@ -1,4 +1,4 @@
--- A table with one cell more.
+-- A table with one more cell.
 use Rattle.std.proofs.Common.{◌≡◌, ℕ, ◌+◌, ◌<◌, ◌≤◌, Bool, true, false, List, [], ◌∷◌, ◌++◌, length, get_or, refl}
 use Rattle.std.proofs.Common.{sym, ◌∙◌, arith, length-append, inl, inr, ◌⊎◌, fold, Some, rules}
 use Rattle.std.proofs.lemmas.List.{get_or_append_left, get_or_push}
@@ -15,7 +15,7 @@ use Rattle.ps_diagram.specs.Inner.Parts.{IsPart}
 use Rattle.ps_diagram.specs.Table.{Table, tree_by, trees_of, tree_at, tree_in, tree_of, IsNode, IsWithin, IsSoundTable}
 use Rattle.ps_diagram.specs.Table.{Keeps}
 
--- the table with one cell more
+-- the table with one more cell
 abbrev pub more : Table → View → Table
 more t cell = record { propositions = t.propositions; cells = t.cells ++ cell ∷ [] }
 
@@ -42,7 +42,7 @@ tree_at-old cells cell k h = grind (arith, trees_push, get_or_append_left, lengt
 pub tree_at-new : (cells : List View) (cell : View) → tree_at (cells ++ cell ∷ []) (length cells) ≡ tree_in cells cell
 tree_at-new cells cell = search (rules, trees_push, get_or_push, length_trees)
 
--- the tree of a cell whose nodes are held stays
+-- the tree of a cell does not change when a cell is added, if the nodes of the cell are in the table
 pub tree_in-old : (cells : List View) (cell c : View) → IsWithin (length cells) c →
     tree_in (cells ++ cell ∷ []) c ≡ tree_in cells c
 tree_in-old cells cell c h = search (rules, tree_at-old)
@@ -50,7 +50,7 @@ tree_in-old cells cell c h = search (rules, tree_at-old)
 pub within-weaker : {a : ℕ} (b : ℕ) (c : View) → a ≤ b → IsWithin a c → IsWithin b c
 within-weaker b c h k = search rules
 
--- equal trees are of equal cells, where equal trees are one node
+-- in a sound table, cells with equal trees are equal
 pub same_cell : (t : Table) → IsSoundTable t → (a b : View) → IsWithin (length t.cells) a →
     IsWithin (length t.cells) b → tree_in t.cells a ≡ tree_in t.cells b → a ≡ b
 unfolding tree_of
@@ -65,11 +65,11 @@ true_is_not_false e = cc
 pub keeps_refl : (t : Table) → Keeps t t
 keeps_refl t = record { propositions = refl; held = λ node h. h; same = λ node h. refl }
 
--- a place of the longer list is an old one or the new one
+-- an index of the longer list is an old index or the new one
 pub old_or_new : (k n : ℕ) → k < n + 1 → (k < n) ⊎ (k ≡ n)
 old_or_new k n h = elim (cases_lt k n) [ inl lt ↦ inl lt | inr ge ↦ inr (omega arith) ]
 
--- what holds of each element by its place holds with one more
+-- a property of each entry and its index also holds after an entry with the property is appended
 pub push_each : {X : Type 0} (P : ℕ → X → Type 0) (d : X) (xs : List X) {more : List X} (x : X) {count : ℕ} →
     length xs ≡ count → more ≡ xs ++ x ∷ [] → ((i : ℕ) → i < count → P i (get_or xs i d)) → P count x → (i : ℕ) →
     i < count + 1 → P i (get_or more i d)
@@ -79,7 +79,7 @@ pub keeps_more : (t : Table) (cell : View) → Keeps t (more t cell)
 unfolding tree_of
 keeps_more t cell = grind (arith, length-append, tree_at-old)
 
--- what holds of the old cells, with their trees, and of the new one holds of all
+-- a property of the old cells and their trees, and of the new cell, is a property of all cells
 each_cell : (P : ℕ → View → Tree → Type 0) (cells : List View) (cell : View) →
     ((k : ℕ) → k < length cells → P k (get_or cells k Nothing) (tree_at cells k)) →
     P (length cells) cell (tree_in cells cell) → (k : ℕ) → k < length (cells ++ cell ∷ []) →
@@ -87,7 +87,7 @@ each_cell : (P : ℕ → View → Tree → Type 0) (cells : List View) (cell : V
 each_cell P cells cell old new k h =
     search (rules, old_or_new, length-append, get_or_append_left, tree_at-old, get_or_push, tree_at-new)
 
--- every store with one cell more is sound, where the cell is well made and new
+-- a sound table stays sound when a well-made new cell is added
 pub sound_more : {t : Table} {cell : View} → IsSoundTable t → IsWithin (length t.cells) cell →
     IsFrom 0 t.propositions (tree_in t.cells cell) → IsReduced (tree_in t.cells cell) →
     ((k : ℕ) → k < length t.cells → cell ≡ get_or t.cells k Nothing → ⊥) → IsSoundTable (more t cell)
@@ -112,14 +112,14 @@ sound_more {t} {cell} s w o r new =
           a ha;
     }
 
--- the table after a cell is interned, and its place
+-- the table after a cell is interned, and the index of the cell
 pub record Interned (t u : Table) (cell : View) (place : ℕ) : Type 0 where
   pub sound : IsSoundTable u
   pub keeps : Keeps t u
   pub held : IsNode u place
   pub tree : tree_of u place ≡ tree_in t.cells cell
 
--- a place of the cell in a sound table that keeps all nodes
+-- if a sound table that keeps all nodes has the cell at an index, the cell is interned there
 at_place : {t u : Table} {cell : View} (place : ℕ) → IsSoundTable u → Keeps t u →
     tree_in u.cells cell ≡ tree_in t.cells cell → slice_get u.cells place ≡ Some cell → Interned t u cell place
 unfolding tree_of

@@ -1,4 +1,4 @@
--- The classes of letters, from a divided diagram and its leaves.
+-- The classes of letters, derived from a divided diagram and its leaves.
 use Rattle.std.proofs.Common.{◌≡◌, ◌↔◌, ℕ, ◌<◌, ◌^◌, Bool, true, false, List, length, Option, Some, rules}
 use Rattle.std.proofs.Common.{sym, ◌∙◌, arith, inl, inr}
 use Rattle.std.proofs.lemmas.Bool.{cases_lt, false_from_ne_true}
@@ -20,11 +20,11 @@ use Rattle.ps_diagram.proofs.Canon.{changed, changed-here, changed-other, blind-
 use Rattle.ps_diagram.proofs.Letters.{letter_lt, letter_is, no_bit, leaf_by_number}
 use Rattle.ps_diagram.proofs.Dividing.{divided_alike, divided_side}
 
--- the leaf is that of a class
+-- the leaf belongs to a class in the list
 abbrev IsThere : List Class → ℕ → Type 0
 IsThere list k = (i : ℕ) × (i < length list) × ((class_at list i).rest ≡ k)
 
--- the classes are the leaves of a node, by their least letters
+-- the classes have the leaves of a node, in the order of their least letters
 record IsListed (t : Table) (node : ℕ) (list : List Class) : Type 0 where
   pub least : (i : ℕ) → i < length list → IsLeast (LeadsTo t node (class_at list i).rest) (class_at list i).letter
   pub complete : (f : ℕ → Bool) (k : ℕ) → leaf_at (tree_of t node) f ≡ Some k → IsThere list k
@@ -44,7 +44,7 @@ listed t node own leaves list h o =
       rising = search (rules, o.letter, h.rising);
     }
 
--- the leaves of a node stay
+-- a node has the same leaves when the table grows
 leads_kept : {t u : Table} → Keeps t u → {node : ℕ} → IsNode t node → (leaf letter : ℕ) →
     LeadsTo t node leaf letter ↔ LeadsTo u node leaf letter
 leads_kept k {node} h leaf letter = search rules
@@ -61,7 +61,8 @@ leaves_kept k {node} h all = record {
   rising = all.rising;
 }
 
--- what was made of a node of the first table: its division, the leaves of that, and their places
+-- the diagrams made from a node of the first table: its division, the leaves of the division, and the indices of the
+-- leaves
 record Made (s u : Table) : Type 0 where
   pub mask : ℕ
   pub node : ℕ
@@ -79,7 +80,7 @@ record Made (s u : Table) : Type 0 where
   pub placed : IsPlaced places list
   pub mapped : (f : ℕ → Bool) → leaf_at (tree_of u at) f ≡ option_and_then places (leaf_at (tree_of u divided) f)
 
--- the place is a letter's, and has the node of its class
+-- k is the index of the letter's class, and the class has the node to which the division leads the letter
 record IsPlaceOf (s u : Table) (m : Made s u) (f : ℕ → Bool) (k : ℕ) : Type 0 where
   within : k < length m.list
   is : leaf_at (tree_of u m.at) f ≡ Some k
@@ -87,7 +88,7 @@ record IsPlaceOf (s u : Table) (m : Made s u) (f : ℕ → Bool) (k : ℕ) : Typ
   held : IsNode u (class_at m.list k).rest
   leaf : (g : ℕ → Bool) → leaf_at (tree_of u (class_at m.list k).rest) g ≡ leaf_at (tree_of s m.node) (mixed m.mask f g)
 
--- letters that are the same at each proposition
+-- mixed letters that agree at every proposition
 
 mixed_first : (mask x v q : ℕ) → AgreeOn mask x v → mixed mask (assignment x) (assignment v) q ≡ is_in q v
 mixed_first mask x v q on = elim (bool_cases (is_in q mask)) [ inl is ↦ rw is (on q is) | inr isnt ↦ rw isnt ]
@@ -100,7 +101,7 @@ mixed_alike : (mask : ℕ) (f g w : ℕ → Bool) (q : ℕ) → ((p : ℕ) → i
     mixed mask f w q ≡ mixed mask g w q
 mixed_alike mask f g w q on = elim (bool_cases (is_in q mask)) [ inl is ↦ rw is (on q is) | inr isnt ↦ rw isnt ]
 
--- letters over n propositions, some of them changed
+-- mixed letters as numbers
 
 joined_letter : (n mask x : ℕ) (w : ℕ → Bool) → x < 2 ^ n → AgreeOn mask x (letter_of n (mixed mask (assignment x) w))
 joined_letter n mask x w h p is = search (rules, cases_lt, letter_is, no_bit, letter_lt)
@@ -121,12 +122,12 @@ module _ {s u : Table} (m : Made s u) where
   same_letters : (f g : ℕ → Bool) → ((q : ℕ) → f q ≡ g q) → leaf_at (tree_of s m.node) f ≡ leaf_at (tree_of s m.node) g
   same_letters f g e = search (rules, blind-from)
 
-  -- the division heeds the mask alone
+  -- the division depends only on the mask
   heeds_mask : (f g : ℕ → Bool) → ((q : ℕ) → is_in q m.mask ≡ true → f q ≡ g q) →
       leaf_at (tree_of u m.divided) f ≡ leaf_at (tree_of u m.divided) g
   heeds_mask f g on = search (rules, divided_alike, same_letters, mixed_alike)
 
-  -- letters of one place lead alike
+  -- letters with the same class index lead alike
   together : (x y : ℕ) → leaf_of u m.at x ≡ leaf_of u m.at y → LeadAlike s m.node m.mask x y
   together x y e v w on_x on_y off =
       let p = (place_at (assignment x)).1 in
@@ -142,7 +143,7 @@ module _ {s u : Table} (m : Made s u) where
             (λ i. mixed_first m.mask y w i on_y),
       )
 
-  -- and letters that lead alike have one place
+  -- letters that lead alike have the same class index
   apart : (x y : ℕ) → x < 2 ^ u.propositions → y < 2 ^ u.propositions → LeadAlike s m.node m.mask x y →
       leaf_of u m.at x ≡ leaf_of u m.at y
   apart x y hx hy h =
@@ -156,7 +157,7 @@ module _ {s u : Table} (m : Made s u) where
       (others_agree n m.mask x y w) ∙ sym (leaf_by_number n a own (mixed m.mask (assignment y) w)) in
       grind (arith, divided_alike m.sound m.mask a (tree_of u m.divided) m.division (assignment x) (assignment y) e)
 
-  -- a proposition outside the mask that the letter of a class had could be left out
+  -- the letter of a class has no proposition outside the mask, because without it the letter would come earlier
   masked : (c : Class) → IsLeast (LeadsTo u m.divided c.rest) c.letter → (p : ℕ) → is_in p m.mask ≡ false →
       is_in p c.letter ≡ false
   masked c first p off = false_from_ne_true (is_in p c.letter) (λ is.
@@ -184,7 +185,8 @@ module _ {s u : Table} (m : Made s u) where
         (m.listed.rising i j lt below));
   }
 
--- the node stands in one table, its division in the next one, and the places in a third, which keeps that
+-- The node is in the first table, its division is in the second, and the diagram of indices is in the third. The third
+-- table keeps the second.
 pub classes_of : {s v u : Table} → Keeps v u → IsSoundTable s → IsSoundTable u → u.propositions ≡ s.propositions →
     (mask : ℕ) {node divided at : ℕ} {places : ℕ → Option ℕ} {leaves : List (ℕ × ℕ)} {list : List Class} →
     IsNode s node → IsNode v divided → IsNode u at → IsDivided v mask (tree_of s node) (tree_of v divided) →
@@ -209,7 +211,7 @@ classes_of {s} {v} {u} m node_sound sound letters mask {node} {divided} {at} {pl
       mapped = rw (m.same divided hd) mapped;
     }) ha
 
--- classes stay where their diagrams are kept
+-- classes stay the same when the table keeps their diagrams
 class_kept : {s t u : Table} → Keeps t u → {node mask places k : ℕ} {c : Class} → IsNode t places →
     IsClass s t node mask places k c → IsClass s u node mask places k c
 class_kept keeps {places} {c} held is = record {

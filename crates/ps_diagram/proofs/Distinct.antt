@@ -1,4 +1,4 @@
--- Lists whose elements each stand once, as the keys of a set do, and lists with one element more.
+-- Lists without repeats, such as the keys of a set, and lists to which one entry is appended.
 use Rattle.std.proofs.Common.{◌≡◌, ℕ, zero, suc, ◌<◌, ◌⊎◌, inl, inr, Bool, true, List, [], ◌∷◌, ◌++◌, Some, sym, ap}
 use Rattle.std.proofs.Common.{◌∙◌, arith, length, refl}
 use Rattle.std.specs.List.{slice_get, IsDistinct}
@@ -17,7 +17,7 @@ pub at_end : {X : Type 0} (xs : List X) (y : X) → slice_get (xs ++ y ∷ []) (
 at_end [] y = refl
 at_end (x ∷ xs) y = at_end xs y
 
--- an element of a list with one more was there, or is the last
+-- an entry of a list to which y is appended is an old entry or y
 pub at_last : {X : Type 0} (xs : List X) (y : X) (i : ℕ) {x : X} → slice_get (xs ++ y ∷ []) i ≡ Some x →
     (slice_get xs i ≡ Some x) ⊎ ((x ≡ y) × (i ≡ length xs))
 at_last [] y zero e = inr (cc, refl)
@@ -29,7 +29,7 @@ pub inserted_keeps : {X : Type 0} (eq : X → X → Bool) (xs : List X) (k : X) 
     slice_get (insert_key eq xs k) i ≡ Some x
 inserted_keeps eq xs k i e = grind (arith, at_left xs (k ∷ []) i e)
 
--- an element after an insertion was there, or is the one that was inserted
+-- after an insertion, each entry is an old entry or the inserted one
 pub inserted_is : {X : Type 0} (eq : X → X → Bool) (xs : List X) (k : X) (i : ℕ) {x : X} →
     slice_get (insert_key eq xs k) i ≡ Some x → (slice_get xs i ≡ Some x) ⊎ (x ≡ k)
 inserted_is eq xs k i e = grind (arith, at_last xs k i)
@@ -43,7 +43,7 @@ module _ {X : Type 0} (eq : X → X → Bool) (same : (a b : X) → Decides (eq 
   pub one_place : (i j : ℕ) {x : X} → slice_get xs i ≡ Some x → slice_get xs j ≡ Some x → i ≡ j
   one_place i j a b = grind (arith, cases_order, not_before)
 
--- a stored key that passes the test is the one that was inserted
+-- a stored key that passes the test is the inserted key
 pub stored_is : {X : Type 0} (eq : X → X → Bool) (same : (a b : X) → Decides (eq a b) (a ≡ b)) (xs : List X) (i : ℕ)
     (x : X) → ((k : X) × (slice_get xs i ≡ Some k) × (eq x k ≡ true)) → slice_get xs i ≡ Some x
 stored_is eq same xs i x s = cc (s.1, (same x s.0).0 s.2)

@@ -1,4 +1,4 @@
--- Leaves gathered, low side first: each with the least letter that leads to it.
+-- Gathering the leaves of a node, low side first, each with the least letter that leads to it.
 use Rattle.std.proofs.Common.{◌≡◌, ℕ, suc, ◌+◌, ◌*◌, ◌%◌, ◌^◌, ◌<◌, ◌≤◌, Bool, true, false, List, [], ◌∷◌, ◌++◌}
 use Rattle.std.proofs.Common.{rules, Option, Some, None, nat_eq, eqb, refl, ap, sym, subst, ◌∙◌, arith, append_assoc}
 use Rattle.std.proofs.Common.{inl, inr}
@@ -23,7 +23,7 @@ use Rattle.ps_diagram.proofs.KnownLemmas.{MayBePut}
 use Rattle.ps_diagram.proofs.Halving.{one_bit}
 use Rattle.ps_diagram.proofs.Letters.{no_bit, top_bit, lower_bit}
 
--- ## Lists of what was found
+-- ## Lists of leaves
 
 lookup-append : (test : ℕ → Bool) (xs ys : List (ℕ × ℕ)) →
     lookup test (xs ++ ys) ≡ joined (lookup test xs) (lookup test ys)
@@ -66,7 +66,7 @@ some_of o h = search rules
 pub none_of : (o : Option ℕ) → is_some o ≡ false → o ≡ None
 none_of o h = search rules
 
--- ## Nodes without leaves of their own
+-- ## Nodes that add no leaves
 
 pub gathers_none : (n : ℕ) (t : Tree) (letter : ℕ) (old : List (ℕ × ℕ)) →
     ((f : ℕ → Bool) (leaf : ℕ) → leaf_at t f ≡ Some leaf → IsFound old leaf) → Gathers n t letter old old
@@ -159,7 +159,7 @@ pub begun_low : {t : Table} {node p low high : ℕ} (letter : ℕ) → IsChoice 
     letter < 2 ^ root_of t.propositions (tree_of t node) → letter < 2 ^ root_of t.propositions (tree_of t low)
 begun_low {t} {node} {p} {low} {high} letter h lt = search (rules, root_later, begun_below, pow_mono)
 
--- the bit that is set, as the code makes it
+-- the bit of a proposition, as the code computes it
 pub set_bit : {t : Table} {node p low high : ℕ} → IsChoice t node p low high → 1 * 2 ^ p % 2 ^ 64 ≡ 2 ^ p
 set_bit {p} h = search (rules, one_bit)
 
@@ -182,7 +182,7 @@ pub gathers_test : {t : Table} {node p low high letter : ℕ} {old mid new : Lis
 gathers_test {t} {node} {p} {low} {high} {letter} {old} {mid} {new} h lt a b =
     search (rules, gathers_choice, begun_below, root_later)
 
--- one node more was seen
+-- one more node has been visited
 pub seen_more : (t : Table) (old new : ℕ → Option ℕ) (node value : ℕ) (found : List (ℕ × ℕ)) →
     MayBePut eqb old new node value → HaveFound t (λ q. is_some (old q)) found →
     ((f : ℕ → Bool) (leaf : ℕ) → leaf_at (tree_of t node) f ≡ Some leaf → IsFound found leaf) →
@@ -192,7 +192,7 @@ seen_more t old new node value found put h own q is f leaf e = elim (put q) [
   | inr here ↦ own f leaf (rw (eqb-true node q here.0) e)
 ]
 
--- ## What was gathered from the whole node
+-- ## The leaves of the whole node
 
 zero_bit : (q : ℕ) → is_in q 0 ≡ false
 zero_bit q = no_bit 0 0 q (omega arith) (omega arith)
@@ -209,7 +209,7 @@ entry_of P (pair ∷ es) leaf {z} h e = elim (bool_cases (nat_eq leaf pair.0)) [
   | inr isnt ↦ entry_of P es leaf h.1 (rw isnt at e)
 ]
 
--- all that was gathered, once it began with nothing
+-- gathering from an empty list finds each leaf with its first letter
 firsts : {t : Table} {node : ℕ} {found : List (ℕ × ℕ)} → IsGathered t node found →
     AllByRecursion (λ pair. IsFirst t.propositions (tree_of t node) 0 pair.0 pair.1) found
 firsts h = rw h.all.is h.all.first

@@ -1,4 +1,4 @@
--- Rows of nodes, proposition by proposition.
+-- Rows of nodes are halved, proposition by proposition.
 use Rattle.std.proofs.Common.{◌≡◌, ℕ, ◌+◌, ◌*◌, ◌%◌, ◌^◌, ◌<◌, ◌≤◌, true, false, List, [], ◌∷◌, ◌++◌, rules, length}
 use Rattle.std.proofs.Common.{length-append, get_or, min, Option, None, ap, ◌∙◌, arith, inl, inr, ◌⊎◌}
 use Rattle.std.specs.List.{slice_get}
@@ -39,7 +39,7 @@ bits_above p letter is = rw (first_bits p letter, eqb-true (bit_at letter p) 1 i
 bits_rise : (p letter : ℕ) → letter % 2 ^ p ≤ letter % 2 ^ (p + 1)
 bits_rise p letter = omega (arith, first_bits p letter)
 
--- ## One node more
+-- ## One more node
 
 push_length : (xs : List ℕ) {more : List ℕ} (x : ℕ) {count : ℕ} → length xs ≡ count → more ≡ xs ++ x ∷ [] →
     length more ≡ count + 1
@@ -73,15 +73,15 @@ module _ {t : Table} {leaves nodes : List ℕ} (none : ℕ) (nothing : HasLeaf t
   pub first_leads : LeadsOn t leaves t.propositions none nodes
   first_leads letter = (leaf_there (letter % 2 ^ t.propositions)).1 (assignment letter)
 
--- ## A row from the one behind it
+-- ## A row from the row for the next proposition
 
--- a node that tests the proposition between the node at a place and the one half a row on
+-- a node that tests p, with the nodes at the indices i and i + `half` of the longer row as sides
 abbrev pub TestsAt : Table → Table → ℕ → ℕ → ℕ → List ℕ → ℕ → ℕ → Type 0
 TestsAt t u p none half nodes i made =
     IsNode u made × IsTestOf p (tree_of t (get_or nodes i none)) (tree_of t (get_or nodes (half + i) none))
     (tree_of u made)
 
--- the nodes so far are such tests
+-- each of the first `count` nodes of the new row tests p between two nodes of the old row
 pub record AreTests (t u : Table) (p none half : ℕ) (nodes : List ℕ) (count : ℕ) (made : List ℕ) : Type 0 where
   pub one_each : length made ≡ count
   pub each : (i : ℕ) → i < count → TestsAt t u p none half nodes i (get_or made i 0)
@@ -94,7 +94,7 @@ tests_more {t} {u} {v} {p} {none} {half} {nodes} {count} {made} {more} node k a 
   each = push_each (TestsAt t v p none half nodes) 0 made node a.one_each is (λ i lt. grind arith) h;
 }
 
--- all places are done
+-- the new row is complete
 pub all_tests : {t u : Table} {p none half : ℕ} {nodes : List ℕ} {count : ℕ} {made : List ℕ} → half ≡ 2 ^ p →
     count ≡ min (length nodes) (2 ^ p) → AreTests t u p none half nodes count made →
     AreTests t u p none (2 ^ p) nodes (min (length nodes) (2 ^ p)) made
@@ -102,7 +102,7 @@ all_tests is done a = rw (is, done) at a
 
 module _ {t u : Table} {p none : ℕ} {nodes made : List ℕ} (row : IsRow t (p + 1) none nodes) (keeps : Keeps t u)
     (a : AreTests t u p none (2 ^ p) nodes (min (length nodes) (2 ^ p)) made) where
-  -- a place with a test, or behind them
+  -- an index at which the new row has a test, or that is past the end of the row
   Made : ℕ → Type 0
   Made i = ((i < length nodes) × TestsAt t u p none (2 ^ p) nodes i (get_or made i none)) ⊎ (get_or made i none ≡ none)
 
@@ -117,7 +117,7 @@ module _ {t u : Table} {p none : ℕ} {nodes made : List ℕ} (row : IsRow t (p 
   unfolding Made
   half_row = search (rules, nothing_now, made_there, test_blind, empty_blind)
 
-  -- the leaf of a test at a letter is that of the row behind it
+  -- the leaf of a test in the new row is the leaf of the node in the old row to which the letter leads
   leads_by : (letter : ℕ) → IsTestOf p (tree_of t (get_or nodes (letter % 2 ^ p) none))
       (tree_of t (get_or nodes (2 ^ p + letter % 2 ^ p) none)) (tree_of u (get_or made (letter % 2 ^ p) none)) →
       leaf_of u (get_or made (letter % 2 ^ p) none) letter ≡ leaf_of t (get_or nodes (letter % 2 ^ (p + 1)) none) letter

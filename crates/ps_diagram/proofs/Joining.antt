@@ -13,7 +13,7 @@ use Rattle.ps_diagram.proofs.Cells.{bool_cases}
 use Rattle.ps_diagram.proofs.Canon.{changed}
 use Rattle.ps_diagram.proofs.Sides.{side_at}
 
--- a test of two overlays is the overlay of the tests
+-- a test whose sides are overlays of the sides of two tests is the overlay of these tests
 overlay_test : (p : ℕ) (a al ah b bl bh c cl ch : Tree) → IsTestOf p al ah a → IsTestOf p bl bh b →
     IsTestOf p cl ch c → IsOverlay al bl cl → IsOverlay ah bh ch → IsOverlay a b c
 overlay_test p a al ah b bl bh c cl ch ta tb tc l h f = rw (ta f, tb f, tc f) (elim (bool_cases (f p)) [
@@ -21,7 +21,7 @@ overlay_test p a al ah b bl bh c cl ch ta tb tc l h f = rw (ta f, tb f, tc f) (e
   | inr is ↦ rw is (l f)
 ])
 
--- the same of nodes whose low sides are overlaid in the second table, and then the high sides in the third
+-- two nodes are overlaid if their low sides are overlaid in the second table, and then their high sides in the third
 pub overlay_sides : {t u v : Table} (w : Table) → Keeps t u → Keeps u v → {a b p al ah bl bh low : ℕ} (high made : ℕ) →
     IsSides t a p al ah → IsSides t b p bl bh → IsNode u low →
     IsOverlay (tree_of t al) (tree_of t bl) (tree_of u low) →
@@ -33,7 +33,7 @@ overlay_sides {t} {u} {v} w k m {a} {b} {p} {al} {ah} {bl} {bh} {low} high made 
     (tree_of w made) (tree_of v low) (tree_of v high) sa.leaf sb.leaf test (rw (m.same low held) l)
     (rw (← k.same ah sa.high_held, ← k.same bh sb.high_held) h)
 
--- a clash of sides is one of the nodes
+-- a clash between sides is a clash between the nodes
 pub clash_side : {t : Table} {a b p al ah bl bh : ℕ} → IsSides t a p al ah → IsSides t b p bl bh → (v : Bool)
     (e : OverlayError) → IsClash (tree_of t (cond v ah al)) (tree_of t (cond v bh bl)) e →
     IsClash (tree_of t a) (tree_of t b) e

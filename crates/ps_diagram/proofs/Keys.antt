@@ -1,4 +1,4 @@
--- Equality of cells as the table of nodes tests it.
+-- The equality test of the table of cells decides whether cells are equal.
 use Rattle.std.proofs.Common.{◌≡◌, Bool, true, rules, ◌&&◌}
 use Rattle.std.proofs.lemmas.Bool.{eqb-true}
 use Rattle.ps_diagram.specs.declared.view.View.{View}

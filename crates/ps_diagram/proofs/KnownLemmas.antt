@@ -1,4 +1,4 @@
--- What is known stays known as the table grows, and one more is known.
+-- What is known stays known when the table grows, and one more node becomes known.
 use Rattle.std.proofs.Common.{◌≡◌, ℕ, Bool, true, eqb, Option, Some, rules, sym, subst, ◌∙◌, ◌⊎◌, inl, inr}
 use Rattle.std.specs.Option.{unwrap_or}
 use Rattle.std.proofs.lemmas.Bool.{eqb-true}
@@ -11,7 +11,7 @@ use Rattle.ps_diagram.proofs.Keys.{and_both}
 pub keeps_trans : {t u v : Table} → Keeps t u → Keeps u v → Keeps t v
 keeps_trans a b = search rules
 
--- the table that is read, another one or else the one that grows
+-- the table that is read is either another table or the table that grows
 pub read_keeps : (other : Option Table) {t u : Table} → Keeps t u → Keeps (unwrap_or other t) (unwrap_or other u)
 read_keeps other h = search (rules, keeps_refl)
 
@@ -33,7 +33,7 @@ pairs_kept R known k h a b made e =
     let r = h a b made e in
     (k.held a r.0, k.held b r.1, k.held made r.2, rw (k.same a r.0, k.same b r.1, k.same made r.2) r.3)
 
--- a key may have a value now
+-- the new map equals the old map, except that it may map `key` to `value`
 abbrev pub MayBePut : {K : Type 0} → (K → K → Bool) → (known new : K → Option ℕ) → K → ℕ → Type 0
 MayBePut {K} eq known new key value = (q : K) → (new q ≡ known q) ⊎ ((eq key q ≡ true) × (new q ≡ Some value))
 

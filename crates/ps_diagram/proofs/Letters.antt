@@ -16,7 +16,7 @@ pub letter_lt : (n : ℕ) (f : ℕ → Bool) → letter_of n f < 2 ^ n
 letter_lt zero f = omega arith
 letter_lt (suc n) f = added (f n) n (letter_of n f) (letter_lt n f)
 
--- a bit on top of a number
+-- a bit above all bits of a number
 on_top : (n low : ℕ) → low + 2 ^ n ≡ 1 * 2 ^ n + low
 on_top n low = omega arith
 
@@ -42,7 +42,7 @@ letter_is (suc n) f p h = elim (cases_lt p n) [
   | inr ge ↦ let same : p ≡ n = omega arith in rw same (bit_here (f n) n (letter_of n f) (letter_lt n f))
 ]
 
--- a tree's leaf at a letter is that at its number
+-- a tree's leaf at a letter is its leaf at the number of the letter
 pub leaf_by_number : (n : ℕ) (t : Tree) → IsFrom 0 n t → (f : ℕ → Bool) →
     leaf_at t f ≡ leaf_at t (assignment (letter_of n f))
 leaf_by_number n t o f = from-blind 0 n t o f (assignment (letter_of n f)) (λ q h b. sym (letter_is n f q b))

@@ -1,4 +1,4 @@
--- Products of literals: with one literal more, and as trees.
+-- Products of literals: products with one more literal, and products as trees.
 use Rattle.std.proofs.Common.{◌≡◌, ℕ, zero, suc, ◌+◌, ◌-◌, ◌*◌, ◌^◌, ◌%◌, ◌<◌, ◌≤◌, Bool, true, false, cond, None}
 use Rattle.std.proofs.Common.{refl, sym, ap, ◌∙◌, arith, nat_eq, bit_or, ◌⊎◌, inl, inr}
 use Rattle.std.specs.Prelude.{◌&&◌, ◌||◌}
@@ -21,7 +21,7 @@ in_power p m = grind (arith, bit_at-pow_same m, bit_at-pow_other m p)
 in_more : (q p bits : ℕ) → p < 64 → is_in q (bit_or bits (1 * 2 ^ p % 2 ^ 64)) ≡ (is_in q bits || nat_eq q p)
 in_more q p bits small = rw (one_shl p 64 small, in_or q bits (2 ^ p), in_power q p) refl
 
--- truths joined in another order
+-- conjuncts in another order
 and_swap : (a rest here : Bool) → ((a && here) && rest) ≡ ((a && rest) && here)
 and_swap false rest here = refl
 and_swap true false false = refl
@@ -36,7 +36,7 @@ and_in true rest here = refl
 at_or_above : (level p : ℕ) → level ≤ p → (level ≡ p) ⊎ (level < p)
 at_or_above level p le = grind arith
 
--- a rule that asks the same of all propositions but an earlier one allows the same
+-- two rules that differ only at a proposition before `level` allow the same letters
 same_allowed : (may more : ℕ → Bool → Bool) (f : ℕ → Bool) (p level count : ℕ) →
     ((q : ℕ) (b : Bool) → (q ≡ p → ⊥) → more q b ≡ may q b) → p < level →
     all_allowed more f level count ≡ all_allowed may f level count
@@ -45,7 +45,7 @@ same_allowed may more f p level zero same before = refl
 same_allowed may more f p level (suc count) same before =
     rw (same level (f level) (omega arith), same_allowed may more f p (level + 1) count same (omega arith)) refl
 
--- and one that asks more of one of them allows what both allow
+-- a rule with one more condition, at one proposition, allows the letters that the old rule and the condition allow
 one_more_allowed : (may more : ℕ → Bool → Bool) (f : ℕ → Bool) (p level count : ℕ) (here : Bool) →
     ((q : ℕ) (b : Bool) → (q ≡ p → ⊥) → more q b ≡ may q b) → more p (f p) ≡ (may p (f p) && here) → level ≤ p →
     p < level + count → all_allowed more f level count ≡ (all_allowed may f level count && here)
@@ -82,7 +82,7 @@ other_number q p ne = grind arith
 same_number : (p : ℕ) → nat_eq p p ≡ true
 same_number p = grind arith
 
--- a product with one literal more
+-- a product with one more literal
 abbrev pub with_positive : Product → ℕ → Product
 with_positive product p = record {
   positive = bit_or product.positive (1 * 2 ^ p % 2 ^ 64);
@@ -134,7 +134,7 @@ meets_negative product p n letter small lt =
     (cond (is_in p letter) false true) (negative_same product p small)
     (negative_here product p small (is_in p letter)) (omega arith) (omega arith)
 
--- the product of no literals is true at each letter
+-- the empty product is true at each letter
 none_allows : (q : ℕ) (b : Bool) → allows (record { positive = 0; negative = 0 }) q b ≡ true
 none_allows q true = grind arith
 none_allows q false = grind arith
@@ -145,8 +145,8 @@ unfolding all_allowed
 meets_none f level zero = refl
 meets_none f level (suc n) = rw (none_allows level (f level)) (meets_none f (level + 1) n)
 
--- Of the propositions from the level on and below n, the tree has that leaf where the product lets all be as they are,
--- and else none.
+-- The tree has the leaf `value` where the product allows the values of all propositions that are at least `level` and
+-- less than n. Elsewhere it has no leaf.
 pub record IsProduct (value n level : ℕ) (product : Product) (t : Tree) : Type 0 where
   pub leaf : (f : ℕ → Bool) → leaf_at t f ≡ leaf_where value (all_allowed (allows product) f level (n - level))
 
@@ -180,12 +180,12 @@ pub side_blind : (t : Table) {value n level : ℕ} {product : Product} (b : Bool
 side_blind t true none node side e empty h = rw e (λ f g same. empty f ∙ sym (empty g))
 side_blind t false none node side e empty h = rw e (product_blind h)
 
--- the leaf of a test whose sides are products
+-- the leaf of a test whose sides are the trees of products
 tested : (value : ℕ) (b x y rest : Bool) → cond b (leaf_where value (x && rest)) (leaf_where value (y && rest)) ≡ leaf_where value (cond b x y && rest)
 tested value true x y rest = refl
 tested value false x y rest = refl
 
--- one step of the loop, which counts down
+-- one iteration of the loop, which counts down
 pub product_next : {value n m i : ℕ} {product : Product} (t : Table) (none node low high : ℕ) {made : Tree} → m ≡ n →
     0 < i → i ≤ n → ((f : ℕ → Bool) → leaf_at (tree_of t none) f ≡ None) → IsProduct value n i product (tree_of t node) →
     low ≡ cond (is_in (i - 1) product.positive) none node → high ≡ cond (is_in (i - 1) product.negative) none node →

@@ -1,4 +1,4 @@
--- Leaves with their least letters, made to classes.
+-- Classes are made from leaves and their least letters.
 use Rattle.std.proofs.Common.{◌≡◌, ℕ, ◌+◌, ◌<◌, cond, eqb, List, [], ◌∷◌, ◌++◌, length, rules}
 use Rattle.std.proofs.Common.{Option, Some, None, refl, ap, sym, ◌∙◌, arith, inl, inr}
 use Rattle.std.proofs.lemmas.Bool.{eqb-true, eq-eqb}
@@ -10,7 +10,7 @@ use Rattle.ps_diagram.specs.Reached.{AreLeaves}
 use Rattle.ps_diagram.specs.Inner.Numbered.{class_at, pair_at, AreOf, IsPlaced}
 use Rattle.ps_diagram.proofs.Cells.{bool_cases, push_each}
 
--- leaves with least letters that rise are different
+-- leaves whose least letters ascend are different
 pub leaves_differ : {t : Table} {node : ℕ} {found : List (ℕ × ℕ)} → AreLeaves t node found →
     AllPairs (λ a b. a.0 ≢ b.0) found
 leaves_differ {found} h i j d lt below e = search rules
@@ -50,7 +50,7 @@ placed_push {places} new letter k {at} {list} at_is new_key update h =
           ])) (rw (eq-eqb k k refl) at (update k) ∙ ap (λ m. Some m) at_is) i (omega arith);
     }
 
--- the next leaf has no place yet
+-- the next leaf has no index yet
 pub no_place : {leaves : List (ℕ × ℕ)} {n : ℕ} {places : ℕ → Option ℕ} {list : List Class} →
     AllPairs (λ a b. a.0 ≢ b.0) leaves → n < length leaves → AreOf leaves n list → IsPlaced places list →
     (x : Option ℕ) → places (pair_at leaves n).0 ≡ x → x ≡ None

@@ -1,4 +1,4 @@
--- What is seen of a node, from its cell.
+-- The view of a node, derived from its cell.
 use Rattle.std.proofs.Common.{ℕ, ◌+◌, ap, arith}
 use Rattle.ps_diagram.specs.declared.view.View.{View}
 use Rattle.ps_diagram.specs.declared.view.View.TheVariants.{Nothing, Leaf, Test}

@@ -1,4 +1,4 @@
--- Diagrams of truths: what is made of them, and that they stay as the table grows.
+-- Truth diagrams: how they are made, and that they stay the same when the table grows.
 use Rattle.std.proofs.Common.{◌≡◌, ℕ, ◌+◌, ◌<◌, Bool, true, false, cond, List, [], ◌∷◌, ◌++◌, length, get_or, Option}
 use Rattle.std.proofs.Common.{Some, refl, ap, sym, ◌∙◌, arith, drop, drop-cons, add-one, length-append, rules}
 use Rattle.std.specs.Prelude.{option_map}
@@ -22,7 +22,7 @@ is_one b h = search rules
 one_leaf : {leaf : Option ℕ} {x : ℕ} → IsOneOrNone leaf → leaf ≡ Some x → x ≡ 1
 one_leaf {x} h e = is_one h.0 (sym h.1 ∙ e)
 
--- diagrams of truths don't clash
+-- truth diagrams do not clash
 pub no_clash : (t : Table) (a b x y : ℕ) → ((letter : ℕ) → IsOneOrNone (leaf_of t a letter)) →
     ((letter : ℕ) → IsOneOrNone (leaf_of t b letter)) → TellsClash t a b (Clash x y) → ⊥
 no_clash t a b x y ha hb c = c.4 (one_leaf (ha c.0) c.2 ∙ sym (one_leaf (hb c.0) c.3))
@@ -31,7 +31,7 @@ pub truths_kept : {t u : Table} {nodes : List ℕ} {known : ℕ → List Bool} �
     HaveTruths u nodes known
 truths_kept k h = search rules
 
--- the leaf of a node that was held
+-- the leaf of a node does not change when the table grows
 pub leaf_kept : {t u : Table} {node : ℕ} (letter : ℕ) → Keeps t u → IsNode t node →
     leaf_of u node letter ≡ leaf_of t node letter
 leaf_kept {node} letter k h = ap (λ x. leaf_at x (assignment letter)) (k.same node h)
@@ -48,7 +48,8 @@ opposite_of b = search rules
 pub joined_of : (a b : Bool) → joined (one_where a) (one_where b) ≡ one_where (cond a true b)
 joined_of a b = search rules
 
--- so far some operand decides, a true one where any will do, a false one where all have to; or else the rest decides
+-- The operands so far decide the whole, or the rest decides it. If any operand suffices, a true operand decides; if all
+-- are needed, a false operand decides.
 pub record IsDecided (any : Bool) (leaf : Option ℕ) (rest whole : Bool) : Type 0 where
   pub so_far : Bool
   pub is : leaf ≡ one_where so_far
@@ -63,14 +64,14 @@ pub decided_more : (any : Bool) {old new made : Option ℕ} (b rest : Bool) {who
     made ≡ one_where (cond any b (cond b false true)) → new ≡ joined old made → IsDecided any new rest whole
 decided_more any b rest h e j = grind (arith, joined_of, decided_cases)
 
--- the expressions from a place on are the one there and those behind it
+-- the expressions from an index on are the expression at this index and those after it
 pub drop_is : (items : List Label) (k : ℕ) {x : Label} → k < length items → x ≡ get_or items k x →
     expressions (drop k items) ≡ expression x ∷ expressions (drop (k + 1) items)
 drop_is items k {x} lt is = rw (add-one, drop-cons items k x, ← is)
 
 -- ## The nodes of aliases
 
--- one alias more
+-- one more alias
 pub truths_push : {t u : Table} {nodes : List ℕ} {node : ℕ} {known : ℕ → List Bool} → Keeps t u →
     HaveTruths t nodes known → IsNode u node →
     ((letter : ℕ) → leaf_of u node letter ≡ one_where (get_or (known letter) (length nodes) false)) →
@@ -84,7 +85,7 @@ truths_push {t} {u} {nodes} {node} {known} k h held leaf =
           node refl refl (λ i within. old.leaf i letter within) (leaf letter) j (omega arith);
     }
 
--- the truth of an alias is that of its expression
+-- the truth value of an alias is that of its expression
 pub alias_truth : (labels : List Label) (letter k : ℕ) {x : Label} → AreOrdered (expressions labels) →
     k < length labels → x ≡ get_or labels k x → get_or (alias_truths (expressions labels) letter) k false ≡ truth
     (alias_truths (expressions labels) letter) letter (expression x)

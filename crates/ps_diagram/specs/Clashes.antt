@@ -1,10 +1,10 @@
--- What a refused overlay reports.
+-- The leaves that a rejected overlay reports.
 use Rattle.std.specs.Prelude.{◌≡◌, ◌≢◌, ℕ, ◌^◌, ◌<◌, Some}
 use Rattle.ps_diagram.specs.declared.fault.OverlayError.{OverlayError}
 use Rattle.ps_diagram.specs.declared.fault.OverlayError.TheVariants.{Clash, OutOfMemory}
 use Rattle.ps_diagram.specs.Table.{Table, leaf_of}
 
--- at some letter the first node has the first leaf, the second one the second, and these differ
+-- at some letter, the first node has the leaf x, the second node has the leaf y, and x and y differ
 abbrev pub TellsClash : Table → ℕ → ℕ → OverlayError → Type 0
 TellsClash t first second (Clash x y) =
     (letter : ℕ) × (letter < 2 ^ t.propositions) × (leaf_of t first letter ≡ Some x) ×

@@ -6,13 +6,14 @@ use Rattle.ps_diagram.specs.Letters.{AgreeOff, AgreeOn, IsBefore, IsLeast}
 use Rattle.ps_diagram.specs.Reached.{LeadsTo}
 use Rattle.ps_diagram.specs.Table.{Table, IsNode, leaf_of}
 
--- each letter over the others leads the two letters over the mask to the same leaf, or both to none
+-- for all truth values of the propositions outside the mask, x and y lead to the same leaf, or both to None
 abbrev pub LeadAlike : Table → ℕ → ℕ → ℕ → ℕ → Type 0
 LeadAlike t node mask x y =
     (u v : ℕ) → AgreeOn mask x u → AgreeOn mask y v → AgreeOff mask u v → leaf_of t node u ≡ leaf_of t node v
 
--- The class at the place k: its letter is the least in it and has only propositions of the mask; its diagram depends
--- only on the others, and has the leaf of the first table's node at each letter in it.
+-- The class at the index k. The letter of the class is its least letter, and has only propositions of the mask. The
+-- diagram of the class depends only on the other propositions, and has the leaf of the first table's node at each
+-- letter of the class.
 pub record IsClass (s t : Table) (node mask places k : ℕ) (c : Class) : Type 0 where
   pub least : IsLeast (LeadsTo t places k) c.letter
   pub masked : (p : ℕ) → is_in p mask ≡ false → is_in p c.letter ≡ false
@@ -20,9 +21,9 @@ pub record IsClass (s t : Table) (node mask places k : ℕ) (c : Class) : Type 0
   pub others : (x y : ℕ) → AgreeOff mask x y → leaf_of t c.rest x ≡ leaf_of t c.rest y
   pub shared : (x : ℕ) → leaf_of t places x ≡ Some k → leaf_of t c.rest x ≡ leaf_of s node x
 
--- The node is one of the first table; the diagrams of its classes are in the second. The diagram of places depends only
--- on the mask and leads each letter to the place of its class in the list. Two letters are in one class exactly if they
--- lead alike. The classes ascend by their letters.
+-- The node is in the first table; the diagrams of its classes are in the second table. The diagram `places` depends
+-- only on the mask, and leads each letter to the index of its class in the list. Two letters are in one class exactly
+-- if they lead alike. The classes ascend by their letters.
 pub record AreClasses (s t : Table) (node mask places : ℕ) (list : List Class) : Type 0 where
   pub held : IsNode t places
   pub read : (x y : ℕ) → AgreeOn mask x y → leaf_of t places x ≡ leaf_of t places y

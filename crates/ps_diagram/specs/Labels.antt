@@ -1,19 +1,19 @@
--- Labels, and the diagrams of their truth: 1 where a label is true, and no leaf where it is not.
+-- Labels and the diagrams of their truth values: the leaf 1 where a label is true, and no leaf where it is false.
 --
---     HaveTruths t nodes known               the diagrams of these nodes are those of truths, letter by letter
---     AreNodesOf t aliases nodes             the nodes are the diagrams of the aliases' truths
+--     HaveTruths t nodes known               each node is the diagram of one of these truth values
+--     AreNodesOf t aliases nodes             the nodes are the diagrams of the truth values of the aliases
 use Rattle.std.specs.Prelude.{◌≡◌, ℕ, ◌<◌, Bool, true, false, List, length, Option, Some, None}
 use Rattle.std.specs.Prelude.{slice_index, slice_index_or}
 use Rattle.ps_label.specs.Expression.{Expression}
 use Rattle.ps_label.specs.Truth.{alias_truths}
 use Rattle.ps_diagram.specs.Table.{Table, IsNode, leaf_of}
 
--- the leaf for a truth: 1, or none
+-- the leaf for a truth value: 1 for true, None for false
 abbrev pub one_where : Bool → Option ℕ
 one_where true = Some 1
 one_where false = None
 
--- the leaf for a truth: that one, or none
+-- the leaf for a truth value: the given leaf for true, None for false
 abbrev pub leaf_where : ℕ → Bool → Option ℕ
 leaf_where value true = Some value
 leaf_where value false = None
@@ -21,7 +21,7 @@ leaf_where value false = None
 abbrev pub IsOneOrNone : Option ℕ → Type 0
 IsOneOrNone leaf = (b : Bool) × (leaf ≡ one_where b)
 
--- the nodes are held, and at each letter the leaf of each is that of its truth
+-- the nodes are in the table, and at each letter, the leaf of each node is that of the node's truth value
 pub record HaveTruths (t : Table) (nodes : List ℕ) (known : ℕ → List Bool) : Type 0 where
   pub held : (k : ℕ) → k < length nodes → IsNode t (slice_index nodes k)
   pub leaf : (k letter : ℕ) → k < length nodes → leaf_of t (slice_index nodes k) letter ≡ one_where

@@ -1,8 +1,8 @@
--- Letters, as numbers and as functions, and their order.
+-- Letters, as numbers and as functions, and the order of letters.
 use Rattle.std.specs.Prelude.{◌≡◌, ℕ, zero, suc, ◌+◌, ◌^◌, ◌<◌, Bool, true, false, cond}
 use Rattle.ps_label.specs.Truth.{is_in}
 
--- the letter of a number: proposition p is bit p, the lowest bit being bit 0
+-- the letter of a number: the truth value of the proposition p is bit p; the lowest bit is bit 0
 abbrev pub assignment : ℕ → ℕ → Bool
 assignment letter p = is_in p letter
 
@@ -26,7 +26,7 @@ AgreeOn mask x y = (p : ℕ) → is_in p mask ≡ true → is_in p x ≡ is_in p
 abbrev pub AgreeOff : ℕ → ℕ → ℕ → Type 0
 AgreeOff mask x y = (p : ℕ) → is_in p mask ≡ false → is_in p x ≡ is_in p y
 
--- the letter has the property, and none before it has
+-- the letter has the property, and no earlier letter has it
 pub record IsLeast (P : ℕ → Type 0) (letter : ℕ) : Type 0 where
   pub here : P letter
   pub none_before : (x : ℕ) → P x → IsBefore x letter → ⊥

@@ -1,19 +1,19 @@
--- Pairs of leaves, each listed once; and leaves that are their places in the list.
+-- A list of pairs of leaves without repeats, and leaves that are indices in this list.
 use Rattle.std.specs.Prelude.{◌≡◌, ◌⊎◌, ℕ, ◌^◌, ◌<◌, List, Option, Some, None, slice_get}
 use Rattle.ps_diagram.specs.Table.{Table, leaf_of}
 
--- the third leaf is the place of the pair of the first two; there is none if one of these is none
+-- the third leaf is the index of the pair of the first two leaves, or None if one of the first two is None
 abbrev pub IsPaired : List (ℕ × ℕ) → Option ℕ → Option ℕ → Option ℕ → Type 0
 IsPaired pairs None second leaf = leaf ≡ None
 IsPaired pairs (Some k) None leaf = leaf ≡ None
 IsPaired pairs (Some k) (Some m) leaf = (place : ℕ) × (leaf ≡ Some place) × (slice_get pairs place ≡ Some (k, m))
 
--- each pair that was listed keeps its place, and each new one has the property
+-- each pair that was in the list keeps its index, and each new pair has the property
 pub record Adds (P : ℕ × ℕ → Type 0) (old new : List (ℕ × ℕ)) : Type 0 where
   pub stays : (place : ℕ) (pair : ℕ × ℕ) → slice_get old place ≡ Some pair → slice_get new place ≡ Some pair
   pub added : (place : ℕ) (pair : ℕ × ℕ) → slice_get new place ≡ Some pair → (slice_get old place ≡ Some pair) ⊎ P pair
 
--- at some letter these are the leaves of the two nodes
+-- at some letter, the pair consists of the leaves of the two nodes
 abbrev pub MeetAt : Table → ℕ → ℕ → ℕ × ℕ → Type 0
 MeetAt t first second pair =
     (letter : ℕ) × (letter < 2 ^ t.propositions) × (leaf_of t first letter ≡ Some pair.0) ×

@@ -1,7 +1,7 @@
--- The leaves of a node, and the least letter that leads to each.
+-- The leaves of a node, and the least letter that leads to each leaf.
 --
 --     LeadsTo t node leaf letter     the letter leads from the node to the leaf
---     AreLeaves t node found         all its leaves, each with the least letter, in the order of these
+--     AreLeaves t node found         all leaves of the node, each with its least letter, in the order of these letters
 use Rattle.std.specs.Prelude.{◌≡◌, ℕ, ◌^◌, ◌<◌, Bool, true, List, [], ◌∷◌, ◌++◌, All, AllPairs, Any, Some, None, nat_eq}
 use Rattle.std.specs.List.{AllByRecursion}
 use Rattle.std.specs.Map.{lookup}
@@ -14,19 +14,19 @@ use Rattle.ps_diagram.specs.Tree.{Tree, leaf_at}
 abbrev pub LeadsTo : Table → ℕ → ℕ → ℕ → Type 0
 LeadsTo t node leaf letter = (letter < 2 ^ t.propositions) × (leaf_of t node letter ≡ Some leaf)
 
--- pairs of a leaf and of its least letter
+-- each pair consists of a leaf and its least letter
 pub record AreLeaves (t : Table) (node : ℕ) (found : List (ℕ × ℕ)) : Type 0 where
   pub least : All (λ pair. IsLeast (LeadsTo t node pair.0) pair.1) found
   pub each : (leaf letter : ℕ) → LeadsTo t node leaf letter → Any (λ pair. pair.0 ≡ leaf) found
   pub rising : AllPairs (λ a b. IsBefore a.1 b.1) found
 
--- ## While they are gathered: below a node to which the beginning of a letter leads
+-- ## While leaves are gathered: below a node to which the start of a letter leads
 
 abbrev pub IsFound : List (ℕ × ℕ) → ℕ → Type 0
 IsFound found leaf = (letter : ℕ) × (lookup (nat_eq leaf) found ≡ Some letter)
 
--- The place leads to the leaf. It begins as the letter does. Any place before it that leads there too differs first
--- where the letter is true.
+-- The letter `place` leads to the leaf, and agrees with `letter` on all propositions before the tree's first test.
+-- Every earlier letter that leads to the leaf first differs from `place` at a proposition that is true in `letter`.
 pub record IsFirst (n : ℕ) (t : Tree) (letter leaf place : ℕ) : Type 0 where
   pub within : place < 2 ^ n
   pub there : leaf_at t (assignment place) ≡ Some leaf
@@ -38,7 +38,7 @@ abbrev pub AreRising : List (ℕ × ℕ) → Type 0
 AreRising [] = Unit {0}
 AreRising (pair ∷ pairs) = AllByRecursion (λ later. IsBefore pair.1 later.1) pairs × AreRising pairs
 
--- the leaves of the tree that were not found before are added
+-- the leaves of the tree that were not in the list are added to it
 pub record Gathers (n : ℕ) (t : Tree) (letter : ℕ) (old new : List (ℕ × ℕ)) : Type 0 where
   pub added : List (ℕ × ℕ)
   pub is : new ≡ old ++ added
@@ -51,7 +51,7 @@ pub record IsGathered (t : Table) (node : ℕ) (found : List (ℕ × ℕ)) : Typ
   pub held : IsNode t node
   pub all : Gathers t.propositions (tree_of t node) 0 [] found
 
--- the leaves of these nodes are found
+-- the list has all leaves of the nodes that were visited
 abbrev pub HaveFound : Table → (ℕ → Bool) → List (ℕ × ℕ) → Type 0
 HaveFound t seen found = (node : ℕ) → seen node ≡ true → (f : ℕ → Bool) (leaf : ℕ) →
     leaf_at (tree_of t node) f ≡ Some leaf → IsFound found leaf

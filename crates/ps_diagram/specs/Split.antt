@@ -1,20 +1,20 @@
--- Nodes split at a proposition.
+-- Nodes that are split at a proposition.
 use Rattle.std.specs.Prelude.{◌≡◌, ℕ, ◌+◌, ◌<◌, ◌≤◌, Bool, Option}
 use Rattle.ps_diagram.specs.declared.split.Split.{Split}
 use Rattle.ps_diagram.specs.Tree.{Tree, empty, final, choice, leaf_at, IsBlind, IsTestOf}
 use Rattle.ps_diagram.specs.Table.{Table, IsNode, tree_of}
 
--- the proposition that a tree tests first, or n
+-- the proposition that a tree tests first, or n if the tree tests no proposition
 abbrev pub root_of : ℕ → Tree → ℕ
 root_of n empty = n
 root_of n (final k) = n
 root_of n (choice p low high) = p
 
--- the tree has the same leaf, or none, at every letter
+-- the tree has the same leaf at every letter, or no leaf at any letter
 abbrev pub IsConstant : Tree → Type 0
 IsConstant t = (x : Option ℕ) × ((f : ℕ → Bool) → leaf_at t f ≡ x)
 
--- the node is a test of the proposition between these two nodes, which depend only on greater ones
+-- The node tests the proposition p, with the sides `low` and `high`. Both sides depend only on propositions after p.
 pub record IsSides (t : Table) (node p low high : ℕ) : Type 0 where
   pub low_held : IsNode t low
   pub high_held : IsNode t high
@@ -24,7 +24,7 @@ pub record IsSides (t : Table) (node p low high : ℕ) : Type 0 where
   pub high_later : IsBlind (p + 1) (tree_of t high)
   pub leaf : IsTestOf p (tree_of t low) (tree_of t high) (tree_of t node)
 
--- two nodes are split at one proposition, and their sides are earlier nodes
+-- two nodes are split at the same proposition; their low sides, and their high sides, have a smaller sum than the nodes
 pub record IsSplit (t : Table) (first second : ℕ) (s : Split) : Type 0 where
   pub named : s.proposition < t.propositions
   pub first_sides : IsSides t first s.proposition s.left.low s.left.high

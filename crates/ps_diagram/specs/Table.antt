@@ -1,11 +1,11 @@
 -- A store of diagrams as a table of cells, and the tree of each node.
 --
---     Table              the number of propositions, and the cells; a node is the place of its cell
---     IsNode t node      the node is held
---     tree_of t node     its tree
---     leaf_of t node x   its leaf at the letter x
---     Keeps old new      each node that was held is held, with the same tree, so with the same leaf at each letter
---     IsSoundTable            what holds of every store
+--     Table              the number of propositions, and the cells; a node is the index of its cell
+--     IsNode t node      the node is in the table
+--     tree_of t node     the tree of the node
+--     leaf_of t node x   the leaf of the node at the letter x
+--     Keeps old new      each old node is in the new table, with the same tree and so with the same leaf at each letter
+--     IsSoundTable       what is true of every store
 use Rattle.std.specs.Prelude.{◌≡◌, ℕ, ◌<◌, ◌≤◌, Option, List, [], ◌∷◌, ◌++◌, length, fold, slice_index_or}
 use Rattle.ps_diagram.specs.declared.view.View.{View}
 use Rattle.ps_diagram.specs.declared.view.View.TheVariants.{Nothing, Leaf, Test}
@@ -22,7 +22,7 @@ tree_by known Nothing = empty
 tree_by known (Leaf k) = final k
 tree_by known (Test p low high) = choice p (slice_index_or known low empty) (slice_index_or known high empty)
 
--- the trees of the cells, each made from those before it
+-- the trees of the cells, each made from the trees of the cells before it
 unfoldable pub trees_of : List View → List Tree
 trees_of cells = fold (λ known cell. known ++ tree_by known cell ∷ []) [] cells
 
@@ -48,13 +48,14 @@ pub record Keeps (old new : Table) : Type 0 where
   pub held : (node : ℕ) → IsNode old node → IsNode new node
   pub same : (node : ℕ) → IsNode old node → tree_of new node ≡ tree_of old node
 
--- the nodes of a cell are less than that number
+-- the nodes in the cell are less than `count`
 abbrev pub IsWithin : ℕ → View → Type 0
 IsWithin count Nothing = Unit {0}
 IsWithin count (Leaf k) = Unit {0}
 IsWithin count (Test p low high) = (low < count) × (high < count)
 
--- Each tree is that of its cell, made of earlier ones, ordered and reduced. Equal trees are one node.
+-- The tree of each cell is made from the trees of earlier cells, and is ordered and reduced. Equal trees have the same
+-- node.
 pub record IsSoundTable (t : Table) : Type 0 where
   pub few : t.propositions ≤ 64
   pub built : (node : ℕ) → IsNode t node → tree_of t node ≡ tree_in t.cells (slice_index_or t.cells node Nothing)

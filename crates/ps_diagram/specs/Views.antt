@@ -1,16 +1,17 @@
--- What a caller sees of a node.
+-- The part of a node that a caller sees.
 use Rattle.std.specs.Prelude.{◌≡◌, ℕ, ◌^◌, ◌<◌, cond, Some, None}
 use Rattle.ps_label.specs.Truth.{is_in}
 use Rattle.ps_diagram.specs.declared.view.View.{View}
 use Rattle.ps_diagram.specs.declared.view.View.TheVariants.{Nothing, Leaf, Test}
 use Rattle.ps_diagram.specs.Table.{Table, IsNode, leaf_of}
 
--- the leaf of the node is the same at letters that agree at each proposition after p
+-- the leaf of the node depends only on propositions after p
 abbrev pub HeedsBehind : Table → ℕ → ℕ → Type 0
 HeedsBehind t node p = (x y : ℕ) → ((q : ℕ) → p < q → is_in q x ≡ is_in q y) → leaf_of t node x ≡ leaf_of t node y
 
--- The node's leaf depends on p, and on no proposition before it. It is the leaf of `low` if p is false, and of `high`
--- if p is true. These are earlier nodes that depend only on greater propositions, and they differ at some letter.
+-- The node's leaf depends on p, and on no proposition before p. The leaf is that of `low` if p is false, and that of
+-- `high` if p is true. Both `low` and `high` are earlier nodes that depend only on propositions after p. They differ at
+-- some letter.
 pub record SeesTest (t : Table) (node p low high : ℕ) : Type 0 where
   pub named : p < t.propositions
   pub low_held : IsNode t low

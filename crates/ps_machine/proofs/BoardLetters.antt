@@ -87,12 +87,12 @@ module _ (board : Board) where
       IsSecondLetter board y → AgreeOff mask (x + y) (w + y)
   agree_second m hx hw hy p isnt = sym (agree_off m hx hy p isnt) ∙ agree_off m hw hy p isnt
 
-  -- a letter over the mask alone is the first player's
+  -- a letter that has only propositions of the mask belongs to the first player
   pub masked_first : {mask x : ℕ} → IsMaskOf board mask → x < 2 ^ board.propositions →
       ((p : ℕ) → is_in p mask ≡ false → is_in p x ≡ false) → IsFirstLetter board x
   masked_first {x} m lt masked = search (rules, cases_lt, no_bit)
 
-  -- ## What is the second player's in a letter
+  -- ## The second player's part of a letter
 
   abbrev pub second_of : ℕ → ℕ
   second_of u = letter_of board.propositions (λ p. is_in p u && not (board.is_first p))
@@ -106,7 +106,7 @@ module _ (board : Board) where
   second_off : (mask y : ℕ) → IsMaskOf board mask → y < 2 ^ board.propositions → AgreeOff mask y (second_of y)
   second_off mask y m lt p isnt = search (rules, cases_lt, second_bit, no_bit, second_is)
 
-  -- a letter is that of a first letter and of its own second one, where it agrees with the first
+  -- a letter that agrees with x on the mask is the sum of x and its own second-player part
   pub as_sum : {mask x : ℕ} (u p : ℕ) → IsMaskOf board mask → IsFirstLetter board x → AgreeOn mask x u →
       p < board.propositions → is_in p u ≡ is_in p (x + second_of u)
   as_sum u p m hx on lt = elim (bool_cases (board.is_first p)) [
@@ -114,7 +114,7 @@ module _ (board : Board) where
     | inr isnt ↦ cc (second_bit u p lt isnt, sum_second p hx (second_is u) lt isnt)
   ]
 
-  -- the same with the second part of another letter that agrees outside the mask
+  -- a letter that agrees with x on the mask is the sum of x and the part of any letter that agrees off the mask
   pub as_other_sum : {mask x : ℕ} (u v p : ℕ) → IsMaskOf board mask → IsFirstLetter board x → AgreeOn mask x v →
       AgreeOff mask u v → p < board.propositions → is_in p v ≡ is_in p (x + second_of u)
   as_other_sum u v p m hx on off lt = elim (bool_cases (board.is_first p)) [
@@ -176,14 +176,14 @@ compared n x y lx ly = elim (first_difference n) [
   ]
 ]
 
--- two letters neither of which comes before the other are one
+-- two letters are equal if neither comes before the other
 pub neither_before : (n : ℕ) {x y : ℕ} → x < 2 ^ n → y < 2 ^ n → (IsBefore x y → ⊥) → (IsBefore y x → ⊥) → x ≡ y
 neither_before n {x} {y} lx ly a b = search (rules, compared)
 
 pub not_before_itself : {x : ℕ} → IsBefore x x → ⊥
 not_before_itself b = true_is_not_false (sym b.is_true ∙ b.is_false)
 
--- a letter is the second player's where what is the second player's in it doesn't come before it
+-- a letter belongs to the second player if its second-player part does not come before it
 pub second_itself : (board : Board) (y : ℕ) → y < 2 ^ board.propositions → (IsBefore (second_of board y) y → ⊥) →
     IsSecondLetter board y
 second_itself board y lt never =
@@ -193,6 +193,6 @@ pub second_agrees : (board : Board) (mask y : ℕ) → IsMaskOf board mask → y
     AgreeOff mask y (second_of board y)
 second_agrees board mask y m lt = second_off board mask y m lt
 
--- two least letters with the same property are one
+-- the least letter with a property is unique
 pub one_least : (n : ℕ) {P : ℕ → Type 0} {x y : ℕ} → x < 2 ^ n → y < 2 ^ n → IsLeast P x → IsLeast P y → x ≡ y
 one_least n {x} {y} lx ly a b = neither_before n lx ly (λ h. b.none_before x a.here h) (λ h. a.none_before y b.here h)

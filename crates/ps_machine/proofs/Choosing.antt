@@ -1,5 +1,5 @@
--- What can be told of letters and steps by definition: the class of a letter of the first player, and the move of one
--- of the second.
+-- Facts about letters and steps that can be decided. Therefore each first-player letter has a class, and each
+-- second-player letter has a move.
 use Rattle.std.proofs.Common.{arith, rules, ◌≡◌, ◌⊎◌, inl, inr, ℕ, ◌+◌, ◌^◌, ◌<◌, Bool, true, false, not, refl, ap, sym}
 use Rattle.std.proofs.Common.{◌∙◌}
 use Rattle.std.specs.Prelude.{◌&&◌}
@@ -16,13 +16,13 @@ use Rattle.ps_machine.proofs.LeastLetters.{least_there}
 
 -- ## Letters of one player
 
--- a letter in which other propositions than these are false
+-- a letter in which only propositions of a given player are true
 pub record IsOver (n : ℕ) (mine : ℕ → Bool) (y : ℕ) : Type 0 where
   pub within : y < 2 ^ n
   pub own : (p : ℕ) → mine p ≡ false → is_in p y ≡ false
 
 module _ (n : ℕ) (mine : ℕ → Bool) where
-  -- what a letter has of these propositions
+  -- the part of a letter that consists of the player's propositions
   pub part : ℕ → ℕ
   part x = letter_of n (λ p. mine p && is_in p x)
 
@@ -59,7 +59,7 @@ module _ (n : ℕ) (mine : ℕ → Bool) where
 pub not_false : (b : Bool) → not b ≡ false → b ≡ true
 not_false b h = search rules
 
--- what two facts say together can be told where each can
+-- if each of two facts can be decided, both together can be decided
 pub both_or_not : (P Q : Type 0) → P ⊎ (P → ⊥) → Q ⊎ (Q → ⊥) → (P × Q) ⊎ (P × Q → ⊥)
 both_or_not P Q h k = search rules
 
@@ -85,7 +85,7 @@ module _ (board : Board) where
     | inr none ↦ inr (λ second. none (second_over y second))
   ]
 
-  -- ## Steps that are the same
+  -- ## Equal steps
 
   pub step_or_not : {q one other : ℕ} → SameStep board q one other ⊎ (SameStep board q one other → ⊥)
   step_or_not {q} {one} {other} = search (rules, cases_eq)
@@ -108,7 +108,7 @@ module _ (board : Board) where
   pub steps_sym : (q a b : ℕ) → SameSteps board q a b → SameSteps board q b a
   steps_sym q a b same y second = record { state = sym (same y second).state; priority = sym (same y second).priority }
 
-  -- the class of a letter of the first player
+  -- each letter of the first player has a class
   pub class_there : (q : ℕ) {x : ℕ} → IsFirstLetter board x →
       (class : ℕ) × IsClass board q class × SameSteps board q x class
   class_there q {x} first =
@@ -125,7 +125,7 @@ module _ (board : Board) where
         steps_sym q class x here.1,
       )
 
-  -- the move behind a class that leads where a letter of the second player leads
+  -- after a class, each letter of the second player has a move that leads to the same step
   pub move_there : {q : ℕ} (class : ℕ) {y : ℕ} → IsSecondLetter board y →
       (move : ℕ) × IsMove board q class move × SameStep board q (class + move) (class + y)
   move_there {q} class {y} second =

@@ -1,4 +1,4 @@
--- The diagrams of a machine, by which player moves first.
+-- The diagrams of a machine whose player moves first, and of a machine whose player moves second.
 
 pub mod ClassTables
 pub mod RowTests

@@ -1,4 +1,4 @@
--- The game of an automaton: keys that are visited, and their numbers.
+-- The game of an automaton: keys are visited and get their numbers.
 
 pub mod KeyTests
 pub mod NamingLemmas

@@ -1,4 +1,4 @@
--- A machine that reads letters on and on plays the game, and its winner wins each lasso.
+-- A machine that reads letters for ever plays the game, and the winner of vertex 0 wins each of its lassos.
 
 pub mod Rounds
 pub mod ListedPaths

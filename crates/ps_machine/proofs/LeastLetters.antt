@@ -1,5 +1,5 @@
--- Letters in their order: no property of letters goes down forever; and the sum of two letters without a common
--- proposition is a letter.
+-- The order of letters: a property that holds for some letter holds for a least letter. The sum of two letters that
+-- have no proposition in common is a letter.
 use Rattle.std.proofs.Common.{◌≡◌, ℕ, zero, suc, ◌+◌, ◌/◌, ◌^◌, ◌<◌, ◌≤◌, ◌⊎◌, inl, inr, Bool, true, false, cond}
 use Rattle.std.proofs.Common.{List, ap, sym, ◌∙◌, arith, rules, nat_eq}
 use Rattle.std.specs.List.{Contains, list_any}
@@ -17,7 +17,7 @@ use Rattle.ps_automaton.proofs.Deciding.{some_or_none}
 
 -- ## The order
 
--- how many letters come before one, where propositions from one on count alone
+-- the number of letters before y, if letters are compared only by the n propositions from `from` on
 pub rank : ℕ → ℕ → ℕ → ℕ
 rank from zero y = 0
 rank from (suc n) y = cond (is_in from y) (2 ^ n) 0 + rank (from + 1) n y
@@ -65,12 +65,12 @@ goes_down n P within none (suc bound) y here small = none y (record {
       goes_down n P within none bound x at (omega arith);
 })
 
--- where a property of letters has no least one it has none at all
+-- a property for which there is no least letter holds for no letter
 pub none_without_least : (n : ℕ) (P : ℕ → Type 0) → ((y : ℕ) → P y → y < 2 ^ n) → ((y : ℕ) → IsLeast P y → ⊥) →
     (y : ℕ) → P y → ⊥
 none_without_least n P within none y here = goes_down n P within none (rank 0 n y + 1) y here (omega arith)
 
--- ## A least one
+-- ## The least letter
 
 down_to_least : (n : ℕ) (P : ℕ → Type 0) → ((y : ℕ) → P y ⊎ (P y → ⊥)) → ((y : ℕ) → P y → y < 2 ^ n) → (bound y : ℕ) →
     P y → rank 0 n y < bound → (z : ℕ) × IsLeast P z
@@ -90,7 +90,7 @@ down_to_least n P tell within (suc bound) y here small =
     lower_or_not : (x : ℕ) → Lower x ⊎ (Lower x → ⊥)
     lower_or_not x = search (rules, cases_lt, rank)
 
--- of letters with a property that can be told there is a least one, where there is one
+-- a decidable property that holds for some letter has a least letter
 pub least_there : (n : ℕ) (P : ℕ → Type 0) → ((y : ℕ) → P y ⊎ (P y → ⊥)) → ((y : ℕ) → P y → y < 2 ^ n) → (y : ℕ) → P y →
     (z : ℕ) × IsLeast P z
 least_there n P tell within y here = down_to_least n P tell within (rank 0 n y + 1) y here (omega arith)
@@ -120,7 +120,7 @@ sum_within (suc n) x y a b apart =
 
 -- ## Lists
 
--- a number stands in a list or does not
+-- a number is in a list, or it is not
 pub contained_or_not : (xs : List ℕ) (x : ℕ) → Contains xs x ⊎ (Contains xs x → ⊥)
 contained_or_not xs x = elim (cases_Bool (list_any (nat_eq x) xs)) [
   | inl is ↦ inl (Contains-from_any (λ a b h. eqb-true a b h) x xs is)

@@ -1,4 +1,4 @@
--- How a machine is made of a certificate.
+-- How a machine is made from a certificate.
 
 pub mod Following
 pub mod MemorySteps

@@ -1,4 +1,4 @@
--- The player whose choice comes first is one of two, in each order of moves.
+-- For each order of moves, the player who moves first is player 0 or player 1.
 use Rattle.std.proofs.Common.{◌<◌, rules}
 use Rattle.ps_machine.specs.Keys.{mover_of}
 use Rattle.ps_machine.specs.declared.key.Order.{Order}

@@ -1,4 +1,4 @@
--- There is one game of a file, and one machine of a certificate.
+-- A file has at most one game, and a certificate has at most one machine.
 
 pub mod Rising
 pub mod Counting

@@ -1,11 +1,11 @@
--- What the finite machine of a player does, in the order of moves that it is made for; and the words that it makes.
---     Behaviour      its propositions, whose it is, whether that player moves first; and, by memory and the other
---               player's letter, the memory after a step and the letter that is played
---     IsMachine b      it is the behaviour of a finite machine
---     IsLasso b stem lap      letters of a run of the machine from memory 0 that returns, after the lap, to the
---               memory before it
+-- What the finite machine of a player does, for one order of moves, and the words that the machine makes.
+--     Behaviour      a machine's propositions, its player, whether that player moves first; and, for each memory state
+--               and letter of the other player, the next memory state and the letter that is output
+--     IsMachine b      this is the behaviour of a finite machine
+--     IsLasso b stem lap      the letters of a run from memory state 0 that is in the same memory state before and
+--               after the lap
 --     LassosWon file b      the automaton accepts each of these words if the machine is the controller's (player 0),
---               and otherwise none
+--               and none of them otherwise
 use Rattle.std.specs.Prelude.{◌≡◌, ◌≢◌, ℕ, ◌+◌, ◌^◌, ◌<◌, ◌≤◌, ◌⊎◌, ◌↔◌, Bool, false, IsTrue, List, ◌++◌, length}
 use Rattle.std.specs.Prelude.{slice_index}
 use Rattle.std.specs.List.{AllPairs}
@@ -14,8 +14,8 @@ use Rattle.ps_hoa.specs.Files.{FileData, is_among}
 use Rattle.ps_hoa.specs.Sound.{AreNames}
 use Rattle.ps_automaton.specs.Acceptance.{IsAccepted}
 
--- `inputs` are the propositions that it reads, the other player's, and `outputs` those that it plays. It begins in
--- memory 0.
+-- `inputs` are the propositions that the machine reads, which belong to the other player. `outputs` are the
+-- propositions that the machine outputs. The machine begins in memory state 0.
 pub record Behaviour : Type 0 where
   pub names : List (List ℕ)
   pub inputs : List ℕ
@@ -28,7 +28,7 @@ pub record Behaviour : Type 0 where
 
 -- ## Letters
 
--- only propositions of the list are true
+-- only propositions in the list are true
 pub record IsLetterOver (propositions : ℕ) (list : List ℕ) (x : ℕ) : Type 0 where
   pub within : x < 2 ^ propositions
   pub own : (p : ℕ) → is_among p list ≡ false → is_in p x ≡ false
@@ -39,14 +39,15 @@ IsInput b x = IsLetterOver (length b.names) b.inputs x
 abbrev pub IsOutput : Behaviour → ℕ → Type 0
 IsOutput b y = IsLetterOver (length b.names) b.outputs y
 
--- the same propositions of the list are true
+-- both letters have the same truth values for the propositions in the list
 abbrev pub AreSameOn : List ℕ → ℕ → ℕ → Type 0
 AreSameOn list x y = (p : ℕ) → IsTrue (is_among p list) → is_in p x ≡ is_in p y
 
 -- ## Machines
 
--- Each proposition is read or played, and none is both. A step leads to a memory, plays a letter, and depends only on
--- what is read; a player who moves first plays the same whatever the letter.
+-- Each proposition is either read or output, never both. A step leads to a memory state and outputs a letter; both
+-- depend only on the propositions that are read. If the player moves first, the output letter does not depend on the
+-- letter read.
 pub record IsMachine (b : Behaviour) : Type 0 where
   pub few_names : length b.names ≤ 64
   pub are_names : AreNames b.names
@@ -65,7 +66,7 @@ pub record IsMachine (b : Behaviour) : Type 0 where
 
 -- ## Words
 
--- one step: the letter joins what the machine reads and what it plays
+-- one step: the letter is the sum of the letter that the machine reads and the letter that it outputs
 pub record Makes (b : Behaviour) (memory letter next : ℕ) : Type 0 where
   pub input : ℕ
   pub is_input : IsInput b input

@@ -1,8 +1,10 @@
--- The machine of a certificate: what it remembers, what it plays, and which memory comes next.
+-- The machine of a certificate: its memory states, the letters that it outputs, and its next memory states.
 --     IsUsed game certificate v      v ends a path from vertex 0 that follows the table of the winner of vertex 0
---     IsKept .. v      of the used first-mover vertices, v is the least of those that share a memory with it
---     IsMachineOf board mover keys game certificate m      the machine: its memories are the kept vertices, ascending
--- A winner who moves first remembers the vertex. One who moves second remembers only its state.
+--     IsKept .. v      v is the smallest of the used first-player vertices that share its memory state
+--     IsMachineOf board mover keys game certificate m      the machine: its memory states are the kept vertices,
+--               ascending
+-- A winner who moves first remembers the current vertex. A winner who moves second remembers only the state of the
+-- vertex.
 use Rattle.std.specs.Prelude.{◌≡◌, ℕ, ◌+◌, ◌-◌, ◌<◌, ◌==◌, Bool, true, false, not, List, length, Some, slice_index}
 use Rattle.std.specs.Prelude.{slice_get}
 use Rattle.std.specs.List.{All, AllPairs, Contains}
@@ -30,7 +32,7 @@ pub record IsUsedFirst (keys : List Key) (game : ParityGame) (certificate : Cert
   pub used : IsUsed game certificate v
   pub stands : StandsAt keys v (First q p)
 
--- a memory belongs to one vertex if the player moves first, and otherwise to all vertices of a state
+-- if the player moves first, each vertex has its own memory state; otherwise, all vertices of a state share one
 abbrev pub Shares : Bool → ℕ → ℕ → ℕ → ℕ → Type 0
 Shares true v q w r = v ≡ w
 Shares false v q w r = q ≡ r
@@ -42,7 +44,7 @@ pub record IsKept (is_first : Bool) (keys : List Key) (game : ParityGame) (certi
   pub here : IsUsedFirst keys game certificate v state priority
   pub least : (w r p : ℕ) → w < v → IsUsedFirst keys game certificate w r p → ¬ Shares is_first v state w r
 
--- the memory belongs to the vertex w, whose state is r
+-- the memory state `memory` belongs to the vertex w, whose state is r
 pub record StandsFor (is_first : Bool) (keys : List Key) (kept : List ℕ) (memory w r : ℕ) : Type 0 where
   pub vertex : ℕ
   pub state : ℕ
@@ -51,18 +53,18 @@ pub record StandsFor (is_first : Bool) (keys : List Key) (kept : List ℕ) (memo
   pub stands : StandsAt keys vertex (First state priority)
   pub shares : Shares is_first vertex state w r
 
--- the edge of the game by which the step goes on: to the vertex of the pair
+-- the game continues at the vertex `next`, which stands for the state and the priority of this step
 pub record GoesTo (keys : List Key) (board : Board) (q letter next : ℕ) : Type 0 where
   pub stands : StandsAt keys next (First (board.auto.next q letter) (board.auto.priority q letter))
 
--- A winner who moves first plays the least letter of the class to which its move leads.
+-- A winner who moves first outputs the least letter of the class to which the winner's move leads.
 pub record StepsFirst (board : Board) (keys : List Key) (certificate : CertificateData) (v q x letter : ℕ) : Type 0
   where
     pub chosen : ℕ
     pub choice : choice_of certificate v ≡ Some chosen
     pub stands : StandsAt keys chosen (Second q letter)
 
--- A winner who moves second plays its least letter that leads the class to the pair to which its move leads.
+-- A winner who moves second outputs its least letter that leads from the class to the vertex of the winner's move.
 pub record StepsSecond (board : Board) (keys : List Key) (certificate : CertificateData) (v q x letter : ℕ) : Type 0
   where
     pub class : ℕ
@@ -74,7 +76,7 @@ pub record StepsSecond (board : Board) (keys : List Key) (certificate : Certific
     pub choice : choice_of certificate at ≡ Some chosen
     pub least : IsLeast (λ y. IsSecondLetter board y × GoesTo keys board q (class + y) chosen) letter
 
--- what is played at the vertex v of the state q, if the other player's letter is x
+-- the letter that is output at the vertex v of the state q, if the other player's letter is x
 abbrev pub IsPlayed : Bool → Board → List Key → CertificateData → ℕ → ℕ → ℕ → ℕ → Type 0
 IsPlayed true board keys certificate v q x letter = StepsFirst board keys certificate v q x letter
 IsPlayed false board keys certificate v q x letter = StepsSecond board keys certificate v q x letter
@@ -108,12 +110,12 @@ pub record IsMachineOf (board : Board) (mover : ℕ) (keys : List Key) (game : P
   pub steps : (memory x : ℕ) → memory < m.memories → IsOther m.is_first board x →
       IsStep board keys kept certificate m memory x
 
--- the propositions that the player of the machine reads are those of the other one
+-- whether a proposition belongs to the other player, who is not the machine's player
 abbrev pub is_others : Bool → Board → ℕ → Bool
 is_others true board p = not (board.is_first p)
 is_others false board p = board.is_first p
 
--- the machine has these names, and reads what the other player plays
+-- the machine has these names, and reads the propositions of the other player
 pub record HasPropositions (names : List (List ℕ)) (board : Board) (m : Behaviour) : Type 0 where
   pub names_are : m.names ≡ names
   pub as_many : length names ≡ board.propositions

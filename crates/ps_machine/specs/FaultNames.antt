@@ -1,4 +1,4 @@
--- The numbers and the names of the faults for which a solver gives no certificate.
+-- The numbers and names of the faults that a solver can return.
 use Rattle.std.specs.Prelude.{ℕ, List, codes}
 use Rattle.ps_certificate.specs.Faults as certificate
 use Rattle.ps_game.specs.FaultNames as game

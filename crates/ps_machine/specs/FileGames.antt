@@ -1,6 +1,6 @@
--- The game of a file: that of its automaton.
---     board_of_file order file auto      an automaton of the file, and who plays which of its propositions
---     IsGameOfFile order file game      the game that the automaton of a file defines, in that order of moves
+-- The game of a file is the game of the file's automaton.
+--     board_of_file order file auto      the board of an automaton of the file
+--     IsGameOfFile order file game      the game that an automaton of the file defines, for that order of moves
 use Rattle.std.specs.Prelude.{◌≡◌, List, length, Some}
 use Rattle.ps_automaton.specs.Autos.{Auto, IsAutoOf}
 use Rattle.ps_automaton.specs.Chains.{Chain, chain_of}
@@ -21,7 +21,7 @@ board_of_file order file auto =
       is_first = is_first_of order file.controllable;
     }
 
--- its vertices stand for these keys, and have the names of the keys
+-- the game of an automaton of the file, with a key for each vertex; each vertex has the name of its key
 pub record IsGameOfFile (order : Order) (file : FileData) (game : NamedGameData) : Type 0 where
   pub chain : Chain
   pub is_chain : chain_of file.condition ≡ Some chain

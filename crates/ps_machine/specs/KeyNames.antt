@@ -1,7 +1,7 @@
 -- The names of the vertices of an automaton's game.
 --     state_name states q      the state's number, or `sink`
---     digits_of board x      a digit for each proposition of the player who moves first: whether it is true in x
---     key_name board key      `q/p`, and `q:digits`
+--     digits_of board x      a digit for each proposition of the player who moves first: its truth value in x
+--     key_name board key      `q/p` or `q:digits`
 --     AreNamed board keys game      each vertex has its number as id, and the name of its key
 use Rattle.std.specs.Prelude.{◌≡◌, ℕ, zero, suc, List, [], ◌∷◌, ◌++◌, length, map, Option, Some, decimal, codes}
 use Rattle.std.specs.Prelude.{if◌then◌else◌, nat_eq}
@@ -19,7 +19,7 @@ state_name states q = if nat_eq q states then codes "sink" else decimal q
 abbrev pub digit_of : Board → ℕ → ℕ → List ℕ
 digit_of board x p = if board.is_first p then (if is_in p x then 49 else 48) ∷ [] else []
 
--- of the first n propositions
+-- the digits of the first n propositions
 abbrev pub first_digits : Board → ℕ → ℕ → List ℕ
 first_digits board x zero = []
 first_digits board x (suc n) = first_digits board x n ++ digit_of board x n

@@ -1,15 +1,16 @@
--- The finite machine of a player in its representation: its rows are in diagrams.
---     MachineData      its propositions, whose it is, whether that player moves first, and its rows in diagrams
---     step_of m memory x      the row of a memory, if x is the other player's letter
---     behaviour m      what it does
---     IsWholeMachine m      its behaviour is a machine's, and its diagrams have a row for each memory and letter
+-- The stored form of a player's finite machine: its rows are named by decision diagrams.
+--     MachineData      a machine's propositions, its player, whether that player moves first, its diagrams and its rows
+--     step_of m memory x      the row for a memory state, if x is the other player's letter
+--     behaviour m      what the machine does
+--     IsWholeMachine m      this is a machine, and its diagrams name a row for each memory state and letter
 use Rattle.std.specs.Prelude.{◌≡◌, ℕ, ◌<◌, Bool, List, length, slice_index, slice_index_or, IsSomeAnd}
 use Rattle.std.specs.Option.{unwrap_or}
 use Rattle.ps_diagram.specs.Table.{Table, IsNode, leaf_of}
 use Rattle.ps_machine.specs.Behaviours.{Behaviour, IsMachine, IsOutput, AreSameOn}
 use Rattle.ps_machine.specs.declared.machine.Row.{Row}
 
--- `inputs` are the propositions that it reads, the other player's, and `outputs` those that it plays
+-- `inputs` are the propositions that the machine reads, which belong to the other player. `outputs` are the
+-- propositions that the machine outputs.
 pub record MachineData : Type 0 where
   pub names : List (List ℕ)
   pub inputs : List ℕ
@@ -40,8 +41,8 @@ behaviour m =
       plays = λ memory x. (step_of m memory x).letter;
     }
 
--- each memory and letter leads to a leaf that names a row, which depends only on what is read; each row leads to a
--- memory, and plays a letter
+-- Each memory state and letter lead to a leaf that names a row. The leaf depends only on the propositions that are
+-- read. Each row leads to a memory state, and outputs a letter of the player.
 pub record IsWholeMachine (m : MachineData) : Type 0 where
   pub is_machine : IsMachine (behaviour m)
   pub letters : m.store.propositions ≡ length m.names

@@ -1,10 +1,10 @@
--- What is known of a solver.
+-- What is known about a solver.
 --     MayAnswer      what a solver may answer for a game
---     SolverData      what is known of a solver
+--     SolverData      what is known about a solver
 --     once_fed text solver      the solver after it was fed that text
---     answers_now solver      what it may answer, by what it was fed
---     Answered old new      what it might answer, and gave
---     IsKept old new      what a call keeps: all but what was given last
+--     answers_now solver      what the solver may answer, given the text that it was fed
+--     Answered old new      what the solver was allowed to answer, and did answer
+--     IsKept old new      what a call keeps: everything except the record of the last answer
 use Rattle.std.specs.Prelude.{◌≡◌, ℕ, Bool, List, Option, None, Some, Result}
 use Rattle.ps_certificate.specs.Certificates.{CertificateData}
 use Rattle.ps_game.specs.Games.{NamedGameData}
@@ -14,16 +14,16 @@ abbrev pub MayAnswer : Type 1
 MayAnswer = NamedGameData → Result CertificateData SolveFault → Type 0
 
 pub record SolverData : Type 1 where
-  -- what it gives fits the game and is valid, and it fails only if memory runs out
+  -- its certificates fit the game and are valid, and it fails only if out of memory
   pub is_sure : Bool
-  -- the text that it was fed last, the empty one before any; none for a solver that ignores what it is fed
+  -- the text that the solver was fed last, at first the empty text; None for a solver that ignores every text
   pub fed : Option (List ℕ)
-  -- what it may answer for a game, if it was fed that
+  -- what the solver may answer for a game, if it was fed this text
   pub may_answer : Option (List ℕ) → MayAnswer
-  -- what it gave last, and for which game; anything, if the solver keeps no record of that
+  -- whether a given answer for a game was the solver's last one; always true if the solver keeps no record
   pub gave : MayAnswer
 
--- what a solver holds after it was fed a text, by what it held before
+-- the text that a solver has after it was fed `text`, given the text that it had before
 abbrev pub fed_with : List ℕ → Option (List ℕ) → Option (List ℕ)
 fed_with text None = None
 fed_with text (Some old) = Some text

@@ -1,13 +1,13 @@
--- What holds of a solver's answer for a game.
+-- What is true of a solver's answer for a game.
 --     IsCertified game c      the certificate fits the game and is valid
---     winner c      who wins vertex 0
---     AnswersSurely game r      what a sure solver answers: such a certificate, or that memory ran out
---     AnswersLeast game r      what psyn's own solver answers: such a certificate with the least counts, or that memory
---               ran out
---     NamesVertices game r      a cycle that is answered is not empty, and has only vertices of the game
---     Replays game fed r      the answer is that of reading the text that was fed
---     own_solver      what is known of psyn's own solver
---     replay_of text      what is known of the solver that answers what it was fed, if that is this text
+--     winner c      the winner of vertex 0
+--     AnswersSurely game r      what a sure solver answers: a certified certificate, or out of memory
+--     AnswersLeast game r      what psyn's own solver answers: a certified certificate with the least counts, or out of
+--               memory
+--     NamesVertices game r      if the answer is a cycle, it is not empty and has only vertices of the game
+--     Replays game fed r      the answer is the result of parsing the text that was fed
+--     own_solver      what is known about psyn's own solver
+--     replay_of text      what is known about the solver that parses the text that it was fed, if that is `text`
 use Rattle.std.specs.Prelude.{◌≡◌, ℕ, ◌<◌, true, false, List, length, Option, None, Some, Result, Ok, Err}
 use Rattle.std.specs.List.{All}
 use Rattle.ps_game.specs.Games.{NamedGameData, vertex_count}

@@ -6,7 +6,7 @@ use ps_certificate::Certificate;
 use ps_game::NamedGame;
 use std::alloc::AllocError;
 
-/// A box of a solver is a solver, so that it can be given to functions that take any solver.
+/// A boxed solver is itself a solver, so a function that takes any solver also takes a box.
 impl Solver for Box<dyn Solver> {
     ghost known = { λ b. (Solver-box b).known b.value };
 

@@ -17,30 +17,30 @@ use ps_referee::{JudgeFault, certificate_of_solution, judge};
 use ps_zielonka::{regions, regions_within};
 use std::alloc::{AllocError, Global};
 
-/// The number of rounds with a budget. The round after them has none.
+/// The number of rounds in which the work is limited. One more round follows, without a limit.
 const ROUNDS: u64 = 8;
 
-/// The factor by which the budget grows from round to round.
+/// The factor by which the limits grow from round to round.
 const GROWTH: u64 = 64;
 
-/// The number of vertices that the first recursion may place for each vertex of the game. In games from practice each
-/// vertex is placed some ten times.
+/// How many vertices the recursion may place in the first round, for each vertex of the game. In games from practice
+/// each vertex is placed about ten times.
 const PLACED_EACH: u64 = 256;
 
-/// The number of vertices that it may place besides.
+/// How many further vertices the recursion may place in the first round, whatever the size of the game.
 const PLACED_BESIDE: u64 = 1024;
 
-/// The number of cells that an attempt may read or write for each vertex that the recursion may place. An attempt then
-/// takes longer than the recursion before it, and less long than the recursion after it.
+/// How many cells an attempt may read or write, for each vertex that the recursion may place. With this number, an
+/// attempt takes longer than the recursion of its own round, and less time than the recursion of the next round.
 const CELLS_EACH: u64 = 64;
 
-/// The amount of work that the two may do in a round.
+/// The limits for the recursion and for the attempt in one round.
 #[derive(Drop)]
 struct Budget {
     /// The number of vertices that the recursion may place.
     placed: u64,
-    /// The number of cells that an attempt may read or write: none after one has failed for a reason that more cells do
-    /// not change.
+    /// The number of cells that an attempt may read or write. This number is 0 after an attempt has failed for a reason
+    /// that more cells would not remove.
     cells: u64,
 }
 
@@ -64,15 +64,15 @@ impl Budget {
     }
 }
 
-/// Finds the regions of both players, with their moves, and then the least counts that show it. It is sure, and ignores
-/// what it is fed.
+/// psyn's own solver. The solver computes the regions and the moves of both players, and then the least counts for
+/// these moves. This solver is sure, and ignores every text that it is fed.
 #[derive(Drop)]
 pub struct BuiltIn {
     alloc: Global,
 }
 
 impl BuiltIn {
-    /// A solver that is sure.
+    /// Creates the solver, which is sure.
     pub fn new(alloc: Global) -> Self
         ensures sure { (⟦<BuiltIn as Solver>⟧.known result).is_sure ≡ true }
         ensures fed { (⟦<BuiltIn as Solver>⟧.known result).fed ≡ None }
@@ -100,7 +100,7 @@ impl Solver for BuiltIn {
     }
 }
 
-/// The certificate of a game, computed on flat arrays with numbers of a stated width.
+/// The certificate of a game, computed on flat arrays whose numbers have the width `W`.
 fn certificate_in<W: Width>(alloc: Global, game: &Game) -> Result<Certificate, SolveFault>
     requires { FitsWithin game.now W.LIMIT }
     ensures fits { IfOk result (Fits game.now) }
@@ -112,9 +112,10 @@ fn certificate_in<W: Width>(alloc: Global, game: &Game) -> Result<Certificate, S
     certificate_of(alloc, &flat)
 }
 
-/// The certificate of a game. The recursion has a budget of vertices that it may place, which games from practice do
-/// not spend. If the budget is spent, an attempt, which promises nothing, is made and judged. Then both get more, and
-/// so on. In the last round the recursion has no bound.
+/// The certificate of a game. In each round, the recursion may place a limited number of vertices; games from practice
+/// stay within the first limit. When the recursion reaches its limit, an attempt at strategy improvement follows. An
+/// attempt guarantees nothing, so its result is judged. Both limits grow from round to round, and the last round has no
+/// limit.
 fn certificate_of<A: Arena>(alloc: Global, arena: &A) -> Result<Certificate, SolveFault>
     ensures fits { IfOk result (Fits (A.game arena.now)) }
     ensures valid { IfOk result (IsValid (A.game arena.now)) }
@@ -131,7 +132,7 @@ fn certificate_of<A: Arena>(alloc: Global, arena: &A) -> Result<Certificate, Sol
     certificate_without_bound(alloc, arena)
 }
 
-/// The certificate of a game, or none if neither the recursion nor the attempt has found one within the budget.
+/// The certificate of a game, or None if neither the recursion nor the attempt finds one within the budget.
 fn certificate_within<A: Arena>(
     alloc: Global,
     arena: &A,
@@ -149,7 +150,7 @@ fn certificate_within<A: Arena>(
     }
 }
 
-/// The certificate by the recursion, or none if the budget is spent first.
+/// The certificate from the recursion, or None if the recursion reaches its limit first.
 fn solved_within<A: Arena>(
     alloc: Global,
     arena: &A,
@@ -168,8 +169,8 @@ fn solved_within<A: Arena>(
     Ok(Some(certificate))
 }
 
-/// The certificate by an attempt, or none if the cells do not suffice or its result is refused. The budget has no cells
-/// left if more of them would not help.
+/// The certificate from an attempt, or None if the cells do not suffice or the attempt's result is rejected. If more
+/// cells would not help, the budget has no cells left afterwards.
 fn attempted<A: Arena>(
     alloc: Global,
     arena: &A,
@@ -193,8 +194,8 @@ fn attempted<A: Arena>(
     }
 }
 
-/// The certificate by a region and tables of which nothing is known. There is none exactly if a player does not hold
-/// its vertices by its table.
+/// The certificate for a region and two tables about which nothing is known. The result is None exactly if the table of
+/// one player does not hold the vertices that the region gives to this player.
 fn tried<A: Arena>(
     alloc: Global,
     arena: &A,
@@ -225,7 +226,7 @@ fn tried<A: Arena>(
     }
 }
 
-/// The certificate of a game by the recursion, however long that takes.
+/// The certificate of a game from the recursion, however long the recursion takes.
 fn certificate_without_bound<A: Arena>(alloc: Global, arena: &A) -> Result<Certificate, SolveFault>
     ensures fits { IfOk result (Fits (A.game arena.now)) }
     ensures valid { IfOk result (IsValid (A.game arena.now)) }

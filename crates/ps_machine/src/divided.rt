@@ -7,18 +7,18 @@ use indexmap::IndexMap;
 use ps_diagram::{Classes, Store};
 use std::alloc::Global;
 
-/// The classes of the letters of the player who moves first, for each state that was divided. Letters of one class lead
-/// to the same steps.
+/// The classes of the first player's letters, for each state whose classes were computed. Letters of one class lead to
+/// the same steps.
 #[derive(Drop)]
 pub struct Divided {
-    /// The diagrams of the classes.
+    /// The store of the classes' diagrams.
     pub store: Store,
-    /// The classes of each of these states.
+    /// The classes of each state that has been divided.
     pub classes: IndexMap<u32, Classes>,
 }
 
 impl Divided {
-    /// No state is divided yet. There are `propositions` propositions.
+    /// Creates a value in which no state has been divided yet. Letters are over `propositions` propositions.
     pub fn new(alloc: Global, propositions: u32) -> Self
         requires few { propositions ≤ 64 }
         ensures propositions { result.store.propositions ≡ propositions }
@@ -30,7 +30,7 @@ impl Divided {
         }
     }
 
-    /// The classes of a state.
+    /// The classes of a state that has been divided.
     pub fn of(&self, state: u32) -> &Classes
         requires { IsSome (get nat_eq self.now.classes state) }
         ensures { get nat_eq self.now.classes state ≡ Some result.now }

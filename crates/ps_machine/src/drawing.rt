@@ -1,4 +1,4 @@
-//! The diagrams of a machine: each memory has one that leads each letter of the other player to a row.
+//! The diagrams of a machine. Each memory state has a diagram that leads each letter of the other player to a row.
 
 ghost use Rattle.std.specs.Prelude.{◌≡◌, ◌≢◌, ℕ, ◌<◌, true, false, Any, IfOk, OnOk, Some, length, slice_get};
 ghost use Rattle.std.specs.List.{All, Contains};
@@ -21,40 +21,42 @@ use ps_certificate::Certificate;
 use ps_diagram::{Class, Node, Store};
 use std::alloc::{AllocError, Global};
 
-/// What a machine is made from. The certificate has the moves of the machine's player. The keys say what the vertices
-/// stand for to which the moves lead. The automaton says where its steps lead from there. The memories say at which
-/// vertices the machine remembers something of its own. None of this changes while the diagrams are made.
+/// The data from which a machine is made. The certificate has the moves of the machine's player. The keys state what
+/// the vertices stand for. The automaton gives the steps from each state. The memories list the vertices for which the
+/// machine has memory states. The data of a plan do not change while the diagrams are made.
 #[derive(Drop)]
 pub(crate) struct Plan<'a> {
     /// Who moves first.
     pub order: Order,
     /// The automaton.
     pub automaton: &'a Automaton,
-    /// What each vertex of its game stands for.
+    /// The key of each vertex of the automaton's game.
     pub keys: &'a IndexSet<Key>,
-    /// The classes of their states.
+    /// The classes of the states that occur in the keys.
     pub divided: &'a Divided,
-    /// Who wins each of them, by which moves.
+    /// The winner of each vertex, and the moves.
     pub certificate: &'a Certificate,
     /// Whether the winner of vertex 0 moves first.
     pub moves_first: bool,
-    /// What that player remembers.
+    /// The memory states of the winner of vertex 0.
     pub memories: &'a Memories,
 }
 
-/// The machine's diagrams and rows so far: `node` adds the diagram of one memory, and the rows that it names.
+/// The machine's diagrams and rows so far. The function `node` adds the diagram of one memory state, and the rows that
+/// the diagram names.
 #[derive(Drop)]
 pub(crate) struct Drawing {
-    /// The diagrams.
+    /// The store of the diagrams.
     pub store: Store,
-    /// The rows, each at the place that its leaves have.
+    /// The rows. Each leaf of the diagrams is the index of its row.
     pub rows: IndexSet<Row>,
-    /// The places of the rows of the automaton's leaves. Only those of the leaves noted last are valid.
+    /// For each leaf of the automaton, the index of its row. Only the entries that the last call of `place_rows` set
+    /// are valid.
     pub places: Vec<u64>,
 }
 
 impl Plan<'_> {
-    /// The memory of the machine after a step of the automaton, to that state by an edge of that priority.
+    /// The memory state of the machine after the automaton has moved to the state `state` by an edge of that priority.
     pub fn memory_behind(&self, state: u32, priority: u64) -> usize
         requires { CanEnterBy self.now state priority }
         ensures within { result < length self.now.memories.now.kept.items }
@@ -67,8 +69,8 @@ impl Plan<'_> {
         self.memories.marks.get_index_of(&mark).unwrap()
     }
 
-    /// The letter that a player who moves first plays at the vertex of a memory: that of the class to which its move
-    /// leads.
+    /// The letter that a player who moves first outputs at the vertex of a memory state. This letter is the least
+    /// letter of the class to which the player's move leads.
     fn letter_at(&self, vertex: usize) -> u64
         requires plan { IsPlanned self.now }
         requires kept { Contains self.now.memories.now.kept.items vertex }
@@ -85,7 +87,7 @@ impl Plan<'_> {
 }
 
 impl Drawing {
-    /// The diagram of the memory that is kept at a vertex. Fails if memory runs out.
+    /// Draws the diagram of the memory state of a vertex. Fails if out of memory.
     pub fn node(
         &mut self,
         alloc: Global,
@@ -112,8 +114,8 @@ impl Drawing {
         }
     }
 
-    /// The diagram of the memory of a player who moves first: the rest of the class to which its move leads, with its
-    /// rows.
+    /// Draws the diagram of a memory state for a player who moves first. The diagram is the rest of the class to which
+    /// the player's move leads, with the index of a row in place of each step.
     fn first_node(&mut self, plan: &Plan<'_>, vertex: usize, state: u32) -> Result<Node, AllocError>
         requires plan { IsPlanned plan.now }
         requires kept { Contains plan.now.memories.now.kept.items vertex }
@@ -135,7 +137,8 @@ impl Drawing {
             .relabel_from(&plan.divided.store, rest, &self.places)
     }
 
-    /// Notes the places of the rows of leaves, if that letter is played.
+    /// Adds the rows of the given leaves, in which the machine outputs `letter`, and notes the index of each leaf's
+    /// row.
     fn place_rows(
         &mut self,
         plan: &Plan<'_>,
@@ -161,7 +164,7 @@ impl Drawing {
     }
 }
 
-/// The rest of the steps after the letter of one of the classes.
+/// The rest of the class with a given letter: the diagram of the steps that can follow this letter.
 fn rest_of(classes: &[Class], letter: u64) -> Node
     requires { Any (λ class. class.letter ≡ letter) classes.now }
     ensures { Any (λ class. (class.letter ≡ letter) × (class.rest ≡ result)) classes.now }
@@ -172,7 +175,7 @@ fn rest_of(classes: &[Class], letter: u64) -> Node
     }
 }
 
-/// Notes the place of a leaf's row. Lesser leaves may not have one yet.
+/// Notes the index of a leaf's row. The list grows as needed; any new entries of smaller leaves are 0.
 fn note(places: &mut Vec<u64>, leaf: u64, place: u64) -> Result<(), AllocError>
     ensures noted { OnOk result (slice_get places.new.items leaf ≡ Some place) }
     ensures others { OnOk result ((other n : ℕ) → other ≢ leaf → slice_get places.old.items other ≡ Some n →

@@ -34,14 +34,15 @@ use ps_diagram::{Node, Store};
 use ps_game::{Game, NamedGame};
 use std::alloc::{AllocError, Global};
 
-/// The machine of the winner of vertex 0 in the game of an automaton. It plays by a valid certificate's moves, from the
-/// vertices that are reached by them. A winner who moves first remembers the vertex; one who moves second remembers its
-/// state. If the winner is player 0, the automaton accepts each word of the machine; if it is player 1, none of them.
-/// The game is made again for its keys; `machine_of_certificate` takes them.
+/// Builds the machine of the player who wins vertex 0 in the game of an automaton. The machine makes the moves of a
+/// valid certificate. A winner who moves first remembers the current vertex. A winner who moves second remembers only
+/// the state of the automaton. If the winner is player 0, the automaton accepts every word of the machine; if the
+/// winner is player 1, it accepts none. This function builds the game again to get its keys; `machine_of_certificate`
+/// takes a game with its keys.
 ///
 /// # Errors
 ///
-/// Fails if memory runs out.
+/// Fails if out of memory.
 pub fn extract(
     alloc: Global,
     automaton: &Automaton,
@@ -64,7 +65,7 @@ pub fn extract(
     machine_of_certificate(alloc, automaton, order, &keyed, certificate)
 }
 
-/// The same machine, of an automaton's game with its keys. Fails if memory runs out.
+/// Builds the same machine as `extract`, from an automaton's game with its keys. Fails if out of memory.
 pub fn machine_of_certificate(
     alloc: Global,
     automaton: &Automaton,
@@ -103,7 +104,7 @@ pub fn machine_of_certificate(
     machine_by(alloc, &plan)
 }
 
-/// What the winner of vertex 0 remembers, at the vertices that are reached by the certificate's moves.
+/// The memory states of the winner of vertex 0, for the vertices that can be reached by the certificate's moves.
 fn memories_of(
     alloc: Global,
     keys: &[Key],
@@ -121,7 +122,7 @@ fn memories_of(
     remembered(alloc, keys, &used, moves_first)
 }
 
-/// The machine that a plan describes.
+/// Builds the machine that a plan describes.
 fn machine_by(alloc: Global, plan: &Plan<'_>) -> Result<Machine, AllocError>
     requires plan { IsPlanned plan.now }
     requires divided { AreDividedBy plan.now }
@@ -140,7 +141,7 @@ fn machine_by(alloc: Global, plan: &Plan<'_>) -> Result<Machine, AllocError>
     Ok(Machine::new(player, plan.moves_first, propositions, diagrams))
 }
 
-/// The diagrams of all memories, and their rows.
+/// The diagrams of all memory states, and the rows that these diagrams name.
 fn draw(alloc: Global, plan: &Plan<'_>) -> Result<Diagrams, AllocError>
     requires plan { IsPlanned plan.now }
     requires divided { AreDividedBy plan.now }
@@ -161,7 +162,7 @@ fn draw(alloc: Global, plan: &Plan<'_>) -> Result<Diagrams, AllocError>
     })
 }
 
-/// Draws the diagrams of all memories.
+/// Draws the diagrams of all memory states.
 fn nodes_of(alloc: Global, plan: &Plan<'_>, drawing: &mut Drawing) -> Result<Vec<Node>, AllocError>
     requires plan { IsPlanned plan.now }
     requires divided { AreDividedBy plan.now }
@@ -178,8 +179,8 @@ fn nodes_of(alloc: Global, plan: &Plan<'_>, drawing: &mut Drawing) -> Result<Vec
     Ok(nodes)
 }
 
-/// The propositions of an automaton that a player reads and those that it plays, for the player who moves first or for
-/// the other one.
+/// The propositions that a machine reads, and those that it outputs. The flag `moves_first` states whether the
+/// machine's player moves first.
 fn roles(
     alloc: Global,
     automaton: &Automaton,

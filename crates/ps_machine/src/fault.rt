@@ -12,18 +12,18 @@ use thiserror::Error;
 /// Why a solver gives no certificate.
 #[derive(Debug, Drop, Error)]
 pub enum SolveFault {
-    /// A strategy that was found leaves a cycle that its player loses. The vertices are those of the game, by place.
+    /// A strategy that the solver returned leaves a cycle that its player loses. The cycle is a list of vertex numbers.
     #[error("a cycle that its player loses")]
     BadCycle(Vec<usize>),
     /// The text that was fed is not a certificate of the game.
     #[error("{} at byte {offset}", .cause.name())]
     Text {
-        /// What is wrong.
+        /// The reason why the text is rejected.
         cause: CertCause,
-        /// The byte at which it occurs, from 0.
+        /// The offset of the error in bytes, from 0.
         offset: usize,
     },
-    /// Memory ran out.
+    /// Out of memory.
     #[error("out of memory")]
     OutOfMemory,
 }

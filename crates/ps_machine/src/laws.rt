@@ -1,4 +1,4 @@
-//! Laws on the definitions.
+//! Laws about the definitions.
 
 ghost use Rattle.std.specs.Prelude.{◌≡◌, ℕ, ◌<◌, ◌≤◌, List, length};
 ghost use Rattle.ps_hoa.specs.Files.{FileData};
@@ -18,8 +18,8 @@ ghost use Rattle.ps_machine.specs.Keys.{mover_of};
 ghost use Rattle.ps_machine.specs.declared.key.Key.{Key};
 ghost use Rattle.ps_machine.specs.declared.key.Order.{Order};
 
-/// Each word of the machine of a valid certificate of an automaton's game is won by the winner of vertex 0: the
-/// automaton accepts all of them if that is player 0, and otherwise none.
+/// The winner of vertex 0 wins each word of the machine of a valid certificate of an automaton's game. If the winner is
+/// player 0, the automaton accepts all these words; otherwise it accepts none of them.
 pub fn lassos_won()
     ensures { (file : FileData) (chain : Chain) (a : AutomatonData) (order : Order) (keys : List Key)
         (game : ParityGame) (certificate : CertificateData) (m : Behaviour) →
@@ -29,26 +29,26 @@ pub fn lassos_won()
         IsMachineOf (board_of order a) (mover_of order) keys game certificate m → LassosWon file m }
 {}
 
-/// A board has at most one game: two games of it have the same keys, and are equal.
+/// A board has at most one game: any two games of a board have the same keys and are equal.
 pub fn one_game()
     ensures { (board : Board) (mover : ℕ) (keys others : List Key) (game other : ParityGame) →
         IsGameOf board mover keys game → IsGameOf board mover others other → (keys ≡ others) × (game ≡ other) }
 {}
 
-/// A file has at most one game in each order of moves, including names and ids: its automata may differ only where no
-/// play comes.
+/// For each order of moves, a file has at most one game, including its names and ids. The file may have several
+/// automata, but these differ only where no play goes.
 pub fn one_game_of_file()
     ensures { (order : Order) (file : FileData) (game other : NamedGameData) → IsGameOfFile order file game →
         IsGameOfFile order file other → game ≡ other }
 {}
 
-/// Each file that was read and is admitted has a game, in each order of moves.
+/// Each file that was parsed and is accepted has a game for each order of moves.
 pub fn game_is_there()
     ensures { (order : Order) (file : FileData) → IsSoundFile file → IsAdmitted file →
         (game : NamedGameData) × IsGameOfFile order file game }
 {}
 
-/// Each valid certificate of a board's game has a machine, with names for the board's propositions.
+/// Each valid certificate of a board's game has a machine whose propositions have the given names.
 pub fn machine_is_there()
     ensures { (names : List (List ℕ)) (board : Board) (mover : ℕ) (keys : List Key) (game : ParityGame)
         (certificate : CertificateData) →
@@ -58,8 +58,8 @@ pub fn machine_is_there()
         IsMachineOf board mover keys game certificate m }
 {}
 
-/// A certificate has at most one machine: any two machines of a board's game and one certificate have the same
-/// propositions and player, and do the same at each memory, whatever is read.
+/// A certificate has at most one machine. Any two machines of a board's game and one certificate have the same
+/// propositions and player. In each memory state, for every letter read, they do the same.
 pub fn one_machine()
     ensures { (names : List (List ℕ)) (board : Board) (mover : ℕ) (keys : List Key) (game : ParityGame)
         (certificate : CertificateData) → IsGameOf board mover keys game → (m o : Behaviour) →
@@ -68,7 +68,8 @@ pub fn one_machine()
         BehavesAs m o }
 {}
 
-/// The same for a certificate of a file's game, although the automata of a file may differ where no play comes.
+/// A certificate of a file's game has at most one machine, although the automata of a file may differ where no play
+/// goes.
 pub fn one_machine_of_file()
     ensures { (order : Order) (file : FileData) (game : NamedGameData) (first second : IsGameOfFile order file game)
         (certificate : CertificateData) (m o : Behaviour) → IsMachine m → IsMachine o →

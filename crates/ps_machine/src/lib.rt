@@ -1,30 +1,30 @@
-//! The game of an automaton, solvers for it, and the machine of a certificate of it.
+//! Builds the game of an automaton, solves it, and builds the machine of a certificate of the game.
 //!
-//! The game's vertices are numbered breadth first from its start. A vertex at which the first player moves is a state
-//! with the priority by which it is entered. A vertex at which the second player moves is a state with a class of the
-//! first player's letters. Letters of a class lead to the same steps. Classes come from the automaton's decision
-//! diagrams, so that a vertex stands for all letters of its class.
+//! The vertices of the game are numbered breadth first from the start. A vertex at which the first player moves stands
+//! for a state and the priority by which the state was entered. A vertex at which the second player moves stands for a
+//! state and a class of the first player's letters. Letters of one class lead to the same steps. The classes are
+//! computed from the automaton's decision diagrams, and one vertex stands for all letters of its class.
 //!
 //! | Call | What it gives |
 //! |---|---|
-//! | `game_of(automaton, order)` | the game with ids and names; `Order` says who moves first |
+//! | `game_of(automaton, order)` | the game with ids and names; `Order` states who moves first |
 //! | `AutomatonGame::build(automaton, order)` | the same game with the key of each vertex |
-//! | `game_by_keys(source, order, first)` | the game of the keys to which a first one leads, by any `Successors` |
-//! | `Solver::feed`, `solve` | what any solver promises, also in a box, and what it means that it is sure |
+//! | `game_by_keys(source, order, first)` | the game of the keys to which a first key leads, for any `Successors` |
+//! | `Solver::feed`, `solve` | what every solver guarantees, also in a box, and what it means that a solver is sure |
 //! | `BuiltIn::new` | psyn's own solver: regions, moves and least counts; it is sure |
-//! | `Replay::new` | the solver that answers the certificate whose text it was fed; it is not sure |
-//! | `machine_of_certificate`, `extract` | the machine of vertex 0's winner, by a valid certificate |
-//! | `Machine::step(memory, letter)` | the next memory, and the letter that is played |
-//! | `Machine::store`, `node`, `row`, `rows` | the diagram of a memory's rows, and the row that each leaf names |
-//! | `SolveFault::number`, `name` | a fault as psyn's list has it |
+//! | `Replay::new` | the solver that returns the certificate whose text it was fed; it is not sure |
+//! | `machine_of_certificate`, `extract` | the machine of the winner of vertex 0, by a valid certificate |
+//! | `Machine::step(memory, letter)` | the next memory state, and the letter that is output |
+//! | `Machine::store`, `node`, `row`, `rows` | the diagram of a memory state, and the row that each leaf names |
+//! | `SolveFault::number`, `name` | a fault's number and name in psyn's list |
 //!
-//! | Law | What it says |
+//! | Law | What it states |
 //! |---|---|
-//! | `lassos_won` | each word of the machine of a valid certificate is won by the winner of vertex 0 |
-//! | `one_game`, `one_game_of_file` | an automaton, and a file, have at most one game in each order of moves |
-//! | `game_is_there` | a file that is admitted has one |
+//! | `lassos_won` | the winner of vertex 0 wins each word of the machine of a valid certificate |
+//! | `one_game`, `one_game_of_file` | an automaton, and a file, have at most one game for each order of moves |
+//! | `game_is_there` | a file that is accepted has a game |
 //! | `machine_is_there` | a valid certificate of an automaton's game has a machine |
-//! | `one_machine`, `one_machine_of_file` | it has at most one; so has a certificate of a file's game |
+//! | `one_machine`, `one_machine_of_file` | a certificate of an automaton's or a file's game has at most one machine |
 #![tactic(auto)]
 
 mod boxed;

@@ -10,23 +10,23 @@ use indexmap::IndexSet;
 use ps_diagram::{Node, Store};
 use std::marker::Model;
 
-/// One row of a machine: the memory after a step, and the letter that is played.
+/// One row of a machine: the memory state after a step, and the letter that is output.
 #[derive(Debug, Clone, Copy, PartialEq, Eq, Hash)]
 pub struct Row {
-    /// The next memory.
+    /// The next memory state.
     pub memory: usize,
-    /// The letter that is played: proposition p is bit p.
+    /// The letter that is output: proposition p is bit p.
     pub letter: u64,
 }
 
 /// The propositions of a machine.
 #[derive(Drop)]
 pub(crate) struct Propositions {
-    /// Their names.
+    /// The names of the propositions.
     pub names: Vec<Vec<u8>>,
-    /// Those that are read, ascending.
+    /// The propositions that the machine reads, ascending.
     pub inputs: Vec<u32>,
-    /// Those that are played, ascending.
+    /// The propositions that the machine outputs, ascending.
     pub outputs: Vec<u32>,
 }
 
@@ -35,16 +35,16 @@ pub(crate) struct Propositions {
 pub(crate) struct Diagrams {
     /// The store of the diagrams.
     pub store: Store,
-    /// One for each memory.
+    /// The diagram of each memory state.
     pub nodes: Vec<Node>,
-    /// The rows, each at the place that its leaves have.
+    /// The rows. Each leaf of the diagrams is the index of its row.
     pub rows: IndexSet<Row>,
 }
 
-/// A player's finite machine. It begins in memory 0. In each step it reads a letter of the other player, its input
-/// letter, and takes the row of its memory at that letter: it plays the row's letter, its output letter, and goes on
-/// with the row's memory. A player who moves first plays the same letter whatever it reads. Each leaf of the diagrams
-/// names a row.
+/// A player's finite machine. The machine begins in memory state 0. In each step the machine reads an input letter,
+/// which is a letter of the other player. This letter and the memory state determine a row. The machine outputs the
+/// letter of the row, and enters the memory state of the row. If the machine's player moves first, the output letter
+/// does not depend on the input letter. Each leaf of the diagrams names a row.
 #[derive(Drop)]
 pub struct Machine {
     names: Vec<Vec<u8>>,
@@ -89,7 +89,7 @@ impl Model for Machine {
 }
 
 impl Machine {
-    /// The machine of a player, from its parts.
+    /// Builds the machine of a player from its parts.
     pub(crate) fn new(
         player: u8,
         moves_first: bool,
@@ -111,7 +111,7 @@ impl Machine {
         }
     }
 
-    /// The names of the propositions, at most 64. They differ, are not empty and contain no control bytes.
+    /// The names of the propositions, at most 64. The names differ, are not empty and contain no control bytes.
     pub fn names(&self) -> &[Vec<u8>]
         ensures names { map bytes_of result.now ≡ self.now.names }
         ensures machine { IsWholeMachine self.now }
@@ -119,7 +119,7 @@ impl Machine {
         self.names.as_slice()
     }
 
-    /// The propositions that it reads, ascending: those of the other player.
+    /// The other player's propositions, which the machine reads, ascending.
     pub fn inputs(&self) -> &[u32]
         ensures inputs { result.now ≡ self.now.inputs }
         ensures machine { IsWholeMachine self.now }
@@ -127,7 +127,7 @@ impl Machine {
         self.inputs.as_slice()
     }
 
-    /// The propositions that it plays, ascending.
+    /// The propositions that the machine outputs, ascending.
     pub fn outputs(&self) -> &[u32]
         ensures outputs { result.now ≡ self.now.outputs }
         ensures machine { IsWholeMachine self.now }
@@ -135,7 +135,7 @@ impl Machine {
         self.outputs.as_slice()
     }
 
-    /// Whose machine it is: 0 is the controller, 1 the environment.
+    /// The player whose machine this is: 0 is the controller, 1 the environment.
     pub fn player(&self) -> u8
         ensures player { result ≡ self.now.player }
         ensures machine { IsWholeMachine self.now }
@@ -143,7 +143,8 @@ impl Machine {
         self.player
     }
 
-    /// Whether its player moves first in each step. It then plays the same letter whatever it reads.
+    /// Whether the machine's player moves first in each step. In that case, the output letter does not depend on the
+    /// input letter.
     pub fn moves_first(&self) -> bool
         ensures first { result ≡ self.now.is_first }
         ensures machine { IsWholeMachine self.now }
@@ -151,7 +152,7 @@ impl Machine {
         self.moves_first
     }
 
-    /// The number of memories, at least one. It begins in memory 0.
+    /// The number of memory states, at least one. The machine begins in memory state 0.
     pub fn memories(&self) -> usize
         ensures memories { result ≡ (behaviour self.now).memories }
         ensures machine { IsWholeMachine self.now }
@@ -168,7 +169,7 @@ impl Machine {
         &self.store
     }
 
-    /// The diagram of a memory: its leaf at an input letter names the row, by `row`.
+    /// The diagram of a memory state. Its leaf at an input letter names a row, which `row` returns.
     pub fn node(&self, memory: usize) -> Node
         requires { memory < (behaviour self.now).memories }
         ensures node { result ≡ slice_index self.now.nodes memory }
@@ -186,7 +187,7 @@ impl Machine {
         self.rows.as_slice()[leaf as usize]
     }
 
-    /// The rows, each at the place that its leaves have.
+    /// The rows. Each leaf of the diagrams is the index of its row.
     pub fn rows(&self) -> &[Row]
         ensures rows { result.now ≡ self.now.rows }
         ensures machine { IsWholeMachine self.now }
@@ -194,7 +195,7 @@ impl Machine {
         self.rows.as_slice()
     }
 
-    /// The row of a memory at an input letter: the next memory, and the letter that is played.
+    /// The row for a memory state and an input letter: the next memory state, and the letter that is output.
     pub fn step(&self, memory: usize, letter: u64) -> Row
         requires { memory < (behaviour self.now).memories }
         ensures step { result ≡ step_of self.now memory letter }

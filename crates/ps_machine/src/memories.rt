@@ -1,4 +1,4 @@
-//! What the machine of a certificate remembers.
+//! The memory states of a certificate's machine.
 
 ghost use Rattle.std.specs.Prelude.{◌≡◌, IfOk, OnOk};
 ghost use Rattle.ps_machine.specs.Inner.Drawing.{AreMemories, KeepsAt, mark_of};
@@ -7,16 +7,18 @@ use crate::key::Key;
 use indexmap::IndexSet;
 use std::alloc::{AllocError, Global};
 
-/// The memories of a machine.
+/// The memory states of a machine.
 #[derive(Drop)]
 pub(crate) struct Memories {
-    /// For each memory the least used vertex of the first player at which the machine is in that memory, ascending.
+    /// For each memory state, its smallest vertex: a used vertex of the first player at which the machine is in that
+    /// state. The list ascends.
     pub kept: Vec<usize>,
-    /// What each memory stands for: such a vertex if the player moves first, and else the state.
+    /// The mark of each memory state: its vertex if the player moves first, and otherwise the automaton's state.
     pub marks: IndexSet<usize>,
 }
 
-/// A memory for each used vertex of the first player, or, if the player moves second, for each of their states.
+/// A memory state for each used vertex of the first player, or, if the machine's player moves second, for each state of
+/// these vertices.
 pub(crate) fn remembered(
     alloc: Global,
     keys: &[Key],
@@ -41,7 +43,7 @@ pub(crate) fn remembered(
     Ok(memories)
 }
 
-/// What a player remembers at a vertex of the first player: the vertex, or, if the player moves second, its state.
+/// The mark of a first-player vertex: the vertex itself, or, if the machine's player moves second, the vertex's state.
 pub(crate) fn mark(moves_first: bool, vertex: usize, state: u32) -> usize
     ensures { result ≡ mark_of moves_first vertex state }
 {
@@ -49,7 +51,7 @@ pub(crate) fn mark(moves_first: bool, vertex: usize, state: u32) -> usize
 }
 
 impl Memories {
-    /// Keeps a memory at a vertex, unless there is one with that mark.
+    /// Adds a memory state at a vertex, unless a memory state with this mark exists.
     fn keep(&mut self, vertex: usize, mark: usize) -> Result<(), AllocError>
         ensures { OnOk result (KeepsAt self.old.kept.items self.old.marks.keys vertex mark self.new.kept.items
             self.new.marks.keys) }

@@ -1,4 +1,4 @@
-//! A solver that answers what it was fed.
+//! A solver that returns the certificate whose text it was fed.
 
 ghost use Rattle.std.specs.Prelude.{◌≡◌, [], Some};
 
@@ -8,7 +8,8 @@ use ps_certificate::{CertFault, Certificate, read};
 use ps_game::NamedGame;
 use std::alloc::{AllocError, Global};
 
-/// Reads the text of a certificate that it was fed. It is not sure: what it returns fits the game, but may be wrong.
+/// Parses the text that was fed as a certificate. This solver is not sure: the certificate fits the game, but may be
+/// wrong.
 #[derive(Drop)]
 pub struct Replay {
     alloc: Global,
@@ -16,7 +17,7 @@ pub struct Replay {
 }
 
 impl Replay {
-    /// A solver that was fed the empty text.
+    /// Creates a solver that was fed the empty text.
     pub fn new(alloc: Global) -> Self
         ensures { (⟦<Replay as Solver>⟧.known result).fed ≡ Some [] }
     {

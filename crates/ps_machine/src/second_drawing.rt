@@ -19,7 +19,7 @@ use ps_diagram::{Class, Node};
 use std::alloc::{AllocError, Global};
 
 impl Plan<'_> {
-    /// The step to which the move of a winner who moves second leads, after the least letter of a class.
+    /// The step to which the winner's move leads after the least letter of a class, where the winner moves second.
     fn reply(&self, state: u32, letter: u64) -> Step
         requires turn { self.now.moves_first ≡ false }
         requires entered { (p : ℕ) × CanEnterBy self.now state p }
@@ -39,7 +39,7 @@ impl Plan<'_> {
         }
     }
 
-    /// The row of what is played after a class of the first player's letters, and of the memory that comes next.
+    /// The row for a class of the first player's letters: the letter that is output, and the next memory state.
     fn row_of_class(&self, state: u32, class: Class) -> Result<Row, AllocError>
         requires turn { self.now.moves_first ≡ false }
         requires entered { (p : ℕ) × CanEnterBy self.now state p }
@@ -57,8 +57,8 @@ impl Plan<'_> {
 }
 
 impl Drawing {
-    /// The diagram of the memory of a player who moves second: the places of the classes of the first player's letters,
-    /// with its rows. Fails if memory runs out.
+    /// Draws the diagram of a memory state for a player who moves second. The diagram is that of the classes of the
+    /// first player's letters, with the index of a row in place of each class. Fails if out of memory.
     pub fn second_node(
         &mut self,
         alloc: Global,
@@ -84,7 +84,7 @@ impl Drawing {
             .relabel_from(&plan.divided.store, classes.places, &values)
     }
 
-    /// For each class of the first player's letters the place of the row of what is played there.
+    /// For each class of the first player's letters, the index of the row for that class.
     fn rows_of_classes(
         &mut self,
         alloc: Global,
@@ -114,7 +114,7 @@ impl Drawing {
     }
 }
 
-/// The letter of the leaf that names a step.
+/// The letter of the leaf that names a given step.
 fn letter_to(automaton: &Automaton, leaves: &[(u64, u64)], step: Step) -> u64
     requires named { All (λ leaf. leaf.0 < length automaton.now.steps) leaves.now }
     requires there { Any (λ leaf. pair_of automaton.now leaf.0 ≡ step) leaves.now }

@@ -1,4 +1,4 @@
-//! What a solver promises.
+//! What every solver guarantees.
 
 ghost use Rattle.std.specs.Prelude.{◌≡◌, true, None, IsOk, OnOk, OnErr};
 ghost use Rattle.ps_machine.specs.Solvers.{Answered, IsKept, SolverData, once_fed};
@@ -9,13 +9,13 @@ use ps_certificate::Certificate;
 use ps_game::NamedGame;
 use std::alloc::AllocError;
 
-/// Finds a certificate of a game. A solver may be fed a text first, such as a certificate that another program made.
+/// Finds a certificate of a game. A solver may first be fed a text, such as a certificate that another program made.
 pub trait Solver: Drop {
-    /// What is known of it.
+    /// What is known about the solver.
     ghost known: { Self → SolverData };
 
-    /// Takes a text instead of the one before. If the text can't be kept, the earlier one stays; a solver that keeps no
-    /// text accepts each.
+    /// Replaces the text that was fed before. Fails if out of memory; then the earlier text stays. A solver that keeps
+    /// no text accepts every text.
     fn feed(&mut self, text: &[u8]) -> Result<(), AllocError>
         ensures unkept { (known self.old).fed ≡ None → IsOk result }
         ensures ok { OnOk result (IsKept (once_fed text.now (known self.old)) (known self.new)) }

@@ -1,4 +1,4 @@
--- Automata of HOA texts, for the commands whose first text is one.
+-- Automata of HOA texts, for the commands whose first text is an HOA text.
 use Rattle.std.specs.Prelude.{◌≡◌, ⊤, ℕ, List, Some, Result, Ok, Err}
 use Rattle.ps_hoa.specs.CauseNames as hoa_names
 use Rattle.ps_hoa.specs.Causes as hoa
@@ -14,11 +14,11 @@ use Rattle.ps_program.specs.Faults.{fault_text}
 use Rattle.ps_program.specs.Outcomes.{Then, Reading}
 use Rattle.ps_program.specs.StageFaults.{automaton_line}
 
--- an HOA text
+-- the file of an HOA text, or the line of the first error
 abbrev pub ReadsHoaText : List ℕ → Result FileData (List ℕ) → Type 0
 ReadsHoaText text = Reading hoa.cause_number hoa_names.cause_name (ReadsFile text)
 
--- the file has an automaton, or it has none for the cause that the line names
+-- the file has an automaton, or it has none because of the fault in the line
 abbrev pub Builds : FileData → Result FileData (List ℕ) → Type 0
 Builds file (Ok built) = IsAdmitted file × (built ≡ file)
 Builds file (Err line) = (fault : AutomatonFault) × IsRefused file fault × (automaton_line fault ≡ Some line)
@@ -27,7 +27,7 @@ Builds file (Err line) = (fault : AutomatonFault) × IsRefused file fault × (au
 abbrev pub ReadsAutomaton : List ℕ → Result FileData (List ℕ) → Type 0
 ReadsAutomaton text = Then (ReadsHoaText text) Builds
 
--- the result for an HOA text: its automaton, or the line of the first fault, unless memory runs out
+-- the result for an HOA text: its automaton, or the line of the first fault, or out of memory
 abbrev pub GivesAutomaton : List ℕ → Result AutomatonData Refusal → Type 0
 GivesAutomaton text (Ok automaton) =
     (file : FileData) × ReadsAutomaton text (Ok file) × ((chain : Chain) × IsBuiltFrom file chain automaton)

@@ -7,19 +7,19 @@ use Rattle.std.specs.List.{before_first, after_first}
 abbrev pub first_line : List ℕ → List ℕ
 first_line input = before_first (λ byte. byte == 10) input
 
--- what follows the first line and its newline
+-- the part of the input after the first line and its newline
 abbrev pub behind_line : List ℕ → List ℕ
 behind_line input = after_first (λ byte. byte == 10) input
 
--- a line begins at the place
+-- a line begins at the offset `place`
 abbrev pub begins_line : List ℕ → ℕ → Bool
 begins_line text place = place == 0 || slice_index text (place - 1) == 10
 
--- the text or a line ends at the place
+-- the text or a line ends at the offset `place`
 abbrev pub ends_line : List ℕ → ℕ → Bool
 ends_line text place = nat_le (length text) place || slice_index text place == 10
 
--- the line `%%` begins at the place
+-- the line `%%` begins at the offset `place`
 abbrev pub is_mark : List ℕ → ℕ → Bool
 is_mark text place = begins_line text place
     && (slice_index text place == 37 && (slice_index text (place + 1) == 37 && ends_line text (place + 2)))
@@ -28,7 +28,7 @@ is_mark text place = begins_line text place
 abbrev pub HasNoMark : List ℕ → Type 0
 HasNoMark text = (place : ℕ) → place < length text → is_mark text place ≡ false
 
--- the first line `%%` is between the two, which are without it
+-- the text consists of the first text, its first line `%%`, and the second text
 pub record Cuts (text first second : List ℕ) : Type 0 where
   pub mark : ℕ
   pub within : mark < length text
@@ -37,13 +37,13 @@ pub record Cuts (text first second : List ℕ) : Type 0 where
   pub before : first ≡ take mark text
   pub behind : second ≡ drop (mark + 3) text
 
--- the texts of an input, separated by its first lines `%%`; further such lines belong to the last text
+-- the texts of an input, separated by the first lines `%%` of the input; further such lines belong to the last text
 abbrev pub AreTexts : List ℕ → List (List ℕ) → Type 0
 AreTexts input [] = ⊥
 AreTexts input (last ∷ []) = last ≡ input
 AreTexts input (first ∷ second ∷ more) = (rest : List ℕ) × Cuts input first rest × AreTexts rest (second ∷ more)
 
--- the number of lines `%%` is less than that
+-- the input has fewer lines `%%` than the given number
 abbrev pub HasFewerMarks : ℕ → List ℕ → Type 0
 HasFewerMarks zero input = ⊥
 HasFewerMarks (suc count) input =

@@ -1,12 +1,12 @@
--- The program's answer is determined, except for which lost cycle `judge` names, and for the choice that a solver has;
--- and how much of that choice is determined.
---     IsOpen line texts      more than one answer to the line may be right
---     IsReplaying solver      the solver may answer only what reading the text that it was fed answers
---     AgreeAsReports order full text a b      two reports on a text: the same winner, and the automaton's game
---     AgreeInWinners compact game a b      two certificates of the game: each vertex has the same winner
---     HasOneAnswer solvers      any two answers are equal, or agree so, or one is the line of a fault
---     HasOneCertified solvers      by a certificate that is given, `synth` has one answer, if the solver replays what
---               it is fed
+-- The program's answer is determined, with two exceptions: the lost cycle that `judge` reports, and the certificate
+-- that a solver chooses. Even this choice is partly determined.
+--     IsOpen line texts      the line may have more than one correct answer
+--     IsReplaying solver      the solver may only answer the result of parsing the text that it was fed
+--     AgreeAsReports order full text a b      two reports for a text have the same winner and the automaton's game
+--     AgreeInWinners compact game a b      in two certificates of the game, each vertex has the same winner
+--     HasOneAnswer solvers      any two answers are equal, or agree as above, or one of them is the line of a fault
+--     HasOneCertified solvers      with a given certificate, `synth` has one answer, if the solver replays what it is
+--               fed
 use Rattle.std.specs.Prelude.{◌≡◌, ◌<◌, ◌⊎◌, ℕ, Bool, true, false, List, Option, Result, Ok}
 use Rattle.ps_certificate.specs.Certificates.{CertificateData, winner_of}
 use Rattle.ps_certificate.specs.Written.{text_in}
@@ -37,13 +37,13 @@ use Rattle.ps_program.specs.declared.command_line.SynthLine.{SynthLine}
 abbrev pub HasAutomaton : List ℕ → Type 0
 HasAutomaton text = (file : FileData) × IsAcceptedText text file
 
--- the text that a circuit is asked for; a certificate may follow it
+-- the automaton's text for which a circuit is requested; a certificate may follow it
 abbrev pub AsksFor : (cert : Bool) → List ℕ → List ℕ → Type 0
 AsksFor false texts text = texts ≡ text
 AsksFor true texts text = (certificate : List ℕ) × CutsInTwo texts (Ok (text, certificate))
 
--- it is open which winning moves are printed, if the text is that of a game, or of an automaton, that is accepted; and
--- which cycle is named, if a player loses one
+-- The answer is open in two cases. If the text of a game or of an automaton is accepted, it is open which winning moves
+-- are printed. If a player loses a cycle, it is open which cycle is reported.
 abbrev pub IsOpen : Line → List ℕ → Type 0
 IsOpen (Judge compact) texts =
     (named : NamedGameData) × (given : SolutionData) × ReadsSolved texts (Ok (named, given)) × LosesCycle named given
@@ -56,8 +56,8 @@ abbrev pub IsReplaying : SolverData → Type 0
 IsReplaying solver = (fed : Option (List ℕ)) (game : NamedGameData) (answer : Result CertificateData SolveFault) →
     solver.may_answer fed game answer → Replays game fed answer
 
--- two reports on a text, as they are printed: the winner and the game, which is the automaton's, are the same; so the
--- status and the first line are the same too
+-- Two printed reports for a text have the same winner and the same game, which is the automaton's. Therefore the two
+-- reports have the same status and the same first line.
 pub record AgreeAsReports (order : Order) (full : Bool) (text : List ℕ) (a b : Reply) : Type 0 where
   pub file : FileData
   pub accepted : IsAcceptedText text file
@@ -71,7 +71,7 @@ pub record AgreeAsReports (order : Order) (full : Bool) (text : List ℕ) (a b :
   pub other_game : other.game_text.items ≡ game_text game
   pub winner : one.realizable ≡ other.realizable
 
--- two certificates of the game, as they are printed: each vertex has the same winner
+-- in two printed certificates of the game, each vertex has the same winner
 pub record AgreeInWinners (compact : Bool) (game : NamedGameData) (a b : Reply) : Type 0 where
   pub one : CertificateData
   pub other : CertificateData
@@ -81,7 +81,7 @@ pub record AgreeInWinners (compact : Bool) (game : NamedGameData) (a b : Reply) 
   pub is_other : b ≡ text_reply (text_in compact game other)
   pub winners : IsGame game.game → (v : ℕ) → v < vertex_count game.game → winner_of one v ≡ winner_of other v
 
--- what two answers to a line have in common if neither is the line of a fault; these texts follow the line
+-- what two answers to a line have in common if neither is the line of a fault; `text` or `texts` follows the line
 abbrev pub Agree : Line → List ℕ → Reply → Reply → Type 0
 Agree (Solve compact) text a b = (game : NamedGameData) × ReadsGameText text (Ok game) × AgreeInWinners compact game a b
 Agree (Cert order compact) text a b =
@@ -93,13 +93,14 @@ Agree line texts a b = a ≡ b
 abbrev pub IsFault : Reply → Type 0
 IsFault reply = (line : List ℕ) × (reply ≡ fault_reply line)
 
--- any two answers to one input are equal, unless its line is open; then they agree, unless one is the line of a fault
+-- Any two answers to one input are equal, unless its line is open. In that case the two answers agree, or one of them
+-- is the line of a fault.
 abbrev pub HasOneAnswer : Solvers → Type 0
 HasOneAnswer solvers = (input : List ℕ) (a b : Reply) → AnswersWhole solvers input a → AnswersWhole solvers input b
     → (a ≡ b) ⊎ ((line : Line) × IsLine (first_line input) line × IsOpen line (behind_line input) ×
     (IsFault a ⊎ IsFault b ⊎ Agree line (behind_line input) a b))
 
--- by a certificate that follows the text, and a solver that answers what reading it answers: the whole reply
+-- if a certificate follows the text and the solver parses that certificate, the whole answer is determined
 abbrev pub HasOneCertified : Solvers → Type 0
 HasOneCertified solvers = IsReplaying solvers.replay → (asked : SynthLine) → asked.cert ≡ true → (input : List ℕ) →
     IsLine (first_line input) (Synth asked)

@@ -1,5 +1,5 @@
--- The lines that the program writes instead of a result if there is a fault: `fault`, its number, its name, and where
--- it occurs. Number and name are given once, where the fault arises; the program's own fault is a missing text.
+-- The line that the program writes in place of a result if there is a fault: `fault`, a number, a name and a place. The
+-- crate in which a fault arises gives the fault's number and name. The program's own fault is a missing text.
 use Rattle.std.specs.Prelude.{ℕ, List, [], ◌++◌, Option, Some, None, codes, decimal, flat_map}
 use Rattle.ps_program.specs.declared.fault.FaultLine.{FaultLine}
 use Rattle.ps_program.specs.declared.fault.Place.{Place}
@@ -18,7 +18,7 @@ abbrev pub choice_text : Option ℕ → List ℕ
 choice_text (Some id) = spaced id
 choice_text None = codes " -"
 
--- places, each as it follows the name of a fault
+-- the place of a fault, as it follows the name of the fault
 abbrev pub byte_text : ℕ → List ℕ
 byte_text offset = codes " at" ++ spaced offset
 
@@ -34,11 +34,11 @@ place_text (Move vertex choice) = spaced vertex ++ choice_text choice
 place_text (Edge vertex successor) = spaced vertex ++ spaced successor
 place_text (Count vertex successor priority) = spaced vertex ++ spaced successor ++ spaced priority
 
--- the line of a fault by its number, its name and its place, without the newline that ends it
+-- the line of a fault from its number, name and place, without the newline that ends the line
 abbrev pub line_text : ℕ → List ℕ → List ℕ → List ℕ
 line_text number name place = codes "fault" ++ spaced number ++ codes " " ++ name ++ place
 
--- the line of a fault at a byte of a text, by the number and the name of its cause
+-- the line of a fault at a byte of a text, from the number and the name of its cause
 abbrev pub text_line : ℕ → List ℕ → ℕ → List ℕ
 text_line number name offset = line_text number name (byte_text offset)
 

@@ -1,6 +1,6 @@
 -- The commands that print the game of an automaton, and a certificate of that game.
---     AnswersGameText order text      `game`
---     AnswersCert solver order compact text      `cert`
+--     AnswersGameText order text      the answer to `game`
+--     AnswersCert solver order compact text      the answer to `cert`
 use Rattle.std.specs.Prelude.{◌≡◌, ℕ, Bool, List, Result, Ok, Err}
 use Rattle.ps_game.specs.Games.{NamedGameData}
 use Rattle.ps_hoa.specs.Files.{FileData}
@@ -24,6 +24,6 @@ ReadsGameOf order text = Then (ReadsAutomaton text) (MakesGame order)
 abbrev pub AnswersGameText : Order → List ℕ → Result Reply (List ℕ) → Type 0
 AnswersGameText order text = Then (ReadsGameOf order text) (λ game outcome. outcome ≡ Ok (text_reply (game_text game)))
 
--- the certificate is a text with all counts, or a compact one
+-- the certificate is printed with all counts, or as a compact text
 abbrev pub AnswersCert : SolverData → Order → Bool → List ℕ → Result Reply (List ℕ) → Type 0
 AnswersCert solver order compact text = Then (ReadsGameOf order text) (AnswersGame solver compact)

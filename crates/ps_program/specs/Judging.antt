@@ -1,7 +1,8 @@
 -- The command that judges a solution of a game.
---     ReadsSolved texts      a game text and the text of a solution of that game
---     Judges compact named given      the solution's certificate; or its first flaw, or a cycle that a player loses
---     AnswersJudge compact texts      `judge`
+--     ReadsSolved texts      the text of a game, and the text of a solution of that game
+--     Judges compact named given      the certificate of the solution, or its first flaw, or a cycle that a player
+--               loses
+--     AnswersJudge compact texts      the answer to `judge`
 use Rattle.std.specs.Prelude.{◌≡◌, ◌⊎◌, ◌<◌, ⊤, ℕ, Bool, List, length, Result, Ok, Err, codes, map}
 use Rattle.std.specs.List.{All}
 use Rattle.ps_game.specs.Games.{NamedGameData, IsGame, vertex_count}
@@ -21,7 +22,7 @@ use Rattle.ps_program.specs.Outcomes.{Then, Reading}
 use Rattle.ps_program.specs.Replies.{Reply, text_reply}
 use Rattle.ps_program.specs.Texts.{CutsInTwo, ReadsGameText, NamesVertices, id_of, flaw_text}
 
--- the text of a solution of that game
+-- the solution of a game in a text, or the line of the first error
 abbrev pub ReadsSolutionText : NamedGameData → List ℕ → Result SolutionData (List ℕ) → Type 0
 ReadsSolutionText named text =
     Reading certificate.cause_number certificate.cause_name (ReadsSolution named.ids text)
@@ -31,11 +32,11 @@ ReadsSolved texts =
     Then (CutsInTwo texts) (λ parts. Then (ReadsGameText parts.0) (λ named.
     Then (ReadsSolutionText named parts.1) (λ given outcome. outcome ≡ Ok (named, given))))
 
--- what is claimed, as a certificate without counts: each winner moves by the same list of moves
+-- the solution as a certificate without counts: both players move by the same list of moves
 abbrev pub claim : NamedGameData → SolutionData → CertificateData
 claim named given = claimed named.game given.won given.moves given.moves
 
--- the line of a cycle: vertices are named by their ids
+-- the line of a cycle, in which vertices are named by their ids
 abbrev pub cycle_text : NamedGameData → List ℕ → List ℕ
 cycle_text named cycle = line_text 40 (codes "BadCycle") (ids_text (map (id_of named) cycle))
 
@@ -52,7 +53,7 @@ IsRefused named given line =
     ((flaw : Flaw) × IsFirstFlaw named.game (claim named given) flaw × (line ≡ flaw_text named flaw))
     ⊎ ((player : ℕ) × (cycle : List ℕ) × Loses named given player cycle × (line ≡ cycle_text named cycle))
 
--- the certificate is a text with all counts, or a compact one
+-- the certificate is printed with all counts, or as a compact text
 abbrev pub Judges : Bool → NamedGameData → SolutionData → Result Reply (List ℕ) → Type 0
 Judges compact named given (Ok reply) = IsSolution named.game given.won given.moves given.moves
     × ((certificate : CertificateData) × IsCertificateOf named.game given.won given.moves given.moves certificate ×
@@ -62,26 +63,26 @@ Judges compact named given (Err line) = IsGame named.game × IsRefused named giv
 abbrev pub AnswersJudge : Bool → List ℕ → Result Reply (List ℕ) → Type 0
 AnswersJudge compact texts = Then (ReadsSolved texts) (λ both. Judges compact both.0 both.1)
 
--- ---- what the functions of the code say
+-- ---- definitions for the functions of the code
 
--- there is a place for each vertex, and moves are vertices
+-- both lists have an entry for each vertex, and the moves are vertices
 pub record HasPlaces (named : NamedGameData) (given : SolutionData) : Type 0 where
   pub won : length given.won ≡ vertex_count named.game
   pub moves : length given.moves ≡ vertex_count named.game
   pub within : AreMoves (vertex_count named.game) given.moves
 
--- the fault names vertices less than a number
+-- the vertices in the fault are less than `count`
 abbrev pub Names : ℕ → JudgeFault → Type 0
 Names count (Unclosed flaw) = NamesVertices count flaw
 Names count (BadCycle player cycle) = All (λ v. v < count) cycle.items
 Names count OutOfMemory = ⊤
 
--- the refusal is the line of the cycle, or out of memory
+-- the result is the line of the cycle, or out of memory
 abbrev pub IsCycleTold : NamedGameData → List ℕ → Refusal → Type 0
 IsCycleTold named cycle (refusal.Fault line) = fault_text line ≡ cycle_text named cycle
 IsCycleTold named cycle refusal.OutOfMemory = ⊤
 
--- the refusal is the line of the fault, or out of memory
+-- the result is the line of the fault, or out of memory
 abbrev pub IsTold : NamedGameData → JudgeFault → Refusal → Type 0
 IsTold named (Unclosed flaw) (refusal.Fault line) = fault_text line ≡ flaw_text named flaw
 IsTold named (BadCycle player cycle) refused = IsCycleTold named cycle.items refused

@@ -1,4 +1,4 @@
--- The command that runs a circuit on a stem and a lap, and asks an automaton about what it does.
+-- The command that runs a circuit on a stem and a lap, and states whether an automaton accepts the resulting word.
 use Rattle.std.specs.Prelude.{◌≡◌, ◌<◌, ◌⊎◌, ℕ, true, List, [], ◌++◌, length, codes, Result, Ok, Err, if◌then◌else◌}
 use Rattle.ps_circuit.specs.Circuits.{CircuitData, IsCircuit}
 use Rattle.ps_hoa.specs.Files.{FileData}
@@ -16,17 +16,18 @@ use Rattle.ps_program.specs.Outcomes.{Then}
 use Rattle.ps_program.specs.Replies.{Reply, line_reply}
 use Rattle.ps_program.specs.Texts.{CutsInThree, ReadsCircuitText, ReadsStimulusText}
 
--- whether the lasso is accepted, and how long its stem and its lap are
+-- whether the lasso is accepted, and the lengths of its stem and its lap
 abbrev pub verdict_text : Verdict → List ℕ
 verdict_text v =
     (if v.accepted then codes "accepted" else codes "rejected") ++ codes " stem" ++ spaced v.stem ++
     codes " lap" ++ spaced v.lap
 
--- the line of what is wrong with the lap or the symbols
+-- the line of a fault in the lap or in the symbols
 abbrev pub lasso_line : LassoFault → List ℕ
 lasso_line fault = line_text (fault_number fault) (fault_name fault) []
 
--- the verdict, if the lap has a letter and the symbols are those of the role; else the first of these that is wrong
+-- The verdict, if the lap is not empty and the circuit has the symbols of the role. Otherwise the line of the fault:
+-- first that of an empty lap, then that of wrong symbols.
 abbrev pub TellsVerdict : Role → FileData → CircuitData → StimulusData → Result Reply (List ℕ) → Type 0
 TellsVerdict role file c s (Ok reply) =
     IsCircuit c × (0 < length s.lap) × HasSymbols role file.names file.controllable c
@@ -34,13 +35,13 @@ TellsVerdict role file c s (Ok reply) =
 TellsVerdict role file c s (Err line) = ((s.lap ≡ []) × (line ≡ lasso_line EmptyLap))
     ⊎ ((0 < length s.lap) × ¬ HasSymbols role file.names file.controllable c × (line ≡ lasso_line Symbols))
 
--- the circuit of a text in that role, on the stimulus of another text, which has a divider
+-- the verdict for the circuit of a text in this role, on the stimulus of another text, which has a divider
 abbrev pub RunsCircuit : Role → FileData → List ℕ → List ℕ → Result Reply (List ℕ) → Type 0
 RunsCircuit role file text letters =
     Then (ReadsCircuitText text) (λ c. Then (ReadsStimulusText (length c.inputs) true letters)
     (TellsVerdict role file c))
 
--- `lasso` of an automaton, a circuit of that role and a stimulus with a divider
+-- the answer to `lasso`, for an automaton, a circuit with this role and a stimulus with a divider
 abbrev pub AnswersLasso : Role → List ℕ → Result Reply (List ℕ) → Type 0
 AnswersLasso role texts =
     Then (CutsInThree texts) (λ parts. Then (ReadsAutomaton parts.0) (λ file. RunsCircuit role file parts.1 parts.2))

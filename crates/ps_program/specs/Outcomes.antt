@@ -1,4 +1,5 @@
--- The result of a step towards an answer: a value, or the line of the first fault, without the newline that ends it.
+-- The result of a step towards an answer: a value, or the line of the first fault, without the newline that ends the
+-- line.
 use Rattle.std.specs.Prelude.{◌≡◌, ◌⊎◌, ⊤, ℕ, List, Result, Ok, Err}
 use Rattle.ps_text.specs.Answers.{Found}
 use Rattle.ps_program.specs.declared.answer.Answer.{Answer}
@@ -7,31 +8,31 @@ use Rattle.ps_program.specs.declared.answer.Refusal.TheVariants as refusal
 use Rattle.ps_program.specs.Faults.{fault_text, text_line}
 use Rattle.ps_program.specs.Replies.{Reply, reply_of, fault_reply}
 
--- a step, and then the next with its value; a fault of the step is the fault of both
+-- a step, and then the next step, which takes its value; a fault of the first step is the fault of both
 abbrev pub Then : {V W : Type 0} → (Result V (List ℕ) → Type 0) → (V → Result W (List ℕ) → Type 0) →
     Result W (List ℕ) → Type 0
 Then {V} {W} step next outcome = ((line : List ℕ) × step (Err line) × (outcome ≡ Err line))
     ⊎ ((value : V) × step (Ok value) × next value outcome)
 
--- a text as its reader answers it, with the line of a fault: the number and the name of its cause, and where it occurs
+-- the result of a parser, with an error as a line: the number and the name of its cause, and its offset
 abbrev pub Reading : {V C : Type 0} → (C → ℕ) → (C → List ℕ) → (Result V (Found C) → Type 0) →
     Result V (List ℕ) → Type 0
 Reading number name reads (Ok value) = reads (Ok value)
 Reading {V} {C} number name reads (Err line) =
     (found : Found C) × reads (Err found) × (line ≡ text_line (number found.cause) (name found.cause) found.offset)
 
--- what is printed for an answer or a fault
+-- the text that is printed for an answer or for a fault
 abbrev pub printed : Result Reply (List ℕ) → Reply
 printed (Ok reply) = reply
 printed (Err line) = fault_reply line
 
--- a function of the code returns what the step may give, unless memory runs out
+-- a function of the code returns a possible result of the step, or out of memory
 abbrev pub Gives : {X V : Type 0} → (X → V) → (Result V (List ℕ) → Type 0) → Result X Refusal → Type 0
 Gives view step (Ok value) = step (Ok (view value))
 Gives view step (Err (refusal.Fault fault)) = step (Err (fault_text fault))
 Gives view step (Err refusal.OutOfMemory) = ⊤
 
--- the answer is what is printed for a command's result
+-- the answer is the one that is printed for a command's result
 abbrev pub Settles : Result Answer Refusal → Answer → Type 0
 Settles (Ok given) answer = reply_of answer ≡ reply_of given
 Settles (Err (refusal.Fault fault)) answer = reply_of answer ≡ fault_reply (fault_text fault)

@@ -1,4 +1,4 @@
--- What the program answers to an input, and what it writes of that answer.
+-- The program's answer to an input, and how the program writes this answer.
 use Rattle.std.specs.Prelude.{◌≡◌, ◌≤◌, ◌<◌, ◌⊎◌, ℕ, Bool, true, false, List, length, Option, Result, Ok}
 use Rattle.std.specs.Io.KnownBytes.{Appends}
 use Rattle.ps_program.specs.declared.command_line.Line.{Line}
@@ -19,7 +19,8 @@ use Rattle.ps_program.specs.Solving.{AnswersSolve}
 use Rattle.ps_program.specs.Streams.{SinkState, AppendsSome, Breaks}
 use Rattle.ps_program.specs.Synthesis.{AnswersSynth}
 
--- the answer to a line, with what follows it; if the line asks a solver, the answer depends on what is known of it
+-- the answer to a line and the texts after it; if the line uses a solver, the answer depends on what is known about the
+-- solver
 abbrev pub AnswersLine : Solvers → Line → List ℕ → Result Reply (List ℕ) → Type 0
 AnswersLine solvers Refused texts outcome = outcome ≡ Ok usage
 AnswersLine solvers Help texts outcome = outcome ≡ Ok help
@@ -40,22 +41,22 @@ AnswersInput solvers input reply =
     × ((outcome : Result Reply (List ℕ)) × AnswersLine solvers line (behind_line input) outcome ×
     (reply ≡ printed outcome))
 
--- the same, of an input that may be too long
+-- the answer to an input that may be too long
 abbrev pub AnswersWhole : Solvers → List ℕ → Reply → Type 0
 AnswersWhole solvers input reply = ((input_limit < length input) × (reply ≡ read_fault))
     ⊎ ((length input ≤ input_limit) × AnswersInput solvers input reply)
 
--- the same, but memory may have run out
+-- the answer to an input that may be too long, or out of memory
 abbrev pub RepliesTo : Solvers → List ℕ → Reply → Type 0
 RepliesTo solvers input reply = (reply ≡ out_of_memory) ⊎ AnswersWhole solvers input reply
 
--- the answer to what a source has, whether a read failed or not: memory may have run out
+-- the answer to the input of a source, in which a read may fail, or out of memory
 abbrev pub Replies : Solvers → Option (List ℕ) → Bool → Reply → Type 0
 Replies solvers known true reply = reply ≡ read_fault
 Replies solvers known false reply = (reply ≡ out_of_memory)
     ⊎ ((input : List ℕ) × AgreesWith known input × AnswersWhole solvers input reply)
 
--- the answer went out whole and was flushed
+-- the whole answer was written and flushed
 pub record WritesAll (before after : SinkState) (reply : Reply) (status : ℕ) : Type 0 where
   pub sound : after.has_failed ≡ false
   pub moving : after.has_stalled ≡ false
@@ -63,13 +64,13 @@ pub record WritesAll (before after : SinkState) (reply : Reply) (status : ℕ) :
   pub flushed : after.is_flushed ≡ true
   pub answered : status ≡ reply.status
 
--- a write or the flush failed, or a write took no bytes: the first part of the answer went out
+-- a write or the flush failed, or a write took no bytes; the bytes written before are a prefix of the answer
 pub record WritesPart (before after : SinkState) (reply : Reply) (status : ℕ) : Type 0 where
   pub broken : Breaks after.has_failed after.has_stalled
   pub text : AppendsSome before.contents after.contents reply.text
   pub refused : status ≡ 1
 
--- what went out, and the exit status
+-- the bytes that were written, and the exit status
 abbrev pub Writes : SinkState → SinkState → Reply → ℕ → Type 0
 Writes before after reply status =
     WritesAll before after reply status ⊎ WritesPart before after reply status

@@ -1,4 +1,4 @@
--- How the program answers a reader's fault.
+-- How the program reports the fault of a parser.
 use Rattle.std.specs.Prelude.{◌≡◌, ⊤, ℕ, List}
 use Rattle.ps_text.specs.declared.faults.Fault.{Fault}
 use Rattle.ps_text.specs.declared.faults.Fault.TheVariants as fault
@@ -6,7 +6,7 @@ use Rattle.ps_program.specs.declared.answer.Refusal.{Refusal}
 use Rattle.ps_program.specs.declared.answer.Refusal.TheVariants as refusal
 use Rattle.ps_program.specs.Faults.{fault_text, text_line}
 
--- a cause is refused by the line of its number and its name, and out of memory as such
+-- a cause is reported by the line with its number and name, and out of memory as out of memory
 abbrev pub IsRefusalOf : {C : Type 0} → (C → ℕ) → (C → List ℕ) → Fault C → Refusal → Type 0
 IsRefusalOf number name (fault.Text cause offset) (refusal.Fault line) =
     fault_text line ≡ text_line (number cause) (name cause) offset

@@ -1,4 +1,4 @@
--- What the program answers, as bytes and an exit status.
+-- The program's answers, as bytes and an exit status.
 use Rattle.std.specs.Prelude.{ℕ, List, ◌++◌, codes}
 use Rattle.ps_program.specs.declared.answer.TheConstants.{HELP}
 use Rattle.ps_program.specs.declared.answer.Answer.{Answer}
@@ -11,7 +11,7 @@ pub record Reply : Type 0 where
 abbrev pub reply_of : Answer → Reply
 reply_of answer = record { text = answer.text.items; status = answer.status }
 
--- an answer with that text
+-- an answer with the given text
 abbrev pub text_reply : List ℕ → Reply
 text_reply text = record { text = text; status = 0 }
 
@@ -19,21 +19,21 @@ text_reply text = record { text = text; status = 0 }
 abbrev pub line_reply : List ℕ → Reply
 line_reply line = text_reply (line ++ codes "\n")
 
--- the line of a fault
+-- the answer that consists of the line of a fault
 abbrev pub fault_reply : List ℕ → Reply
 fault_reply line = record { text = line ++ codes "\n"; status = 1 }
 
--- the command line is refused
+-- the answer to a rejected command line
 abbrev pub usage : Reply
 usage = record { text = codes "fault usage\n"; status = 2 }
 
--- what psyn can do
+-- the answer to a request for help
 abbrev pub help : Reply
 help = text_reply HELP.now
 
 abbrev pub out_of_memory : Reply
 out_of_memory = fault_reply (codes "fault 24 OutOfMemory")
 
--- a read failed, or the input is too long
+-- the answer if a read failed, or if the input is too long
 abbrev pub read_fault : Reply
 read_fault = fault_reply (codes "fault 25 ReadFault")

@@ -8,25 +8,25 @@ use Rattle.ps_program.specs.Outcomes.{Then}
 use Rattle.ps_program.specs.Replies.{Reply, text_reply}
 use Rattle.ps_program.specs.Texts.{ReadsSimulated}
 
--- the bits of one step, with the latches' bits before it
+-- one step as a line: the latches' bits before the step, the inputs' bits and the outputs' bits
 abbrev pub moment_line : Moment → List ℕ
 moment_line m = digits_of m.latches ++ codes "|" ++ digits_of m.inputs ++ codes "|" ++ digits_of m.outputs ++ codes "\n"
 
--- the circuit's trace for these letters, a line for each
+-- the circuit's trace for these letters, one line for each letter
 pub record PrintsTrace (c : CircuitData) (letters : List (List Bool)) (text : List ℕ) : Type 0 where
   pub moments : List Moment
   pub is_trace : IsTrace c moments
   pub inputs_are : map (λ m. m.inputs) moments ≡ letters
   pub text_is : text ≡ flat_map moment_line moments
 
--- `sim`: the trace of a circuit
+-- the answer to `sim`: the trace of a circuit
 abbrev pub AnswersSim : List ℕ → Result Reply (List ℕ) → Type 0
 AnswersSim texts = Then (ReadsSimulated texts) (λ both outcome. IsCircuit both.0
     × ((text : List ℕ) × PrintsTrace both.0 both.1.stem text × (outcome ≡ Ok (text_reply text))))
 
--- ---- while it runs
+-- ---- during the simulation
 
--- the letters so far, their lines, and the latches after them
+-- the text has the lines of the letters read so far, and `latches` are the latches after these letters
 pub record HasPrinted (c : CircuitData) (letters : List (List Bool)) (text : List ℕ) (latches : List Bool) : Type 0
   where
     pub moments : List Moment
@@ -34,7 +34,7 @@ pub record HasPrinted (c : CircuitData) (letters : List (List Bool)) (text : Lis
     pub inputs_are : map (λ m. m.inputs) moments ≡ letters
     pub text_is : text ≡ flat_map moment_line moments
 
--- a letter was taken, and its line was appended to the text
+-- a letter was read, and its line was appended to the text
 pub record PrintsStep (before after : Simulation) (inputs : List Bool) (text_before text_after : List ℕ) : Type 0 where
   pub outputs : List Bool
   pub steps : Steps before.circuit before.latches inputs outputs after.latches

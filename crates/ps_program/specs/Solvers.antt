@@ -1,7 +1,7 @@
--- The solvers that are given, as the program's answer depends on them.
+-- The two given solvers, on which the program's answer depends.
 use Rattle.ps_machine.specs.Solvers.{SolverData}
 
--- the first solver solves games, and the second is for certificates that the input holds
+-- the first solver solves games, and the second is used for certificates in the input
 pub record Solvers : Type 1 where
   pub built_in : SolverData
   pub replay : SolverData

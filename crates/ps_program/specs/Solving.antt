@@ -1,4 +1,4 @@
--- The command that solves a game, by a solver that is given.
+-- The command that solves a game by a given solver.
 use Rattle.std.specs.Prelude.{◌≡◌, ℕ, Bool, false, List, Some, Result, Ok, Err}
 use Rattle.ps_game.specs.Games.{NamedGameData}
 use Rattle.ps_certificate.specs.Certificates.{CertificateData}
@@ -12,18 +12,18 @@ use Rattle.ps_program.specs.Replies.{Reply, text_reply}
 use Rattle.ps_program.specs.StageFaults.{stage_line}
 use Rattle.ps_program.specs.Texts.{ReadsGameText}
 
--- a certificate that the solver may answer, which fits the game and is valid; or the line of the solver's fault, which
--- a sure solver does not have
+-- A valid certificate that the solver may answer and that fits the game, or the line of the solver's fault. There is no
+-- fault if the solver is sure.
 abbrev pub Certifies : SolverData → NamedGameData → Result CertificateData (List ℕ) → Type 0
 Certifies solver named (Ok certificate) = IsCertified named certificate × answers_now solver named (Ok certificate)
 Certifies solver named (Err line) = (fault : SynthFault) × IsSolverFault (answers_now solver) named fault
     × (solver.is_sure ≡ false) × (stage_line fault ≡ Some line)
 
--- the text of such a certificate, with all counts or as a compact one
+-- the text of the solver's certificate, either with all counts or compact
 abbrev pub AnswersGame : SolverData → Bool → NamedGameData → Result Reply (List ℕ) → Type 0
 AnswersGame solver compact named =
     Then (Certifies solver named) (λ certificate outcome. outcome ≡ Ok (text_reply (text_in compact named certificate)))
 
--- `solve`, and whether `--compact` is given
+-- the answer to `solve`; `compact` states whether `--compact` is given
 abbrev pub AnswersSolve : SolverData → Bool → List ℕ → Result Reply (List ℕ) → Type 0
 AnswersSolve solver compact text = Then (ReadsGameText text) (AnswersGame solver compact)

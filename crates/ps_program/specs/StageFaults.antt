@@ -1,4 +1,4 @@
--- The faults of synthesis, as the program answers them: by the number and the name that each fault gives.
+-- The faults of synthesis, as the program reports them: by the number and the name of each fault.
 --     automaton_line fault      the line of a fault for which a file has no automaton
 --     stage_line fault      the line of a fault for which there is no certificate, no circuit or no report
 use Rattle.std.specs.Prelude.{◌≡◌, ⊤, ℕ, List, [], Option, None, Some}
@@ -13,7 +13,7 @@ use Rattle.ps_program.specs.declared.answer.Refusal.{Refusal}
 use Rattle.ps_program.specs.declared.answer.Refusal.TheVariants as refusal
 use Rattle.ps_program.specs.Faults.{byte_text, edges_text, fault_text, ids_text, line_text}
 
--- where a fault occurs; out of memory has no line
+-- the place of a fault in its line; out of memory has no line
 abbrev pub automaton_place : AutomatonFault → Option (List ℕ)
 automaton_place automaton.ComplementedSet = Some []
 automaton_place automaton.NonParity = Some []
@@ -40,14 +40,14 @@ automaton_line fault =
 abbrev pub stage_line : SynthFault → Option (List ℕ)
 stage_line fault = line_at (synth_faults.fault_number fault) (synth_faults.fault_name fault) (stage_place fault)
 
--- the fault is the solver's
+-- the fault comes from the solver
 abbrev pub IsOfSolver : SynthFault → Type 0
 IsOfSolver (BadCycle ids) = ⊤
 IsOfSolver (Certificate cause offset) = ⊤
 IsOfSolver NotCertified = ⊤
 IsOfSolver fault = ⊥
 
--- the answer to a fault is its line, and to out of memory that
+-- a fault is reported by its line, and out of memory as out of memory
 abbrev pub IsToldAs : Option (List ℕ) → Refusal → Type 0
 IsToldAs line (refusal.Fault told) = line ≡ Some (fault_text told)
 IsToldAs line refusal.OutOfMemory = line ≡ None

@@ -1,23 +1,23 @@
--- What a sink's calls did.
+-- The effect of the calls of a sink.
 use Rattle.std.specs.Prelude.{◌≡◌, ◌⊎◌, ◌==◌, ◌&&◌, ℕ, Bool, true, false, List, length, Option, Result, Ok, Err, nat_lt}
 use Rattle.std.specs.Io.{StartsWith}
 use Rattle.std.specs.Io.KnownBytes.{Appends}
 
--- the write returned that it took no bytes, and was given some
+-- the write was given some bytes, and returned that it took none
 abbrev pub stalls : {E : Type 0} → Result ℕ E → List ℕ → Bool
 stalls (Ok n) bytes = n == 0 && nat_lt 0 (length bytes)
 stalls (Err e) bytes = false
 
--- known bytes stay at the front, and the first part of the text is appended to them
+-- if the old contents are known, a prefix of the text is appended to them
 abbrev pub AppendsSome : Option (List ℕ) → Option (List ℕ) → List ℕ → Type 0
 AppendsSome before after text = (sent : List ℕ) × StartsWith text sent × Appends before after sent
 
--- a call failed, or a write took no bytes; not both, since nothing is written after either
+-- A call failed, or a write took no bytes, but not both, because nothing is written after either.
 abbrev pub Breaks : (has_failed has_stalled : Bool) → Type 0
 Breaks has_failed has_stalled =
     ((has_failed ≡ true) × (has_stalled ≡ false)) ⊎ ((has_failed ≡ false) × (has_stalled ≡ true))
 
--- what a sink reports about itself
+-- the state that a sink reports
 pub record SinkState : Type 0 where
   pub contents : Option (List ℕ)
   pub has_failed : Bool

@@ -1,5 +1,5 @@
--- The command that makes a circuit of an automaton.
---     AnswersSynth solvers asked texts      `synth`
+-- The command that makes a circuit from an automaton.
+--     AnswersSynth solvers asked texts      the answer to `synth`
 use Rattle.std.specs.Prelude.{◌≡◌, ℕ, Bool, true, false, List, ◌++◌, codes, Some, Result, Ok, Err, if◌then◌else◌}
 use Rattle.ps_machine.specs.Solvers.{SolverData, answers_now, once_fed}
 use Rattle.ps_machine.specs.declared.key.Order.{Order}
@@ -14,24 +14,24 @@ use Rattle.ps_program.specs.Solvers.{Solvers}
 use Rattle.ps_program.specs.StageFaults.{IsOfSolver, stage_line}
 use Rattle.ps_program.specs.Texts.{CutsInTwo}
 
--- ---- what is printed
+-- ---- the printed text
 
 -- the game and its certificate, each after a line `%%`
 abbrev pub proof_text : Report → List ℕ
 proof_text report = codes "%%\n" ++ report.game_text.items ++ codes "%%\n" ++ report.certificate_text.items
 
--- who wins
+-- the line that states the winner
 abbrev pub verdict_line : Bool → List ℕ
 verdict_line realizable = if realizable then codes "REALIZABLE\n" else codes "UNREALIZABLE\n"
 
 abbrev pub verdict_status : Bool → ℕ
 verdict_status realizable = if realizable then 10 else 20
 
--- who wins, and the winner's circuit
+-- the line that states the winner, and then the winner's circuit
 abbrev pub circuit_part : Report → List ℕ
 circuit_part report = verdict_line report.realizable ++ report.circuit_text.items
 
--- the whole report, or only its circuit
+-- the whole report, or only its part with the circuit
 abbrev pub report_text : (full : Bool) → Report → List ℕ
 report_text true report = circuit_part report ++ proof_text report
 report_text false report = circuit_part report
@@ -41,25 +41,25 @@ report_reply full report = record { text = report_text full report; status = ver
 
 -- ---- the answer
 
--- a report, or the line of the fault for which there is none; a sure solver has no such fault
+-- a report, or the line of the fault for which there is none; faults of the solver occur only if it is not sure
 abbrev pub Synthesises : SolverData → Order → Bool → List ℕ → Result Report (List ℕ) → Type 0
 Synthesises solver order compact text (Ok report) = IsReport (answers_now solver) order compact text report
 Synthesises solver order compact text (Err line) =
     (fault : SynthFault) × IsSynthFault (answers_now solver) order text fault
     × (IsOfSolver fault → solver.is_sure ≡ false) × (stage_line fault ≡ Some line)
 
--- the circuit of an HOA text, by this solver
+-- the circuit of an HOA text, made with the given solver
 abbrev pub AnswersReport : SolverData → SynthLine → List ℕ → Result Reply (List ℕ) → Type 0
 AnswersReport solver asked text =
     Then (Synthesises solver asked.order asked.compact text) (λ report outcome.
     outcome ≡ Ok (report_reply asked.full report))
 
--- the same, by this solver after it was fed the certificate that follows the text
+-- the circuit of an HOA text, made with the given solver after it was fed the certificate that follows the text
 abbrev pub AnswersCertified : SolverData → SynthLine → List ℕ → Result Reply (List ℕ) → Type 0
 AnswersCertified solver asked texts =
     Then (CutsInTwo texts) (λ parts. AnswersReport (once_fed parts.1 solver) asked parts.0)
 
--- `synth`: by the second solver if a certificate is given, and else by the first
+-- the answer to `synth`, with the second solver if a certificate is given, and otherwise with the first solver
 abbrev pub AnswersBy : (cert : Bool) → Solvers → SynthLine → List ℕ → Result Reply (List ℕ) → Type 0
 AnswersBy false solvers asked texts = AnswersReport solvers.built_in asked texts
 AnswersBy true solvers asked texts = AnswersCertified solvers.replay asked texts

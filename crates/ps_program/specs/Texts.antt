@@ -1,4 +1,4 @@
--- The texts of the commands, as their readers answer them.
+-- The texts that the commands take, and the results of their parsers.
 use Rattle.std.specs.Prelude.{◌≡◌, ◌<◌, ℕ, Bool, false, IfSome, List, [], ◌∷◌, ◌++◌, codes, length, Result, Ok, Err}
 use Rattle.std.specs.Prelude.{option_map, slice_index}
 use Rattle.ps_game.specs.Games.{NamedGameData}
@@ -25,29 +25,29 @@ use Rattle.ps_program.specs.Outcomes.{Then, Reading}
 abbrev pub missing_text : List ℕ
 missing_text = line_text 27 (codes "MissingText") []
 
--- two texts
+-- the input has two texts, or the line for a missing text
 abbrev pub CutsInTwo : List ℕ → Result (List ℕ × List ℕ) (List ℕ) → Type 0
 CutsInTwo texts (Ok parts) = AreTexts texts (parts.0 ∷ parts.1 ∷ [])
 CutsInTwo texts (Err line) = HasFewerMarks 1 texts × (line ≡ missing_text)
 
--- three texts; a missing one is reported before any is read
+-- the input has three texts, or the line for a missing text, which comes before any error in a text
 abbrev pub CutsInThree : List ℕ → Result (List ℕ × List ℕ × List ℕ) (List ℕ) → Type 0
 CutsInThree texts (Ok parts) = AreTexts texts (parts.0 ∷ parts.1 ∷ parts.2 ∷ [])
 CutsInThree texts (Err line) = HasFewerMarks 2 texts × (line ≡ missing_text)
 
 -- ---- game texts
 
--- the text of a game
+-- the game of a text, or the line of the first error
 abbrev pub ReadsGameText : List ℕ → Result NamedGameData (List ℕ) → Type 0
 ReadsGameText text = Reading game.cause_number game.cause_name (Answer text)
 
 -- ---- certificate texts
 
--- the text of a certificate of that game
+-- the certificate of a game in a text, or the line of the first error
 abbrev pub ReadsCertificateText : NamedGameData → List ℕ → Result CertificateData (List ℕ) → Type 0
 ReadsCertificateText named text = Reading certificate.cause_number certificate.cause_name (ReadsCertificate named text)
 
--- a game text and the text of a certificate of that game
+-- a game, and a certificate of this game, from two texts
 abbrev pub ReadsCertified : List ℕ → Result (NamedGameData × CertificateData) (List ℕ) → Type 0
 ReadsCertified texts =
     Then (CutsInTwo texts) (λ parts. Then (ReadsGameText parts.0) (λ named.
@@ -55,16 +55,17 @@ ReadsCertified texts =
 
 -- ---- circuit texts and stimuli
 
--- the text of a circuit
+-- the circuit of a text, or the line of the first error
 abbrev pub ReadsCircuitText : List ℕ → Result CircuitData (List ℕ) → Type 0
 ReadsCircuitText text = Reading circuit.cause_number circuit_names.cause_name (circuit_text.ReadsCircuit text)
 
--- the text of a stimulus for that number of inputs, with a divider or without
+-- the stimulus of a text for `width` inputs, or the line of the first error; `split` states whether the text has a
+-- divider
 abbrev pub ReadsStimulusText : ℕ → Bool → List ℕ → Result StimulusData (List ℕ) → Type 0
 ReadsStimulusText width split text =
     Reading stimulus.cause_number stimulus.cause_name (stimulus_text.ReadsStimulus text width split)
 
--- the text of a circuit, and that of a stimulus with only a stem
+-- a circuit, and a stimulus that has only a stem, from two texts
 abbrev pub ReadsSimulated : List ℕ → Result (CircuitData × StimulusData) (List ℕ) → Type 0
 ReadsSimulated texts =
     Then (CutsInTwo texts) (λ parts. Then (ReadsCircuitText parts.0) (λ c.
@@ -75,7 +76,7 @@ ReadsSimulated texts =
 abbrev pub id_of : NamedGameData → ℕ → ℕ
 id_of named v = slice_index named.ids v
 
--- where a flaw occurs: vertices are named by their ids
+-- the place of a flaw in its line: vertices are named by their ids
 abbrev pub flaw_place : NamedGameData → Flaw → List ℕ
 flaw_place named (flaw.Move v choice) = spaced (id_of named v) ++ choice_text (option_map (id_of named) choice)
 flaw_place named (flaw.Escape v w) = spaced (id_of named v) ++ spaced (id_of named w)
@@ -85,7 +86,7 @@ flaw_place named (flaw.Rank v w p) = spaced (id_of named v) ++ spaced (id_of nam
 abbrev pub flaw_text : NamedGameData → Flaw → List ℕ
 flaw_text named flaw = line_text (certificate.flaw_number flaw) (certificate.flaw_name flaw) (flaw_place named flaw)
 
--- the flaw names vertices less than a number
+-- the vertices in the flaw are less than `count`
 abbrev pub NamesVertices : ℕ → Flaw → Type 0
 NamesVertices count (flaw.Move v choice) = (v < count) × IfSome choice (λ w. w < count)
 NamesVertices count (flaw.Escape v w) = (v < count) × (w < count)

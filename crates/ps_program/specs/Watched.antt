@@ -1,4 +1,4 @@
--- What a watched reader or writer holds, and what a call returned.
+-- The data of a watched reader or writer, and the results of its calls.
 use Rattle.std.specs.Prelude.{◌≤◌, ℕ, List, length, Bool, Option, IfSome, None, Some, Result, Ok, Err}
 use Rattle.ps_program.specs.declared.watched.Watched.{Watched}
 
@@ -6,19 +6,19 @@ use Rattle.ps_program.specs.declared.watched.Watched.{Watched}
 abbrev pub watched_inner : {T : Type 0} → Watched T → T
 watched_inner watched = watched.inner
 
--- a call answered a fault
+-- a call failed
 abbrev pub watched_failed : {T : Type 0} → Watched T → Bool
 watched_failed watched = watched.has_failed
 
--- a write took none of the bytes that it was given
+-- a write was given some bytes and took none
 abbrev pub watched_stalled : {T : Type 0} → Watched T → Bool
 watched_stalled watched = watched.has_stalled
 
--- what a call returned, and nothing if it failed
+-- the value that a call returned, or None if the call failed
 abbrev pub answered : {T E : Type 0} → Result T E → Option T
 answered (Ok value) = Some value
 answered (Err error) = None
 
--- the count that a call returned is at most the number of bytes that it was lent
+-- the number that a call returned is at most the number of bytes that it was given
 abbrev pub CountsWithin : List ℕ → Option ℕ → Type 0
 CountsWithin bytes count = IfSome count (λ n. n ≤ length bytes)

@@ -1,7 +1,8 @@
--- How the steps of an automaton are made, row by row. (Of private functions.)
---     IsReady t g      the diagrams of a row's guards are held
---     IsWhere leaf value P      the leaf is that value where P is true, and none where it is not
---     IsUnion file row count targets t node      a node leads each letter to the target of the edge that is taken there
+-- How the steps of an automaton are built, row by row. (For private functions.)
+--     IsReady t g      the diagrams for a row's guards are in the table
+--     IsWhere leaf value P      the leaf is the value if P is true, and None if P is false
+--     IsUnion file row count targets t node      a node leads each letter to the target of the edge that is taken at
+--               the letter
 --     IsStepsOf file chain q steps t node      a node leads each letter to the step of the state q
 use Rattle.std.specs.Prelude.{◌≡◌, ℕ, ◌^◌, ◌<◌, ◌≤◌, ◌⊎◌, Bool, List, length, None, Some, Option, IsSomeAnd, slice_get}
 use Rattle.std.specs.Prelude.{slice_index, ◌+◌}
@@ -43,7 +44,7 @@ pub record IsReady (t : Table) (g : Guards) : Type 0 where
   pub aliases : AreNodesOf t g.file.now.aliases g.aliases.now
   pub label : IsLabelNode t g.file.now (row_data g.row.now).label g.label
 
--- what a guard speaks of is there
+-- the label or the letter of a guard is valid
 abbrev pub IsFit : FileData → GuardData → Type 0
 IsFit file (stated e) = IsLabelOf file e
 IsFit file of_state = Unit {0}
@@ -52,12 +53,12 @@ IsFit file (at_letter letter) = letter < 2 ^ length file.names
 abbrev pub IsWhere : Option ℕ → ℕ → Type 0 → Type 0
 IsWhere leaf value P = ((leaf ≡ Some value) × P) ⊎ ((leaf ≡ None) × (P → ⊥))
 
--- a node has that leaf at the letters at which the edge is taken, and none at the others
+-- the node has the given leaf at the letters at which the edge is taken, and no leaf at other letters
 abbrev pub ShowsEdge : FileData → RowData → EdgeData → Table → ℕ → ℕ → Type 0
 ShowsEdge file row edge t node value = (letter : ℕ) → letter < 2 ^ length file.names →
     IsWhere (leaf_of t node letter) value (IsTaken file row edge letter)
 
--- some letter has a leaf in both
+-- both nodes have a leaf at some letter
 abbrev pub Meet : Table → ℕ → ℕ → Type 0
 Meet t one other =
     (letter : ℕ) × (letter < 2 ^ t.propositions) × (x : ℕ) × (y : ℕ) × (leaf_of t one letter ≡ Some x) ×
@@ -69,7 +70,7 @@ abbrev pub IsTargetAt : RowData → EdgeData → List Target → ℕ → Type 0
 IsTargetAt row edge targets place =
     (target : Target) × (slice_get targets place ≡ Some target) × IsTargetOf row edge target
 
--- one of the first `count` edges of a row, which is taken at a letter
+-- an edge, among the first `count` edges of a row, that is taken at a letter
 pub record TakenEdge (file : FileData) (row : RowData) (count letter : ℕ) : Type 0 where
   pub place : ℕ
   pub within : place < count
@@ -77,7 +78,7 @@ pub record TakenEdge (file : FileData) (row : RowData) (count letter : ℕ) : Ty
   pub at_place : slice_get row.edges place ≡ Some edge
   pub taken : IsTaken file row edge letter
 
--- the first `count` edges, letter by letter: the place of the target of the edge that is taken there, or none
+-- For the first `count` edges, letter by letter: the index of the target of the edge that is taken, or None.
 pub record AreJoined (file : FileData) (row : RowData) (count : ℕ) (targets : List Target)
     (place_at : ℕ → Option ℕ) : Type 0 where
   pub there : (letter : ℕ) → letter < 2 ^ length file.names → (e : TakenEdge file row count letter) →
@@ -86,22 +87,22 @@ pub record AreJoined (file : FileData) (row : RowData) (count : ℕ) (targets : 
       TakenEdge file row count letter
   pub within : (place : ℕ) (target : Target) → slice_get targets place ≡ Some target → target.state < file.states
 
--- the same by a node
+-- a node gives, for each letter, the index of the target of the edge that is taken, or None
 pub record IsUnion (file : FileData) (row : RowData) (count : ℕ) (targets : List Target) (t : Table) (node : ℕ) : Type 0
   where
     pub held : IsNode t node
     pub joined : AreJoined file row count targets (leaf_of t node)
 
--- each edge of a row is taken at one letter, that of its place
+-- each edge of a row is taken at exactly one letter, whose number is the index of the edge
 abbrev pub IsByLetters : FileData → RowData → Type 0
 IsByLetters file row = AreAtLetters 0 row.edges × (length row.edges ≡ 2 ^ length file.names)
 
--- the targets of a row's edges, in their order
+-- the targets of a row's edges, in the order of the edges
 pub record AreTargets (row : RowData) (targets : List Target) : Type 0 where
   pub one_each : length targets ≡ length row.edges
   pub each : (k : ℕ) (edge : EdgeData) → slice_get row.edges k ≡ Some edge → IsTargetAt row edge targets k
 
--- the fault that a row has
+-- the first clash of a row
 pub record IsFirstOfRow (file : FileData) (row : RowData) (first second : ℕ) : Type 0 where
   pub clashing : AreClashing file row first second
   pub least_second : (a b : ℕ) → AreClashing file row a b → second ≤ b
@@ -119,11 +120,11 @@ pub record AreLevels (l : Levels) : Type 0 where
   pub few : AreSetsBelow 64 (chain_data l.chain).links
   pub table : IsTable (chain_data l.chain) l.numbers.base l.numbers.by_set
 
--- each step stays where it is
+-- each step keeps its index
 abbrev pub Extends : List Step → List Step → Type 0
 Extends old new = (place : ℕ) (step : Step) → slice_get old place ≡ Some step → slice_get new place ≡ Some step
 
--- the first step leads to the sink, and each leads to a state or to the sink
+-- the first step leads to the sink, and every step leads to a state or to the sink
 pub record AreSteps (states : ℕ) (steps : List Step) : Type 0 where
   pub sink : slice_get steps 0 ≡ Some (record { state = states; priority = 1 })
   pub within : (place : ℕ) (step : Step) → slice_get steps place ≡ Some step → step.state ≤ states
@@ -131,13 +132,13 @@ pub record AreSteps (states : ℕ) (steps : List Step) : Type 0 where
 abbrev pub step_of_target : Chain → Target → Step
 step_of_target chain target = record { state = target.state; priority = level chain (λ set. is_in set target.sets) }
 
--- the places of the steps to these targets
+-- the indices of the steps to the given targets
 pub record ArePlaces (chain : Chain) (targets : List Target) (steps : List Step) (places : List ℕ) : Type 0 where
   pub one_each : length places ≡ length targets
   pub each : (k place : ℕ) (target : Target) → slice_get targets k ≡ Some target → slice_get places k ≡ Some place →
       slice_get steps place ≡ Some (step_of_target chain target)
 
--- the leaf names that step
+-- the leaf is the index of the step
 abbrev pub Names : List Step → Option ℕ → Step → Type 0
 Names steps leaf step = IsSomeAnd leaf (λ place. slice_get steps place ≡ Some step)
 
@@ -168,7 +169,7 @@ IsStateFault file q (Nondeterministic p first second) =
     ((a : ℕ) → Clash file q a second → first ≤ a)
 IsStateFault file q OutOfMemory = Unit {0}
 
--- the steps of states in the making grow
+-- the diagrams and the steps grow while the states are built
 pub record Grows (states : ℕ) (old new : Pairs) : Type 0 where
   pub keeps : Keeps old.store new.store
   pub extends : Extends old.steps.keys new.steps.keys

@@ -1,4 +1,4 @@
--- How the links of a condition are appended to others. (For private functions.)
+-- How the links of a condition are appended to earlier links. (For private functions.)
 use Rattle.std.specs.Prelude.{◌≡◌, ◌<◌, Bool, not, List, length, map, Option, None, Some, option_map, HoldsAt}
 use Rattle.ps_hoa.specs.Conditions.{row_of}
 use Rattle.ps_hoa.specs.Values.{condition_of}
@@ -12,7 +12,7 @@ use Rattle.ps_automaton.specs.declared.chain.Gathered.TheVariants.{All, AllBut, 
 abbrev pub with_base : List Link → Option Bool → Option Chain
 with_base links base = option_map (λ b. record { links = map link_data links; base = b }) base
 
--- the chain of operands after some links
+-- the chain of the operands, after the given earlier links
 abbrev pub whole : Bool → List Cond → List Link → Option Chain
 whole accepts operands before =
     in_front (Some (map link_data before)) (chain_of_all accepts (row_of (map condition_of operands)))

@@ -1,8 +1,8 @@
--- Laps that lead back to their state. (Of private functions.)
+-- Laps that lead back to a state. (For private functions.)
 use Rattle.std.specs.Prelude.{◌≡◌, ℕ, ◌+◌, ◌<◌, List}
 use Rattle.ps_automaton.specs.Autos.{Auto, state_after}
 
--- some laps lead from q to a state, and `laps` more, at least one, back to it
+-- some laps lead from q to the state, and then `laps` more laps, at least one, lead back to the state
 pub record Returns (a : Auto) (q : ℕ) (lap : List ℕ) (state laps : ℕ) : Type 0 where
   pub before : ℕ
   pub some : 0 < laps

@@ -1,4 +1,4 @@
--- What an edge leads to: a state, and sets as a mask. (Of private functions.)
+-- The target of an edge: a state, and the edge's sets as a mask. (For private functions.)
 use Rattle.std.specs.Prelude.{◌≡◌, ℕ, ◌^◌, ◌<◌}
 use Rattle.ps_label.specs.Truth.{is_in}
 use Rattle.ps_hoa.specs.Files.{EdgeData, RowData}

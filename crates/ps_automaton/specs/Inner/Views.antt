@@ -1,4 +1,4 @@
--- What the definitions see of the values of the code.
+-- Values of the code, as the definitions describe them. (For private functions.)
 use Rattle.std.specs.Prelude.{map}
 use Rattle.ps_automaton.specs.Chains as chains
 use Rattle.ps_automaton.specs.declared.chain.Link.{Link}

@@ -1,4 +1,4 @@
--- How the trees that `choose` and `both` make are related to those from which they are made. (For private functions.)
+-- How the trees that `choose` and `both` make are related to the trees that they take. (For private functions.)
 use Rattle.std.specs.Prelude.{◌≡◌, ℕ, ◌+◌, ◌<◌, Bool, List, Option, Some}
 use Rattle.ps_diagram.specs.declared.choose.Cut.{Cut}
 use Rattle.ps_diagram.specs.Leaves.{chosen}
@@ -7,18 +7,19 @@ use Rattle.ps_diagram.specs.Split.{IsSides}
 use Rattle.ps_diagram.specs.Tree.{Tree, leaf_at}
 use Rattle.ps_diagram.specs.Table.{Table, IsNode, tree_of}
 
--- the fourth tree has the leaf of the second where the first has one, else that of the third
+-- the fourth tree has the leaf of the second where the first has a leaf, and otherwise the leaf of the third
 abbrev pub IsChosen : Tree → Tree → Tree → Tree → Type 0
 IsChosen a b c d = (f : ℕ → Bool) → leaf_at d f ≡ chosen (leaf_at a f) (leaf_at b f) (leaf_at c f)
 
--- each known triple of nodes is held, and so is the node made of it, whose tree is chosen by theirs
+-- the nodes of each known triple are in the table, and so is the node made of them, whose tree is chosen from their
+-- trees
 abbrev pub KnowsTriples : Table → (ℕ × ℕ × ℕ → Option ℕ) → Type 0
 KnowsTriples t known =
     (truth one other made : ℕ) → known (truth, one, other) ≡ Some made →
     IsNode t truth × IsNode t one × IsNode t other × IsNode t made ×
     IsChosen (tree_of t truth) (tree_of t one) (tree_of t other) (tree_of t made)
 
--- three nodes are cut at one proposition, and their sides are earlier nodes
+-- three nodes are cut at the same proposition; their low sides, and their high sides, have a smaller sum than the nodes
 pub record IsCut (t : Table) (truth one other : ℕ) (c : Cut) : Type 0 where
   pub named : c.proposition < t.propositions
   pub truth_sides : IsSides t truth c.proposition c.truth.low c.truth.high
@@ -27,10 +28,10 @@ pub record IsCut (t : Table) (truth one other : ℕ) (c : Cut) : Type 0 where
   pub low_falls : c.truth.low + c.one.low + c.other.low < truth + one + other
   pub high_falls : c.truth.high + c.one.high + c.other.high < truth + one + other
 
--- the leaf of the third tree at each letter is the place of the pair of those of the first and of the second
+-- at each letter, the leaf of the third tree is the index of the pair of the leaves of the first two trees
 abbrev pub IsPairOf : List (ℕ × ℕ) → Tree → Tree → Tree → Type 0
 IsPairOf pairs a b c = (f : ℕ → Bool) → IsPaired pairs (leaf_at a f) (leaf_at b f) (leaf_at c f)
 
--- at some letter these are the leaves of the two trees
+-- at some letter, the pair consists of the leaves of the two trees
 abbrev pub Meet : Tree → Tree → ℕ × ℕ → Type 0
 Meet a b pair = (f : ℕ → Bool) × (leaf_at a f ≡ Some pair.0) × (leaf_at b f ≡ Some pair.1)

@@ -1,4 +1,4 @@
--- What a table of diagrams made already knows, and how a new diagram is related to those from which it is made.
+-- The nodes that a memo table already has, and how a new diagram is related to the diagrams from which it is made.
 use Rattle.std.specs.Prelude.{◌≡◌, ◌≢◌, ℕ, Bool, ◌&&◌, nat_eq, Option, Some}
 use Rattle.ps_diagram.specs.declared.fault.OverlayError.{OverlayError}
 use Rattle.ps_diagram.specs.declared.fault.OverlayError.TheVariants.{Clash, OutOfMemory}
@@ -6,12 +6,12 @@ use Rattle.ps_diagram.specs.Leaves.{joined, AreAlike}
 use Rattle.ps_diagram.specs.Tree.{Tree, leaf_at}
 use Rattle.ps_diagram.specs.Table.{Table, IsNode, tree_of}
 
--- each known node is held in the first table, the one made of it in the second, and their trees are in the relation
+-- each known node is in the first table, the node made from it is in the second table, and their trees are related by R
 abbrev pub Knows : (Tree → Tree → Type 0) → Table → Table → (ℕ → Option ℕ) → Type 0
 Knows R s t known =
     (node made : ℕ) → known node ≡ Some made → IsNode s node × IsNode t made × R (tree_of s node) (tree_of t made)
 
--- the same for pairs of nodes
+-- the nodes of each known pair are in the table, and so is the node made from them; their trees are related by R
 abbrev pub KnowsPairs : (Tree → Tree → Tree → Type 0) → Table → (ℕ × ℕ → Option ℕ) → Type 0
 KnowsPairs R t known =
     (first second made : ℕ) → known (first, second) ≡ Some made →
@@ -20,16 +20,16 @@ KnowsPairs R t known =
 abbrev pub pair_eq : ℕ × ℕ → ℕ × ℕ → Bool
 pair_eq a b = nat_eq a.0 b.0 && nat_eq a.1 b.1
 
--- each leaf of the second tree is what the rule makes of that of the first
+-- each leaf of the second tree is the result of the rule for the leaf of the first tree
 abbrev pub IsMapped : (Option ℕ → Option ℕ) → Tree → Tree → Type 0
 IsMapped rule t u = (f : ℕ → Bool) → leaf_at u f ≡ rule (leaf_at t f)
 
--- the third tree has the leaves of the first and of the second, which nowhere differ
+-- the first two trees never have different leaves at one letter, and the third tree has the leaves of both
 abbrev pub IsOverlay : Tree → Tree → Tree → Type 0
 IsOverlay a b c =
     (f : ℕ → Bool) → AreAlike (leaf_at a f) (leaf_at b f) × (leaf_at c f ≡ joined (leaf_at a f) (leaf_at b f))
 
--- a clash reports two leaves at one letter
+-- a clash reports two different leaves that the two trees have at one letter
 abbrev pub IsClash : Tree → Tree → OverlayError → Type 0
 IsClash a b (Clash x y) = (f : ℕ → Bool) × (leaf_at a f ≡ Some x) × (leaf_at b f ≡ Some y) × (x ≢ y)
 IsClash a b OutOfMemory = Unit {0}

@@ -1,4 +1,4 @@
--- Leaves with their least letters as classes, and the places of these.
+-- Classes that are made from leaves and their least letters, and the indices of these classes.
 use Rattle.std.specs.Prelude.{◌≡◌, ℕ, ◌<◌, List, length, Option, Some, option_and_then, slice_index_or}
 use Rattle.ps_diagram.specs.Inner.Known.{IsMapped}
 use Rattle.ps_diagram.specs.Tree.{Tree}
@@ -10,19 +10,19 @@ class_at list i = slice_index_or list i (record { letter = 0; rest = 0 })
 abbrev pub pair_at : List (ℕ × ℕ) → ℕ → ℕ × ℕ
 pair_at leaves i = slice_index_or leaves i (0, 0)
 
--- the classes are of the first n leaves
+-- the list has the classes of the first n leaves
 pub record AreOf (leaves : List (ℕ × ℕ)) (n : ℕ) (list : List Class) : Type 0 where
   pub each : length list ≡ n
   pub rest : (i : ℕ) → i < n → (class_at list i).rest ≡ (pair_at leaves i).0
   pub letter : (i : ℕ) → i < n → (class_at list i).letter ≡ (pair_at leaves i).1
 
--- the table has the place of each class by its leaf
+-- the table maps the leaf of each class to the index of the class
 pub record IsPlaced (places : ℕ → Option ℕ) (list : List Class) : Type 0 where
   pub found : (k i : ℕ) → places k ≡ Some i → (i < length list) × ((class_at list i).rest ≡ k)
   pub placed : (i : ℕ) → i < length list → places (class_at list i).rest ≡ Some i
 
--- the classes are those of all leaves, and at each letter the second tree has the place of the class of the first
--- tree's leaf
+-- The list has the classes of all leaves. At each letter, the leaf of the second tree is the index of the class of the
+-- first tree's leaf.
 pub record AreOfLeaves (leaves : List (ℕ × ℕ)) (tree placed : Tree) (list : List Class) : Type 0 where
   pub listed : AreOf leaves (length leaves) list
   pub places : ℕ → Option ℕ

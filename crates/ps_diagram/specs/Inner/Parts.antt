@@ -1,12 +1,12 @@
--- A node by its cell.
+-- Nodes described by their cells.
 use Rattle.std.specs.Prelude.{◌≡◌, ℕ, ◌+◌, ◌<◌, ◌≤◌}
 use Rattle.ps_diagram.specs.declared.view.View.{View}
 use Rattle.ps_diagram.specs.declared.view.View.TheVariants.{Nothing, Leaf, Test}
 use Rattle.ps_diagram.specs.Tree.{empty, final, choice, IsFrom}
 use Rattle.ps_diagram.specs.Table.{Table, IsNode, tree_of}
 
--- The node tests that proposition, and then goes to the one or the other: two earlier nodes, of different trees over
--- greater propositions.
+-- The node tests the proposition p. The node's sides are two earlier nodes with different trees, which test only
+-- propositions after p.
 pub record IsChoice (t : Table) (node p low high : ℕ) : Type 0 where
   pub few : t.propositions ≤ 64
   pub below : p < t.propositions
@@ -19,7 +19,7 @@ pub record IsChoice (t : Table) (node p low high : ℕ) : Type 0 where
   pub differ : tree_of t low ≡ tree_of t high → ⊥
   pub tree : tree_of t node ≡ choice p (tree_of t low) (tree_of t high)
 
--- the node's tree is that of the cell
+-- the cell describes the tree of the node
 abbrev pub IsPart : Table → ℕ → View → Type 0
 IsPart t node Nothing = tree_of t node ≡ empty
 IsPart t node (Leaf k) = tree_of t node ≡ final k

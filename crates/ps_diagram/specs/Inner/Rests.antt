@@ -1,44 +1,44 @@
--- What is left of a diagram after the propositions of a mask are read: diagrams whose leaves are nodes.
+-- The rest of a diagram after the propositions of a mask have been read: diagrams whose leaves are nodes.
 use Rattle.std.specs.Prelude.{◌≡◌, ℕ, ◌<◌, Bool, true, ◌&&◌, nat_eq, cond, Option, Some}
 use Rattle.ps_label.specs.Truth.{is_in}
 use Rattle.ps_diagram.specs.Letters.{assignment}
 use Rattle.ps_diagram.specs.Tree.{Tree, leaf_at, IsBlind}
 use Rattle.ps_diagram.specs.Table.{Table, IsNode, tree_of}
 
--- the first letter at the propositions of the mask, the second at the others
+-- the letter that has the values of f on the mask, and the values of g elsewhere
 abbrev pub mixed : ℕ → (ℕ → Bool) → (ℕ → Bool) → ℕ → Bool
 mixed mask f g p = cond (is_in p mask) (f p) (g p)
 
--- The leaf of the second tree at each letter is a node. That node has, at each letter, the leaf of the first tree at
--- the two letters mixed.
+-- Each leaf of the second tree is a node. The node at a letter f has, at each letter g, the leaf of the first tree at
+-- the mixed letter of f and g.
 abbrev pub IsDivided : Table → ℕ → Tree → Tree → Type 0
 IsDivided t mask a d =
     (f : ℕ → Bool) → (rest : ℕ) × (leaf_at d f ≡ Some rest) × IsNode t rest ×
     ((g : ℕ → Bool) → leaf_at (tree_of t rest) g ≡ leaf_at a (mixed mask f g))
 
--- The same for one letter over the propositions of the mask: the second tree has, at each letter, the leaf of the first
--- at the two mixed.
+-- The second tree is the rest of the first tree for one letter over the mask. At each letter g, the second tree has the
+-- leaf of the first tree at the mixed letter of `letter` and g.
 abbrev pub IsCofactor : ℕ → ℕ → Tree → Tree → Type 0
 IsCofactor mask letter a d = (g : ℕ → Bool) → leaf_at d g ≡ leaf_at a (mixed mask (assignment letter) g)
 
--- the same as for a divided tree, for letters that have the propositions of the mask below a level as one letter has
--- them
+-- The second tree is divided as in `IsDivided`, but only at letters that agree with `letter` on the propositions of the
+-- mask that are less than `level`.
 abbrev pub IsSpread : Table → (mask level letter : ℕ) → Tree → Tree → Type 0
 IsSpread t mask level letter a d =
     (f : ℕ → Bool) → ((q : ℕ) → q < level → is_in q mask ≡ true → f q ≡ is_in q letter) →
     (rest : ℕ) × (leaf_at d f ≡ Some rest) × IsNode t rest ×
     ((g : ℕ → Bool) → leaf_at (tree_of t rest) g ≡ leaf_at a (mixed mask f g))
 
--- the leaf is a node that depends only on propositions from the level on
+-- the leaf is a node that depends only on propositions from `level` on
 abbrev pub IsPlace : Table → ℕ → Option ℕ → Type 0
 IsPlace t level leaf = (node : ℕ) × (leaf ≡ Some node) × IsNode t node × IsBlind level (tree_of t node)
 
--- the same for each leaf of the tree
+-- each leaf of the tree is a node that depends only on propositions from `level` on
 abbrev pub LeadsToNodes : Table → ℕ → Tree → Type 0
 LeadsToNodes t level d = (f : ℕ → Bool) → IsPlace t level (leaf_at d f)
 
--- three leaves are nodes, and the third has the leaf of the second at letters at which the test is true, else that of
--- the first
+-- Three leaves are nodes. At letters at which the test is true, the third node has the leaf of the second; at other
+-- letters, it has the leaf of the first.
 pub record AreTested (t : Table) (test : (ℕ → Bool) → Bool) (x y z : Option ℕ) : Type 0 where
   pub low : ℕ
   pub high : ℕ
@@ -52,17 +52,17 @@ pub record AreTested (t : Table) (test : (ℕ → Bool) → Bool) (x y z : Optio
   pub leaf : (g : ℕ → Bool) → leaf_at (tree_of t made) g ≡ cond (test g) (leaf_at (tree_of t high) g)
       (leaf_at (tree_of t low) g)
 
--- the nodes of the third tree test the proposition between those of the first and of the second
+-- at each letter, the third tree's node tests p, with the nodes of the first and second tree as sides
 abbrev pub IsTested : Table → ℕ → Tree → Tree → Tree → Type 0
 IsTested t p a b d = (f : ℕ → Bool) → AreTested t (λ g. g p) (leaf_at a f) (leaf_at b f) (leaf_at d f)
 
--- the same, but the proposition is read if it is in the mask
+-- at each letter f, the third tree's node tests p, except that f decides the test if p is in the mask
 abbrev pub IsDividedTest : Table → ℕ → ℕ → Tree → Tree → Tree → Type 0
 IsDividedTest t mask p a b d =
     (f : ℕ → Bool) → AreTested t (λ g. mixed mask f g p) (leaf_at a f) (leaf_at b f) (leaf_at d f)
 
--- each known node is held, and so are the two nodes of its key; the nodes at its leaves test the key's proposition
--- between those at the leaves of the two
+-- For each known key, the two nodes of the key and the node made from them are in the table. At each letter, the leaf
+-- of the node that was made tests the key's proposition, with the leaves of the two nodes as sides.
 abbrev pub KnowsTests : Table → (ℕ × ℕ × ℕ → Option ℕ) → Type 0
 KnowsTests t known =
     (p low high made : ℕ) → known (p, low, high) ≡ Some made →

@@ -5,22 +5,22 @@ use Rattle.std.specs.Prelude.{slice_index_or}
 use Rattle.ps_diagram.specs.Tree.{leaf_at, IsBlind}
 use Rattle.ps_diagram.specs.Table.{Table, IsNode, leaf_of, tree_of}
 
--- the node is held, and has that leaf, or none, at each letter
+-- the node is in the table, and has the same given leaf, or no leaf, at every letter
 abbrev pub HasLeaf : Table → ℕ → Option ℕ → Type 0
 HasLeaf t node leaf = IsNode t node × ((f : ℕ → Bool) → leaf_at (tree_of t node) f ≡ leaf)
 
--- the nodes are those of the first `count` leaves
+-- the nodes of the first `count` leaves
 pub record AreLeafNodes (t : Table) (leaves : List ℕ) (count : ℕ) (nodes : List ℕ) : Type 0 where
   pub one_each : length nodes ≡ count
   pub each : (i : ℕ) → i < count → HasLeaf t (slice_index nodes i) (slice_get leaves i)
 
--- the nodes of a row, and the one without leaves that follows its end, depend only on propositions from the level on
+-- the nodes of a row depend only on propositions from `level` on; past the row's end, the node `none` has no leaf
 pub record IsRow (t : Table) (level none : ℕ) (nodes : List ℕ) : Type 0 where
   pub nothing : HasLeaf t none None
   pub held : (i : ℕ) → IsNode t (slice_index_or nodes i none)
   pub later : (i : ℕ) → IsBlind level (tree_of t (slice_index_or nodes i none))
 
--- each letter comes to its leaf from the node at the number of its first propositions
+-- each letter reaches its leaf from the node whose index is the number of the letter's first `level` bits
 abbrev pub LeadsOn : Table → List ℕ → ℕ → ℕ → List ℕ → Type 0
 LeadsOn t leaves level none nodes =
     (letter : ℕ) → leaf_of t (slice_index_or nodes (letter % 2 ^ level) none) letter ≡ slice_get leaves

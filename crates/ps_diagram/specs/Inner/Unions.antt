@@ -1,10 +1,10 @@
--- Diagrams of truths, joined. (For private functions.)
+-- Truth diagrams, in which each leaf is 1, and their unions. (For private functions.)
 use Rattle.std.specs.Prelude.{ℕ, List, [], ◌∷◌, Option, None, map}
 use Rattle.ps_diagram.specs.Labels.{IsOneOrNone}
 use Rattle.ps_diagram.specs.Leaves.{joined}
 use Rattle.ps_diagram.specs.Table.{Table, IsNode, leaf_of}
 
--- the first leaf that there is
+-- the first leaf in the list, if any
 abbrev pub first_leaf : List (Option ℕ) → Option ℕ
 first_leaf [] = None
 first_leaf (leaf ∷ leaves) = joined leaf (first_leaf leaves)
@@ -13,7 +13,7 @@ first_leaf (leaf ∷ leaves) = joined leaf (first_leaf leaves)
 abbrev pub leaves_of : Table → List ℕ → ℕ → List (Option ℕ)
 leaves_of t nodes letter = map (λ node. leaf_of t node letter) nodes
 
--- the diagram of a truth
+-- a truth diagram: at each letter it has the leaf 1 or no leaf
 pub record IsTruth (t : Table) (node : ℕ) : Type 0 where
   pub held : IsNode t node
   pub leaf : (letter : ℕ) → IsOneOrNone (leaf_of t node letter)

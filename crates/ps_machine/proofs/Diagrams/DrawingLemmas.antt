@@ -1,4 +1,5 @@
--- What the diagrams of both movers rest on: memories of vertices, used vertices, where they lead, and rows.
+-- Lemmas for the diagrams of either player's machine: memory states of vertices, used vertices, keys to which keys
+-- lead, and rows.
 use Rattle.std.proofs.Common.{if◌then◌else◌, ◌≡◌, ◌≢◌, ℕ, ◌+◌, ◌<◌, Bool, true, List, length, get_or, map, Some, ap}
 use Rattle.std.proofs.Common.{sym, ◌∙◌, arith, rules, eqb}
 use Rattle.std.specs.Prelude.{slice_get}
@@ -35,16 +36,16 @@ use Rattle.ps_machine.proofs.Diagrams.Remembering.{some_and}
 use Rattle.ps_machine.proofs.Lassos.Rounds.{Setting, one_place, within_game, map_contains}
 use Rattle.ps_machine.proofs.GameKeys.Standing.{same_some, slice_get-left, zip_at, zip_vertex}
 
--- ## Memories
+-- ## Memory states
 
--- what stands at the place that a table gives
+-- if a search in a list gives an index, the entry at this index passes the test
 pub at_position : {X : Type 0} (test : X → Bool) (xs : List X) (d : X) {i : ℕ} → position test xs ≡ Some i →
     (x : X) × (slice_get xs i ≡ Some x) × (test x ≡ true)
 at_position test xs d {i} e =
     let there = position-Some test xs i d e in
     (get_or xs i d, slice_get-get_or xs i d there.0, there.1)
 
--- a table has the key of a vertex
+-- the key of a vertex is found in the list of keys
 pub has_key : (keys : List Key) (v : ℕ) (key : Key) → StandsAt keys v key →
     list_any ((key_eq.eq-value).it key) keys ≡ true
 has_key keys v key at = list_any_at ((key_eq.eq-value).it key) keys v key (slice_get_within keys v key at)
@@ -55,7 +56,7 @@ pub has_mark : (marks : List ℕ) (memory : ℕ) {mark : ℕ} → slice_get mark
 has_mark marks memory {mark} at = list_any_at (eqb mark) marks memory mark (slice_get_within marks memory mark at)
     (eq-eqb mark (get_or marks memory mark) (sym (get_or_from_slice_get marks memory mark mark at)))
 
--- a memory with the mark of a vertex stands for it
+-- a memory state with the mark of a vertex belongs to this vertex
 pub stands_for : {is_first : Bool} {keys : List Key} {used kept marks : List ℕ} {memory : ℕ} (v : ℕ) {q : ℕ} (p : ℕ) →
     AllPairs (λ x y. x ≢ y) keys → AreMemories is_first keys used kept marks → StandsAt keys v (First q p) →
     slice_get marks memory ≡ Some (mark_of is_first v q) → {w : ℕ} → StandsAt keys w (First q p) →
@@ -71,7 +72,7 @@ stands_for {is_first} {keys} {kept} {marks} {memory} v {q} p differ m at is {w} 
 
 -- ## Used vertices
 
--- a path goes on by any edge, but by the winner's move where the winner moves
+-- a path can continue by any edge; where the winner owns the vertex, only by the winner's move
 pub used_more : {game : ParityGame} {certificate : CertificateData} {v : ℕ} {w : ℕ} → IsUsed game certificate v →
     HasEdge game v w → w < vertex_count game → (owner_of game v ≡ winner certificate → choice_of certificate v ≡ Some w)
     → IsUsed game certificate w
@@ -90,7 +91,7 @@ setting {order} plan = search (rules, small_mover)
 
 -- ## Where keys lead
 
--- numbers whose keys are those of listed letters
+-- numbers that stand for the keys of a list of letters
 module _ (keys : List Key) (key : ℕ → Key) (numbers : List ℕ) {P : ℕ → Type 0} {letters : List ℕ} {next : List Key}
     (listed : AreListed P letters) (are : next ≡ map key letters) (zip : AllZip (StandsAt keys) numbers next) where
   letter_of_number : {w : ℕ} → Contains numbers w → (x : ℕ) × P x × StandsAt keys w (key x)
@@ -120,7 +121,7 @@ pub record ClassAt (board : Board) (keys : List Key) (q w : ℕ) : Type 0 where
   pub is_class : IsClass board q letter
   pub stands : StandsAt keys w (Second q letter)
 
--- the second player's letter by which a class leads to a vertex
+-- the second player's letter that leads from a class to a vertex
 pub record MoveTo (board : Board) (keys : List Key) (q x w : ℕ) : Type 0 where
   pub letter : ℕ
   pub is_move : IsMove board q x letter
@@ -164,28 +165,28 @@ module _ {board : Board} {mover : ℕ} {keys : List Key} {game : ParityGame} {ce
       let n = next_keys v (Second q x) at in
       grind (arith, letter_of_number keys (pair_key q x) (successors_of game v) n.1.1 n.1.2 n.2 edge.1)
 
-  -- the vertex of a class of the state
+  -- a vertex of a state has an edge to the vertex of each class of the state
   pub to_class_of : {v q p x : ℕ} → StandsAt keys v (First q p) → IsClass board q x → Leads keys game v (Second q x)
   to_class_of {v} {q} {p} at is =
       let n = next_keys v (First q p) at in
       let there = number_of_letter keys (λ y. Second q y) (successors_of game v) n.1.1 n.1.2 n.2 is in
       record { vertex = there.0; edge = (within_game s v at, there.1); stands = there.2 }
 
-  -- the vertex of the pair to which a move leads
+  -- a vertex of a class has, for each move, an edge to the vertex to which the move leads
   pub to_pair_of : {v q : ℕ} (x y : ℕ) → StandsAt keys v (Second q x) → IsMove board q x y →
       Leads keys game v (pair_key q x y)
   to_pair_of {v} {q} x y at is =
       let n = next_keys v (Second q x) at in
       grind (arith, number_of_letter keys (pair_key q x) (successors_of game v) n.1.1 n.1.2 n.2 is, within_game s v at)
 
--- ## The vertices of memories
+-- ## The vertices of memory states
 
 pub not_both : {r c q p : ℕ} → Second r c ≡ First q p → ⊥
 not_both e = search rules
 
 module _ {order : Order} {a : AutomatonData} {keys : List Key} {certificate : CertificateData} {is_first : Bool}
     {kept marks : List ℕ} (plan : IsPlan order a keys certificate is_first kept marks) where
-  -- the vertex of a memory is used, and the first player moves there
+  -- the vertex of a memory state is used, and the first player moves at this vertex
   pub record KeptAt (v : ℕ) : Type 0 where
     pub state : ℕ
     pub priority : ℕ
@@ -222,7 +223,7 @@ module _ {order : Order} {a : AutomatonData} {keys : List Key} {certificate : Ce
 by_case : (P : List Row → Type 0) (b : Bool) (old more : List Row) → P old → P more → P (if b then old else more)
 by_case P b old more h k = search rules
 
--- a row that is added, if it is not there, leaves the others at their places
+-- inserting a row does not change the index of any old row
 pub keeps_rows : (eq : Row → Row → Bool) {old : List Row} (row : Row) {new : List Row} → new ≡ insert_key eq old row →
     KeepsRows old new
 keeps_rows eq {old} row e = search (rules, by_case, slice_get-left)
@@ -234,7 +235,7 @@ all_rows P eq old row e all here = grind (arith, All-push P old row all here)
 pub keeps_rows_trans : {one two three : List Row} → KeepsRows one two → KeepsRows two three → KeepsRows one three
 keeps_rows_trans k l = record { same = λ leaf r is. l.same leaf r (k.same leaf r is) }
 
--- a diagram that was drawn stays so while others are made
+-- a diagram that was drawn stays right while further diagrams are drawn
 pub drawn_kept : {is_first : Bool} {board : Board} {keys : List Key} {kept : List ℕ} {certificate : CertificateData}
     {t u : Table} {old new : List Row} {v node : ℕ} → Keeps t u → KeepsRows old new →
     IsDrawn is_first board keys kept certificate t old v node →

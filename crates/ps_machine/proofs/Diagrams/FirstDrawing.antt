@@ -1,4 +1,4 @@
--- The diagram of a memory of a player who moves first.
+-- The diagram of a memory state of a player who moves first.
 use Rattle.std.proofs.Common.{not, is_some, ◌≡◌, ◌≢◌, ℕ, ◌+◌, ◌^◌, ◌<◌, Bool, true, List, length, get_or, option_map}
 use Rattle.std.proofs.Common.{Option, Some, None, refl, ap, sym, ◌∙◌, arith, rules}
 use Rattle.std.specs.Prelude.{IfSome, slice_get, slice_index}
@@ -35,7 +35,7 @@ use Rattle.ps_machine.proofs.Diagrams.ClassRests.{Heeds, Left}
 
 -- ## Rows that are noted
 
--- the rows of the first leaves are noted, and all rows are as they ought to be
+-- the rows of the first n leaves are noted, and all rows have the player's letters and existing memory states
 pub record AreNoted (a : AutomatonData) (keys : List Key) (is_first : Bool) (board : Board) (kept : List ℕ) (letter : ℕ)
     (found : List (ℕ × ℕ)) (old rows : List Row) (places : List ℕ) (n : ℕ) : Type 0 where
   pub same_rows : KeepsRows old rows
@@ -51,7 +51,7 @@ module _ {a : AutomatonData} {keys : List Key} {is_first : Bool} {board : Board}
   add_row eq {rows} {row} {new} h e is =
       grind (arith, keeps_rows eq row e, all_rows (IsRow is_first board kept) eq rows row e h.each is)
 
-  -- and its place is noted
+  -- the index of the leaf's row is noted
   pub note_more : {rows : List Row} {places more : List ℕ} {n leaf place : ℕ} {row : Row} →
       AreNoted a keys is_first board kept letter found old rows places n → ((d : ℕ × ℕ) → (get_or found n d).0 ≡ leaf) →
       slice_get rows place ≡ Some row → row.letter ≡ letter → ((v : ℕ) → StandsAt keys v (step_key (pair_of a leaf)) →
@@ -70,7 +70,7 @@ module _ {order : Order} {a : AutomatonData} {keys : List Key} {certificate : Ce
   mover_wins : mover_of order ≡ winner certificate
   mover_wins = eqb-true (mover_of order) (winner certificate) (sym plan.turn ∙ first)
 
-  -- the vertex of a memory has a move, to a class of its state
+  -- the move at the vertex of a memory state leads to a class of the vertex's state
   pub record ToClass (v q : ℕ) : Type 0 where
     pub chosen : ℕ
     pub choice : choice_of certificate v ≡ Some chosen
@@ -85,7 +85,7 @@ module _ {order : Order} {a : AutomatonData} {keys : List Key} {certificate : Ce
       let m = move_at s at (kept_used plan is_kept) (first_owner s v at ∙ mover_wins) in
       grind (arith, class_at s v at m.edge)
 
-  -- the vertex that the certificate gives is one of a class
+  -- the vertex to which the certificate's move leads stands for a class
   class_chosen : (v : ℕ) {chosen : ℕ} {q p : ℕ} → Contains kept v → StandsAt keys v (First q p) →
       choice_of certificate v ≡ Some chosen → (letter : ℕ) × IsClass (board_of order a) q letter ×
       StandsAt keys chosen (Second q letter)
@@ -114,7 +114,7 @@ module _ {order : Order} {a : AutomatonData} {keys : List Key} {certificate : Ce
   plays_class v chosen r letter is_kept choice is q p at =
       search (rules, class_chosen, same_letter, get_or_from_slice_get)
 
-  -- the pair of each leaf behind that class is entered
+  -- each leaf of the class's rest names a step to a used vertex
   pub entered : {mask : ℕ} {t : Table} {v q p letter rest : ℕ} {found : List (ℕ × ℕ)} → Contains kept v →
       StandsAt keys v (First q p) → PlaysClass (board_of order a) keys certificate v q letter →
       Left order a mask t q letter rest → AreLeaves t rest found →
@@ -146,7 +146,7 @@ module _ {order : Order} {a : AutomatonData} {keys : List Key} {certificate : Ce
       (plays : PlaysClass (board_of order a) keys certificate v q letter) (l : Left order a mask t q letter rest)
       (are : AreLeaves t rest found) (placed : All (λ leaf. IsPlaced a keys is_first kept rows places letter leaf.0)
       found) where
-    -- what is noted for the leaf of a letter
+    -- the leaf of the rest at the letter x, its step, and its row
     record Noted (x : ℕ) : Type 0 where
       leaf : ℕ
       is_leaf : leaf_of t rest x ≡ Some leaf
@@ -162,7 +162,7 @@ module _ {order : Order} {a : AutomatonData} {keys : List Key} {certificate : Ce
         let any = are.each there.0 x (below_back l.fit x second.within, is) in
         grind (arith, entered is_kept at plays l are any.0 any.1 any.2)
 
-    -- each letter that leads the rest to a leaf leads it to one for which a place is noted
+    -- each leaf of the rest has an entry in the list of noted indices
     pub all_noted : (x : ℕ) → x < 2 ^ t.propositions → IfSome (leaf_of t rest x) (λ leaf. leaf < length places)
     all_noted x below = by (leaf_of t rest x) refl
       where

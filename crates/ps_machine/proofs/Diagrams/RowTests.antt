@@ -1,4 +1,4 @@
--- Equality of rows as their table tests it.
+-- Rows that pass the equality test of the table of rows are equal.
 use Rattle.std.proofs.Common.{◌≡◌, true, rules}
 use Rattle.std.proofs.lemmas.Bool.{eqb-true}
 use Rattle.ps_diagram.proofs.Keys.{and_both}

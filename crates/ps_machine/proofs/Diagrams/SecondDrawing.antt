@@ -51,12 +51,12 @@ use Rattle.ps_machine.proofs.Lassos.Rounds.{first_owner, second_owner, same_plac
 use Rattle.ps_machine.proofs.Diagrams.RowTests.{same_row}
 use Rattle.ps_machine.proofs.GameKeys.Standing.{same_some}
 
--- ## The winner's move behind a class
+-- ## The winner's move after a class
 
 not_same : (x y : ℕ) → (x == y) ≡ false → x ≢ y
 not_same x y e same = cc (eq-eqb x y same)
 
--- the number that the table of keys gives
+-- the number that the table of keys gives for a key is the number of this key
 pub found_at : (keys : List Key) (key : Key) {i : ℕ} → position ((key_eq.eq-value).it key) keys ≡ Some i →
     StandsAt keys i key
 found_at keys key {i} e =
@@ -68,7 +68,7 @@ pair a q l = step_key (step_of a q l)
 
 module _ (order : Order) (a : AutomatonData) (keys : List Key) (certificate : CertificateData) (is_first : Bool)
     (kept marks : List ℕ) where
-  -- where the winner moves behind the letter x of the state q, and a letter that leads there
+  -- the vertex to which the winner moves after the letter x at the state q, and a letter that leads to this vertex
   pub record Replies (q x : ℕ) : Type 0 where
     pub at : ℕ
     pub stands : StandsAt keys at (Second q x)
@@ -106,7 +106,7 @@ module _ {order : Order} {a : AutomatonData} {keys : List Key} {certificate : Ce
     pub reply_choice : (at : ℕ) → StandsAt keys at (Second q x) → choice_of certificate at ≡ Some r.chosen
     reply_choice at there = cc (r.apart at r.at (Second q x) there r.stands, r.choice)
 
-    -- what the table of keys has where the winner moves to
+    -- the key of the vertex to which the winner moves
     pub reply_key : (at : ℕ) {chosen : ℕ} {slice : List Key} {k : Key} (d : Key) → StandsAt keys at (Second q x) →
         choice_of certificate at ≡ Some chosen → slice ≡ keys → get_or slice chosen d ≡ k → k ≡ pair a q (x + r.letter)
     reply_key at {chosen} d there choice e is = search (rules, some_nat, reply_choice, get_or_from_slice_get)
@@ -121,7 +121,7 @@ module _ {order : Order} {a : AutomatonData} {keys : List Key} {certificate : Ce
       pub reply_enters : CanEnter order a keys certificate is_first kept marks step.state step.priority
       reply_enters = rw same_step r.enters
 
--- ## The letter that is played
+-- ## The letter that is output
 
 module _ {order : Order} {a : AutomatonData} {mask : ℕ} {t : Table} {keys : List Key} {certificate : CertificateData}
     {q x rest : ℕ} {found : List (ℕ × ℕ)} {step : Step}
@@ -137,7 +137,7 @@ module _ {order : Order} {a : AutomatonData} {mask : ℕ} {t : Table} {keys : Li
         same_pair reply.state reply.priority,
       )
 
-  -- the move that leads to the step is the least letter that does
+  -- the row with the least letter that leads to the winner's step is right
   answer_by : {kept : List ℕ} (letter memory : ℕ) → IsClass (board_of order a) q x →
       IsMove (board_of order a) q x letter → step_of a q (x + letter) ≡ step →
       ((v : ℕ) → StandsAt keys v (First step.state step.priority) → StandsFor false keys kept memory v step.state) →
@@ -211,7 +211,7 @@ module _ (board : Board) (keys : List Key) (kept : List ℕ) (certificate : Cert
   still_named {old} {new} k (class ∷ classes) (value ∷ values) zip = grind (arith, still_named k classes values zip.1)
 
 module _ {board : Board} {keys : List Key} {kept : List ℕ} {certificate : CertificateData} {q : ℕ} where
-  -- one more class
+  -- the row of one more class is stored
   pub named_next : (old new : List Row) (classes : List Class) (i : ℕ) (d : Class) (values more : List ℕ) (value : ℕ)
       {row : Row} → new ≡ insert_key (row_eq.eq-value).it old row →
       AllZip (Names board keys kept certificate q old) (take i classes) values →
@@ -225,7 +225,7 @@ module _ {board : Board} {keys : List Key} {kept : List ℕ} {certificate : Cert
       let here = rw is at answer in
       rw (e, take_more classes i d within) (grind (arith, AllZip-push, still_named))
 
-  -- letters that step alike have one row
+  -- a row that is right for a letter is right for each letter with the same steps
   alike_row : {v x c : ℕ} {row : Row} → SameSteps board q x c → IsRowAt false board keys kept certificate v q c row →
       IsRowAt false board keys kept certificate v q x row
   alike_row {v} {x} {c} {row} same r =
@@ -252,7 +252,7 @@ module _ {board : Board} {keys : List Key} {kept : List ℕ} {certificate : Cert
 
 -- ## The diagram
 
--- a fact on two lists, by other names of these
+-- a fact about the pairs of two lists also holds for equal lists
 pub named_as : {X : Type 0} (N : X → ℕ → Type 0) {xs ys : List X} {values same : List ℕ} → ys ≡ xs → same ≡ values →
     AllZip N ys values → AllZip N xs same
 named_as N {ys} {same} is are zip = subst (λ l. AllZip N l same) is (subst (λ v. AllZip N ys v) (sym are) zip)

@@ -1,4 +1,4 @@
--- A game is there for each admitted file: keys are visited by definition, and there are only so many.
+-- Each accepted file has a game: the keys can be visited one after another, and there are only finitely many keys.
 use Rattle.std.proofs.Common.{rules, ◌≡◌, ◌≢◌, ◌⊎◌, inl, inr, ℕ, zero, suc, ◌+◌, ◌^◌, ◌<◌, ◌≤◌, Bool, true, not, List}
 use Rattle.std.proofs.Common.{[], ◌∷◌, ◌++◌, length, map, take, get_or, refl, sym, subst, arith, add-one}
 use Rattle.std.specs.Bool.{Decides}
@@ -43,7 +43,7 @@ use Rattle.ps_machine.proofs.GameKeys.Visiting.{visits_next, visits_none}
 -- ## Letters in their order
 
 module _ (n : ℕ) (P : ℕ → Type 0) (tell : (y : ℕ) → P y ⊎ (P y → ⊥)) (within : (y : ℕ) → P y → y < 2 ^ n) where
-  -- the letters with the property that have fewer than so many before them
+  -- the list has, in order, the letters with the property P that have fewer than `count` letters before them
   record ListedBelow (letters : List ℕ) (count : ℕ) : Type 0 where
     each : All P letters
     low : All (λ y. rank 0 n y < count) letters
@@ -91,7 +91,7 @@ module _ (n : ℕ) (P : ℕ → Type 0) (tell : (y : ℕ) → P y ⊎ (P y → �
     grind (arith, rank_lt),
   ))
 
-  -- whether a letter is the least with a property can be told
+  -- it can be decided whether a letter is the least letter with a property
   pub least_or_not : (y : ℕ) → IsLeast P y ⊎ (IsLeast P y → ⊥)
   least_or_not y = elim (tell y) [
     | inr not_so ↦ inr (λ least. not_so least.here)
@@ -115,7 +115,7 @@ both_ways a b h k = search rules
 key_laws : IsEquivalence is_key
 key_laws = search (rules, key_same, both_ways, told_apart, same_key)
 
--- different keys of a list are no more than the list has
+-- a list of different keys, all from another list, is not longer than the other list
 keys_fit : (all keys : List Key) → AllPairs (λ x y. x ≢ y) keys → All (Contains all) keys → length keys ≤ length all
 keys_fit all keys differ each = length-le_from_is_member key_laws keys all
     (IsDistinct-from_AllPairs told_apart keys differ) (λ k is. (is_member-Decides told_apart all k).1
@@ -150,7 +150,7 @@ module _ (mover : ℕ) (old : DraftData) (key : Key) (next : List Key) where
 module _ (board : Board) (mover : ℕ) (start : board.auto.start ≤ board.states)
     (goes_on : (q letter : ℕ) → q ≤ board.states → letter < 2 ^ board.propositions →
     board.auto.next q letter ≤ board.states) where
-  -- the keys to which the letters below a number may lead at the state q
+  -- the keys to which letters less than a given number can lead from the state q
   abbrev keys_at : ℕ → ℕ → List Key
   keys_at q zero = []
   keys_at q (suc letter) =
@@ -185,7 +185,7 @@ module _ (board : Board) (mover : ℕ) (start : board.auto.start ≤ board.state
     | inr other ↦ search (rules, Contains-append_right, below_state q count k (omega arith) c)
   ]
 
-  -- a key that may come: of a state of the board, and with a letter of the first player
+  -- a key that can occur: its state is a state of the board or the sink, and its letter is a letter of the first player
   abbrev Known : Key → Type 0
   Known (First q p) = (q ≤ board.states) × Contains all_keys (First q p)
   Known (Second q x) = (q ≤ board.states) × IsFirstLetter board x × Contains all_keys (Second q x)
@@ -216,7 +216,7 @@ module _ (board : Board) (mover : ℕ) (start : board.auto.start ≤ board.state
             (below_state q (suc board.states) k (omega arith) (at_letter q (2 ^ board.propositions) letter within).0),
       )
 
-  -- where a key leads
+  -- the keys to which a known key leads
   record Next (key : Key) : Type 0 where
     next : List Key
     leads_to : LeadsTo board key next

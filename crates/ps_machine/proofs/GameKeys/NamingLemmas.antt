@@ -1,4 +1,4 @@
--- Names of keys, as they are written.
+-- The names of keys, as the code writes them.
 use Rattle.std.proofs.Common.{◌≡◌, ◌≢◌, ℕ, suc, ◌+◌, ◌^◌, ◌<◌, Bool, List, [], ◌∷◌, ◌++◌, Some, rules}
 use Rattle.std.proofs.Common.{decimal, refl, subst, arith, append_assoc}
 use Rattle.std.specs.List.{AllPairs, range_with_len}
@@ -36,7 +36,7 @@ plain_more board x p h =
 pub no_quote : (bytes : List ℕ) → IsPlain bytes → HasNoQuote (Some bytes)
 no_quote bytes plain has = All-contains (λ b. b ≢ quote) bytes quote plain has refl
 
--- ids
+-- the ids are all different
 pub ids_differ : (n : ℕ) → AllPairs (λ x y. x ≢ y) (range_with_len 0 n)
 ids_differ n i j d less lt e = search (rules, length-range_with_len, get_or-range_with_len)
 

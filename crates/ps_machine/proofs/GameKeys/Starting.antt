@@ -1,4 +1,4 @@
--- The game of an automaton, from that of its keys.
+-- The game of an automaton, derived from the game of the automaton's keys.
 use Rattle.std.proofs.Common.{◌≡◌, ℕ, ◌+◌, ◌<◌, List, ◌∷◌, [], ◌++◌, length, map, take, get_or, Option, Some, Vec}
 use Rattle.std.proofs.Common.{ap, ap₂, sym, ◌∙◌, rules}
 use Rattle.std.specs.List.{All}

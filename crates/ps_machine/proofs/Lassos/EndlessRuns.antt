@@ -1,4 +1,4 @@
--- A lasso of a machine is read on and on; and its letters are those of the automaton.
+-- A machine's lasso can be repeated for ever, and its letters are letters of the automaton.
 use Rattle.std.proofs.Common.{◌≡◌, ℕ, zero, suc, ◌+◌, ◌-◌, ◌*◌, ◌/◌, ◌%◌, ◌^◌, ◌<◌, ◌≤◌, ◌⊎◌, inl, inr, Bool, true}
 use Rattle.std.proofs.Common.{false, cond, ltb, List, ◌++◌, length, ap, arith, add-one, rules}
 use Rattle.std.specs.Prelude.{slice_index}
@@ -17,9 +17,9 @@ use Rattle.ps_machine.specs.Extracting.{HasPropositions, IsOther}
 use Rattle.ps_machine.proofs.LeastLetters.{sum_within}
 use Rattle.ps_machine.proofs.Lassos.Walking.{IsEndless}
 
--- ## Places
+-- ## Indices
 
--- a place of the stem and then of the lap again and again, as a place of both together
+-- the index in the stem followed by one lap that corresponds to an index in the endless word
 folded : ℕ → ℕ → ℕ → ℕ
 folded stem lap t = cond (ltb t stem) t (stem + (t - stem) % lap)
 
@@ -31,7 +31,7 @@ folded_behind : (stem lap t : ℕ) → stem ≤ t → folded stem lap t ≡ stem
 unfolding folded
 folded_behind stem lap t more = ap (λ (b : Bool). cond b t (stem + (t - stem) % lap)) (le-ltb t stem more)
 
--- the next place is the next one of a lap, or its first one
+-- the next index in a lap is one more, or is 0 at the end of the lap
 next_in_lap : (lap n : ℕ) → 0 < lap → ((suc n) % lap ≡ suc (n % lap)) ⊎ ((suc (n % lap) ≡ lap) × ((suc n) % lap ≡ 0))
 next_in_lap lap n some = by (cases_lt (suc (n % lap)) lap)
   where
@@ -93,7 +93,7 @@ module _ {m : Behaviour} {stem lap : List ℕ} (l : IsLasso m stem lap) where
       by : (0 < length stem) ⊎ (length stem ≤ 0) → l.memories (folded (length stem) (length lap) 0) ≡ 0
       by h = grind (arith, folded_within, mod-mul-add, folded, folded_behind)
 
-  -- behind the first lap it is in the memory before it
+  -- after the first lap, the machine is in the memory state that it was in before the lap
   pub memory_returns : memories_on (length stem + length lap) ≡ memories_on (length stem)
   unfolding memories_on at_place
   memory_returns =
@@ -108,11 +108,11 @@ module _ {m : Behaviour} {stem lap : List ℕ} (l : IsLasso m stem lap) where
 -- ## Letters
 
 module _ {m : Behaviour} (is_machine : IsMachine m) where
-  -- a letter that it reads and one that it plays have no proposition in common
+  -- a letter that the machine reads and a letter that it outputs have no proposition in common
   apart : (x y : ℕ) → IsInput m x → IsOutput m y → (p : ℕ) → is_in p x ≡ true → is_in p y ≡ false
   apart x y input output p is = search (rules, cases_Bool)
 
-  -- what it makes is a letter
+  -- each letter that the machine makes in a step is a letter over its propositions
   pub letter_within : {memory letter next : ℕ} → memory < m.memories → Makes m memory letter next →
       letter < 2 ^ length m.names
   letter_within {memory} within makes =

@@ -1,4 +1,4 @@
--- Each word of the machine of a valid certificate is won by the winner of vertex 0.
+-- The winner of vertex 0 wins each word of the machine of a valid certificate.
 use Rattle.std.proofs.Common.{rules, ◌≡◌, ℕ, ◌+◌, ◌*◌, ◌%◌, ◌^◌, ◌<◌, List, ◌++◌, length, ap, ◌∙◌, arith}
 use Rattle.std.specs.Prelude.{All, slice_index}
 use Rattle.std.proofs.Math.ListN.{get_or-append}

@@ -1,4 +1,4 @@
--- A function whose values follow edges gives a path: the list of its values.
+-- If the values of a function follow edges, the list of these values is a path.
 use Rattle.std.proofs.Common.{◌≡◌, ℕ, zero, suc, ◌+◌, ◌<◌, List, [], ◌∷◌, length, get_or, Option, Some, refl, ap}
 use Rattle.std.proofs.Common.{◌∙◌, arith, add-one, rules}
 use Rattle.std.specs.Prelude.{slice_index}
@@ -6,7 +6,7 @@ use Rattle.ps_automaton.specs.Autos.{greatest_from}
 use Rattle.ps_game.specs.Games.{ParityGame, owner_of, HasEdge}
 use Rattle.ps_game.specs.Plays.{IsPath, Follows}
 
--- the values of a function as a list
+-- the first n values of a function, as a list
 pub list_of : (ℕ → ℕ) → ℕ → List ℕ
 list_of f zero = []
 list_of f (suc n) = f 0 ∷ list_of (λ k. f (suc k)) n

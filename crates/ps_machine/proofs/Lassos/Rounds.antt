@@ -1,4 +1,5 @@
--- One step of the machine is two steps through the game: to the vertex of a class, and on to that of a pair.
+-- One step of the machine is two moves in the game: first to the vertex of a class, and then to the vertex of a state
+-- and a priority.
 use Rattle.std.proofs.Common.{◌≡◌, ◌≢◌, ℕ, ◌+◌, ◌-◌, ◌<◌, List, length, map, get_or, Some, refl, ap, ap₂, sym}
 use Rattle.std.proofs.Common.{◌∙◌, arith, rules}
 use Rattle.std.specs.Prelude.{slice_get}
@@ -19,7 +20,7 @@ use Rattle.ps_machine.proofs.LeastLetters.{none_without_least, contained_or_not}
 
 -- ## Keys
 
--- of different items each stands at one place
+-- in a list of different entries, each entry has only one index
 pub one_place : {X : Type 0} (xs : List X) → AllPairs (λ x y. x ≢ y) xs → (v w : ℕ) {x : X} →
     slice_get xs v ≡ Some x → slice_get xs w ≡ Some x → v ≡ w
 one_place xs differ v w {x} at there = search (rules, slice_get_within, get_or_from_slice_get)
@@ -37,7 +38,7 @@ pub record Setting (board : Board) (mover : ℕ) (keys : List Key) (game : Parit
   pub fits : Fits game certificate
   pub valid : IsValid game certificate
 
--- two steps through the game, by the winner's moves where the winner moves
+-- two moves in the game; where the winner of vertex 0 moves, these are moves of the certificate
 pub record Round (game : ParityGame) (certificate : CertificateData) (v w : ℕ) : Type 0 where
   pub between : ℕ
   pub there : HasEdge game v between
@@ -64,7 +65,7 @@ module _ {board : Board} {mover : ℕ} {keys : List Key} {game : ParityGame} {ce
       let vertex = s.by_keys.vertices v (within_game v at) in
       vertex.priority ∙ ap priority_of_key (same_some (sym vertex.stands ∙ at))
 
-  -- an edge to the vertex of a key to which the key leads
+  -- a vertex has an edge to the vertex of each key to which its own key leads
   edge_by_key : (v w : ℕ) (k l : Key) → StandsAt keys v k → StandsAt keys w l →
       ((next : List Key) → LeadsTo board k next → (Contains next l → ⊥) → ⊥) → HasEdge game v w
   edge_by_key v w k l at there leads =
@@ -80,7 +81,7 @@ module _ {board : Board} {mover : ℕ} {keys : List Key} {game : ParityGame} {ce
       decided : (xs : List ℕ) → ((Contains xs w → ⊥) → ⊥) → Contains xs w
       decided xs so = grind (arith, contained_or_not xs w)
 
-  -- where the winner moves, the move is an edge
+  -- at a vertex that its winner owns, the certificate's move is an edge
   edge_by_move : (v : ℕ) {w : ℕ} (k : Key) → StandsAt keys v k → owner_of game v ≡ winner_of certificate v →
       choice_of certificate v ≡ Some w → HasEdge game v w
   edge_by_move v k at own is =
@@ -115,7 +116,7 @@ module _ {board : Board} {mover : ℕ} {keys : List Key} {game : ParityGame} {ce
   pub second_owner : (v : ℕ) {q x : ℕ} → StandsAt keys v (Second q x) → owner_of game v ≡ 1 - mover
   second_owner v {q} {x} at = owner_at v at
 
-  -- the winner of vertex 0 wins the vertices that are used, and so moves there as the certificate says
+  -- a step of the machine is two moves in the game, because the winner of vertex 0 also wins each used vertex
   pub round_first : (v q p x letter w : ℕ) → mover ≡ winner certificate → winner_of certificate v ≡ winner certificate →
       StandsAt keys v (First q p) → StepsFirst board keys certificate v q x letter → IsSecondLetter board x →
       GoesTo keys board q (x + letter) w → Round game certificate v w

@@ -1,4 +1,5 @@
--- A machine that reads letters on and on walks through the game, by the winner's moves, and the automaton goes with it.
+-- A machine that reads letters for ever walks through the game by the winner's moves. The automaton runs along with the
+-- machine.
 use Rattle.std.proofs.Common.{◌≡◌, ℕ, zero, suc, ◌+◌, ◌-◌, ◌%◌, ◌<◌, ◌≤◌, Bool, true, false, List, length, get_or}
 use Rattle.std.proofs.Common.{Option, Some, refl, ap, ap₂, sym, ◌∙◌, arith, rules, add-one, add-zero, ◌==◌}
 use Rattle.std.specs.Prelude.{IsTrue, slice_index}
@@ -32,7 +33,7 @@ use Rattle.ps_machine.proofs.Lassos.ListedPaths.{greatest_shift, list_is_path, l
 same_number : {a b : ℕ} {o : Option ℕ} → o ≡ Some a → o ≡ Some b → a ≡ b
 same_number e f = cc
 
--- the kept vertex of a memory that stands at a vertex has the vertex's state
+-- the kept vertex of the memory state that belongs to a vertex has the same state as this vertex
 same_state : {first : Bool} {keys : List Key} {kept : List ℕ} {memory v q : ℕ} (p : ℕ) {u r : ℕ} (o : ℕ) →
     StandsFor first keys kept memory v q → StandsAt keys v (First q p) → slice_get kept memory ≡ Some u →
     StandsAt keys u (First r o) → r ≡ q
@@ -44,7 +45,7 @@ same_vertex first h k m = search (rules, same_number)
 
 -- ## The walk
 
--- the priority of the edge by which the state before that place was entered
+-- the priority of the edge by which the automaton entered its state before the letter at an index
 pub entering : Auto → (ℕ → ℕ) → ℕ → ℕ
 entering a w zero = 0
 entering a w (suc t) = priority_at a w t
@@ -101,7 +102,7 @@ module _ {board : Board} {mover : ℕ} {keys : List Key} {game : ParityGame} {ce
       (same_vertex m.is_first f step.is_kept) here at played (others x input) goes in
       grind (arith, won_along round.between (won_along v here round.there round.first) round.on round.second)
 
-  -- ## Memory 0
+  -- ## Memory state 0
 
   start_kept : IsKept m.is_first keys game certificate 0
   start_kept = record {
@@ -121,7 +122,7 @@ module _ {board : Board} {mover : ℕ} {keys : List Key} {game : ParityGame} {ce
   start_shares : (first : Bool) → Shares first 0 board.auto.start 0 board.auto.start
   start_shares first = search rules
 
-  -- ## On and on
+  -- ## The endless walk
 
   module _ {w memories : ℕ → ℕ} (e : IsEndless m w memories) where
     record At (t : ℕ) : Type 0 where
@@ -159,7 +160,7 @@ module _ {board : Board} {mover : ℕ} {keys : List Key} {game : ParityGame} {ce
     unfolding walk vertex_at
     round_at t = (advance t (walk t)).round
 
-    -- the vertices from a place on
+    -- the vertices of the walk from the step t on
     pub place : ℕ → ℕ → ℕ
     place t zero = vertex_at t
     place t (suc zero) = (round_at t).between
@@ -209,7 +210,7 @@ module _ {board : Board} {mover : ℕ} {keys : List Key} {game : ParityGame} {ce
       pub state_returns : state_at board.auto w (from + count) ≡ state_at board.auto w from
       state_returns = grind (arith, walk from, walk (from + count), same_state, entering)
 
-      -- one step later it is at the same vertex again
+      -- the walk is at the same vertex one step after the part begins and one step after the part ends
       vertex_returns : vertex_at (suc from + count) ≡ vertex_at (suc from)
       unfolding vertex_at entering
       vertex_returns =
@@ -279,6 +280,6 @@ module _ {board : Board} {mover : ℕ} {keys : List Key} {game : ParityGame} {ce
               (rules, path_at, twice, place_even, vertex_at) in
               rw is at bound
 
-      -- the greatest priority of the part has the winner's parity
+      -- the greatest priority of a part that returns has the winner's parity
       pub parity_of_part : greatest_from (priority_at board.auto w) from count % 2 ≡ winner certificate
       parity_of_part = cc (top_is, won_loop)

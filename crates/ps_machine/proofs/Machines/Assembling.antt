@@ -1,4 +1,4 @@
--- How a machine is put together: its diagrams, its propositions, and the vertices of its certificate.
+-- A machine is assembled from its diagrams, its propositions, and the vertices of its certificate.
 use Rattle.std.proofs.Common.{◌≡◌, ℕ, ◌+◌, Bool, true, false, List, [], ◌∷◌, ◌++◌, map, Vec, refl, ap₂, rules}
 use Rattle.std.specs.Prelude.{slice_index, vec_len}
 use Rattle.std.specs.Global.{Global}
@@ -35,7 +35,7 @@ same_names (x ∷ xs) (y ∷ ys) zip = search (rules, same_items, same_names xs 
 
 -- ## Propositions
 
--- the player who moves first or second plays what that player plays
+-- a proposition of the machine's player is not one of the other player's propositions
 pub plays_own : (m : Bool) (board : Board) (p : ℕ) (b : Bool) → b ≡ board.is_first p → beq b m ≡ true →
     is_others m board p ≡ false
 plays_own m board p b h k = search (rules, true_is_not_false)

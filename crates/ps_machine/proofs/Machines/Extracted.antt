@@ -1,4 +1,4 @@
--- The machine that is made is that of the certificate.
+-- The machine that the code builds is the machine of the certificate.
 use Rattle.std.proofs.Common.{◌≡◌, ℕ, ◌<◌, ◌≤◌, Bool, List, length, map, subst, rules}
 use Rattle.std.specs.Prelude.{◌==◌}
 use Rattle.ps_automaton.specs.Automata.{AutomatonData}
@@ -27,7 +27,7 @@ pub some_vertices : {board : Board} {mover : ℕ} {keys : List Key} {game : Pari
     0 < vertex_count game
 some_vertices {keys} is = search (rules, slice_get_within)
 
--- what is known before the diagrams are drawn
+-- the plan is right before any diagram is drawn
 unfoldable pub plan_is : {order : Order} {a : AutomatonData} {keys seen : List Key} {game shown : ParityGame}
     {certificate : CertificateData} {first : Bool} {found kept marks : List ℕ} →
     IsGameOf (board_of order a) (mover_of order) keys game → Fits game certificate → IsValid game certificate →
@@ -53,7 +53,7 @@ module _ {order : Order} {a : AutomatonData} {keys : List Key} {certificate : Ce
       let zero = used_first game certificate (some_vertices plan.is_game) in
       some_kept plan.memories 0 a.start plan.is_game.by_keys.begins ((plan.are_used 0).1 zero)
 
-  -- what the machine that is made owes
+  -- the facts that must be shown about the machine that the code builds
   pub record IsMade (n : MachineData) : Type 0 where
     pub is_machine : IsWholeMachine n
     pub has : HasPropositions a.names (board_of order a) (behaviour n)

@@ -1,4 +1,4 @@
--- The memories of the used vertices are the kept vertices of the machine.
+-- The memory states of the used vertices are those of the machine's kept vertices.
 use Rattle.std.proofs.Common.{◌≡◌, ◌≢◌, inl, inr, ℕ, ◌<◌, ◌≤◌, Bool, List, length, get_or, Some, ap, ◌∙◌, arith, rules}
 use Rattle.std.specs.Prelude.{slice_get}
 use Rattle.std.specs.List.{All, AllPairs, Contains}
@@ -16,7 +16,7 @@ use Rattle.ps_machine.specs.declared.key.Key.TheVariants.{First}
 use Rattle.ps_machine.proofs.Diagrams.DrawingLemmas.{stands_for}
 use Rattle.ps_machine.proofs.Lassos.Rounds.{one_place}
 
--- vertices share a memory just where their marks are the same
+-- Vertices share a memory state exactly if their marks are equal.
 pub shares_mark : (is_first : Bool) (v q w r : ℕ) → Shares is_first v q w r →
     mark_of is_first v q ≡ mark_of is_first w r
 shares_mark is_first v q w r h = search rules
@@ -27,11 +27,11 @@ mark_shares is_first v q w r h = search rules
 
 module _ {is_first : Bool} {keys : List Key} {used kept marks : List ℕ} (m : AreMemories is_first keys used kept marks)
   where
-    -- two memories with one mark are one
+    -- memory states with the same mark are equal
     one_memory : {i j x : ℕ} → slice_get marks i ≡ Some x → slice_get marks j ≡ Some x → i ≡ j
     one_memory {i} {j} at there = one_place marks m.different i j at there
 
-    -- the memory of a used vertex stands for it, and is kept there or before
+    -- each used vertex of the first player has a memory state that belongs to it
     pub memory_of : {w r : ℕ} (p : ℕ) → AllPairs (λ x y. x ≢ y) keys → Contains used w → StandsAt keys w (First r p) →
         (memory : ℕ) × (memory < length kept) × StandsFor is_first keys kept memory w r
     memory_of {w} {r} p differ is_used stands =
@@ -41,7 +41,7 @@ module _ {is_first : Bool} {keys : List Key} {used kept marks : List ℕ} (m : A
           stands_for w p differ m stands h.is_marked stands,
         )
 
-    -- the first memory is that of vertex 0
+    -- memory state 0 is kept at vertex 0
     pub first_kept : (p q : ℕ) → StandsAt keys 0 (First q p) → Contains used 0 → slice_get kept 0 ≡ Some 0
     first_kept p q stands is_used =
         let h = m.found 0 q p is_used stands in
@@ -54,7 +54,7 @@ module _ {is_first : Bool} {keys : List Key} {used kept marks : List ℕ} (m : A
     some_kept p q stands is_used = slice_get_within kept 0 0 (first_kept p q stands is_used)
 
     module _ {game : ParityGame} {certificate : CertificateData} (are_used : AreUsed game certificate used) where
-      -- at a memory's vertex no vertex before shares the memory
+      -- no smaller vertex shares the memory state of a kept vertex
       kept_at : (memory : ℕ) → memory < length kept → IsKept is_first keys game certificate (get_or kept memory 0)
       kept_at memory within =
           let here = m.each memory within in
@@ -71,7 +71,7 @@ module _ {is_first : Bool} {keys : List Key} {used kept marks : List ℕ} (m : A
       pub all_kept : All (IsKept is_first keys game certificate) kept
       all_kept memory d within = rw (get_or_default kept memory 0 d within) at (kept_at memory within)
 
-      -- a used vertex that is the least of those that share a memory with it is the one that is kept
+      -- the smallest of the used vertices that share a memory state is kept
       pub each_kept : (v : ℕ) → IsKept is_first keys game certificate v → Contains kept v
       each_kept v k =
           let h = m.found v k.state k.priority ((are_used v).1 k.here.used) k.here.stands in

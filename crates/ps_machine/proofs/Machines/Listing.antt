@@ -1,4 +1,4 @@
--- Numbers that are listed in their order, and the propositions that a machine reads and plays.
+-- Ascending lists of numbers, and the propositions that a machine reads and outputs.
 use Rattle.std.proofs.Common.{◌≡◌, ◌≢◌, ℕ, zero, suc, ◌+◌, ◌<◌, Bool, true, false, cond, List, [], ◌∷◌, ◌++◌, length}
 use Rattle.std.proofs.Common.{get_or, nat_eq, refl, ap, sym, ◌∙◌, arith, inl, inr, rules}
 use Rattle.std.proofs.lemmas.Bool.{cases_Bool, cases_eq, eq-eqb, ne_eqb}
@@ -35,7 +35,7 @@ among_there p (m ∷ list) among = elim (cases_eq p m) [
 there_among : (p : ℕ) (list : List ℕ) → Contains list p → is_among p list ≡ true
 there_among p list c = rw c.2 at (get_among list c.0 p c.1)
 
--- the numbers below n that are so are listed in one way
+-- the ascending list of the numbers less than n with a property is unique
 pub one_listed : {n : ℕ} {is : ℕ → Bool} {xs ys : List ℕ} → AreListedBelow n is xs → AreListedBelow n is ys → xs ≡ ys
 one_listed {n} {is} {xs} {ys} a b = same_numbers a.rising b.rising (into xs ys a b) (into ys xs b a)
   where

@@ -1,4 +1,4 @@
--- A machine that is put together of right parts is one, and is that of the certificate.
+-- If the parts of an assembled machine are right, it keeps the rules of machines and is the machine of the certificate.
 use Rattle.std.proofs.Common.{◌≡◌, ℕ, ◌^◌, ◌<◌, ◌⊎◌, Bool, true, false, not, List, length, Some, ap, arith, rules}
 use Rattle.std.specs.Prelude.{slice_get, slice_index}
 use Rattle.std.proofs.lemmas.Bool.{cases_Bool, cases_lt}
@@ -22,7 +22,7 @@ use Rattle.ps_machine.proofs.Choosing.{not_false, over_other, part, part_bit, pa
 back_not : (b : Bool) → not b ≡ true → b ≡ false
 back_not b h = search rules
 
--- a player who moves first plays the same letter at a vertex, whatever the other one plays
+-- a player who moves first outputs the same letter at a vertex, whatever the other player's letter is
 pub one_letter : (b : Bool) (board : Board) (keys : List Key) (certificate : CertificateData) (v q x y one other : ℕ) →
     b ≡ true → IsPlayed b board keys certificate v q x one → IsPlayed b board keys certificate v q y other → one ≡ other
 one_letter b board keys certificate v q x y one other h k m = search (rules, true_is_not_false)
@@ -30,7 +30,7 @@ one_letter b board keys certificate v q x y one other h k m = search (rules, tru
 pub own_within : (b : Bool) (board : Board) (y : ℕ) → IsOwn b board y → y < 2 ^ board.propositions
 own_within b board y h = search rules
 
--- of the other player's propositions none is true
+-- in a letter of the machine's player, no proposition of the other player is true
 pub own_none : (b : Bool) (board : Board) (y p : ℕ) → IsOwn b board y → is_others b board p ≡ true → is_in p y ≡ false
 own_none b board y p h k = search (rules, back_not)
 
@@ -41,14 +41,14 @@ module _ {board : Board} {keys : List Key} {kept : List ℕ} {certificate : Cert
       IsDrawn m.is_first board keys kept certificate m.store m.rows (slice_index kept memory)
       (slice_index m.nodes memory)
 
-  -- what the other player's propositions are in a letter
+  -- the other player's part of a letter
   abbrev read : ℕ → ℕ
   read x = part board.propositions (is_others m.is_first board) x
 
   read_other : (x : ℕ) → IsOther m.is_first board (read x)
   read_other x = over_other m.is_first board (part_over board.propositions (is_others m.is_first board) x)
 
-  -- each letter leads to the row of its part
+  -- each letter leads to the row for the other player's part of the letter
   leads : (memory x : ℕ) → (d : Drawn memory) → LeadsToRow m.is_first board keys kept certificate m.store m.rows
       (slice_index m.nodes memory) (slice_index kept memory) d.state (read x)
   leads memory x d = d.leads (read x) (read_other x)
@@ -85,7 +85,7 @@ module _ {board : Board} {keys : List Key} {kept : List ℕ} {certificate : Cert
   read_or_played : (p : ℕ) → p < length m.names → (is_among p m.inputs ≡ true) ⊎ (is_among p m.outputs ≡ true)
   read_or_played p within = search (rules, cases_Bool)
 
-  -- a step goes by a row
+  -- each step leads to a memory state, and outputs a letter of the machine's player
   row_at : (memory x : ℕ) → memory < length m.nodes → ((step_of m memory x).memory < length m.nodes) ×
       IsOutput (behaviour m) (step_of m memory x).letter
   row_at memory x within =
@@ -130,7 +130,7 @@ module _ {board : Board} {keys : List Key} {kept : List ℕ} {certificate : Cert
     rows = row_is;
   }
 
-  -- its steps are those of the certificate
+  -- the steps of the machine are those of the certificate
   pub is_step : (memory x : ℕ) → memory < length m.nodes → IsOther m.is_first board x →
       IsStep board keys kept certificate (behaviour m) memory x
   is_step memory x within other =

@@ -1,5 +1,5 @@
--- A machine is there for each valid certificate of a board's game: its vertices, its memories and its steps are found
--- by definition.
+-- Each valid certificate of a board's game has a machine. Definitions compute the used vertices, the memory states and
+-- the steps of the machine.
 use Rattle.std.proofs.Common.{◌≡◌, ◌≢◌, ◌⊎◌, inl, inr, ℕ, ◌+◌, ◌-◌, ◌<◌, ◌≤◌, Bool, true, false, not, List, length}
 use Rattle.std.proofs.Common.{get_or, refl, ap, sym, ◌∙◌, arith, rules}
 use Rattle.std.specs.Prelude.{◌==◌}
@@ -126,7 +126,7 @@ module _ (names : List (List ℕ)) {board : Board} {mover : ℕ} {keys : List Ke
     (turn : first ≡ (mover == winner certificate)) {used : List ℕ} (are_used : AreUsed game certificate used)
     {kept marks : List ℕ} (m : AreMemories first keys used kept marks)
   where
-    -- what of a letter is the other player's
+    -- the other player's part of a letter
     read : ℕ → ℕ
     read x = part board.propositions (is_others first board) x
 
@@ -138,7 +138,7 @@ module _ (names : List (List ℕ)) {board : Board} {mover : ℕ} {keys : List Ke
     unfolding read
     read_itself x other = part_itself board.propositions (is_others first board) x (other_over first board x other)
 
-    -- the row is right at the memory's vertex, where the other player's letter is z
+    -- the row is right at the vertex of the memory state, if the other player's letter is z
     record IsRowOf (memory z : ℕ) (row : Row) : Type 0 where
       state : ℕ
       priority : ℕ

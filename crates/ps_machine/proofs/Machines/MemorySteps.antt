@@ -1,4 +1,4 @@
--- The memories of the vertices that were looked at, and what one more vertex adds.
+-- The memory states of the vertices that were visited so far, and how one more vertex changes them.
 use Rattle.std.proofs.Common.{◌≡◌, ◌≢◌, ℕ, ◌+◌, ◌<◌, ◌≤◌, Bool, true, false, List, [], ◌∷◌, ◌++◌, length}
 use Rattle.std.proofs.Common.{get_or, refl, ap, sym, ◌∙◌, arith, not, nat_eq, rules}
 use Rattle.std.specs.List.{All, AllPairs, Contains, list_any}
@@ -21,9 +21,9 @@ use Rattle.ps_machine.proofs.GameKeys.Standing.{one_state, slice_get-left, slice
 not_not : (b : Bool) → not (not b) ≡ b
 not_not b = search rules
 
--- ## One memory
+-- ## One memory state
 
--- whether a number is in a list, as a table tells it
+-- if the table's test finds a number, the number is in the list
 pub is_there : (xs : List ℕ) (x : ℕ) {b : Bool} → b ≡ list_any (nat_eq x) xs → b ≡ true → Contains xs x
 is_there xs x told is = Contains-from_any (λ y z h. eqb-true y z h) x xs (sym told ∙ is)
 
@@ -38,10 +38,10 @@ keeps_known {marks} {mark} {new} {b} told is e = grind (
   is_there marks mark (ap not told ∙ not_not (list_any (nat_eq mark) marks)) (ap not is),
 )
 
--- ## The memories of the first vertices
+-- ## The memory states of the first vertices
 
 module _ (is_first : Bool) (keys : List Key) (used : List ℕ) where
-  -- the memories of the first n vertices
+  -- the memory states of the first n vertices
   pub record AreMemoriesBelow (kept marks : List ℕ) (n : ℕ) : Type 0 where
     pub many : length marks ≡ length kept
     pub rising : AllPairs (λ v w. v < w) kept
@@ -57,12 +57,12 @@ module _ (is_first : Bool) (keys : List Key) (used : List ℕ) where
   all_less : (kept : List ℕ) (n : ℕ) → All (λ v. v < n) kept → All (λ v. v < n + 1) kept
   all_less kept n below i d within = (let less = below i d within in omega arith)
 
-  -- a vertex without a memory: it is not used, or the first player does not move there
+  -- a vertex that is not used, or at which the second player moves, adds no memory state
   pub below_skip : {kept marks : List ℕ} {n : ℕ} → ((q p : ℕ) → Contains used n → StandsAt keys n (First q p) → ⊥) →
       AreMemoriesBelow kept marks n → AreMemoriesBelow kept marks (n + 1)
   below_skip {kept} {n} none m = search (rules, all_less, less_or_last)
 
-  -- where the mark has come, there is a memory
+  -- a mark that has occurred has a memory state
   came_has : {kept marks : List ℕ} {n mark : ℕ} → AreMemoriesBelow kept marks n → Contains marks mark →
       HasMemory kept marks n mark
   came_has {kept} {marks} {mark} m came = search (rules, slice_get-get_or)
@@ -84,7 +84,7 @@ module _ (is_first : Bool) (keys : List Key) (used : List ℕ) where
     kept_last : get_or new_kept (length kept) 0 ≡ n
     kept_last = get_or_push kept n 0 (length kept) refl
 
-    -- what is found at each vertex, where it was found before and is there now
+    -- the first n + 1 vertices have memory states if the first n have them and the mark of the vertex n has one
     found_more : (kept' marks' : List ℕ) → ((v x : ℕ) → HasMemory kept marks v x → HasMemory kept' marks' v x) →
         HasMemory kept' marks' n new_mark → (v r l : ℕ) → v < n + 1 → Contains used v → StandsAt keys v (First r l) →
         HasMemory kept' marks' v (mark_of is_first v r)

@@ -1,4 +1,4 @@
--- The used vertices, the memories and the propositions of a machine are found by definition.
+-- Definitions compute the used vertices, the memory states and the propositions of a machine, so all of these exist.
 use Rattle.std.proofs.Common.{◌≡◌, inl, inr, ℕ, zero, suc, ◌+◌, ◌<◌, ◌≤◌, Bool, List, [], length, take}
 use Rattle.std.proofs.Common.{get_or, nat_eq, Option, None, Some, refl, sym, arith, add-one, rules}
 use Rattle.std.specs.Prelude.{slice_get}
@@ -71,7 +71,7 @@ module _ {game : ParityGame} {certificate : CertificateData} (valid : IsValid ga
   used_there some = search_on (vertex_count game) 0 (insert_key nat_eq [] 0)
       (search_first game certificate some refl refl) (omega arith)
 
--- ## Memories
+-- ## Memory states
 
 module _ (is_first : Bool) (keys : List Key) (used : List ℕ) where
   memories_below : (n : ℕ) → n ≤ length keys → (kept : List ℕ) × (marks : List ℕ) ×

@@ -1,4 +1,4 @@
--- Lists whose numbers, with repeats left out, are those below a count.
+-- Lists whose numbers, without repeats, are 0, 1, and so on up to a count.
 use Rattle.std.proofs.Common.{◌≡◌, ℕ, ◌+◌, ◌<◌, ◌⊎◌, inl, inr, true, not, ◌==◌, filter, List, [], ◌∷◌, ◌++◌}
 use Rattle.std.proofs.Common.{length, get_or, ap, sym, ◌∙◌, arith, rules}
 use Rattle.std.specs.List.{All, Contains, range_with_len, list_any}
@@ -55,7 +55,7 @@ counts_new list c e = search (rules, distinct-push, not_come, counts_below, rang
 pub none : (n : ℕ) → 0 + n ≡ n
 none n = omega arith
 
--- a last number is one that was there, or the next
+-- if the different numbers of a list, followed by x, count up from 0, then the list counts up to x
 last_one : (list : List ℕ) (x m : ℕ) → distinct list ++ x ∷ [] ≡ range_with_len 0 m → Counts list x
 last_one list x m e =
     let c = length (distinct list) in

@@ -1,8 +1,8 @@
--- There is one game of a file: its automata step alike wherever a game comes.
---     alike      so they do at each state, the sink too, and each letter
---     listed_fine      each key that comes in a game has such a state, and a letter of the player who moves first
---     leads_too      such a key leads to the same keys by either automaton
---     game_too      so the game of one automaton is that of the other
+-- A file has at most one game: its automata have the same steps wherever a game can go.
+--     alike      the automata have the same steps at each state, at the sink, and for each letter
+--     listed_fine      each key of a game has such a state, and a letter of the player who moves first
+--     leads_too      such a key leads to the same keys in both automata
+--     game_too      the game of one automaton is therefore the game of the other
 use Rattle.std.proofs.Common.{◌≡◌, ℕ, zero, suc, ◌+◌, ◌^◌, ◌<◌, ◌≤◌, List, [], ◌∷◌, length, get_or}
 use Rattle.std.proofs.Common.{sym, ◌∙◌, arith, inl, inr, rules}
 use Rattle.std.specs.List.{All, Contains}
@@ -98,7 +98,7 @@ module _ (order : Order) (file : FileData) (chain : Chain) where
   -- ## Keys
 
   module _ {a b : Auto} (is : IsAutoOf file chain a) (too : IsAutoOf file chain b) where
-    -- a state up to the sink, and a letter of the player who moves first
+    -- the key's state is a state of the file or the sink, and its letter is a letter of the player who moves first
     abbrev pub IsFine : Key → Type 0
     IsFine (First q p) = q ≤ file.states
     IsFine (Second q x) = (q ≤ file.states) × IsFirstLetter (on a) x
@@ -163,7 +163,7 @@ module _ (order : Order) (file : FileData) (chain : Chain) where
                 (listed_fine v (omega arith) v vertex.key (has_come v lt) vertex.stands) vertex.leads_to,
           )
 
-      -- the game of one of the automata is that of the other
+      -- the game of one of the two automata is also the game of the other
       pub game_too : IsGameOf (on b) mover keys game
       game_too = search (rules, vertex_too)
 

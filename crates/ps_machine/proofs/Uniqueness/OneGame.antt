@@ -1,4 +1,4 @@
--- There is one game of a board: breadth-first numbers leave no choice.
+-- A board has at most one game: breadth-first numbering leaves no choice.
 use Rattle.std.proofs.Common.{◌≡◌, ◌≢◌, ℕ, zero, suc, ◌+◌, ◌-◌, ◌<◌, ◌≤◌, ◌⊎◌, inl, inr, not, List, [], ◌∷◌, ◌++◌}
 use Rattle.std.proofs.Common.{length, map, get_or, refl, ap, ap₂, sym, subst, ◌∙◌, rules, arith}
 use Rattle.std.specs.List.{AllPairs, AllZip, Contains, slice_get}
@@ -30,7 +30,7 @@ one_list : {P : ℕ → Type 0} {xs ys : List ℕ} → AreListed P xs → AreLis
 one_list {P} {xs} {ys} a b = same_rising IsBefore not_both xs ys a.rising b.rising
     (λ z c. b.complete z (All-contains P xs z a.each c)) (λ z c. a.complete z (All-contains P ys z b.each c))
 
--- a key leads to one list of keys
+-- a key leads to only one list of keys
 one_next : (board : Board) (key : Key) {one other : List Key} → LeadsTo board key one →
     LeadsTo board key other → one ≡ other
 one_next board (First q p) a b = a.2 ∙ ap (map (λ x. Second q x)) (one_list a.1 b.1) ∙ sym b.2
@@ -44,7 +44,7 @@ in_map f xs {key} c =
     let within : c.0 < length xs = omega (arith, c.1, length-map xs f) in
     (get_or xs c.0 0, sym (get_or-map f xs c.0 0 key within) ∙ c.2)
 
--- and not to itself
+-- a key does not lead to itself
 not_itself : (board : Board) (key : Key) (next : List Key) → LeadsTo board key next → Contains next key → ⊥
 not_itself board (First q p) next a c =
     (let at = in_map (λ x. Second q x) a.0 (subst (λ l. Contains l (First q p)) a.2 c) in
@@ -100,7 +100,7 @@ module _ (one other : List Key) (one_differ : AllPairs (λ x y. x ≢ y) one)
             (agree_more c x k agree is a.0 there) a.1 b.1 all_on also_on
       ])
 
--- ## The numbers that come run ahead of the vertices
+-- ## More numbers occur than vertices were visited
 
 listed_front : (game : ParityGame) (v k : ℕ) → (more : List ℕ) × (listed game (v + k) ≡ listed game v ++ more)
 listed_front game v zero = search (rules, none, append-nil)
@@ -135,7 +135,7 @@ module _ (board : Board) (mover : ℕ) where
       let front = listed_front game v k.0 in
       grind (arith, counts_front)
 
-  -- where no more have come than there are vertices before this one, no more have come after it
+  -- if at most v numbers have occurred before the vertex v is visited, then at most v have occurred afterwards
   still : (keys : List Key) (game : ParityGame) (v c d : ℕ) → IsIt keys game → v < vertex_count game →
       Counts (listed game v) c → c ≤ v → Counts (listed game (suc v)) d → d ≤ v
   still keys game v c d is lt counts le next = elim (cases_lt v d) [

@@ -1,4 +1,5 @@
--- A certificate has one machine: its memories rise, and at each of them one letter is played and one memory comes next.
+-- A certificate has at most one machine. The kept vertices of the machine ascend, and each step has only one output
+-- letter and only one next memory state.
 use Rattle.std.proofs.Common.{◌≡◌, ◌≢◌, ℕ, ◌+◌, ◌<◌, Bool, true, false, not, List, length, Some, refl, ap}
 use Rattle.std.proofs.Common.{sym, ◌∙◌, arith, rules}
 use Rattle.std.specs.Prelude.{slice_get}
@@ -40,7 +41,7 @@ module _ {names : List (List ℕ)} {board : Board} {m : Behaviour} (is : IsMachi
   pub plays_listed : AreListedBelow board.propositions (λ p. not (is_others m.is_first board p)) m.outputs
   plays_listed = grind (arith, many)
 
--- ## Memories
+-- ## Memory states
 
 module _ (first : Bool) (keys : List Key) (game : ParityGame) (certificate : CertificateData) where
   abbrev Kept : ℕ → Type 0
@@ -50,7 +51,7 @@ module _ (first : Bool) (keys : List Key) (game : ParityGame) (certificate : Cer
       → All Kept others → ((v : ℕ) → Kept v → Contains kept v) → ((v : ℕ) → Kept v → Contains others v) → kept ≡ others
   one_kept {kept} {others} r s each all whole complete = search (rules, same_numbers, All-contains)
 
-  -- no used vertex below a kept one shares its memory
+  -- no used vertex less than a kept vertex shares its memory state
   none_below : {v q p : ℕ} (u r o : ℕ) → Kept u → StandsAt keys u (First r o) →
       IsUsedFirst keys game certificate v q p → mark_of first v q ≡ mark_of first u r → v < u → ⊥
   none_below {v} {q} {p} u r o k stands used same less = k.least v q p less used (grind (arith, mark_shares, one_state))
@@ -59,7 +60,7 @@ module _ (first : Bool) (keys : List Key) (game : ParityGame) (certificate : Cer
   kept_at kept memory {v} each at =
       rw (get_or_from_slice_get kept memory v v at) at (each memory v (slice_get_within kept memory v at))
 
-  -- of two memories that stand at one vertex the first is not the lower one
+  -- of two memory states that belong to one vertex, the first is not smaller than the second
   not_lower : {kept : List ℕ} {i j w r : ℕ} → AllPairs (λ v w. v < w) kept → All Kept kept →
       StandsFor first keys kept i w r → StandsFor first keys kept j w r → i < j → ⊥
   not_lower {kept} {i} {j} {w} {r} rises each a b less =
@@ -87,7 +88,7 @@ module _ (board : Board) (keys : List Key) (certificate : CertificateData) (diff
       (λ before. b.none_before c (a.here.0, same) before)
       (λ before. a.none_before d (b.here.0, steps_sym board q c d same) before)
 
-  -- what is played at a vertex of a state, where the other player's letter is x
+  -- the letter that is output at the vertex v of the state q is unique, if the other player's letter is x
   one_played : (first : Bool) (v q x : ℕ) {one other : ℕ} → IsPlayed first board keys certificate v q x one →
       IsPlayed first board keys certificate v q x other → one ≡ other
   one_played true v q x {one} {other} s t = one_letter true board keys certificate v q x x one other refl s t
@@ -116,7 +117,7 @@ module _ (names : List (List ℕ)) (board : Board) (mover : ℕ) (keys : List Ke
     same_memories : m.memories ≡ o.memories
     same_memories = cc (of.memories, same_kept, other.memories)
 
-    -- the step of the other machine, by the memories of the first
+    -- the step of the second machine, described by the kept vertices of the first machine
     record Steps (memory x : ℕ) : Type 0 where
       vertex : ℕ
       state : ℕ
@@ -136,7 +137,7 @@ module _ (names : List (List ℕ)) (board : Board) (mover : ℕ) (keys : List Ke
     SameStepAt : ℕ → ℕ → Type 0
     SameStepAt memory x = (m.next memory x ≡ o.next memory x) × (m.plays memory x ≡ o.plays memory x)
 
-    -- the letters are those of the other player
+    -- both machines take the same step at each letter of the other player
     same_step : (memory x : ℕ) → memory < m.memories → IsOther m.is_first board x → SameStepAt memory x
     unfolding SameStepAt
     same_step memory x within is_other =
@@ -161,7 +162,7 @@ module _ (names : List (List ℕ)) (board : Board) (mover : ℕ) (keys : List Ke
     same_outputs : m.outputs ≡ o.outputs
     same_outputs = one_listed (plays_listed is has) (rw same_first at (plays_listed too also))
 
-    -- what is read of any letter
+    -- the part of a letter that the machine reads
     read : ℕ → ℕ
     read x = part board.propositions (is_others m.is_first board) x
 

@@ -1,8 +1,8 @@
--- Two lists that rise in one order and have the same members are one.
+-- Two lists with the same entries, in the same ascending order, are equal.
 use Rattle.std.proofs.Common.{rules, ◌≡◌, ℕ, suc, ◌<◌, ◌⊎◌, inl, inr, List, [], ◌∷◌, refl, ap₂, sym, arith}
 use Rattle.std.specs.List.{AllPairs, Contains}
 
--- an element of a list is its head, or one of the others, at its place
+-- an entry of a list is its head, or an entry of its tail
 pub in_cons : {x z : ℕ} (xs : List ℕ) → Contains (x ∷ xs) z → (x ≡ z) ⊎ Contains xs z
 in_cons xs h = search rules
 
@@ -15,7 +15,7 @@ none_in z c = omega (arith, c.1)
 abbrev pub Within : List ℕ → List ℕ → Type 0
 Within xs ys = (z : ℕ) → Contains xs z → Contains ys z
 
--- of two numbers one comes before the other at most
+-- the order is asymmetric: of two numbers, at most one comes before the other
 module _ (Before : ℕ → ℕ → Type 0) (one_way : (x y : ℕ) → Before x y → Before y x → ⊥) where
   rising_tail : (x : ℕ) (xs : List ℕ) → AllPairs Before (x ∷ xs) → AllPairs Before xs
   rising_tail x xs r i j d less within = r (suc i) (suc j) d (omega arith) (omega arith)

@@ -1,9 +1,9 @@
 -- The parts from which a machine is assembled. (For private functions.)
---     AreDrawn .. t rows nodes n      n memories have their diagrams, and each row is one of the player's
+--     AreDrawn .. t rows nodes n      the first n memory states have their diagrams, and the rows are the player's
 --     AreListedBelow n is list      the numbers less than n with that property, ascending
---     IsAssembled .. m      its propositions, diagrams and rows are right
---     machine_of player is_first propositions diagrams      the machine of these parts
---     HasRoles is_first board inputs outputs      who plays which propositions
+--     IsAssembled .. m      the machine's propositions, diagrams and rows are right
+--     machine_of player is_first propositions diagrams      the machine with these parts
+--     HasRoles is_first board inputs outputs      which propositions are read and which are output
 use Rattle.std.specs.Prelude.{◌≡◌, ℕ, ◌<◌, ◌≤◌, Bool, not, List, length, map, slice_index, IsTrue}
 use Rattle.std.specs.List.{All, AllPairs}
 use Rattle.ps_certificate.specs.Certificates.{CertificateData}
@@ -20,7 +20,7 @@ use Rattle.ps_machine.specs.declared.machine.Diagrams.{Diagrams}
 use Rattle.ps_machine.specs.declared.machine.Propositions.{Propositions}
 use Rattle.ps_machine.specs.declared.machine.Row.{Row}
 
--- the first n memories have their diagrams
+-- the first n memory states have their diagrams
 pub record AreDrawn (is_first : Bool) (board : Board) (keys : List Key) (kept : List ℕ) (certificate : CertificateData)
     (t : Table) (rows : List Row) (nodes : List ℕ) (n : ℕ) : Type 0 where
   pub rows_are : All (IsRow is_first board kept) rows
@@ -33,7 +33,7 @@ pub record AreListedBelow (n : ℕ) (is : ℕ → Bool) (list : List ℕ) : Type
   pub within : (p : ℕ) → IsTrue (is_among p list) → p < n
   pub are : (p : ℕ) → p < n → is_among p list ≡ is p
 
--- the other player's propositions are read, and the player's own are played
+-- the machine reads the other player's propositions, and outputs those of its own player
 pub record HasRoles (is_first : Bool) (board : Board) (inputs outputs : List ℕ) : Type 0 where
   pub read : AreListedBelow board.propositions (is_others is_first board) inputs
   pub played : AreListedBelow board.propositions (λ p. not (is_others is_first board p)) outputs

@@ -1,14 +1,14 @@
--- What is known while the machine of a certificate is made. A plan has what the machine is made from. Its diagrams are
--- drawn one after another; each memory has one that leads each letter of the other player to a row. (For private
--- functions.)
---     AreUsed game certificate found      the used vertices
---     GoesOn game certificate v w      how a path goes on that follows the table of the winner of vertex 0
---     AreMemories is_first keys used kept marks      the vertex of each memory, and what is remembered there
---     IsPlan ..      what the machine is made from
---     IsDrawn .. v node      the diagram leads each letter of the other player to the row of the memory that is kept at
---               v
---     IsReply .. q x r p, IsReplyRow .. q x row      where a player who moves second goes on after the letter x, and
---               the row for that
+-- What is known while the machine of a certificate is built. A plan has the data from which the machine is made. The
+-- diagrams are drawn one after another; each memory state has a diagram that leads each letter of the other player to a
+-- row. (For private functions.)
+--     AreUsed game certificate found      these are the used vertices
+--     GoesOn game certificate v w      a path that follows the table of the winner of vertex 0 can continue from v to w
+--     AreMemories is_first keys used kept marks      the vertex of each memory state, and its mark
+--     IsPlan ..      the data from which the machine is made
+--     IsDrawn .. v node      the diagram leads each letter of the other player to the row of the memory state that is
+--               kept at v
+--     IsReply .. q x r p, IsReplyRow .. q x row      the step of a player who moves second, after the letter x, and the
+--               row for this step
 use Rattle.std.specs.Prelude.{◌≡◌, ◌≢◌, ℕ, ◌+◌, ◌<◌, ◌≤◌, ◌↔◌, ◌==◌, Bool, true, false, List, [], ◌∷◌, length, Some}
 use Rattle.std.specs.Prelude.{◌++◌, slice_get, slice_index}
 use Rattle.std.specs.List.{All, AllPairs, Contains}
@@ -32,11 +32,11 @@ use Rattle.ps_machine.specs.declared.machine.Row.{Row}
 abbrev pub AreUsed : ParityGame → CertificateData → List ℕ → Type 0
 AreUsed game certificate found = (v : ℕ) → Contains found v ↔ IsUsed game certificate v
 
--- a path that follows the table of the winner of vertex 0 can go on from v to w
+-- a path that follows the table of the winner of vertex 0 can continue from v to w
 abbrev pub GoesOn : ParityGame → CertificateData → ℕ → ℕ → Type 0
 GoesOn game certificate v w = RemainsFor game (winner certificate) (choice_of certificate) v w
 
--- a list that grew by numbers of one kind, so that it has all of them; if its numbers differed, they still differ
+-- the list grew by numbers with a property, and now has all such numbers; if its entries differed before, they still do
 pub record Adds (IsNext : ℕ → Type 0) (old new : List ℕ) : Type 0 where
   pub added : List ℕ
   pub grown : new ≡ old ++ added
@@ -46,18 +46,18 @@ pub record Adds (IsNext : ℕ → Type 0) (old new : List ℕ) : Type 0 where
 
 -- ## Memories
 
--- what a player remembers at the vertex v of the state q: the vertex if it moves first, the state if it moves second
+-- the mark of the vertex v of the state q: the vertex if the player moves first, the state if the player moves second
 abbrev pub mark_of : Bool → ℕ → ℕ → ℕ
 mark_of true v q = v
 mark_of false v q = q
 
--- a mark that has occurred has its memory; for another one a memory is kept at the vertex
+-- a mark that has occurred has a memory state; for a new mark, a memory state is kept at the vertex v
 pub data KeepsAt (old_kept old_marks : List ℕ) (v mark : ℕ) (kept marks : List ℕ) : Type 0 where
   Stays : Contains old_marks mark → kept ≡ old_kept → marks ≡ old_marks → KeepsAt old_kept old_marks v mark kept marks
   Grows : ¬ Contains old_marks mark → kept ≡ old_kept ++ v ∷ [] → marks ≡ old_marks ++ mark ∷ [] →
       KeepsAt old_kept old_marks v mark kept marks
 
--- the memory is kept at a used vertex at which the first player moves
+-- the memory state is kept at a used vertex at which the first player moves
 pub record IsMemory (is_first : Bool) (keys : List Key) (used kept marks : List ℕ) (memory : ℕ) : Type 0 where
   pub state : ℕ
   pub priority : ℕ
@@ -65,13 +65,13 @@ pub record IsMemory (is_first : Bool) (keys : List Key) (used kept marks : List 
   pub is_used : Contains used (slice_index kept memory)
   pub mark : slice_get marks memory ≡ Some (mark_of is_first (slice_index kept memory) state)
 
--- the memory with a mark, kept at that vertex or before it
+-- a memory state with this mark exists, and is kept at the vertex v or at a smaller vertex
 pub record HasMemory (kept marks : List ℕ) (v mark : ℕ) : Type 0 where
   pub memory : ℕ
   pub is_marked : slice_get marks memory ≡ Some mark
   pub behind : slice_index kept memory ≤ v
 
--- each mark of a used vertex has one memory, which is kept at the least vertex with that mark
+-- each mark of a used vertex has one memory state, which is kept at the smallest vertex with that mark
 pub record AreMemories (is_first : Bool) (keys : List Key) (used kept marks : List ℕ) : Type 0 where
   pub many : length marks ≡ length kept
   pub rising : AllPairs (λ v w. v < w) kept
@@ -93,17 +93,17 @@ pub record IsPlan (order : Order) (a : AutomatonData) (keys : List Key) (certifi
   pub are_used : AreUsed game certificate used
   pub memories : AreMemories is_first keys used kept marks
 
--- a letter of the player whose machine it is
+-- a letter of the machine's player
 abbrev pub IsOwn : Bool → Board → ℕ → Type 0
 IsOwn true board y = IsFirstLetter board y
 IsOwn false board y = IsSecondLetter board y
 
--- rows go on with memories, and have the player's letters
+-- the row has an existing memory state, and a letter of the machine's player
 pub record IsRow (is_first : Bool) (board : Board) (kept : List ℕ) (row : Row) : Type 0 where
   pub memory : row.memory < length kept
   pub letter : IsOwn is_first board row.letter
 
--- at the vertex v of the state q, if the other player's letter is x, the row has what is played and where that leads
+-- at the vertex v of the state q, if the other player's letter is x, the row has the right output and next memory state
 pub record IsRowAt (is_first : Bool) (board : Board) (keys : List Key) (kept : List ℕ) (certificate : CertificateData)
     (v q x : ℕ) (row : Row) : Type 0 where
   pub played : IsPlayed is_first board keys certificate v q x row.letter
@@ -111,7 +111,7 @@ pub record IsRowAt (is_first : Bool) (board : Board) (keys : List Key) (kept : L
   pub goes : GoesTo keys board q (x + row.letter) entered
   pub next : StandsFor is_first keys kept row.memory entered (board.auto.next q (x + row.letter))
 
--- the leaf at a letter names the row
+-- the leaf of the diagram at the letter x names the right row
 pub record LeadsToRow (is_first : Bool) (board : Board) (keys : List Key) (kept : List ℕ)
     (certificate : CertificateData) (t : Table) (rows : List Row) (node v q x : ℕ) : Type 0 where
   pub leaf : ℕ
@@ -127,15 +127,15 @@ pub record IsDrawn (is_first : Bool) (board : Board) (keys : List Key) (kept : L
   pub priority : ℕ
   pub stands : StandsAt keys v (First state priority)
   pub leads : (x : ℕ) → IsOther is_first board x → LeadsToRow is_first board keys kept certificate t rows node v state x
-  -- it depends only on the other player's propositions
+  -- the leaf depends only on the other player's propositions
   pub heeds : (x y : ℕ) → ((p : ℕ) → p < board.propositions → is_others is_first board p ≡ true → is_in p x ≡ is_in p y)
       → leaf_of t node x ≡ leaf_of t node y
 
--- the rows that were there are still at their places
+-- every old row keeps its index
 pub record KeepsRows (old new : List Row) : Type 0 where
   pub same : (leaf : ℕ) (row : Row) → slice_get old leaf ≡ Some row → slice_get new leaf ≡ Some row
 
--- a step leads to the used vertex of that pair
+-- a used vertex stands for the state q, entered by the priority p
 pub record CanEnter (order : Order) (a : AutomatonData) (keys : List Key) (certificate : CertificateData)
     (is_first : Bool) (kept marks : List ℕ) (q p : ℕ) : Type 0 where
   pub plan : IsPlan order a keys certificate is_first kept marks
@@ -143,9 +143,10 @@ pub record CanEnter (order : Order) (a : AutomatonData) (keys : List Key) (certi
   pub stands : StandsAt keys vertex (First q p)
   pub is_used : IsUsed plan.game certificate vertex
 
--- ## Of a player who moves second
+-- ## Diagrams of a player who moves second
 
--- after the letter x of the state q the winner's move leads to the pair of r and p, to which some letter leads
+-- after the letter x at the state q, the winner's move leads to the state r by the priority p, and some letter of the
+-- winner leads there
 pub record IsReply (board : Board) (keys : List Key) (certificate : CertificateData) (q x r p : ℕ) : Type 0 where
   pub at : ℕ
   pub stands : StandsAt keys at (Second q x)
@@ -157,11 +158,11 @@ pub record IsReply (board : Board) (keys : List Key) (certificate : CertificateD
   pub state : board.auto.next q (x + letter) ≡ r
   pub priority : board.auto.priority q (x + letter) ≡ p
 
--- at each vertex of the state q the row has what is played if the first player's letter is x
+-- at each vertex of the state q, the row is right if the first player's letter is x
 abbrev pub IsReplyRow : Board → List Key → List ℕ → CertificateData → ℕ → ℕ → Row → Type 0
 IsReplyRow board keys kept certificate q x row = (v : ℕ) → IsRowAt false board keys kept certificate v q x row
 
--- the number names such a row
+-- the value is the index of a row that is right for the letter x
 pub record NamesAnswer (board : Board) (keys : List Key) (kept : List ℕ) (certificate : CertificateData)
     (rows : List Row) (q x value : ℕ) : Type 0 where
   pub row : Row

@@ -1,9 +1,9 @@
--- Steps of a player who moves first, and the rows that are noted for them. Each leaf of the automaton's diagram to
--- which such a player's move can lead has the place of its row. So the machine's diagram is the automaton's with these
--- places as leaves. (For private functions.)
---     PlaysClass board keys certificate v q letter      the letter that is played at the vertex v of the state q
---     IsEntered .. leaf      the step that the leaf names can be taken
---     IsPlaced .. letter leaf      the leaf's row is noted
+-- Steps of a player who moves first, and the rows that are stored for these steps. The player's move can lead to
+-- certain leaves of the automaton's diagram, and each of these leaves has the index of its row. Therefore the machine's
+-- diagram is the automaton's diagram with indices of rows as leaves. (For private functions.)
+--     PlaysClass board keys certificate v q letter      the letter that is output at the vertex v of the state q
+--     IsEntered .. leaf      the machine can take the step that the leaf names
+--     IsPlaced .. letter leaf      the leaf's row is stored
 use Rattle.std.specs.Prelude.{◌≡◌, ℕ, ◌<◌, Bool, List, length, Some, slice_get}
 use Rattle.ps_certificate.specs.Certificates.{CertificateData, choice_of}
 use Rattle.ps_automaton.specs.Automata.{AutomatonData, pair_of}
@@ -17,21 +17,21 @@ use Rattle.ps_machine.specs.declared.key.Key.TheVariants.{Second}
 use Rattle.ps_machine.specs.declared.key.Order.{Order}
 use Rattle.ps_machine.specs.declared.machine.Row.{Row}
 
--- the letter of the class to which the move at the vertex v of the state q leads
+-- the least letter of the class to which the move at the vertex v of the state q leads
 pub record PlaysClass (board : Board) (keys : List Key) (certificate : CertificateData) (v q letter : ℕ) : Type 0 where
   pub chosen : ℕ
   pub choice : choice_of certificate v ≡ Some chosen
   pub stands : StandsAt keys chosen (Second q letter)
   pub is_class : IsClass board q letter
 
--- the leaf names a step that leads to the used vertex of its pair
+-- the step that the leaf names leads to a used vertex
 pub record IsEntered (order : Order) (a : AutomatonData) (keys : List Key) (certificate : CertificateData)
     (is_first : Bool) (kept marks : List ℕ) (leaf : ℕ) : Type 0 where
   pub within : leaf < length a.steps
   pub enters : CanEnter order a keys certificate is_first kept marks (pair_of a leaf).state (pair_of a leaf).priority
 
--- the row at the place that is noted for the leaf plays the letter, and goes on with the memory of the pair that the
--- leaf names
+-- The row at the index that is noted for the leaf outputs the letter. The row leads to the memory state of the vertex
+-- that stands for the leaf's step.
 pub record IsPlaced (a : AutomatonData) (keys : List Key) (is_first : Bool) (kept : List ℕ) (rows : List Row)
     (places : List ℕ) (letter leaf : ℕ) : Type 0 where
   pub place : ℕ

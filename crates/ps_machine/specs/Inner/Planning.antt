@@ -1,7 +1,6 @@
--- What is known of a plan: the definitions of `Drawing`, `Placing` and `Dividing` for what a plan holds. (For private
--- functions.)
---     IsPlanned plan      the machine can be made from it
---     AreDividedBy plan      each state of its keys has its classes
+-- The definitions of `Drawing`, `Placing` and `Dividing`, applied to the data of a plan. (For private functions.)
+--     IsPlanned plan      the machine can be made from the plan
+--     AreDividedBy plan      each state that occurs in a key has its classes
 use Rattle.std.specs.Prelude.{ℕ, nat_eq, List}
 use Rattle.std.specs.List.{All}
 use Rattle.indexmap.specs.IndexMap.{get}
@@ -29,7 +28,7 @@ abbrev pub AreDividedBy : Plan → Type 0
 AreDividedBy p =
     AreDivided p.order p.automaton.now p.keys.now.keys p.divided.now.store (get nat_eq p.divided.now.classes)
 
--- a step leads to the used vertex of that pair
+-- a used vertex stands for the state q, entered by the priority p
 abbrev pub CanEnterBy : Plan → ℕ → ℕ → Type 0
 CanEnterBy p =
     CanEnter p.order p.automaton.now p.keys.now.keys p.certificate.now p.moves_first p.memories.now.kept.items
@@ -40,7 +39,7 @@ IsEnteredBy p =
     IsEntered p.order p.automaton.now p.keys.now.keys p.certificate.now p.moves_first p.memories.now.kept.items
     p.memories.now.marks.keys
 
--- the diagram of the steps from q after the letter x of the first player
+-- the diagram of the steps from the state q after the letter x of the first player
 abbrev pub IsRestBy : Plan → ℕ → ℕ → ℕ → Type 0
 IsRestBy p q x rest =
     (mask : ℕ) × IsFit p.order p.automaton.now mask p.divided.now.store

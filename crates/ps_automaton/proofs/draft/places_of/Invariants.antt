@@ -5,7 +5,7 @@ use Rattle.ps_automaton.specs.Inner.Views.{chain_data}
 use Rattle.ps_automaton.specs.declared.targets.Target.{Target}
 use Rattle.ps_automaton.proofs.draft.places_of.Given as goal
 
--- the places of the steps to the targets so far
+-- the indices of the steps to the targets that were visited so far
 abbrev pub invariant-loop-target : goal.invariant-loop-target
 invariant-loop-target l = record {
   extends : Extends l.fn.steps.keys l.steps.keys;

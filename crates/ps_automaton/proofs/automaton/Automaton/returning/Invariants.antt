@@ -4,7 +4,7 @@ use Rattle.ps_automaton.specs.Autos.{state_after}
 use Rattle.ps_automaton.specs.Automata.{auto_of}
 use Rattle.ps_automaton.proofs.automaton.Automaton.returning.Given as goal
 
--- where a state was seen, it is that before the lap of that number less one
+-- the entry of a state that was seen is one more than the number of laps after which the state was seen
 abbrev pub invariant-loop-laps : goal.invariant-loop-laps
 invariant-loop-laps l = record {
   within : l.state ≤ l.self.states;
