@@ -1,11 +1,9 @@
 //! psyn's own solver.
 
-ghost use Rattle.std.specs.Prelude.{◌≡◌, true, None, IfOk, IfErr, IfNone, IfSome, length};
-ghost use Rattle.ps_certificate.specs.Certificates.{Fits, IsValid};
-ghost use Rattle.ps_certificate.specs.Least.{HasLeastCounts};
+ghost use Rattle.std.specs.Prelude.{◌≡◌, true, None, IfOk, IfErr, IfNone, IfSome};
 ghost use Rattle.ps_game.specs.Flat.{FitsWithin};
-ghost use Rattle.ps_game.specs.Games.{vertex_count};
-ghost use Rattle.ps_referee.specs.Solutions.{IsSolution};
+ghost use Rattle.ps_referee.specs.Solutions.{AreSizedFor, IsSolution};
+ghost use Rattle.ps_machine.specs.Inner.Certificates.{IsLeastCertificate};
 ghost use Rattle.ps_machine.specs.declared.fault.SolveFault.TheVariants as faults;
 
 use crate::fault::SolveFault;
@@ -103,9 +101,7 @@ impl Solver for BuiltIn {
 /// The certificate of a game, computed on flat arrays whose numbers have the width `W`.
 fn certificate_in<W: Width>(alloc: Global, game: &Game) -> Result<Certificate, SolveFault>
     requires { FitsWithin game.now W.LIMIT }
-    ensures fits { IfOk result (Fits game.now) }
-    ensures valid { IfOk result (IsValid game.now) }
-    ensures least { IfOk result (HasLeastCounts game.now) }
+    ensures certificate { IfOk result (IsLeastCertificate game.now) }
     ensures memory { IfErr result (λ fault. fault ≡ faults.OutOfMemory) }
 {
     let flat = FlatGame::<W>::of(alloc, game)?;
@@ -117,9 +113,7 @@ fn certificate_in<W: Width>(alloc: Global, game: &Game) -> Result<Certificate, S
 /// attempt guarantees nothing, so its result is judged. Both limits grow from round to round, and the last round has no
 /// limit.
 fn certificate_of<A: Arena>(alloc: Global, arena: &A) -> Result<Certificate, SolveFault>
-    ensures fits { IfOk result (Fits (A.game arena.now)) }
-    ensures valid { IfOk result (IsValid (A.game arena.now)) }
-    ensures least { IfOk result (HasLeastCounts (A.game arena.now)) }
+    ensures certificate { IfOk result (IsLeastCertificate (A.game arena.now)) }
     ensures memory { IfErr result (λ fault. fault ≡ faults.OutOfMemory) }
 {
     let mut budget = Budget::first(arena);
@@ -138,9 +132,7 @@ fn certificate_within<A: Arena>(
     arena: &A,
     budget: &mut Budget,
 ) -> Result<Option<Certificate>, SolveFault>
-    ensures fits { IfOk result (λ found. IfSome found (Fits (A.game arena.now))) }
-    ensures valid { IfOk result (λ found. IfSome found (IsValid (A.game arena.now))) }
-    ensures least { IfOk result (λ found. IfSome found (HasLeastCounts (A.game arena.now))) }
+    ensures certificate { IfOk result (λ found. IfSome found (IsLeastCertificate (A.game arena.now))) }
     ensures memory { IfErr result (λ fault. fault ≡ faults.OutOfMemory) }
 {
     match solved_within(alloc, arena, budget.placed)? {
@@ -156,9 +148,7 @@ fn solved_within<A: Arena>(
     arena: &A,
     budget: u64,
 ) -> Result<Option<Certificate>, SolveFault>
-    ensures fits { IfOk result (λ found. IfSome found (Fits (A.game arena.now))) }
-    ensures valid { IfOk result (λ found. IfSome found (IsValid (A.game arena.now))) }
-    ensures least { IfOk result (λ found. IfSome found (HasLeastCounts (A.game arena.now))) }
+    ensures certificate { IfOk result (λ found. IfSome found (IsLeastCertificate (A.game arena.now))) }
     ensures memory { IfErr result (λ fault. fault ≡ faults.OutOfMemory) }
 {
     let mut counts = Counts::default();
@@ -176,9 +166,7 @@ fn attempted<A: Arena>(
     arena: &A,
     budget: &mut Budget,
 ) -> Result<Option<Certificate>, SolveFault>
-    ensures fits { IfOk result (λ found. IfSome found (Fits (A.game arena.now))) }
-    ensures valid { IfOk result (λ found. IfSome found (IsValid (A.game arena.now))) }
-    ensures least { IfOk result (λ found. IfSome found (HasLeastCounts (A.game arena.now))) }
+    ensures certificate { IfOk result (λ found. IfSome found (IsLeastCertificate (A.game arena.now))) }
     ensures memory { IfErr result (λ fault. fault ≡ faults.OutOfMemory) }
 {
     match attempt(alloc, arena, budget.cells)? {
@@ -203,12 +191,8 @@ fn tried<A: Arena>(
     first: &Strategy,
     second: &Strategy,
 ) -> Result<Option<Certificate>, SolveFault>
-    requires region { length won.now ≡ vertex_count (A.game arena.now) }
-    requires first { length first.now ≡ vertex_count (A.game arena.now) }
-    requires second { length second.now ≡ vertex_count (A.game arena.now) }
-    ensures fits { IfOk result (λ found. IfSome found (Fits (A.game arena.now))) }
-    ensures valid { IfOk result (λ found. IfSome found (IsValid (A.game arena.now))) }
-    ensures least { IfOk result (λ found. IfSome found (HasLeastCounts (A.game arena.now))) }
+    requires sized { AreSizedFor (A.game arena.now) won.now first.now second.now }
+    ensures certificate { IfOk result (λ found. IfSome found (IsLeastCertificate (A.game arena.now))) }
     ensures none { IfOk result (λ found. IfNone found
         (¬ IsSolution (A.game arena.now) won.now first.now second.now)) }
     ensures memory { IfErr result (λ fault. fault ≡ faults.OutOfMemory) }
@@ -228,9 +212,7 @@ fn tried<A: Arena>(
 
 /// The certificate of a game from the recursion, however long the recursion takes.
 fn certificate_without_bound<A: Arena>(alloc: Global, arena: &A) -> Result<Certificate, SolveFault>
-    ensures fits { IfOk result (Fits (A.game arena.now)) }
-    ensures valid { IfOk result (IsValid (A.game arena.now)) }
-    ensures least { IfOk result (HasLeastCounts (A.game arena.now)) }
+    ensures certificate { IfOk result (IsLeastCertificate (A.game arena.now)) }
     ensures memory { IfErr result (λ fault. fault ≡ faults.OutOfMemory) }
 {
     let mut counts = Counts::default();

@@ -3,12 +3,13 @@
 --     won_by won player      the vertices that a player wins
 --     moves_by first second player      a player's table
 --     claimed game won first second      the claim, as a certificate without priorities and counts
+--     AreSizedFor game won first second      the three lists have an entry for each vertex
 --     IsSolution game won first second      each player holds the vertices that it wins by its table
 --     IsCycleOf game won first second player cycle      all remaining edges stay with the winner, but the player loses
 --               a cycle
 --     IsRefusal game won first second fault      the fault is what is wrong with the solution
 --     IsCertificateOf game won first second c      the certificate of a solution that holds
-use Rattle.std.specs.Prelude.{◌≡◌, ℕ, ◌<◌, ◌==◌, if◌then◌else◌, List, [], map, Option, None, Bool, not}
+use Rattle.std.specs.Prelude.{◌≡◌, ℕ, ◌<◌, ◌==◌, if◌then◌else◌, List, [], length, map, Option, None, Bool, not}
 use Rattle.std.specs.List.{range_with_len}
 use Rattle.ps_game.specs.Games.{ParityGame, vertex_count, owner_of}
 use Rattle.ps_game.specs.Plays.{Holds}
@@ -45,6 +46,12 @@ claimed game won first second = record {
   even = [];
   entries = map (λ v. claim_with game won first second v []) (range_with_len 0 (vertex_count game));
 }
+
+-- the region and the tables of moves have an entry for each vertex
+pub record AreSizedFor (game : ParityGame) (won : List Bool) (first second : List (Option ℕ)) : Type 0 where
+  pub won_sized : length won ≡ vertex_count game
+  pub first_sized : length first ≡ vertex_count game
+  pub second_sized : length second ≡ vertex_count game
 
 pub record IsSolution (game : ParityGame) (won : List Bool) (first second : List (Option ℕ)) : Type 0 where
   pub first_holds : Holds game 0 (has won) (move_at first)

@@ -2,7 +2,7 @@
 
 ghost use Rattle.std.specs.Prelude.{◌≡◌, ◌<◌, length, [], Some, IfOk, OnOk, ◌++◌, ◌∷◌};
 ghost use Rattle.ps_game.specs.Games.{vertex_count};
-ghost use Rattle.ps_referee.specs.Solutions.{claim_with, claimed};
+ghost use Rattle.ps_referee.specs.Solutions.{AreSizedFor, claim_with, claimed};
 ghost use Rattle.ps_referee.specs.Inner.Building.{claims, winner_row};
 
 use ps_certificate::{Certificate, Entries, Entry};
@@ -18,9 +18,7 @@ pub(crate) fn claim_of<A: Arena>(
     first: &Strategy,
     second: &Strategy,
 ) -> Result<Certificate, AllocError>
-    requires won { length won.now ≡ vertex_count (A.game arena.now) }
-    requires first { length first.now ≡ vertex_count (A.game arena.now) }
-    requires second { length second.now ≡ vertex_count (A.game arena.now) }
+    requires sized { AreSizedFor (A.game arena.now) won.now first.now second.now }
     ensures { IfOk result (λ claim. claim ≡ claimed (A.game arena.now) won.now first.now second.now) }
 {
     let mut entries = Entries::with_capacity(alloc, arena.count())?;
@@ -44,9 +42,7 @@ pub(crate) fn entries_of<A: Arena>(
     first_rows: &CountTable,
     second_rows: &CountTable,
 ) -> Result<Entries, AllocError>
-    requires won { length won.now ≡ vertex_count (A.game arena.now) }
-    requires first { length first.now ≡ vertex_count (A.game arena.now) }
-    requires second { length second.now ≡ vertex_count (A.game arena.now) }
+    requires sized { AreSizedFor (A.game arena.now) won.now first.now second.now }
     requires first_rows { length first_rows.now ≡ vertex_count (A.game arena.now) }
     requires second_rows { length second_rows.now ≡ vertex_count (A.game arena.now) }
     ensures { IfOk result (λ entries. entries ≡ claims (A.game arena.now) won.now first.now second.now
@@ -92,9 +88,7 @@ fn claim_at<'a, A: Arena>(
     counts: &'a [u64],
 ) -> Entry<'a>
     requires vertex { vertex < vertex_count (A.game arena.now) }
-    requires won { length won.now ≡ vertex_count (A.game arena.now) }
-    requires first { length first.now ≡ vertex_count (A.game arena.now) }
-    requires second { length second.now ≡ vertex_count (A.game arena.now) }
+    requires sized { AreSizedFor (A.game arena.now) won.now first.now second.now }
     ensures { result ≡ claim_with (A.game arena.now) won.now first.now second.now vertex counts.now }
 {
     let (winner, moves) = if won.contains(vertex) {

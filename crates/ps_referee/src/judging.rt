@@ -3,10 +3,10 @@
 ghost use Rattle.std.specs.Prelude.{◌≡◌, ℕ, ◌<◌, length, not, IfOk, IfErr, OnOk};
 ghost use Rattle.ps_game.specs.Games.{vertex_count};
 ghost use Rattle.ps_game.specs.Regions.{has, move_at};
-ghost use Rattle.ps_certificate.specs.Certificates.{Fits, IsValid, IsClosed};
-ghost use Rattle.ps_certificate.specs.Least.{SaysTheSame, HasLeastCounts};
+ghost use Rattle.ps_certificate.specs.Certificates.{IsClosed};
 ghost use Rattle.ps_measure.specs.Ranks.{AreRanks};
-ghost use Rattle.ps_referee.specs.Solutions.{claimed, IsSolution, IsRefusal, IsOutOfMemory};
+ghost use Rattle.ps_referee.specs.Solutions.{claimed, AreSizedFor, IsCertificateOf, IsSolution, IsRefusal};
+ghost use Rattle.ps_referee.specs.Solutions.{IsOutOfMemory};
 ghost use Rattle.ps_referee.specs.Inner.Counting.{IsLostIn};
 
 use crate::building::{claim_of, entries_of};
@@ -33,20 +33,14 @@ pub fn judge<A: Arena>(
     first: &Strategy,
     second: &Strategy,
 ) -> Result<Certificate, JudgeFault>
-    requires won { length won.now ≡ vertex_count (A.game arena.now) }
-    requires first { length first.now ≡ vertex_count (A.game arena.now) }
-    requires second { length second.now ≡ vertex_count (A.game arena.now) }
+    requires sized { AreSizedFor (A.game arena.now) won.now first.now second.now }
 
     // Ok exactly if each player holds the vertices that it wins, unless out of memory.
     ensures solution { OnOk result (IsSolution (A.game arena.now) won.now first.now second.now) }
     ensures judged { IsSolution (A.game arena.now) won.now first.now second.now → IfErr result IsOutOfMemory }
 
     // The certificate has the winners and moves of the solution.
-    ensures same { IfOk result
-        (SaysTheSame (A.game arena.now) (claimed (A.game arena.now) won.now first.now second.now)) }
-    ensures fits { IfOk result (Fits (A.game arena.now)) }
-    ensures valid { IfOk result (IsValid (A.game arena.now)) }
-    ensures least { IfOk result (HasLeastCounts (A.game arena.now)) }
+    ensures certificate { IfOk result (IsCertificateOf (A.game arena.now) won.now first.now second.now) }
 
     ensures refused { IfErr result (IsRefusal (A.game arena.now) won.now first.now second.now) }
 {
@@ -64,17 +58,11 @@ pub fn certificate_of_solution<A: Arena>(
     first: &Strategy,
     second: &Strategy,
 ) -> Result<Certificate, AllocError>
-    requires won { length won.now ≡ vertex_count (A.game arena.now) }
-    requires first { length first.now ≡ vertex_count (A.game arena.now) }
-    requires second { length second.now ≡ vertex_count (A.game arena.now) }
+    requires sized { AreSizedFor (A.game arena.now) won.now first.now second.now }
     requires holds { IsSolution (A.game arena.now) won.now first.now second.now }
 
     // The certificate has the winners and moves of the solution.
-    ensures same { IfOk result
-        (SaysTheSame (A.game arena.now) (claimed (A.game arena.now) won.now first.now second.now)) }
-    ensures fits { IfOk result (Fits (A.game arena.now)) }
-    ensures valid { IfOk result (IsValid (A.game arena.now)) }
-    ensures least { IfOk result (HasLeastCounts (A.game arena.now)) }
+    ensures certificate { IfOk result (IsCertificateOf (A.game arena.now) won.now first.now second.now) }
 {
     let _vertices = arena.count();
     match counting(alloc, arena, won, first, second) {
@@ -98,9 +86,7 @@ fn closing<A: Arena>(
     first: &Strategy,
     second: &Strategy,
 ) -> Result<(), JudgeFault>
-    requires won { length won.now ≡ vertex_count (A.game arena.now) }
-    requires first { length first.now ≡ vertex_count (A.game arena.now) }
-    requires second { length second.now ≡ vertex_count (A.game arena.now) }
+    requires sized { AreSizedFor (A.game arena.now) won.now first.now second.now }
     ensures closed { OnOk result
         (IsClosed (A.game arena.now) (claimed (A.game arena.now) won.now first.now second.now)) }
     ensures refused { IfErr result (IsRefusal (A.game arena.now) won.now first.now second.now) }
@@ -120,16 +106,10 @@ fn counting<A: Arena>(
     first: &Strategy,
     second: &Strategy,
 ) -> Result<Certificate, JudgeFault>
-    requires won { length won.now ≡ vertex_count (A.game arena.now) }
-    requires first { length first.now ≡ vertex_count (A.game arena.now) }
-    requires second { length second.now ≡ vertex_count (A.game arena.now) }
+    requires sized { AreSizedFor (A.game arena.now) won.now first.now second.now }
     requires closed { IsClosed (A.game arena.now) (claimed (A.game arena.now) won.now first.now second.now) }
     ensures solution { OnOk result (IsSolution (A.game arena.now) won.now first.now second.now) }
-    ensures same { IfOk result
-        (SaysTheSame (A.game arena.now) (claimed (A.game arena.now) won.now first.now second.now)) }
-    ensures fits { IfOk result (Fits (A.game arena.now)) }
-    ensures valid { IfOk result (IsValid (A.game arena.now)) }
-    ensures least { IfOk result (HasLeastCounts (A.game arena.now)) }
+    ensures certificate { IfOk result (IsCertificateOf (A.game arena.now) won.now first.now second.now) }
     ensures refused { IfErr result (IsRefusal (A.game arena.now) won.now first.now second.now) }
 {
     let _vertices = arena.count();
