@@ -13,7 +13,7 @@ use Rattle.ps_automaton.specs.declared.fault.AutomatonFault.{AutomatonFault}
 use Rattle.ps_automaton.specs.declared.fault.AutomatonFault.TheVariants.{ComplementedSet, NonParity, Nondeterministic}
 use Rattle.ps_automaton.specs.declared.fault.AutomatonFault.TheVariants.{OutOfMemory}
 
--- sets are compared as sets, so their order in the text makes no difference
+-- the targets of two edges are equal, and so are their acceptance sets, whatever their order in the text
 abbrev pub AreAlike : RowData → EdgeData → EdgeData → Type 0
 AreAlike row one other = (one.target ≡ other.target) × ((set : ℕ) → is_marked row one set ≡ is_marked row other set)
 

@@ -12,7 +12,7 @@ use Rattle.ps_automaton.specs.Chains.{Chain, chain_of}
 use Rattle.ps_automaton.specs.Autos.{Auto, IsAutoOf}
 use Rattle.ps_automaton.specs.declared.step.Step.{Step}
 
--- the sink is the state whose number equals the count of states
+-- an automaton that was built; its sink is the state whose number equals the count of states
 pub record AutomatonData : Type 0 where
   pub names : List (List ℕ)
   pub controllable : List ℕ

@@ -1,6 +1,6 @@
 -- Conditions that are chains, and the numbers that a chain gives to edges. A chain is a list of links and a base. A
--- link is a set of edges together with a flag, which states whether meeting the set accepts. For a part of a run, the
--- first link whose set is met decides; if no such set is met, the base decides.
+-- link is a set of edges together with a flag. For a part of a run, the first link whose set is met decides, and its
+-- flag states whether the part is accepted. If no such set is met, the base decides.
 --     chain_of condition      the chain of the condition, if the condition is a chain
 --     level chain has      the number of an edge: that of the first link whose set the edge has, or that of the base
 use Rattle.std.specs.Prelude.{ℕ, ◌+◌, ◌%◌, max, Bool, true, false, not, List, [], ◌∷◌, ◌++◌, Option, None, Some}
@@ -8,7 +8,7 @@ use Rattle.std.specs.Prelude.{if◌then◌else◌, nat_eq}
 use Rattle.ps_hoa.specs.Conditions.{SetData, Condition, Conditions, constant, infinitely, finitely, all_hold, any_holds}
 use Rattle.ps_hoa.specs.Conditions.{last, more}
 
--- a set, and whether meeting the set accepts
+-- a set, and whether a part of a run is accepted if this link decides
 pub record Link : Type 0 where
   pub colour : ℕ
   pub accepts : Bool
@@ -51,8 +51,8 @@ one_link (Some link) = Some (link ∷ [])
 
 -- The conditions `t` and `f` are chains that consist of a base alone. `Inf` of a set is one link with the base f, and
 -- `Fin` of a set is one link with the base t. In a disjunction, all operands except at most one are `Inf`. The chain of
--- the disjunction has their links in order, and then the chain of the remaining operand, or else the base f. A
--- conjunction is the same with `Fin` and t.
+-- the disjunction has their links in order, and then the chain of the remaining operand, or the base f if no operand
+-- remains. The chain of a conjunction is built in the same way, with `Fin` and t.
 abbrev mutual
   pub chain_of : Condition → Option Chain
   chain_of (constant base) = base_alone base
@@ -112,16 +112,16 @@ chain_holds base (link ∷ links) met = if met link.colour then link.accepts els
 abbrev pub is_even : ℕ → Bool
 is_even n = nat_eq (n % 2) 0
 
--- the number of the base: a number that accepts is even
+-- the number of the base, which is even exactly if the base is true
 abbrev pub base_number : Bool → ℕ
 base_number base = if base then 0 else 1
 
--- the number of the next link if both links accept or both do not, and otherwise one more
+-- the number of a link: that of the next link, or of the base, if both accept or both do not; otherwise one more
 abbrev pub raised : Bool → ℕ → ℕ
 raised true next = if is_even next then next else next + 1
 raised false next = if is_even next then next + 1 else next
 
--- the number of the first link, or of the base; computed from the end of the chain
+-- the number of the first link, or of the base if there is no link; numbers are computed from the end of the chain
 abbrev pub first_number : Bool → List Link → ℕ
 first_number base [] = base_number base
 first_number base (link ∷ links) = raised link.accepts (first_number base links)

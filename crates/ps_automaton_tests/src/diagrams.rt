@@ -1,4 +1,4 @@
-//! Tests that make each call on diagrams that allocates memory, while memory is ample.
+//! Tests that make, with ample memory, each call on diagrams that allocates memory.
 
 use indexmap::IndexSet;
 use ps_diagram::{OverlayError, Store};
@@ -53,7 +53,7 @@ fn least_letter(alloc: Global, store: &mut Store) -> Result<Option<u64>, AllocEr
     store.path_to(node, 1)
 }
 
-/// The number of leaves of a letter's diagram, and the number of classes of its inputs.
+/// The number of leaves of a letter's diagram, and its number of classes of letters over the first proposition.
 fn leaves_and_classes(alloc: Global, store: &mut Store) -> Result<(usize, usize), AllocError> {
     if store.propositions() != 2 {
         return Ok((0, 0));

@@ -10,7 +10,7 @@ fn kept(alloc: Global, text: &str) -> Result<String, Fail> {
     Ok(format!(in alloc; "{file:?}")?)
 }
 
-/// The first part in a list of parts that the stored value of a text lacks.
+/// The first of the given parts that the stored value of a text lacks, or None if it has all of them.
 fn lacking(
     alloc: Global,
     text: &str,

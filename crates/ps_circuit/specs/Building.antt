@@ -44,13 +44,13 @@ pub record AreSides (own : ℕ) (s : Sides) : Type 0 where
   pub different : variable s.second ≢ variable s.first
   pub not_constant : 0 < variable s.second
 
--- each variable has a literal of 32 bits, and no two gates have the same two literals
+-- the literals of all variables fit into 32 bits, and no two gates have the same two literals
 pub record IsSoundDraft (d : Drafted) : Type 0 where
   pub room : variables_of d < 2 ^ 31
   pub sides : (k : ℕ) (s : Sides) → slice_get d.gates k ≡ Some s → AreSides (d.given + 1 + k) s
   pub once : (k l : ℕ) (s : Sides) → slice_get d.gates k ≡ Some s → slice_get d.gates l ≡ Some s → k ≡ l
 
--- no further variable would have a literal of 32 bits
+-- the literals of a further variable would not fit into 32 bits
 abbrev pub IsFull : Drafted → Type 0
 IsFull d = variables_of d ≡ 2147483647
 

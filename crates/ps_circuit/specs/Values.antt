@@ -54,7 +54,7 @@ pub record Moment : Type 0 where
   pub inputs : List Bool
   pub outputs : List Bool
 
--- a list of consecutive steps leads from some latch values to others
+-- a list of consecutive steps leads from the latch values `latches` to the latch values `last`
 abbrev pub GoesOn : CircuitData → List Bool → List Moment → List Bool → Type 0
 GoesOn c latches [] last = latches ≡ last
 GoesOn c latches (m ∷ ms) last =

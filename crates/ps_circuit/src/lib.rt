@@ -22,9 +22,9 @@
 //! A builder fails only if out of memory, or if 2,147,483,647 variables exist and another gate is needed. In a circuit
 //! each variable is defined once, each literal's variable is defined or 0, and no gate depends on itself.
 //!
-//! Parsing takes time proportional to the length of the text, except for looking up variables that are not in order, in
-//! a tree. Sections of bad states, constraints, justice and fairness must be empty, and a latch must not have its own
-//! literal as its reset.
+//! Parsing takes time proportional to the length of the text, except that variables that are not in order are looked up
+//! in a tree. Sections of bad states, constraints, justice and fairness must be empty, and a latch must not have its
+//! own literal as its reset.
 #![tactic(auto)]
 
 mod builder;

@@ -55,7 +55,7 @@ pub trait Line {
     /// The content of a line of this kind.
     type Item: Drop;
 
-    /// The grammar of a line of this kind, after earlier lines of the same kind.
+    /// The grammar of one more line of this kind, given what was read before it.
     ghost part: { ℕ → Lines Self.Item → Field (Lines Self.Item) };
 
     /// What a further line adds to the lines before it.

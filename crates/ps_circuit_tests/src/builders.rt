@@ -1,4 +1,4 @@
-//! Tests of the gates that the builder makes, with a case for each row of the table of choices.
+//! Tests of the gates that the builder makes, with a case for each kind of choice between two literals.
 
 use ps_aiger::{Builder, EncodeFault, Literal};
 use std::alloc::Global;
@@ -14,8 +14,8 @@ fn mux(builder: &mut Builder, s: u32, high: u32, low: u32) -> Option<u32> {
     Some(literal.number())
 }
 
-/// Whether each choice of the table gives the expected literal, and leaves the builder with the expected number of
-/// variables.
+/// Whether each choice between two literals gives the expected literal, and leaves the builder with the expected number
+/// of variables.
 fn choices_are_right(alloc: Global) -> bool {
     let mut builder = Builder::new(alloc, 3);
     for (high, low, literal, variables) in [

@@ -1,4 +1,4 @@
-//! Tests of the way from a text to the winner's circuit, written as a user of the library would write it.
+//! Tests that go from a text to the winner's circuit, written as a user of the library would write them.
 
 use ps_certificate::Certificate;
 use ps_game::{Arena, NamedGame};

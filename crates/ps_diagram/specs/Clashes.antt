@@ -1,4 +1,4 @@
--- The leaves that a rejected overlay reports.
+-- The leaves that are reported if two diagrams cannot be overlaid.
 use Rattle.std.specs.Prelude.{◌≡◌, ◌≢◌, ℕ, ◌^◌, ◌<◌, Some}
 use Rattle.ps_diagram.specs.declared.fault.OverlayError.{OverlayError}
 use Rattle.ps_diagram.specs.declared.fault.OverlayError.TheVariants.{Clash, OutOfMemory}

@@ -6,7 +6,7 @@ use Rattle.ps_diagram.specs.Letters.{AgreeOff, AgreeOn, IsBefore, IsLeast}
 use Rattle.ps_diagram.specs.Reached.{LeadsTo}
 use Rattle.ps_diagram.specs.Table.{Table, IsNode, leaf_of}
 
--- for all truth values of the propositions outside the mask, x and y lead to the same leaf, or both to None
+-- for all truth values of the propositions outside the mask, x and y lead to the same leaf, or both to no leaf
 abbrev pub LeadAlike : Table → ℕ → ℕ → ℕ → ℕ → Type 0
 LeadAlike t node mask x y =
     (u v : ℕ) → AgreeOn mask x u → AgreeOn mask y v → AgreeOff mask u v → leaf_of t node u ≡ leaf_of t node v
@@ -23,7 +23,7 @@ pub record IsClass (s t : Table) (node mask places k : ℕ) (c : Class) : Type 0
 
 -- The node is in the first table; the diagrams of its classes are in the second table. The diagram `places` depends
 -- only on the mask, and leads each letter to the index of its class in the list. Two letters are in one class exactly
--- if they lead alike. The classes ascend by their letters.
+-- if they lead alike (`LeadAlike`). The classes are in ascending order of their letters.
 pub record AreClasses (s t : Table) (node mask places : ℕ) (list : List Class) : Type 0 where
   pub held : IsNode t places
   pub read : (x y : ℕ) → AgreeOn mask x y → leaf_of t places x ≡ leaf_of t places y

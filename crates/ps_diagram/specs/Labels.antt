@@ -21,7 +21,7 @@ leaf_where value false = None
 abbrev pub IsOneOrNone : Option ℕ → Type 0
 IsOneOrNone leaf = (b : Bool) × (leaf ≡ one_where b)
 
--- the nodes are in the table, and at each letter, the leaf of each node is that of the node's truth value
+-- the nodes are in the table, and at each letter, each node has the leaf for its truth value
 pub record HaveTruths (t : Table) (nodes : List ℕ) (known : ℕ → List Bool) : Type 0 where
   pub held : (k : ℕ) → k < length nodes → IsNode t (slice_index nodes k)
   pub leaf : (k letter : ℕ) → k < length nodes → leaf_of t (slice_index nodes k) letter ≡ one_where

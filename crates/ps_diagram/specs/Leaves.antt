@@ -12,7 +12,7 @@ AreAlike None second = Unit {0}
 AreAlike (Some k) None = Unit {0}
 AreAlike (Some k) (Some m) = k ≡ m
 
--- the leaf 1 if there is no leaf, and None if there is one
+-- the leaf 1 if the argument is None, and otherwise None
 abbrev pub opposite : Option ℕ → Option ℕ
 opposite None = Some 1
 opposite (Some k) = None

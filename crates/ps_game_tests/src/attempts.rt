@@ -1,4 +1,5 @@
-//! Solvers that may give no result: when budgets and fuel suffice, and whether a result agrees with the sure solver.
+//! Tests of solvers that may give no result: when their budget or fuel suffices, and whether a result agrees with that
+//! of the sure solver.
 
 use ps_game::{Counts, Game, Region, Strategy};
 use ps_improvement::{Attempted, attempt};
@@ -65,8 +66,8 @@ fn attempts_end_with_their_fuel(rt: HostRuntime) -> Result<(), Fail> {
     Ok(())
 }
 
-/// A path of 1,000 vertices of player 0, each of which has a greater even priority than the next one. Its rows have
-/// 500,000 cells.
+/// A path of 1,000 vertices of player 0. The last vertex leads to itself and has the priority 1. Each other vertex has
+/// an even priority that is greater than that of the next vertex. The path's rows have 500,000 cells.
 #[test]
 fn attempts_end_where_there_is_no_room(rt: HostRuntime) -> Result<(), Fail> {
     let mut text = String::new(rt.alloc());

@@ -5,7 +5,8 @@ ghost use Rattle.std.specs.Prelude.{◌≡◌, ℕ, ◌+◌, ◌*◌, ◌/◌, �
 use ps_components::{Arrangement, Graph, arrange, components_from, components_of, way_back};
 use std::alloc::Global;
 
-/// Two targets for each vertex. A number that is not a vertex stands for no target.
+/// Two entries for each vertex: each is a target of the vertex, or a number that is not a vertex and means that there
+/// is no target.
 #[derive(Drop)]
 struct Table<'a> {
     targets: &'a [usize],
@@ -38,7 +39,7 @@ impl Graph for Table<'_> {
     }
 }
 
-/// 0 and 1 lead to one another and to 2; 2 leads to itself and to 3; 4 leads to 0 and 3.
+/// 0 leads to 1 and 2; 1 leads to 0; 2 leads to itself and to 3; 4 leads to 0 and 3.
 const TARGETS: [usize; 10] = [1, 2, 0, 9, 2, 3, 9, 9, 0, 3];
 
 /// The numbers of the components of all vertices, if there is enough memory.
@@ -53,7 +54,8 @@ fn numbers_of_all(alloc: Global) -> Option<[Option<usize>; 5]> {
     ])
 }
 
-/// The numbers of the components of 0 and 2, among the vertices to which the roots lead.
+/// The numbers of the components of the vertices 0 and 2, if only the roots and the vertices reachable from them have
+/// components.
 fn numbers_from_roots(alloc: Global) -> Option<[Option<usize>; 2]> {
     let found = components_from(alloc, &Table { targets: &TARGETS }, &[3, 2, 3]).ok()?;
     Some([found.number(0), found.number(2)])
@@ -66,7 +68,7 @@ fn numbers_of_components(rt: HostRuntime) {
     assert_eq!(rt; numbers_from_roots(rt.alloc()), Some([None, Some(1)]));
 }
 
-/// Whether the vertices of a graph can be arranged, and are arranged in the wanted order.
+/// Whether `arrange` gives an order of a graph's vertices, and it is the wanted one.
 fn is_order(alloc: Global, targets: &[usize], wanted: &[usize]) -> bool {
     match arrange(alloc, &Table { targets }) {
         Ok(Arrangement::Order(order)) => order.as_slice() == wanted,
@@ -82,7 +84,7 @@ fn knot(alloc: Global, targets: &[usize]) -> Option<usize> {
     }
 }
 
-/// Whether the way back between two vertices is the wanted trail.
+/// Whether `way_back` gives the wanted trail between two vertices, or None if no trail is wanted.
 fn is_way_back(alloc: Global, start: usize, end: usize, wanted: Option<&[usize]>) -> bool {
     let graph = Table { targets: &TARGETS };
     if start >= graph.count() {

@@ -8,7 +8,7 @@ use ps_game::{Arena, FlatGame, Game, GameBuilder, GameFault, Width, fits_narrow,
 use std::alloc::{AllocError, Global};
 use std::test::Fail;
 
-/// A vertex as an arena reports it: its owner, its priority and its successors.
+/// A vertex as the methods of an arena return it: its owner, its priority and its successors.
 type Row<'a> = (u8, u64, &'a [usize]);
 
 /// Whether a vertex has the given successors, in this order.
@@ -40,7 +40,7 @@ fn reads_as<A: Arena>(arena: &A, rows: &[Row]) -> bool {
     true
 }
 
-/// Whether there was enough memory for flat arrays, and they report the given vertices.
+/// Whether there was enough memory for flat arrays, and their methods return the given vertices.
 fn flat_reads_as<W: Width>(flat: Result<FlatGame<W>, AllocError>, rows: &[Row]) -> bool {
     match flat {
         Ok(flat) => reads_as(&flat, rows),
@@ -48,7 +48,7 @@ fn flat_reads_as<W: Width>(flat: Result<FlatGame<W>, AllocError>, rows: &[Row]) 
     }
 }
 
-/// Whether a game and its flat arrays of each width report the given vertices.
+/// Whether the methods of a game, and of its flat arrays of each width, return the given vertices.
 fn all_read_as(alloc: Global, game: &Game, rows: &[Row]) -> bool {
     fits_narrow(game)
         && reads_as(game, rows)

@@ -25,7 +25,7 @@ fn are_placed(ids: &Ids, numbers: &[u64]) -> bool {
     ids.place(6).is_none() && ids.list() == numbers
 }
 
-/// Whether ids are located and listed in the order in which they were added.
+/// Whether each id has its index, and the list has the ids in the order in which they were added.
 fn are_kept(alloc: Global, first: u64, numbers: [u64; 5]) -> Result<bool, AllocError> {
     let ids = ids_of(alloc, first, &numbers)?;
     Ok(are_placed(&ids, &numbers) && ids.into_list().as_slice() == numbers.as_slice())

@@ -34,7 +34,7 @@ impl Set {
         }
     }
 
-    /// Whether a region is that set, judged by its vertices and by its count.
+    /// Whether a region has exactly the vertices of this set, and the right count of them.
     fn is(self, region: &Region, places: usize) -> bool {
         let mut count: usize = 0;
         for vertex in 0..region.places() {
@@ -46,7 +46,7 @@ impl Set {
         region.places() == places && region.count() == count && region.is_empty() == (count == 0)
     }
 
-    /// Whether there was enough memory for a region, and it is that set.
+    /// Whether there was enough memory for a region, and the region has exactly the vertices of this set.
     fn is_made(self, region: Result<Region, AllocError>, places: usize) -> bool {
         match region {
             Ok(region) => self.is(&region, places),

@@ -286,7 +286,8 @@ fn is_ranked(
         )
 }
 
-/// Whether one vertex of `LOOPS`, or all its vertices, have the expected result as a player's region.
+/// Whether a player's region in `LOOPS` has the expected result. The region is the vertex `only`, or all vertices if
+/// `only` is `None`.
 fn are_ranked(
     alloc: Global,
     (player, only): (u8, Option<usize>),

@@ -10,8 +10,8 @@ use Rattle.ps_hoa.specs.Conditions.{Condition, Conditions, constant, infinitely,
 use Rattle.ps_hoa.specs.Conditions.{more}
 use Rattle.ps_hoa.specs.Files.{GuardData, EdgeData, RowData, FileData, stated, of_state, at_letter}
 
--- The code of a set is a proposition if the set is visited infinitely often, and an alias if it is visited finitely
--- often. The code of a complement is the negation of the code of the set.
+-- The code of `Inf` of a set is a proposition, and that of `Fin` of a set is an alias. If the set is complemented, the
+-- code is negated.
 abbrev expression_of_set : Bool → Expression → Expression
 expression_of_set true e = expressions.not_of e
 expression_of_set false e = e

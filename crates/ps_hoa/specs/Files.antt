@@ -34,7 +34,7 @@ pub record FileData : Type 0 where
   pub condition : Condition
   pub rows : List RowData
 
--- a repeated number counts once, where it first occurs
+-- whether a list has a number; `once` adds a number only if the list does not have it
 abbrev pub is_among : ℕ → List ℕ → Bool
 is_among n [] = false
 is_among n (m ∷ ms) = if nat_eq n m then true else is_among n ms

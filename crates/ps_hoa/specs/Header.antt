@@ -219,7 +219,7 @@ abbrev pub alias_value : Kind → List ℕ → Option (List ℕ)
 alias_value kinds.AliasName text = Some text
 alias_value kind text = None
 
--- a name beyond the limit of aliases, or the name of an earlier alias
+-- the name of one alias more than the limit allows, or the name of an earlier alias
 abbrev pub IsBadAlias : List (List ℕ) → Sign → HoaCause → Type 0
 IsBadAlias names s f = IfSome (alias_value s.kind s.text) (λ name.
     ((alias_limit ≤ length names) × (f ≡ causes.Limit)) ⊎ ((is_name_among name names ≡ true) × (f ≡ causes.Alias))) ×

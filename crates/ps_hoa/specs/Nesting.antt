@@ -18,13 +18,13 @@ use Rattle.ps_hoa.specs.declared.infix.Connective.TheVariants as connectives
 pub record Grammar (V : Type 0) : Type 1 where
   -- the tokens are an operand that does not begin with `!` or `(`
   pub IsAtom : List Sign → V → Type 0
-  -- with `!` before it, an operand with the first value has the second value
+  -- an operand with the first value has the second value if `!` is put before it
   pub Negates : V → V → Type 0
   -- the value that operands have together when a connective joins them
   pub together : Connective → List V → V
 
--- Each form has its nesting depth, its tokens and its value. The further operands, each after its connective, are
--- `More`.
+-- Each form has its nesting depth, its tokens and its value. `More` is the further operands of a row, each after its
+-- connective.
 mutual
   pub data IsOperand {V : Type 0} (g : Grammar V) : ℕ → List Sign → V → Type 0 where
     atom : (text : List Sign) (v : V) → g.IsAtom text v → IsOperand g 0 text v

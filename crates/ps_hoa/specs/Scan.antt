@@ -33,7 +33,7 @@ plus k None = None
 plus k (Some n) = Some (k + n)
 
 -- The number of bytes up to the end of the comment that these bytes continue. The comment is nested in `depth` further
--- comments. With `skip`, the first byte belongs to the same pair as the byte before it.
+-- comments. With `skip`, the first byte is the second byte of a `/*` or a `*/`.
 unfoldable pub comment_len : List ℕ → Bool → ℕ → Option ℕ
 comment_len [] skip depth = None
 comment_len (b ∷ bs) true depth = one_more (comment_len bs false depth)
@@ -52,8 +52,8 @@ quoted_len (b ∷ bs) false = if nat_eq b 34 then Some 1 else one_more (quoted_l
 abbrev pub begins_with : List ℕ → List ℕ → Bool
 begins_with bytes word = bytes_eq (take (length word) bytes) word
 
--- The blank, comment or token that begins with the first byte, and its length. The class of the first byte and the
--- bytes after it determine the kind of a token.
+-- The definitions up to `step_of` give the blank, comment or token that begins with the first byte, and its length. The
+-- class of the first byte and the bytes after it determine the kind of a token.
 abbrev pub number_step : ℕ → List ℕ → Step
 number_step b bs =
     if nat_eq b 48 && nat_lt 0 (prefix_len is_digit bs) then Found ZeroRun (1 + prefix_len is_digit bs)

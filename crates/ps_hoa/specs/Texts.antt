@@ -86,7 +86,7 @@ abbrev pub IsRefusedAs : List ℕ → HoaFault → Type 0
 IsRefusedAs bytes (faults.Text cause offset) = ReadsFile bytes (at_offset cause offset)
 IsRefusedAs bytes faults.OutOfMemory = ⊥
 
--- the fault is the answer to the text, or means out of memory
+-- the fault is the answer to the text, or it is `OutOfMemory`
 abbrev pub IsFaultOf : List ℕ → HoaFault → Type 0
 IsFaultOf bytes (faults.Text cause offset) = ReadsFile bytes (at_offset cause offset)
 IsFaultOf bytes faults.OutOfMemory = Unit {0}

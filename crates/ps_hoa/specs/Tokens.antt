@@ -2,6 +2,7 @@
 --     Sign      a token as the grammar sees it: its kind and its bytes
 --     IsComment text      `/* .. */`, with comments of its own inside
 --     IsBlankRun text      blanks and comments
+--     IsName text      a letter or `_`, followed by letters, digits, `_` and `-`
 --     Stands kind text rest      a token of this kind, followed by rest: the longest token that can begin here
 --     IsToken kind text rest      the same, or a token that is never allowed: a comment that is not closed, or a byte
 --               that begins no token

@@ -288,7 +288,7 @@ fn controllable(alloc: Global, tokens: &mut Tokens, header: &mut Header) -> Resu
     Ok(())
 }
 
-/// Parses numbers, and keeps only those that matter.
+/// Parses numbers into a list that keeps only the first number of each slot.
 fn indices(alloc: Global, tokens: &mut Tokens) -> Result<Indices, HoaFault>
     ensures { ReadsAs (λ indices. indices) (many parts.index []) tokens.old result tokens.new }
 {

@@ -151,7 +151,7 @@ pub(crate) fn is_name_byte(byte: u8) -> bool
     matches!(byte, b'0'..=b'9' | b'a'..=b'z' | b'A'..=b'Z' | b'_' | b'-')
 }
 
-/// The number of bytes at the start that a name may contain after its first byte.
+/// The number of bytes at the start that may follow the first byte of a name.
 fn name_at(bytes: &[u8]) -> usize
     ensures value { result ≡ prefix_len names bytes.now }
     ensures within { result ≤ length bytes.now }

@@ -1,4 +1,4 @@
--- The stored form of a player's finite machine: its rows are named by decision diagrams.
+-- The stored form of a player's finite machine: a decision diagram for each memory state, whose leaves name rows.
 --     MachineData      a machine's propositions, its player, whether that player moves first, its diagrams and its rows
 --     step_of m memory x      the row for a memory state, if x is the other player's letter
 --     behaviour m      what the machine does

@@ -1,4 +1,4 @@
--- What is known about a solver.
+-- What a solver may answer, and the text that it was fed.
 --     MayAnswer      what a solver may answer for a game
 --     SolverData      what is known about a solver
 --     once_fed text solver      the solver after it was fed that text
@@ -14,7 +14,7 @@ abbrev pub MayAnswer : Type 1
 MayAnswer = NamedGameData → Result CertificateData SolveFault → Type 0
 
 pub record SolverData : Type 1 where
-  -- its certificates fit the game and are valid, and it fails only if out of memory
+  -- whether the solver's certificates fit the game and are valid, and it fails only if out of memory
   pub is_sure : Bool
   -- the text that the solver was fed last, at first the empty text; None for a solver that ignores every text
   pub fed : Option (List ℕ)

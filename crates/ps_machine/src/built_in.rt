@@ -21,21 +21,21 @@ const ROUNDS: u64 = 8;
 /// The factor by which the limits grow from round to round.
 const GROWTH: u64 = 64;
 
-/// How many vertices the recursion may place in the first round, for each vertex of the game. In games from practice
-/// each vertex is placed about ten times.
+/// How many times the recursion may place a vertex in the first round, for each vertex of the game. In practical games,
+/// a vertex is placed about ten times on average.
 const PLACED_EACH: u64 = 256;
 
-/// How many further vertices the recursion may place in the first round, whatever the size of the game.
+/// How many more times the recursion may place a vertex in the first round, whatever the size of the game.
 const PLACED_BESIDE: u64 = 1024;
 
-/// How many cells an attempt may read or write, for each vertex that the recursion may place. With this number, an
-/// attempt takes longer than the recursion of its own round, and less time than the recursion of the next round.
+/// How many cells an attempt may read or write, for each time that the recursion may place a vertex. With this number,
+/// an attempt takes longer than the recursion of its own round, and less time than the recursion of the next round.
 const CELLS_EACH: u64 = 64;
 
 /// The limits for the recursion and for the attempt in one round.
 #[derive(Drop)]
 struct Budget {
-    /// The number of vertices that the recursion may place.
+    /// The number of times that the recursion may place a vertex.
     placed: u64,
     /// The number of cells that an attempt may read or write. This number is 0 after an attempt has failed for a reason
     /// that more cells would not remove.
@@ -108,10 +108,10 @@ fn certificate_in<W: Width>(alloc: Global, game: &Game) -> Result<Certificate, S
     certificate_of(alloc, &flat)
 }
 
-/// The certificate of a game. In each round, the recursion may place a limited number of vertices; games from practice
-/// stay within the first limit. When the recursion reaches its limit, an attempt at strategy improvement follows. An
-/// attempt guarantees nothing, so its result is judged. Both limits grow from round to round, and the last round has no
-/// limit.
+/// The certificate of a game. In each round, the number of times that the recursion may place a vertex is limited;
+/// practical games stay within the first limit. When the recursion reaches its limit, an attempt at strategy
+/// improvement follows. An attempt guarantees nothing, so its result is judged. Both limits grow from round to round,
+/// and the last round has no limit.
 fn certificate_of<A: Arena>(alloc: Global, arena: &A) -> Result<Certificate, SolveFault>
     ensures certificate { IfOk result (IsLeastCertificate (A.game arena.now)) }
     ensures memory { IfErr result (λ fault. fault ≡ faults.OutOfMemory) }
@@ -182,8 +182,8 @@ fn attempted<A: Arena>(
     }
 }
 
-/// The certificate for a region and two tables about which nothing is known. The result is None exactly if the table of
-/// one player does not hold the vertices that the region gives to this player.
+/// The certificate for a region and two tables of moves, which may be wrong. The result is None exactly if some player
+/// who moves by that player's table does not win all vertices that the region gives to the player.
 fn tried<A: Arena>(
     alloc: Global,
     arena: &A,

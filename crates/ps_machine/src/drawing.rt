@@ -137,7 +137,7 @@ impl Drawing {
             .relabel_from(&plan.divided.store, rest, &self.places)
     }
 
-    /// Adds the rows of the given leaves, in which the machine outputs `letter`, and notes the index of each leaf's
+    /// Adds the rows of the given leaves, in which the machine outputs `letter`, and records the index of each leaf's
     /// row.
     fn place_rows(
         &mut self,
@@ -175,7 +175,7 @@ fn rest_of(classes: &[Class], letter: u64) -> Node
     }
 }
 
-/// Notes the index of a leaf's row. The list grows as needed; any new entries of smaller leaves are 0.
+/// Records the index of a leaf's row. The list grows as needed; any new entries of smaller leaves are 0.
 fn note(places: &mut Vec<u64>, leaf: u64, place: u64) -> Result<(), AllocError>
     ensures noted { OnOk result (slice_get places.new.items leaf ≡ Some place) }
     ensures others { OnOk result ((other n : ℕ) → other ≢ leaf → slice_get places.old.items other ≡ Some n →

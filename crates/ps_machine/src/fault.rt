@@ -12,7 +12,7 @@ use thiserror::Error;
 /// Why a solver gives no certificate.
 #[derive(Debug, Drop, Error)]
 pub enum SolveFault {
-    /// A strategy that the solver returned leaves a cycle that its player loses. The cycle is a list of vertex numbers.
+    /// A strategy that the solver returned allows a cycle that its player loses. The cycle is a list of vertex numbers.
     #[error("a cycle that its player loses")]
     BadCycle(Vec<usize>),
     /// The text that was fed is not a certificate of the game.

@@ -36,7 +36,7 @@ pub fn one_game()
 {}
 
 /// For each order of moves, a file has at most one game, including its names and ids. The file may have several
-/// automata, but these differ only where no play goes.
+/// automata, but these differ only in parts that no play reaches.
 pub fn one_game_of_file()
     ensures { (order : Order) (file : FileData) (game other : NamedGameData) → IsGameOfFile order file game →
         IsGameOfFile order file other → game ≡ other }
@@ -59,7 +59,7 @@ pub fn machine_is_there()
 {}
 
 /// A certificate has at most one machine. Any two machines of a board's game and one certificate have the same
-/// propositions and player. In each memory state, for every letter read, they do the same.
+/// propositions and player. From each memory state, at every letter that is read, they take the same step.
 pub fn one_machine()
     ensures { (names : List (List ℕ)) (board : Board) (mover : ℕ) (keys : List Key) (game : ParityGame)
         (certificate : CertificateData) → IsGameOf board mover keys game → (m o : Behaviour) →
@@ -68,8 +68,8 @@ pub fn one_machine()
         BehavesAs m o }
 {}
 
-/// A certificate of a file's game has at most one machine, although the automata of a file may differ where no play
-/// goes.
+/// A certificate of a file's game has at most one machine, although the automata of a file may differ in parts that no
+/// play reaches.
 pub fn one_machine_of_file()
     ensures { (order : Order) (file : FileData) (game : NamedGameData) (first second : IsGameOfFile order file game)
         (certificate : CertificateData) (m o : Behaviour) → IsMachine m → IsMachine o →

@@ -51,7 +51,7 @@ pub(crate) fn mark(moves_first: bool, vertex: usize, state: u32) -> usize
 }
 
 impl Memories {
-    /// Adds a memory state at a vertex, unless a memory state with this mark exists.
+    /// Adds a memory state for a vertex, unless a memory state with this mark exists.
     fn keep(&mut self, vertex: usize, mark: usize) -> Result<(), AllocError>
         ensures { OnOk result (KeepsAt self.old.kept.items self.old.marks.keys vertex mark self.new.kept.items
             self.new.marks.keys) }

@@ -35,7 +35,7 @@ flag name = record (new_rule name) { long = Some name; action = Some SetTrue }
 abbrev pub command_with : Text → List Text → Shape
 command_with name flags = record (new_shape name) { rules = map flag flags }
 
--- the command has these flags, and only flags of its own
+-- the command has just these flags, and no global flags
 pub record HasFlags (name : Text) (flags : List Text) (command : Command) : Type 0 where
   pub shape : (app_of command).top ≡ command_with name flags
   pub local : (out-Command command).has_globals ≡ false
@@ -152,7 +152,7 @@ abbrev pub has_flag : Text → List Text → Bool
 has_flag name [] = false
 has_flag name (flag ∷ flags) = if bytes_eq name flag then true else has_flag name flags
 
--- the player who moves first, with these flags
+-- which player moves first if these flags are given
 abbrev pub order_of : List Text → Order
 order_of flags = if has_flag (codes "moore") flags then Moore else Mealy
 
@@ -203,7 +203,8 @@ words_with name flags = name ∷ map (λ flag. codes "--" ++ flag) flags
 abbrev pub AreRead : List Text → Line → Type 0
 AreRead words line = (fault_of table words ≡ []) × (line_said (subcommand_of table words) ≡ line)
 
--- a command with some of its flags, each at most once and in any order, means the line of this command
+-- the words of a command and some of its flags, each at most once and in any order, mean the command line that `usages`
+-- gives for them
 abbrev pub LinesAreRead : Type 0
 LinesAreRead =
     AllByRecursion (λ usage. AllByRecursion (λ flags. AreRead (words_with usage.name flags) (usage.line flags))

@@ -37,7 +37,7 @@ use Rattle.ps_program.specs.declared.command_line.SynthLine.{SynthLine}
 abbrev pub HasAutomaton : List ℕ → Type 0
 HasAutomaton text = (file : FileData) × IsAcceptedText text file
 
--- the automaton's text for which a circuit is requested; a certificate may follow it
+-- the text of the automaton for which a circuit is requested; a certificate may follow this text
 abbrev pub AsksFor : (cert : Bool) → List ℕ → List ℕ → Type 0
 AsksFor false texts text = texts ≡ text
 AsksFor true texts text = (certificate : List ℕ) × CutsInTwo texts (Ok (text, certificate))
@@ -93,8 +93,8 @@ Agree line texts a b = a ≡ b
 abbrev pub IsFault : Reply → Type 0
 IsFault reply = (line : List ℕ) × (reply ≡ fault_reply line)
 
--- Any two answers to one input are equal, unless its line is open. In that case the two answers agree, or one of them
--- is the line of a fault.
+-- Any two answers to one input are equal, unless the answer to its line is open. In that case the two answers agree, or
+-- one of them is the line of a fault.
 abbrev pub HasOneAnswer : Solvers → Type 0
 HasOneAnswer solvers = (input : List ℕ) (a b : Reply) → AnswersWhole solvers input a → AnswersWhole solvers input b
     → (a ≡ b) ⊎ ((line : Line) × IsLine (first_line input) line × IsOpen line (behind_line input) ×

@@ -18,7 +18,7 @@ abbrev pub choice_text : Option ℕ → List ℕ
 choice_text (Some id) = spaced id
 choice_text None = codes " -"
 
--- the place of a fault, as it follows the name of the fault
+-- the place of a fault, which is written after the fault's name
 abbrev pub byte_text : ℕ → List ℕ
 byte_text offset = codes " at" ++ spaced offset
 

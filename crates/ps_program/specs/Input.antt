@@ -13,7 +13,7 @@ input_limit = 67108864
 abbrev pub AgreesWith : Option (List ℕ) → List ℕ → Type 0
 AgreesWith known bytes = IfSome known (λ left. left ≡ bytes)
 
--- the remaining bytes of the source, if they are known, are more than an input may have
+-- the remaining bytes of the source are more than an input may have, or are not known
 abbrev pub IsTooLong : Option (List ℕ) → Type 0
 IsTooLong known = (bytes : List ℕ) × AgreesWith known bytes × (input_limit < length bytes)
 

@@ -77,12 +77,12 @@ Names count (Unclosed flaw) = NamesVertices count flaw
 Names count (BadCycle player cycle) = All (λ v. v < count) cycle.items
 Names count OutOfMemory = ⊤
 
--- the result is the line of the cycle, or out of memory
+-- the result is the line of the cycle, or `OutOfMemory`
 abbrev pub IsCycleTold : NamedGameData → List ℕ → Refusal → Type 0
 IsCycleTold named cycle (refusal.Fault line) = fault_text line ≡ cycle_text named cycle
 IsCycleTold named cycle refusal.OutOfMemory = ⊤
 
--- the result is the line of the fault, or out of memory
+-- the result is the line of the fault, or `OutOfMemory`
 abbrev pub IsTold : NamedGameData → JudgeFault → Refusal → Type 0
 IsTold named (Unclosed flaw) (refusal.Fault line) = fault_text line ≡ flaw_text named flaw
 IsTold named (BadCycle player cycle) refused = IsCycleTold named cycle.items refused

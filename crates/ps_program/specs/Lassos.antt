@@ -26,8 +26,8 @@ verdict_text v =
 abbrev pub lasso_line : LassoFault → List ℕ
 lasso_line fault = line_text (fault_number fault) (fault_name fault) []
 
--- The verdict, if the lap is not empty and the circuit has the symbols of the role. Otherwise the line of the fault:
--- first that of an empty lap, then that of wrong symbols.
+-- The verdict, if the lap is not empty and the circuit has the symbols of the role. Otherwise the line of the fault,
+-- where an empty lap is reported before wrong symbols.
 abbrev pub TellsVerdict : Role → FileData → CircuitData → StimulusData → Result Reply (List ℕ) → Type 0
 TellsVerdict role file c s (Ok reply) =
     IsCircuit c × (0 < length s.lap) × HasSymbols role file.names file.controllable c
@@ -35,7 +35,7 @@ TellsVerdict role file c s (Ok reply) =
 TellsVerdict role file c s (Err line) = ((s.lap ≡ []) × (line ≡ lasso_line EmptyLap))
     ⊎ ((0 < length s.lap) × ¬ HasSymbols role file.names file.controllable c × (line ≡ lasso_line Symbols))
 
--- the verdict for the circuit of a text in this role, on the stimulus of another text, which has a divider
+-- the verdict for a circuit with this role and a stimulus with a divider, which are parsed from two texts
 abbrev pub RunsCircuit : Role → FileData → List ℕ → List ℕ → Result Reply (List ℕ) → Type 0
 RunsCircuit role file text letters =
     Then (ReadsCircuitText text) (λ c. Then (ReadsStimulusText (length c.inputs) true letters)

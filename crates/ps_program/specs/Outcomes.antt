@@ -26,7 +26,7 @@ abbrev pub printed : Result Reply (List ℕ) → Reply
 printed (Ok reply) = reply
 printed (Err line) = fault_reply line
 
--- a function of the code returns a possible result of the step, or out of memory
+-- a function of the code returns a possible result of the step, or runs out of memory
 abbrev pub Gives : {X V : Type 0} → (X → V) → (Result V (List ℕ) → Type 0) → Result X Refusal → Type 0
 Gives view step (Ok value) = step (Ok (view value))
 Gives view step (Err (refusal.Fault fault)) = step (Err (fault_text fault))

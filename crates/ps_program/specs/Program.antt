@@ -19,8 +19,8 @@ use Rattle.ps_program.specs.Solving.{AnswersSolve}
 use Rattle.ps_program.specs.Streams.{SinkState, AppendsSome, Breaks}
 use Rattle.ps_program.specs.Synthesis.{AnswersSynth}
 
--- the answer to a line and the texts after it; if the line uses a solver, the answer depends on what is known about the
--- solver
+-- the answer to a command line and the texts after it; if the command uses a solver, the answer depends on what is
+-- known about the solver
 abbrev pub AnswersLine : Solvers → Line → List ℕ → Result Reply (List ℕ) → Type 0
 AnswersLine solvers Refused texts outcome = outcome ≡ Ok usage
 AnswersLine solvers Help texts outcome = outcome ≡ Ok help
@@ -41,16 +41,16 @@ AnswersInput solvers input reply =
     × ((outcome : Result Reply (List ℕ)) × AnswersLine solvers line (behind_line input) outcome ×
     (reply ≡ printed outcome))
 
--- the answer to an input that may be too long
+-- the answer to an input, which may be too long
 abbrev pub AnswersWhole : Solvers → List ℕ → Reply → Type 0
 AnswersWhole solvers input reply = ((input_limit < length input) × (reply ≡ read_fault))
     ⊎ ((length input ≤ input_limit) × AnswersInput solvers input reply)
 
--- the answer to an input that may be too long, or out of memory
+-- the answer to an input, which may be too long, or the reply `out_of_memory`
 abbrev pub RepliesTo : Solvers → List ℕ → Reply → Type 0
 RepliesTo solvers input reply = (reply ≡ out_of_memory) ⊎ AnswersWhole solvers input reply
 
--- the answer to the input of a source, in which a read may fail, or out of memory
+-- the answer to an input that is read from a source, where a read may fail, or the reply `out_of_memory`
 abbrev pub Replies : Solvers → Option (List ℕ) → Bool → Reply → Type 0
 Replies solvers known true reply = reply ≡ read_fault
 Replies solvers known false reply = (reply ≡ out_of_memory)

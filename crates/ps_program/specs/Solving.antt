@@ -1,4 +1,4 @@
--- The command that solves a game by a given solver.
+-- The command that solves a game with a given solver.
 use Rattle.std.specs.Prelude.{◌≡◌, ℕ, Bool, false, List, Some, Result, Ok, Err}
 use Rattle.ps_game.specs.Games.{NamedGameData}
 use Rattle.ps_certificate.specs.Certificates.{CertificateData}
@@ -12,7 +12,7 @@ use Rattle.ps_program.specs.Replies.{Reply, text_reply}
 use Rattle.ps_program.specs.StageFaults.{stage_line}
 use Rattle.ps_program.specs.Texts.{ReadsGameText}
 
--- A valid certificate that the solver may answer and that fits the game, or the line of the solver's fault. There is no
+-- A valid certificate that fits the game and that the solver may return, or the line of the solver's fault. There is no
 -- fault if the solver is sure.
 abbrev pub Certifies : SolverData → NamedGameData → Result CertificateData (List ℕ) → Type 0
 Certifies solver named (Ok certificate) = IsCertified named certificate × answers_now solver named (Ok certificate)

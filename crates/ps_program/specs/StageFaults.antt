@@ -13,7 +13,7 @@ use Rattle.ps_program.specs.declared.answer.Refusal.{Refusal}
 use Rattle.ps_program.specs.declared.answer.Refusal.TheVariants as refusal
 use Rattle.ps_program.specs.Faults.{byte_text, edges_text, fault_text, ids_text, line_text}
 
--- the place of a fault in its line; out of memory has no line
+-- the place in the line of a fault, or None for `OutOfMemory`, which has no line
 abbrev pub automaton_place : AutomatonFault → Option (List ℕ)
 automaton_place automaton.ComplementedSet = Some []
 automaton_place automaton.NonParity = Some []
@@ -47,7 +47,7 @@ IsOfSolver (Certificate cause offset) = ⊤
 IsOfSolver NotCertified = ⊤
 IsOfSolver fault = ⊥
 
--- a fault is reported by its line, and out of memory as out of memory
+-- a fault with a line is reported by this line, and a fault without a line as `OutOfMemory`
 abbrev pub IsToldAs : Option (List ℕ) → Refusal → Type 0
 IsToldAs line (refusal.Fault told) = line ≡ Some (fault_text told)
 IsToldAs line refusal.OutOfMemory = line ≡ None

@@ -1,9 +1,9 @@
--- The effect of the calls of a sink.
+-- What the calls to a sink do, and the state of a sink.
 use Rattle.std.specs.Prelude.{◌≡◌, ◌⊎◌, ◌==◌, ◌&&◌, ℕ, Bool, true, false, List, length, Option, Result, Ok, Err, nat_lt}
 use Rattle.std.specs.Io.{StartsWith}
 use Rattle.std.specs.Io.KnownBytes.{Appends}
 
--- the write was given some bytes, and returned that it took none
+-- the write was given some bytes, and reported that it took none
 abbrev pub stalls : {E : Type 0} → Result ℕ E → List ℕ → Bool
 stalls (Ok n) bytes = n == 0 && nat_lt 0 (length bytes)
 stalls (Err e) bytes = false

@@ -25,12 +25,12 @@ use Rattle.ps_program.specs.Outcomes.{Then, Reading}
 abbrev pub missing_text : List ℕ
 missing_text = line_text 27 (codes "MissingText") []
 
--- the input has two texts, or the line for a missing text
+-- the two texts of the input, or the line for a missing text
 abbrev pub CutsInTwo : List ℕ → Result (List ℕ × List ℕ) (List ℕ) → Type 0
 CutsInTwo texts (Ok parts) = AreTexts texts (parts.0 ∷ parts.1 ∷ [])
 CutsInTwo texts (Err line) = HasFewerMarks 1 texts × (line ≡ missing_text)
 
--- the input has three texts, or the line for a missing text, which comes before any error in a text
+-- the three texts of the input, or the line for a missing text, even if another text has an error
 abbrev pub CutsInThree : List ℕ → Result (List ℕ × List ℕ × List ℕ) (List ℕ) → Type 0
 CutsInThree texts (Ok parts) = AreTexts texts (parts.0 ∷ parts.1 ∷ parts.2 ∷ [])
 CutsInThree texts (Err line) = HasFewerMarks 2 texts × (line ≡ missing_text)

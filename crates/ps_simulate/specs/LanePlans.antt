@@ -10,7 +10,7 @@ use Rattle.ps_simulate.specs.declared.lane_plan.Operands.{Operands}
 use Rattle.ps_simulate.specs.declared.lane_plan.LanePlan.{LanePlan}
 use Rattle.ps_simulate.specs.Plans.{IsPlan}
 
--- the variable of the literal is an index of the table
+-- the wire of a literal whose variable is an index into the table
 abbrev pub wire_in : ℕ → Wire
 wire_in literal = record { place = variable literal; is_negated = is_negated literal }
 

@@ -21,7 +21,7 @@ StepsInLanes c latches inputs outputs next =
     (lane : ℕ) → lane < 256 → Steps c (lane_of latches lane) (lane_of inputs lane) (lane_of outputs lane)
     (lane_of next lane)
 
--- a list of consecutive steps leads from some latch values to others
+-- a list of consecutive steps leads from the latch values `latches` to the latch values `last`
 abbrev pub GoOnInLanes : CircuitData → List (List ℕ) → List LaneMoment → List (List ℕ) → Type 0
 GoOnInLanes c latches [] last = latches ≡ last
 GoOnInLanes c latches (m ∷ ms) last =

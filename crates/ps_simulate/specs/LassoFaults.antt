@@ -1,6 +1,6 @@
 -- Why a lasso has no verdict.
---     Stands fault role names controllable c stem lap      this fault applies, and no earlier one; the order is the
---               width, an empty lap, the symbols
+--     Stands role a c stem lap fault      this fault applies, and no earlier one; the order is `Width`, `EmptyLap`,
+--               `Symbols`
 use Rattle.std.specs.Prelude.{◌≡◌, ⊤, ◌<◌, Bool, List, [], length, All}
 use Rattle.ps_circuit.specs.Circuits.{CircuitData}
 use Rattle.ps_automaton.specs.Automata.{AutomatonData}
@@ -21,7 +21,7 @@ pub record HasNoLassoFault (role : Role) (a : AutomatonData) (c : CircuitData) (
     pub some : 0 < length lap
     pub symbols : HasSymbols role a.names a.controllable c
 
--- the fault applies, and no earlier fault does; a call can be out of memory in any case
+-- the fault applies, and no earlier fault does; a call can run out of memory in any case
 abbrev pub Stands : Role → AutomatonData → CircuitData → List (List Bool) → List (List Bool) → LassoFault → Type 0
 Stands role a c stem lap Width = ¬ AreWide c stem lap
 Stands role a c stem lap EmptyLap = AreWide c stem lap × (lap ≡ [])

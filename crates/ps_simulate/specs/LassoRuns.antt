@@ -41,7 +41,7 @@ pub record HasRead (names : List (List ℕ)) (c : CircuitData) (stem lap : List 
   pub wide : (k : ℕ) → k < length seen → length (slice_index_or seen k []) ≡ length c.latches
   pub differ : (k l : ℕ) → k < l → l < length seen → slice_index_or seen k [] ≢ slice_index_or seen l []
 
--- the index of latch values that were seen before; new latch values are appended
+-- the index of the latch values if they were seen before; otherwise they are appended
 abbrev pub IsSeen : List (List Bool) → List (List Bool) → List Bool → Option ℕ → Type 0
 IsSeen old new latches (Some i) = (i < length old) × (slice_index_or old i [] ≡ latches) × (new ≡ old)
 IsSeen old new latches None =

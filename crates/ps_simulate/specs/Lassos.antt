@@ -42,7 +42,7 @@ abbrev pub latches_before : List (List Bool) → List (List Bool) → List Momen
 latches_before stem lap trace last k = slice_index_or (latches_along trace last) (length stem + k * length lap) []
 
 -- A trace reads the stem and then j laps, which are not empty. The latch values after the trace are those before lap i,
--- and the latch values before each of the j laps differ.
+-- and the latch values before the j laps are pairwise different.
 pub record Repeats (c : CircuitData) (stem lap : List (List Bool)) (i j : ℕ) (trace : List Moment) : Type 0 where
   pub has_letter : 0 < length lap
   pub last : List Bool

@@ -62,14 +62,14 @@ pub record IsWithin (size : ℕ) (row : Row) : Type 0 where
   pub first : row.first.place < size
   pub second : row.second.place < size
 
--- values by index: the constant, the inputs and the latches are first
+-- the values begin with the constant, the inputs and the latches
 pub record Holds (inputs latches values : List Bool) : Type 0 where
   pub constant : slice_index_or values 0 false ≡ false
   pub inputs_there : (k : ℕ) → k < length inputs → slice_index_or values (1 + k) false ≡ slice_index_or inputs k false
   pub latches_there : (k : ℕ) → k < length latches → slice_index_or values (1 + length inputs + k) false ≡
       slice_index_or latches k false
 
--- a table of the given size with the given inputs and latches, after its rows were evaluated
+-- a table of the given size with the given inputs and latches, after the rows were evaluated
 pub record IsWorkedOut (rows : List Row) (inputs latches : List Bool) (size : ℕ) (values : List Bool) : Type 0 where
   pub table : List Bool
   pub each : length table ≡ size

@@ -63,13 +63,13 @@ pub record IsStimulus (text : List ℕ) (width : ℕ) (split : Bool) (s : Stimul
 abbrev pub IsDigit : ℕ → Type 0
 IsDigit byte = (byte ≡ 48) ⊎ (byte ≡ 49)
 
--- line k is the first divider, if a divider is required
+-- a divider is required, and line k is the first one
 pub record Divides (split : Bool) (lines : List (List ℕ)) (k : ℕ) : Type 0 where
   pub wanted : split ≡ true
   pub there : slice_get lines k ≡ Some divider
   pub first : (j : ℕ) → j < k → slice_get lines j ≢ Some divider
 
--- line k must represent a letter
+-- line k exists, and must represent a letter
 pub record IsLetterLine (split : Bool) (lines : List (List ℕ)) (k : ℕ) (line : List ℕ) : Type 0 where
   pub there : slice_get lines k ≡ Some line
   pub letter : ¬ Divides split lines k

@@ -123,7 +123,7 @@ pub fn lasso(
     Ok(verdict_of(alloc, circuit, automaton, &naming, stem, lap)?)
 }
 
-/// The verdict for a naming with the automaton's names. Fails if out of memory.
+/// The verdict on a circuit, given its naming with the names of the automaton's propositions. Fails if out of memory.
 fn verdict_of(
     alloc: Global,
     circuit: &Circuit,

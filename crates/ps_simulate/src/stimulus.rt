@@ -96,7 +96,7 @@ fn is_divider(line: &[u8]) -> bool
     line.len() == 1 && line[0] == b'-'
 }
 
-/// The index of the first byte of a line that is not a digit.
+/// The index, in a line, of the first byte that is not a digit.
 fn first_wrong(line: &[u8]) -> Option<usize>
     ensures digits { IfNone result (All IsDigit line.now) }
     ensures wrong { IfSome result (λ j. (j < length line.now) × ¬ IsDigit (slice_index line.now j)) }

@@ -2,7 +2,7 @@
 use Rattle.std.specs.Prelude.{◌≡◌, ℕ, ◌+◌, ◌<◌, List}
 use Rattle.ps_automaton.specs.Autos.{Auto, state_after}
 
--- some laps lead from q to the state, and then `laps` more laps, at least one, lead back to the state
+-- some laps, or none, lead from q to the state, and then `laps` more laps, at least one, lead back to it
 pub record Returns (a : Auto) (q : ℕ) (lap : List ℕ) (state laps : ℕ) : Type 0 where
   pub before : ℕ
   pub some : 0 < laps

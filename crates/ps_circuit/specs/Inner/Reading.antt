@@ -98,8 +98,8 @@ pub record AddsGate (most : ℕ) (c d : Lines Gate) : Type 0 where
   pub is : d ≡ add_gate c literal first second
   pub new : Defines most c.defined (literal.value ∷ []) d.defined
 
--- a kind of lines that are read one after another: each line moves past at least one byte, and the remaining lines are
--- read after it
+-- a kind of lines that are read one after another: reading a line moves past at least one byte, and the remaining lines
+-- are read after it
 pub record IsRow {C : Type 0} (line : C → Field C) : Type 0 where
   pub takes : (c d : C) (old new : Stream Seen) → ReadsPart (line c) old d new → length new.pieces < length old.pieces
   pub goes_on : (n : ℕ) (c d : C) (old mid new : Stream Seen) (r : Result C (Option (Found AigCause))) → 0 < n →
@@ -114,8 +114,8 @@ pub data Grown {C : Type 0} (Adds : C → C → Type 0) (c : C) : C → Type 0 w
 
 -- ## The text
 
--- If each literal that is read is defined, the parts form a circuit, except that a gate may depend on itself. Each gate
--- has the offset of its line.
+-- If each literal that is read is defined, the parts form a circuit, except that a gate may depend on itself. The list
+-- `starts` has the offset of each gate's line.
 pub record IsSoundDraft (d : DraftData) : Type 0 where
   pub draft : All (IsDefined d.defined) d.readings → IsDraft d.circuit
   pub starts : length d.starts ≡ length d.circuit.gates

@@ -11,7 +11,7 @@ use Rattle.ps_diagram.specs.Table.{Table, IsNode, tree_of}
 abbrev pub IsChosen : Tree → Tree → Tree → Tree → Type 0
 IsChosen a b c d = (f : ℕ → Bool) → leaf_at d f ≡ chosen (leaf_at a f) (leaf_at b f) (leaf_at c f)
 
--- the nodes of each known triple are in the table, and so is the node made of them, whose tree is chosen from their
+-- the nodes of each known triple are in the table, and so is the node made from them; `IsChosen` relates their four
 -- trees
 abbrev pub KnowsTriples : Table → (ℕ × ℕ × ℕ → Option ℕ) → Type 0
 KnowsTriples t known =
@@ -19,7 +19,8 @@ KnowsTriples t known =
     IsNode t truth × IsNode t one × IsNode t other × IsNode t made ×
     IsChosen (tree_of t truth) (tree_of t one) (tree_of t other) (tree_of t made)
 
--- three nodes are cut at the same proposition; their low sides, and their high sides, have a smaller sum than the nodes
+-- three nodes are cut at the same proposition; the sum of their low sides, and that of their high sides, is less than
+-- the sum of the nodes
 pub record IsCut (t : Table) (truth one other : ℕ) (c : Cut) : Type 0 where
   pub named : c.proposition < t.propositions
   pub truth_sides : IsSides t truth c.proposition c.truth.low c.truth.high

@@ -20,7 +20,7 @@ KnowsPairs R t known =
 abbrev pub pair_eq : ℕ × ℕ → ℕ × ℕ → Bool
 pair_eq a b = nat_eq a.0 b.0 && nat_eq a.1 b.1
 
--- each leaf of the second tree is the result of the rule for the leaf of the first tree
+-- at each letter, the leaf of the second tree is the rule's result for the leaf of the first tree
 abbrev pub IsMapped : (Option ℕ → Option ℕ) → Tree → Tree → Type 0
 IsMapped rule t u = (f : ℕ → Bool) → leaf_at u f ≡ rule (leaf_at t f)
 

@@ -56,13 +56,15 @@ pub record AreTested (t : Table) (test : (ℕ → Bool) → Bool) (x y z : Optio
 abbrev pub IsTested : Table → ℕ → Tree → Tree → Tree → Type 0
 IsTested t p a b d = (f : ℕ → Bool) → AreTested t (λ g. g p) (leaf_at a f) (leaf_at b f) (leaf_at d f)
 
--- at each letter f, the third tree's node tests p, except that f decides the test if p is in the mask
+-- as in `IsTested`, except that if p is in the mask, the truth value of p in f selects one of the two nodes for all
+-- letters
 abbrev pub IsDividedTest : Table → ℕ → ℕ → Tree → Tree → Tree → Type 0
 IsDividedTest t mask p a b d =
     (f : ℕ → Bool) → AreTested t (λ g. mixed mask f g p) (leaf_at a f) (leaf_at b f) (leaf_at d f)
 
 -- For each known key, the two nodes of the key and the node made from them are in the table. At each letter, the leaf
--- of the node that was made tests the key's proposition, with the leaves of the two nodes as sides.
+-- of the node that was made is a node that tests the key's proposition, and whose sides are the leaves of the two
+-- nodes.
 abbrev pub KnowsTests : Table → (ℕ × ℕ × ℕ → Option ℕ) → Type 0
 KnowsTests t known =
     (p low high made : ℕ) → known (p, low, high) ≡ Some made →

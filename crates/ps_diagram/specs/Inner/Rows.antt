@@ -5,7 +5,7 @@ use Rattle.std.specs.Prelude.{slice_index_or}
 use Rattle.ps_diagram.specs.Tree.{leaf_at, IsBlind}
 use Rattle.ps_diagram.specs.Table.{Table, IsNode, leaf_of, tree_of}
 
--- the node is in the table, and has the same given leaf, or no leaf, at every letter
+-- the node is in the table, and at every letter it has the given leaf, or no leaf if None is given
 abbrev pub HasLeaf : Table → ℕ → Option ℕ → Type 0
 HasLeaf t node leaf = IsNode t node × ((f : ℕ → Bool) → leaf_at (tree_of t node) f ≡ leaf)
 
@@ -14,7 +14,8 @@ pub record AreLeafNodes (t : Table) (leaves : List ℕ) (count : ℕ) (nodes : L
   pub one_each : length nodes ≡ count
   pub each : (i : ℕ) → i < count → HasLeaf t (slice_index nodes i) (slice_get leaves i)
 
--- the nodes of a row depend only on propositions from `level` on; past the row's end, the node `none` has no leaf
+-- the nodes of a row depend only on propositions from `level` on; an index past the row's end gives the node `none`,
+-- which has no leaf
 pub record IsRow (t : Table) (level none : ℕ) (nodes : List ℕ) : Type 0 where
   pub nothing : HasLeaf t none None
   pub held : (i : ℕ) → IsNode t (slice_index_or nodes i none)

@@ -1,4 +1,4 @@
--- The result of the check whether a text ends.
+-- The result of the check that no token is left.
 use Rattle.std.specs.Prelude.{◌≡◌, [], Some, Result, Ok, Err}
 use Rattle.ps_text.specs.Answers.{Stream}
 use Rattle.ps_text.specs.Parts.{refusal_of}

@@ -5,8 +5,8 @@
 --     GoesOn game certificate v w      a path that follows the table of the winner of vertex 0 can continue from v to w
 --     AreMemories is_first keys used kept marks      the vertex of each memory state, and its mark
 --     IsPlan ..      the data from which the machine is made
---     IsDrawn .. v node      the diagram leads each letter of the other player to the row of the memory state that is
---               kept at v
+--     IsDrawn .. v node      the diagram leads each letter of the other player to the right row for the memory state
+--               whose vertex is v
 --     IsReply .. q x r p, IsReplyRow .. q x row      the step of a player who moves second, after the letter x, and the
 --               row for this step
 use Rattle.std.specs.Prelude.{◌≡◌, ◌≢◌, ℕ, ◌+◌, ◌<◌, ◌≤◌, ◌↔◌, ◌==◌, Bool, true, false, List, [], ◌∷◌, length, Some}
@@ -51,13 +51,13 @@ abbrev pub mark_of : Bool → ℕ → ℕ → ℕ
 mark_of true v q = v
 mark_of false v q = q
 
--- a mark that has occurred has a memory state; for a new mark, a memory state is kept at the vertex v
+-- a new mark gets a memory state, whose vertex is v; nothing changes if the mark has a memory state already
 pub data KeepsAt (old_kept old_marks : List ℕ) (v mark : ℕ) (kept marks : List ℕ) : Type 0 where
   Stays : Contains old_marks mark → kept ≡ old_kept → marks ≡ old_marks → KeepsAt old_kept old_marks v mark kept marks
   Grows : ¬ Contains old_marks mark → kept ≡ old_kept ++ v ∷ [] → marks ≡ old_marks ++ mark ∷ [] →
       KeepsAt old_kept old_marks v mark kept marks
 
--- the memory state is kept at a used vertex at which the first player moves
+-- the vertex of the memory state is a used vertex at which the first player moves
 pub record IsMemory (is_first : Bool) (keys : List Key) (used kept marks : List ℕ) (memory : ℕ) : Type 0 where
   pub state : ℕ
   pub priority : ℕ
@@ -65,13 +65,13 @@ pub record IsMemory (is_first : Bool) (keys : List Key) (used kept marks : List 
   pub is_used : Contains used (slice_index kept memory)
   pub mark : slice_get marks memory ≡ Some (mark_of is_first (slice_index kept memory) state)
 
--- a memory state with this mark exists, and is kept at the vertex v or at a smaller vertex
+-- a memory state with this mark exists, and its vertex is v or a smaller vertex
 pub record HasMemory (kept marks : List ℕ) (v mark : ℕ) : Type 0 where
   pub memory : ℕ
   pub is_marked : slice_get marks memory ≡ Some mark
   pub behind : slice_index kept memory ≤ v
 
--- each mark of a used vertex has one memory state, which is kept at the smallest vertex with that mark
+-- each mark of a used vertex has one memory state, whose vertex is the smallest used vertex with that mark
 pub record AreMemories (is_first : Bool) (keys : List Key) (used kept marks : List ℕ) : Type 0 where
   pub many : length marks ≡ length kept
   pub rising : AllPairs (λ v w. v < w) kept
@@ -111,7 +111,7 @@ pub record IsRowAt (is_first : Bool) (board : Board) (keys : List Key) (kept : L
   pub goes : GoesTo keys board q (x + row.letter) entered
   pub next : StandsFor is_first keys kept row.memory entered (board.auto.next q (x + row.letter))
 
--- the leaf of the diagram at the letter x names the right row
+-- at the letter x, the leaf of the diagram names the right row for the vertex v, whose state is q
 pub record LeadsToRow (is_first : Bool) (board : Board) (keys : List Key) (kept : List ℕ)
     (certificate : CertificateData) (t : Table) (rows : List Row) (node v q x : ℕ) : Type 0 where
   pub leaf : ℕ
@@ -145,7 +145,7 @@ pub record CanEnter (order : Order) (a : AutomatonData) (keys : List Key) (certi
 
 -- ## Diagrams of a player who moves second
 
--- after the letter x at the state q, the winner's move leads to the state r by the priority p, and some letter of the
+-- after the letter x at the state q, the winner's move leads to the state r with the priority p, and some letter of the
 -- winner leads there
 pub record IsReply (board : Board) (keys : List Key) (certificate : CertificateData) (q x r p : ℕ) : Type 0 where
   pub at : ℕ

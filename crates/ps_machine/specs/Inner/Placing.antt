@@ -1,6 +1,6 @@
 -- Steps of a player who moves first, and the rows that are stored for these steps. The player's move can lead to
--- certain leaves of the automaton's diagram, and each of these leaves has the index of its row. Therefore the machine's
--- diagram is the automaton's diagram with indices of rows as leaves. (For private functions.)
+-- certain leaves of the automaton's diagram, and `places` has the index of a row for each of these leaves. Therefore
+-- the machine's diagram is the automaton's diagram with these indices as leaves. (For private functions.)
 --     PlaysClass board keys certificate v q letter      the letter that is output at the vertex v of the state q
 --     IsEntered .. leaf      the machine can take the step that the leaf names
 --     IsPlaced .. letter leaf      the leaf's row is stored
@@ -17,7 +17,7 @@ use Rattle.ps_machine.specs.declared.key.Key.TheVariants.{Second}
 use Rattle.ps_machine.specs.declared.key.Order.{Order}
 use Rattle.ps_machine.specs.declared.machine.Row.{Row}
 
--- the least letter of the class to which the move at the vertex v of the state q leads
+-- the move at the vertex v, whose state is q, leads to a class whose least letter is `letter`
 pub record PlaysClass (board : Board) (keys : List Key) (certificate : CertificateData) (v q letter : ℕ) : Type 0 where
   pub chosen : ℕ
   pub choice : choice_of certificate v ≡ Some chosen
@@ -30,8 +30,8 @@ pub record IsEntered (order : Order) (a : AutomatonData) (keys : List Key) (cert
   pub within : leaf < length a.steps
   pub enters : CanEnter order a keys certificate is_first kept marks (pair_of a leaf).state (pair_of a leaf).priority
 
--- The row at the index that is noted for the leaf outputs the letter. The row leads to the memory state of the vertex
--- that stands for the leaf's step.
+-- The row at the index that `places` has for the leaf outputs the letter. The row leads to the memory state of the
+-- vertex that stands for the leaf's step.
 pub record IsPlaced (a : AutomatonData) (keys : List Key) (is_first : Bool) (kept : List ℕ) (rows : List Row)
     (places : List ℕ) (letter leaf : ℕ) : Type 0 where
   pub place : ℕ
