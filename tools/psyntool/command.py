@@ -1,7 +1,7 @@
 """What a command of the tool is, and what a command line asks of it.
 
-A command is the `COMMAND` of a file in `commands`, and has a row in `table`. Help, the manual and the completions are
-made from these.
+A command is the `COMMAND` of a file in `commands`. What a command of the program reads, and its flags, stand in the program's
+own table (`usages`); one of the tool alone has a row in `table`. Help, the manual and the completions are made from these.
 """
 from collections.abc import Callable
 from dataclasses import dataclass, field
@@ -9,6 +9,7 @@ from dataclasses import dataclass, field
 from psyntool.ends import Refused
 from psyntool.files import Reader
 from psyntool.kinds import Kind
+from psyntool.usages import USAGES
 
 
 @dataclass(frozen=True)
@@ -31,6 +32,7 @@ CERT = Flag("--cert", "by a certificate that is given")
 MOORE = Flag("--moore", "outputs before inputs")
 COMPACT = Flag("--compact", "the compact text of a certificate")
 ENV = Flag("--env", "the circuit is an environment")
+OF_THE_PROGRAM = {flag.name: flag for flag in (FULL, CERT, MOORE, COMPACT, ENV)}
 TO_FILES = Flag(
     "-o",
     "circuit, game and certificate go to PREFIX.aag, PREFIX.pg and PREFIX.cert (then the first line alone is printed), the automaton of "
@@ -80,7 +82,7 @@ class Command:
     behind: dict = field(default_factory=dict)
     instead: dict = field(default_factory=dict)
     least: int | None = None
-    is_of_the_program: bool = True
+    is_of_the_program: bool = False
 
     @property
     def all_flags(self):
@@ -101,6 +103,13 @@ class Command:
     def usage(self):
         optional = [f"[{kind.word}]" for kind in self.behind.values()]
         return " ".join([self.name, *(f"[{flag.shown}]" for flag in self.all_flags), *self.wanted(), *optional])
+
+
+def of_the_program(name, says, run, own=(), instead=None):
+    """A command of the program, whose table says what its flags are and what it reads."""
+    usage = USAGES[name]
+    flags = tuple(OF_THE_PROGRAM[flag] for flag in usage.flags)
+    return Command(name, says, usage.texts, run, flags, own, usage.added, instead or {}, is_of_the_program=True)
 
 
 def flags_told(commands):

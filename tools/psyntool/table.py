@@ -1,6 +1,14 @@
-"""The commands, in the order in which help, the manual and the completions have them. A new one is a file and a row here."""
-from psyntool.commands import cert, check, closed, compose, convert, core, game, games, judge, lasso, page, play, show, sim, solution, solve, synth, version, wave
-from psyntool.commands import help as help_
+"""The commands, in the order in which help, the manual and the completions have them.
 
-ROWS = [synth, compose, core, play, page, game, cert, solve, check, closed, judge, sim, lasso, show, wave, convert, solution, games, help_, version]
+Those of the program stand first, in the order of its own table. A command is a file of `commands`; one of the tool alone has a row
+here too.
+"""
+import importlib
+
+from psyntool.commands import compose, convert, core, games, page, play, show, solution, version, wave
+from psyntool.commands import help as help_
+from psyntool.usages import USAGES
+
+OF_THE_PROGRAM = [importlib.import_module(f"psyntool.commands.{name}") for name in USAGES if name != "help"]
+ROWS = [*OF_THE_PROGRAM, compose, core, play, page, show, wave, convert, solution, games, help_, version]
 COMMANDS = {row.COMMAND.name: row.COMMAND for row in ROWS}

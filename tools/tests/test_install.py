@@ -1,5 +1,4 @@
 """What tools/install puts in place, the man page, and the table of commands from which completions are written."""
-import glob
 import os
 import pty
 import re
@@ -13,7 +12,8 @@ import unittest
 from psyntool.command import EVERYWHERE
 from psyntool.program import path as program
 from psyntool.table import COMMANDS
-from upkeep import completions, manual
+from psyntool.usages import USAGES
+from upkeep import completions, manual, usages
 from upkeep.sweeps import TOP
 
 SLOW = "#!/bin/sh\ncat > /dev/null\nsleep 3.5\necho valid\n"
@@ -114,13 +114,21 @@ class Installed(unittest.TestCase):
 
 
 class Tables(unittest.TestCase):
-    def test_the_commands_are_those_of_the_program(self):
-        (path,) = glob.glob(os.path.join(TOP, "crates", "*", "src", "command_line.rt"))
-        with open(path, encoding="utf-8") as file:
-            table = re.search(r"const COMMANDS: .*?= &\[(.*?)\n\];", file.read(), re.S)[1]
-        rows = {name: re.findall(r'"(\w+)"', flags) for name, flags in re.findall(r'\("(\w+)", &\[(.*?)\]\)', table)}
-        ours = {name: [flag.name.removeprefix("--") for flag in it.flags] for name, it in COMMANDS.items() if it.is_of_the_program}
-        self.assertEqual({**ours, "help": []}, rows)
+    def test_the_stored_commands_are_those_of_the_program(self):
+        with open(usages.STORED, encoding="utf-8") as file:
+            self.assertEqual(file.read(), usages.written(), "tools/command-files")
+        self.assertEqual([name for name, it in COMMANDS.items() if it.is_of_the_program], [name for name in USAGES if name != "help"])
+
+    def test_a_table_that_cannot_be_read_is_one_line(self):
+        row = 'Usage { name: "x", flags: &[%s], texts: &[TextKind::Game], added: &[(A_FLAG, TextKind::Circuit)], line: Line::X }'
+        flag = 'pub const A_FLAG: &str = "a";'
+        self.assertIn('[x]\nflags = ["a"]\ntexts = ["game"]\nadded = { a = "circuit" }\n', usages.written(flag + row % "A_FLAG"))
+        for code in (flag, row % "", flag + row % "B_FLAG", flag + row % "" + 'Usage { name: "y", line: Line::Y }'):
+            with self.assertRaisesRegex(usages.Unreadable, "^crates/ps_program/src/commands.rt: "):
+                usages.written(code)
+
+    def test_what_follows_from_the_tables_is_stored(self):
+        self.assertEqual(subprocess.run([os.path.join(TOP, "tools", "command-files"), "--check"], check=False).returncode, 0)
 
     def test_a_flag_is_the_same_in_each_command(self):
         flags = [flag for command in COMMANDS.values() for flag in command.all_flags] + list(EVERYWHERE)
@@ -132,7 +140,7 @@ class Tables(unittest.TestCase):
 
     def test_the_stored_manual_is_written_from_the_tables(self):
         with open(os.path.join(TOP, "docs", "psyn.1"), encoding="utf-8") as file:
-            self.assertEqual(file.read(), manual.page(), "tools/install --manual > docs/psyn.1")
+            self.assertEqual(file.read(), manual.page(), "tools/command-files")
 
     def test_each_command_and_flag_is_in_the_manual_and_completed(self):
         for name, command in COMMANDS.items():

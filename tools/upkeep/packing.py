@@ -11,7 +11,7 @@ from psyntool import places, releases
 from upkeep import completions
 
 DOCUMENTS = "docs/*.md docs/psyn.1 docs/pictures/* README.md VERSION"
-TOOLS = "tools/psyn tools/install tools/check_certificate.py tools/psyntool/**/*.py tools/psyntool/pages/*"
+TOOLS = "tools/psyn tools/install tools/check_certificate.py tools/psyntool/**/*.py tools/psyntool/*.toml tools/psyntool/pages/*"
 EXAMPLES = "examples/files/* examples/parts/* examples/gallery/**/*"
 COMPLETIONS = {"share/bash-completion/completions/psyn": completions.bash, "share/zsh/site-functions/_psyn": completions.zsh}
 SUMS = "SHA256SUMS"

@@ -1,18 +1,20 @@
 -- What clap makes of the table of commands.
 use Rattle.std.proofs.Common.{rules, arith, ◌≡◌, ◌⊎◌, ◌∙◌, ◌<◌, ◌+◌, ◌++◌, ℕ, List, [], ◌∷◌, ◌||◌, Bool, Bor, length}
-use Rattle.std.proofs.Common.{map, take, true, false, refl, sym, inl, inr, ap, ap₂}
+use Rattle.std.proofs.Common.{map, take, true, false, refl, sym, inl, inr, ap, ap₂, subst}
 use Prim.Native.Nat.{suc}
 use Rattle.std.proofs.Math.ListN.{get_or}
 use Rattle.std.proofs.Math.Seq.{take-length, take-suc}
 use Rattle.std.proofs.lemmas.List.{map-append}
 use Rattle.std.specs.List.{AllByRecursion}
 use Rattle.std.specs.Option.{option_map_or}
-use Rattle.std.specs.Prelude.{IfOk, Option, Result, codes}
+use Rattle.std.specs.Prelude.{All, IfOk, Option, Result, Ok, Err, None, Some, codes, find, option_map, slice_index}
+use Rattle.std.proofs.lemmas.List.Elements.{All-map}
 use Rattle.std.specs.Str.{bytes_eq}
 use Rattle.clap.specs.Matches.{first_value}
 use Rattle.clap.specs.Simple.{is_simple}
 use Rattle.clap.specs.Words.{App, Text, IsAmong, AddsSubcommand, Rule, app_of, fault_of, subcommand_of}
 use Rattle.clap.specs.Words.{is_simple_and_free, rows_of, with_rule, with_subcommand}
+use Rattle.clap.specs.Words as clap
 use Rattle.clap.specs.declared.builder.command.Command.{Command}
 use Rattle.clap.specs.declared.builder.command.Command.TheViews.{out-Command}
 use Rattle.clap.specs.declared.parser.matches.Found.{Found}
@@ -20,11 +22,13 @@ use Rattle.clap.proofs.WalkLemmas.{first_value-rows}
 use Rattle.clap.specs.declared.error.kind.ErrorKind.{ErrorKind}
 use Rattle.clap.specs.declared.error.kind.ErrorKind.TheVariants.{DisplayHelp, OutOfMemory}
 use Rattle.clap.proofs.OnLiterals.{clap_on_literals}
-use Rattle.ps_program.specs.declared.command_line.Line.{Line}
-use Rattle.ps_program.specs.declared.command_line.Line.TheVariants.{Refused}
+use Rattle.ps_program.specs.declared.commands.Line.{Line}
+use Rattle.ps_program.specs.declared.commands.Line.TheVariants.{Refused}
 use Rattle.ps_program.specs.CommandLine.{Usage, HasFlags, command_with, commands, flag, program, table, with_commands}
-use Rattle.ps_program.specs.CommandLine.{usages, arrangements, is_given, line_refused, line_said, words_with, AreRead}
-use Rattle.ps_program.specs.CommandLine.{Says, LinesAreRead, AskForHelp}
+use Rattle.ps_program.specs.CommandLine.{arrangements, is_among, is_given, line_named, line_refused, line_said}
+use Rattle.ps_program.specs.CommandLine.{words_with, AreRead, Says, LinesAreRead, AskForHelp}
+use Rattle.ps_program.specs.Inner.Usages.{usage_of, with_flags}
+use Rattle.ps_program.specs.declared.commands.Usage.{Usage as Row}
 
 -- clap's answers to the table are those of a simple command
 pub table-simple : is_simple table ≡ true
@@ -61,23 +65,23 @@ behind_first [] = []
 behind_first (x ∷ xs) = xs
 
 -- a command is read with each choice of flags, where it is heard so
-choices_read : (name : Text) (line : List Text → Line) (choices : List (List Text)) →
-    map (heard name) choices ≡ map (λ flags. ([], line flags)) choices
-    → AllByRecursion (λ flags. AreRead (words_with name flags) (line flags)) choices
+choices_read : (name : Text) (line : (Text → Bool) → Line) (choices : List (List Text)) →
+    map (heard name) choices ≡ map (λ flags. ([], line (is_among flags))) choices
+    → AllByRecursion (λ flags. AreRead (words_with name flags) (line (is_among flags))) choices
 choices_read name line [] same = tt
 choices_read name line (flags ∷ more) same = grind (arith, choices_read name line more (ap behind_first same))
 
 usages_read : (commands : List Usage) → map (λ usage. map (heard usage.name) (arrangements usage.flags)) commands
-    ≡ map (λ usage. map (λ flags. ([], usage.line flags)) (arrangements usage.flags)) commands
-    → AllByRecursion (λ usage. AllByRecursion (λ flags. AreRead (words_with usage.name flags) (usage.line flags))
-    (arrangements usage.flags)) commands
+    ≡ map (λ usage. map (λ flags. ([], usage.line (is_among flags))) (arrangements usage.flags)) commands
+    → AllByRecursion (λ usage. AllByRecursion (λ flags. AreRead (words_with usage.name flags)
+    (usage.line (is_among flags))) (arrangements usage.flags)) commands
 usages_read [] same = tt
 usages_read (usage ∷ more) same = search (rules, choices_read, usages_read more (ap behind_first same))
 
 -- each line of the table is read
 pub lines_read : LinesAreRead
 unfolding table clap_on_literals
-lines_read = usages_read usages refl
+lines_read = usages_read commands refl
 
 pub help_asked : AskForHelp
 unfolding table clap_on_literals
@@ -131,36 +135,73 @@ pub grown : {E : Type 0} (result : Result Command E) (psyn command : Command) (n
     → IfOk result (λ whole. app_of whole ≡ more (app_of psyn) name flags)
 grown result psyn command name flags has adds = grind arith
 
--- a row of the table in the code
-abbrev Row : Type 0
-Row = Bor Text × Bor (List (Bor Text))
+-- ---- the table in the code
 
-abbrev row_of : Row → Text × List Text
-row_of row = (row.0.now, map (λ flag. flag.now) row.1.now)
-
-abbrev pub rows_of_table : List Row → List (Text × List Text)
-rows_of_table rows = map row_of rows
-
-with_one_more : (app : App) (rows : List (Text × List Text)) (row : Text × List Text) →
-    with_commands app (rows ++ row ∷ []) ≡ more (with_commands app rows) row.0 row.1
-with_one_more app [] row = refl
-with_one_more app (first ∷ rows) row = with_one_more (more app first.0 first.1) rows row
+with_one_more : (app : App) (usages : List Usage) (usage : Usage) →
+    with_commands app (usages ++ usage ∷ []) ≡ more (with_commands app usages) usage.name usage.flags
+with_one_more app [] usage = refl
+with_one_more app (first ∷ usages) usage = with_one_more (more app first.name first.flags) usages usage
 
 -- the table up to a row, and that row
 pub row_added : (old new app : App) (rows : List Row) (i : ℕ) (default : Row) → i < length rows →
-    new ≡ more old (get_or rows i default).0.now (map (λ flag. flag.now) (get_or rows i default).1.now) →
-    old ≡ with_commands app (rows_of_table (take i rows)) → new ≡ with_commands app (rows_of_table (take (i + 1) rows))
+    new ≡ more old (get_or rows i default).name.now (map (λ flag. flag.now) (get_or rows i default).flags.now) →
+    old ≡ with_commands app (map usage_of (take i rows)) → new ≡ with_commands app (map usage_of (take (i + 1) rows))
 row_added old new app rows i default within added were =
     let row : Row = get_or rows i default in
     grind (
       arith,
-      with_one_more app (rows_of_table (take i rows)) (row_of row),
-      map-append row_of (take i rows) (row ∷ []),
+      with_one_more app (map usage_of (take i rows)) (usage_of row),
+      map-append usage_of (take i rows) (row ∷ []),
       take-suc rows i default within,
     )
 
--- the whole table
-pub rows_whole : (app : App) (rows : List Row) (i : ℕ) → i ≡ length rows →
-    app ≡ with_commands program (rows_of_table (take i rows)) → rows_of_table rows ≡ commands → app ≡ table
+-- the table of all commands
+pub made_table : {E : Type 0} (made : Result Command E) (rows : List Row) → map usage_of rows ≡ commands →
+    IfOk made (λ command. app_of command ≡ with_commands program (map usage_of rows)) →
+    IfOk made (λ command. app_of command ≡ table)
 unfolding table
-rows_whole app rows i behind is same = grind (arith, take-length)
+made_table (Ok command) rows same is = is ∙ ap (with_commands program) same
+made_table (Err error) rows same is = tt
+
+pub all_rows : (app : App) (rows : List Row) (i : ℕ) → i ≡ length rows →
+    app ≡ with_commands program (map usage_of (take i rows)) → app ≡ with_commands program (map usage_of rows)
+all_rows app rows i behind is = grind (arith, take-length)
+
+-- the line of the row of a name
+found_among : (rows : List Row) (name : Text) (given : Text → Bool) →
+    option_map_or (λ row. with_flags row.line given) (find (λ row. bytes_eq row.name.now name) rows) Refused
+    ≡ option_map_or (λ usage. usage.line given) (find (λ usage. bytes_eq usage.name name) (map usage_of rows)) Refused
+found_among [] name given = refl
+found_among (row ∷ rows) name given = grind (arith, found_among rows name given)
+
+pub row_found : (rows : List Row) (name : Text) (given : Text → Bool) (row : Option Row) →
+    map usage_of rows ≡ commands →
+    row ≡ find (λ row. bytes_eq row.name.now name) rows
+    → option_map_or (λ row. with_flags row.line given) row Refused ≡ line_named name given
+row_found rows name given row same is =
+    ap (λ (found : Option Row). option_map_or (λ row. with_flags row.line given) found Refused) is
+    ∙ found_among rows name given
+    ∙ ap (λ (usages : List Usage). option_map_or (λ usage. usage.line given)
+    (find (λ usage. bytes_eq usage.name name) usages) Refused) same
+
+-- a word that is longer than the names of the rows is longer than those of the commands
+pub longer_than_each : (rows : List Row) (word : Text) → map usage_of rows ≡ commands →
+    All (λ row. length row.name.now < length word) rows → All (λ usage. length usage.name < length word) commands
+longer_than_each rows word same longer =
+    let IsLonger : Usage → Type 0 = λ usage. length usage.name < length word in
+    subst (All IsLonger) same (All-map IsLonger usage_of rows longer)
+
+-- its bytes begin with no hyphen, so the word does not
+pub no_hyphen : (word bytes : Text) → bytes ≡ word → (get_or bytes 0 0 ≡ 45 → ⊥) → slice_index word 0 ≡ 45 → ⊥
+no_hyphen word bytes same plain hyphen = grind arith
+
+-- the subcommand of a name and with these rows
+module _ {B : Type 0} (name_in : B → Text) (rows_in : B → List clap.Row) where
+  abbrev both_in : B → Text × List clap.Row
+  both_in b = (name_in b, rows_in b)
+
+  pub one_subcommand : (met : Option B) (name : Text) (rows : List clap.Row) → Some name ≡ option_map name_in met
+      → Some rows ≡ option_map (λ (both : Text × List clap.Row). both.1) (option_map both_in met)
+      → option_map both_in met ≡ Some (name, rows)
+  one_subcommand None name rows named had = cc
+  one_subcommand (Some b) name rows named had = cc

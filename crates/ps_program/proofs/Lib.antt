@@ -3,10 +3,12 @@ pub mod AutomatonLemmas
 pub mod CheckLemmas
 pub mod CircuitLemmas
 pub mod CommandLemmas
+pub mod HelpLemmas
 pub mod JudgeLemmas
 pub mod KindLemmas
 pub mod LassoLemmas
 pub mod LongWords
+pub mod MissingTexts
 pub mod OneAnswer
 pub mod OneCertified
 pub mod OneCut

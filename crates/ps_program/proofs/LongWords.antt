@@ -1,10 +1,11 @@
 -- A first word that is longer than each command, and begins with no hyphen, is refused.
 use Rattle.std.proofs.Common.{rules, arith, ◌≡◌, ◌<◌, ◌≤◌, ◌&&◌, ◌==◌, nat_eq, ℕ, List, [], ◌∷◌, Bool, Option}
-use Rattle.std.proofs.Common.{None, length, find, map, false, refl, inl, inr, is_some}
+use Rattle.std.proofs.Common.{None, length, find, map, false, refl, inl, inr, is_some, lit<}
 use Rattle.std.proofs.Math.ListN.{get_or}
 use Rattle.std.specs.Borrow.{Bor}
 use Rattle.std.proofs.lemmas.Grind.{common_steps}
-use Rattle.std.specs.List.{AllByRecursion}
+use Rattle.std.specs.List.{All}
+use Rattle.std.proofs.lemmas.List.Elements.{All-head, All-tail}
 use Rattle.std.specs.Str.{bytes_eq}
 use Rattle.clap.specs.Faults.{entered_fault, fault_of, level_fault, stray_fault, turn_fault, walk_fault}
 use Rattle.clap.specs.Kinds.{Kinds}
@@ -13,8 +14,8 @@ use Rattle.clap.specs.Walk.{Held, Names, Text, answers_to, arg_by_index, nothing
 use Rattle.clap.proofs.OnLiterals.{clap_on_literals}
 use Rattle.clap.specs.declared.error.kind.ErrorKind.{ErrorKind}
 use Rattle.clap.specs.declared.error.kind.ErrorKind.TheVariants.{InvalidSubcommand, UnknownArgument}
-use Rattle.ps_program.specs.declared.command_line.Line.TheVariants.{Refused}
-use Rattle.ps_program.specs.CommandLine.{NamesNothing, Says, table}
+use Rattle.ps_program.specs.declared.commands.Line.TheVariants.{Refused}
+use Rattle.ps_program.specs.CommandLine.{Usage, NamesNothing, Says, commands, table}
 
 none_more : (b : Bool) {rest : Bool} → rest ≡ false → (b && rest) ≡ false
 none_more b none = grind arith
@@ -26,14 +27,30 @@ longer [] (x ∷ xs) more = refl
 longer (n ∷ name) [] more = absurd (omega arith)
 longer (n ∷ name) (x ∷ xs) more = none_more (nat_eq n x) (longer name xs (omega arith))
 
--- the commands have short names, and no others
-AreShort : Names → Type 0
-AreShort names = AllByRecursion (λ command. (length command.0 ≤ 6) × (command.1 ≡ [])) names
+-- what the parser knows of the commands: their names, and no others
+names_met : List Usage → Names
+names_met usages = map (λ usage. (usage.name, [])) usages
 
-no_command : (word : Text) (names : Names) → AreShort names → 6 < length word → find (answers_to word) names ≡ None
-unfolding AreShort
-no_command word [] short more = refl
-no_command word (command ∷ names) short more = search (rules, longer, no_command word names short.1 more)
+no_command : (word : Text) (usages : List Usage) → All (λ usage. length usage.name < length word) usages →
+    find (answers_to word) (names_met usages) ≡ None
+unfolding names_met
+no_command word [] short = refl
+no_command word (usage ∷ usages) short =
+    let IsLonger : Usage → Type 0 = λ other. length other.name < length word in
+    search (
+      rules,
+      longer,
+      All-head IsLonger usage usages short,
+      no_command word usages
+          (All-tail IsLonger usage usages short),
+    )
+
+some_longer : (word : Text) (usages : List Usage) → 0 < length usages →
+    All (λ usage. length usage.name < length word) usages → 0 < length word
+some_longer word [] some longer = absurd (omega (arith, some))
+some_longer word (usage ∷ usages) some longer =
+    let first : length usage.name < length word =
+    All-head (λ (other : Usage). length other.name < length word) usage usages longer in omega arith
 
 -- a word that is no command and begins with no hyphen is a value, which nothing takes
 stray : (s : Shape) (names : Names) (x : ℕ) (xs : Text) → (x == 45) ≡ false → find (answers_to (x ∷ xs)) names ≡ None →
@@ -49,17 +66,17 @@ first_wrong s names h word rest inside below k ks wrong = grind arith
 
 -- such a first word is refused
 long_word_refused : (word : Text) (rest : List Text) → NamesNothing word → Says (word ∷ rest) Refused
-unfolding table clap_on_literals AreShort
-long_word_refused [] rest (more, plain) = absurd (omega arith)
+unfolding table clap_on_literals names_met
+long_word_refused [] rest (more, plain) = absurd (omega (arith, some_longer [] commands (lit< tt) more))
 long_word_refused (x ∷ xs) rest (more, plain) =
     let a : App = built table in
     let words : List Text = (x ∷ xs) ∷ rest in
     let stop : Option (Text × List Text) = (walk a.top.rules (names_of a) nothing_held words).stopped in
-    let short : AreShort (names_of a) = search rules in
+    let none : find (answers_to (x ∷ xs)) (names_of a) ≡ None = no_command (x ∷ xs) commands more in
     let no_hyphen : (x == 45) ≡ false = grind (arith, common_steps) in
     let wrong : fault_of table words ≡ UnknownArgument ∷ InvalidSubcommand ∷ [] = first_wrong a.top (names_of a)
     nothing_held (x ∷ xs) rest (is_some (entered a stop)) (entered_fault a stop) UnknownArgument (InvalidSubcommand ∷
-    []) (stray a.top (names_of a) x xs no_hyphen (no_command (x ∷ xs) (names_of a) short more) refl) in
+    []) (stray a.top (names_of a) x xs no_hyphen none refl) in
     inr (UnknownArgument, rw wrong (inl refl), refl)
 
 -- the same of the words of a line

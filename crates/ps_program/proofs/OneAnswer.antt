@@ -12,8 +12,8 @@ use Rattle.ps_machine.specs.declared.key.Order.{Order}
 use Rattle.ps_simulate.specs.Faults as stimulus
 use Rattle.ps_simulate.specs.declared.role.Role.{Role}
 use Rattle.ps_simulate.specs.StimulusTexts as stimulus_text
-use Rattle.ps_program.specs.declared.command_line.Line.{Line}
-use Rattle.ps_program.specs.declared.command_line.Line.TheVariants as line
+use Rattle.ps_program.specs.declared.commands.Line.{Line}
+use Rattle.ps_program.specs.declared.commands.Line.TheVariants as line
 use Rattle.ps_program.specs.Checks.{Tests}
 use Rattle.ps_program.specs.CommandLine.{IsLine}
 use Rattle.ps_program.specs.Cut.{first_line, behind_line}
@@ -30,7 +30,7 @@ use Rattle.ps_program.specs.Solvers.{Solvers}
 use Rattle.ps_program.specs.Solving.{AnswersGame, AnswersSolve}
 use Rattle.ps_program.specs.Synthesis.{AnswersBy, AnswersReport}
 use Rattle.ps_program.specs.Texts.{CutsInTwo, ReadsCertified, ReadsGameText, ReadsSimulated}
-use Rattle.ps_program.specs.declared.command_line.SynthLine.{SynthLine}
+use Rattle.ps_program.specs.declared.commands.SynthLine.{SynthLine}
 use Rattle.ps_program.proofs.Agreeing.{OneCertificate, OneFile, OneFileGame, OneWinner, reports-winner, reports-game}
 use Rattle.ps_program.proofs.Agreeing.{certificates_agree, report_game}
 use Rattle.ps_program.proofs.OneTrace.{traces_agree}
@@ -205,7 +205,8 @@ module _ (games : OneGame) (certificates : OneCertificate) (flaws : OneFlaw) (ci
                 {Q = ReportsAgree false asked texts} x y (λ a b agree. (texts, refl, agree)) alike,
           )
   synth_one_or solvers asked texts true x y h k =
-      by (then_one_or (CutsInTwo texts) (λ (parts : List ℕ × List ℕ). AnswersReport (once_fed parts.1 solvers.replay) asked
+      by (then_one_or (CutsInTwo texts)
+      (λ (parts : List ℕ × List ℕ). AnswersReport (once_fed parts.1 solvers.replay) asked
       parts.0) (λ (parts : List ℕ × List ℕ). HasAutomaton parts.0 × Alike (AgreeAsReports asked.order asked.full
       parts.0) x y) (cut_one texts) x y
       (λ parts n m. report_one_or (once_fed parts.1 solvers.replay) asked parts.0 x y n m) h k)

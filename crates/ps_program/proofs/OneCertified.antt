@@ -39,8 +39,8 @@ use Rattle.ps_program.specs.StageFaults.{stage_line}
 use Rattle.ps_program.specs.Synthesis.{AnswersBy, AnswersReport, AnswersSynth, report_reply, verdict_line}
 use Rattle.ps_program.specs.Synthesis.{verdict_status}
 use Rattle.ps_program.specs.Texts.{CutsInTwo}
-use Rattle.ps_program.specs.declared.command_line.Line.TheVariants as line
-use Rattle.ps_program.specs.declared.command_line.SynthLine.{SynthLine}
+use Rattle.ps_program.specs.declared.commands.Line.TheVariants as line
+use Rattle.ps_program.specs.declared.commands.SynthLine.{SynthLine}
 use Rattle.ps_program.proofs.Agreeing.{OneCertificate, OneFile, OneFileGame, ok_same, tests_agree}
 use Rattle.ps_program.proofs.AutomatonLemmas.{no_line, text_refused}
 use Rattle.ps_program.proofs.OneCut.{cut_one}

@@ -33,7 +33,7 @@ use Rattle.ps_program.specs.Lassos.{TellsVerdict, verdict_text}
 use Rattle.ps_program.specs.Replies.{Reply, line_reply}
 use Rattle.ps_program.specs.StageFaults.{automaton_line, stage_line}
 use Rattle.ps_program.specs.Synthesis.{AnswersReport}
-use Rattle.ps_program.specs.declared.command_line.SynthLine.{SynthLine}
+use Rattle.ps_program.specs.declared.commands.SynthLine.{SynthLine}
 use Rattle.ps_program.proofs.Agreeing.{OneFile, OneFileGame}
 use Rattle.ps_program.proofs.AutomatonLemmas.{no_line, text_refused}
 use Rattle.ps_program.proofs.OneStep.{IsOne, ok_of, ok_is_not_err, then_one, reading_one}

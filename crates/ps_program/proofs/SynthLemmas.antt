@@ -13,7 +13,7 @@ use Rattle.ps_synthesis.proofs.Outcomes.{AnswersMore, fault_more, report_more, s
 use Rattle.ps_program.specs.declared.answer.Answer.{Answer}
 use Rattle.ps_program.specs.declared.answer.Refusal.{Refusal}
 use Rattle.ps_program.specs.declared.answer.Refusal.TheVariants as refusal
-use Rattle.ps_program.specs.declared.command_line.SynthLine.{SynthLine}
+use Rattle.ps_program.specs.declared.commands.SynthLine.{SynthLine}
 use Rattle.ps_program.specs.Faults.{fault_text}
 use Rattle.ps_program.specs.Outcomes.{Gives}
 use Rattle.ps_program.specs.Replies.{Reply, reply_of}

@@ -1,6 +1,7 @@
--- The command line, which is the first line of the input.
+-- What the input's first line asks for.
 use Rattle.std.specs.Prelude.{◌≡◌, ◌≢◌, ◌<◌, ◌⊎◌, ◌==◌, ℕ, Bool, true, false, List, [], length, slice_index, Option}
-use Rattle.std.specs.Prelude.{None, Some, codes, filter, not, IsUtf8, if◌then◌else◌, ◌∷◌, ◌++◌, map, flat_map}
+use Rattle.std.specs.Prelude.{None, Some, All, codes, filter, find, not, IsUtf8, if◌then◌else◌, ◌∷◌, ◌++◌, map}
+use Rattle.std.specs.Prelude.{flat_map}
 use Rattle.std.specs.List.{slice_split, AllByRecursion}
 use Rattle.std.specs.Option.{option_map_or}
 use Rattle.std.specs.Str.{bytes_eq}
@@ -16,18 +17,139 @@ use Rattle.ps_machine.specs.declared.key.Order.{Order}
 use Rattle.ps_machine.specs.declared.key.Order.TheVariants.{Mealy, Moore}
 use Rattle.ps_simulate.specs.declared.role.Role.{Role}
 use Rattle.ps_simulate.specs.declared.role.Role.TheVariants.{Controller, Environment}
-use Rattle.ps_program.specs.declared.command_line.Line.{Line}
-use Rattle.ps_program.specs.declared.command_line.Line.TheVariants.{Refused, Help, Closed, Check, Judge, Sim, Lasso}
-use Rattle.ps_program.specs.declared.command_line.Line.TheVariants.{Solve, Game, Cert, Synth}
-use Rattle.ps_program.specs.declared.command_line.SynthLine.{SynthLine}
+use Rattle.ps_program.specs.declared.commands.Line.{Line}
+use Rattle.ps_program.specs.declared.commands.Line.TheVariants.{Refused, Help, Closed, Check, Judge, Sim, Lasso}
+use Rattle.ps_program.specs.declared.commands.Line.TheVariants.{Solve, Game, Cert, Synth}
+use Rattle.ps_program.specs.declared.commands.SynthLine.{SynthLine}
+use Rattle.ps_program.specs.declared.commands.TheConstants.{ON_CLOSED, ON_CHECK, ON_JUDGE, ON_SIM, ON_LASSO}
+use Rattle.ps_program.specs.declared.commands.TheConstants.{ON_SOLVE, ON_GAME, ON_CERT, ON_SYNTH, ON_HELP}
+use Rattle.ps_program.specs.declared.commands.TextKind.{TextKind}
+use Rattle.ps_program.specs.declared.commands.TextKind.TheVariants as kind
 
--- the words of a line, which are separated by spaces
+-- ---- the commands
+
+-- a command: its name, its flags, each of which follows `--`, the kinds of its texts in their order, flags that add a
+-- text of some kind behind these, the line that it is with the flags that are given, and what `help` says of it
+pub record Usage : Type 0 where
+  pub name : Text
+  pub flags : List Text
+  pub texts : List TextKind
+  pub added : List (Text × TextKind)
+  pub line : (Text → Bool) → Line
+  pub says : Text
+
+abbrev pub env_flag : Text
+env_flag = codes "env"
+
+abbrev pub moore_flag : Text
+moore_flag = codes "moore"
+
+abbrev pub compact_flag : Text
+compact_flag = codes "compact"
+
+abbrev pub full_flag : Text
+full_flag = codes "full"
+
+abbrev pub cert_flag : Text
+cert_flag = codes "cert"
+
+-- the role of a circuit
+abbrev pub role_given : (Text → Bool) → Role
+role_given given = if given env_flag then Environment else Controller
+
+-- who moves first
+abbrev pub order_given : (Text → Bool) → Order
+order_given given = if given moore_flag then Moore else Mealy
+
+-- how a circuit is asked for
+abbrev pub synth_given : (Text → Bool) → SynthLine
+synth_given given = record {
+  full = given full_flag;
+  cert = given cert_flag;
+  order = order_given given;
+  compact = given compact_flag;
+}
+
+abbrev pub commands : List Usage
+commands =
+    record {
+      name = codes "closed";
+      flags = [];
+      texts = kind.Game ∷ kind.Certificate ∷ [];
+      added = [];
+      line = λ given. Closed;
+      says = ON_CLOSED.now;
+    } ∷ record {
+      name = codes "check";
+      flags = [];
+      texts = kind.Game ∷ kind.Certificate ∷ [];
+      added = [];
+      line = λ given. Check;
+      says = ON_CHECK.now;
+    } ∷ record {
+      name = codes "judge";
+      flags = compact_flag ∷ [];
+      texts = kind.Game ∷ kind.Solution ∷ [];
+      added = [];
+      line = λ given. Judge (given compact_flag);
+      says = ON_JUDGE.now;
+    } ∷ record {
+      name = codes "sim";
+      flags = [];
+      texts = kind.Circuit ∷ kind.Stimulus ∷ [];
+      added = [];
+      line = λ given. Sim;
+      says = ON_SIM.now;
+    } ∷ record {
+      name = codes "lasso";
+      flags = env_flag ∷ [];
+      texts = kind.Automaton ∷ kind.Circuit ∷ kind.Stimulus ∷ [];
+      added = [];
+      line = λ given. Lasso (role_given given);
+      says = ON_LASSO.now;
+    } ∷ record {
+      name = codes "solve";
+      flags = compact_flag ∷ [];
+      texts = kind.Game ∷ [];
+      added = [];
+      line = λ given. Solve (given compact_flag);
+      says = ON_SOLVE.now;
+    } ∷ record {
+      name = codes "game";
+      flags = moore_flag ∷ [];
+      texts = kind.Automaton ∷ [];
+      added = [];
+      line = λ given. Game (order_given given);
+      says = ON_GAME.now;
+    } ∷ record {
+      name = codes "cert";
+      flags = moore_flag ∷ compact_flag ∷ [];
+      texts = kind.Automaton ∷ [];
+      added = [];
+      line = λ given. Cert (order_given given) (given compact_flag);
+      says = ON_CERT.now;
+    } ∷ record {
+      name = codes "synth";
+      flags = full_flag ∷ cert_flag ∷ moore_flag ∷ compact_flag ∷ [];
+      texts = kind.Automaton ∷ [];
+      added = (cert_flag, kind.Certificate) ∷ [];
+      line = λ given. Synth (synth_given given);
+      says = ON_SYNTH.now;
+    } ∷ record { name = codes "help"; flags = []; texts = []; added = []; line = λ given. Help; says = ON_HELP.now } ∷
+        []
+
+-- the line of the command of a name
+abbrev pub line_named : Text → (Text → Bool) → Line
+line_named name given =
+    option_map_or (λ usage. usage.line given) (find (λ usage. bytes_eq usage.name name) commands) Refused
+
+-- ---- what the words say
+
+-- the words between runs of spaces
 abbrev pub words_of : List ℕ → List Text
 words_of line = filter (λ word. not (length word == 0)) (slice_split (λ byte. byte == 32) line)
 
--- ---- the commands, each with its flags
-
--- the rule for a flag with this name, which follows `--`
+-- a flag by its name
 abbrev pub flag : Text → Rule
 flag name = record (new_rule name) { long = Some name; action = Some SetTrue }
 
@@ -35,182 +157,83 @@ flag name = record (new_rule name) { long = Some name; action = Some SetTrue }
 abbrev pub command_with : Text → List Text → Shape
 command_with name flags = record (new_shape name) { rules = map flag flags }
 
--- the command has just these flags, and no global flags
+-- the command has these flags, and only flags of its own
 pub record HasFlags (name : Text) (flags : List Text) (command : Command) : Type 0 where
   pub shape : (app_of command).top ≡ command_with name flags
   pub local : (out-Command command).has_globals ≡ false
 
--- the words of a line are a command and its flags; the name of the program is not among them
+-- the words of a line are a command and its flags, without the name of a program before them
 abbrev pub program : App
 program = on_top (λ top. record top { no_binary_name = true; disable_help_subcommand = true }) (new_app (codes "psyn"))
 
--- the program with the given commands, in their order
-abbrev pub with_commands : App → List (Text × List Text) → App
+-- each command after those before it
+abbrev pub with_commands : App → List Usage → App
 with_commands app [] = app
-with_commands app (command ∷ more) = with_commands (with_subcommand app (command_with command.0 command.1)) more
-
-abbrev pub commands : List (Text × List Text)
-commands = (codes "help", []) ∷ (codes "closed", []) ∷ (codes "check", []) ∷ (codes "judge", codes "compact" ∷ [])
-    ∷ (codes "sim", []) ∷ (codes "lasso", codes "env" ∷ []) ∷ (codes "solve", codes "compact" ∷ [])
-    ∷ (codes "game", codes "moore" ∷ []) ∷ (codes "cert", codes "moore" ∷ codes "compact" ∷ [])
-    ∷ (codes "synth", codes "full" ∷ codes "cert" ∷ codes "moore" ∷ codes "compact" ∷ []) ∷ []
+with_commands app (usage ∷ more) = with_commands (with_subcommand app (command_with usage.name usage.flags)) more
 
 unfoldable pub table : App
 table = with_commands program commands
-
--- ---- what the words mean
 
 -- the flag is given
 abbrev pub is_given : Text → List Row → Bool
 is_given name rows = option_map_or (λ text. bytes_eq text (codes "true")) (first_of name rows) false
 
--- the role of the circuit in a lasso command
-abbrev pub role_said : List Row → Role
-role_said rows = if is_given (codes "env") rows then Environment else Controller
-
--- the player who moves first
-abbrev pub order_said : List Row → Order
-order_said rows = if is_given (codes "moore") rows then Moore else Mealy
-
--- the options of a synthesis command
-abbrev pub synth_said : List Row → SynthLine
-synth_said rows = record {
-  full = is_given (codes "full") rows;
-  cert = is_given (codes "cert") rows;
-  order = order_said rows;
-  compact = is_given (codes "compact") rows;
-}
-
--- the line for a command with these flags
-abbrev pub line_named : Text → List Row → Line
-line_named name rows = if bytes_eq name (codes "help") then Help
-    else if bytes_eq name (codes "closed") then Closed
-    else if bytes_eq name (codes "check") then Check
-    else if bytes_eq name (codes "judge") then Judge (is_given (codes "compact") rows)
-    else if bytes_eq name (codes "sim") then Sim
-    else if bytes_eq name (codes "lasso") then Lasso (role_said rows)
-    else if bytes_eq name (codes "solve") then Solve (is_given (codes "compact") rows)
-    else if bytes_eq name (codes "game") then Game (order_said rows)
-    else if bytes_eq name (codes "cert") then Cert (order_said rows) (is_given (codes "compact") rows)
-    else if bytes_eq name (codes "synth") then Synth (synth_said rows)
-    else Refused
-
--- the line for the command that the words name, if any
+-- the line of the command that the words name, if they name one
 abbrev pub line_said : Option (Text × List Row) → Line
-line_said (Some command) = line_named command.0 command.1
+line_said (Some command) = line_named command.0 (λ name. is_given name command.1)
 line_said None = Refused
 
--- the line for words that the table rejects: `--help` and `-h` ask for help
+-- the answer to words that are not a line of the table: `--help` and `-h` ask for help
 abbrev pub line_refused : ErrorKind → Line
 line_refused DisplayHelp = Help
 line_refused _ = Refused
 
--- the words mean the command line `line`
+-- the words say the line
 abbrev pub Says : List Text → Line → Type 0
 Says words line = ((fault_of table words ≡ []) × (line ≡ line_said (subcommand_of table words)))
     ⊎ ((kind : ErrorKind) × IsAmong kind (fault_of table words) × (line ≡ line_refused kind))
 
--- the word is longer than every command, and does not begin with a hyphen (45)
+-- the word is longer than each command, and does not begin with a hyphen (45)
 abbrev pub NamesNothing : Text → Type 0
-NamesNothing word = (6 < length word) × (slice_index word 0 ≢ 45)
+NamesNothing word = All (λ usage. length usage.name < length word) commands × (slice_index word 0 ≢ 45)
 
--- the first line of the input means the command line `line`
+-- the input's first line says the line
 abbrev pub IsLine : List ℕ → Line → Type 0
 IsLine first_line line = (IsUtf8 first_line × Says (words_of first_line) line)
     ⊎ (¬ (IsUtf8 first_line) × (line ≡ Refused))
 
--- ---- the lines that are accepted
+-- ---- the lines that are read
 
--- a command, its flags, and its line for the flags that are given
-pub record Usage : Type 0 where
-  pub name : Text
-  pub flags : List Text
-  pub line : List Text → Line
+-- the flag is among these
+abbrev pub is_among : List Text → Text → Bool
+is_among [] name = false
+is_among (flag ∷ flags) name = if bytes_eq name flag then true else is_among flags name
 
--- the line for `judge` with these flags
-abbrev pub judge_line : List Text → Line
-judge_line [] = Judge false
-judge_line (flag ∷ flags) = Judge true
-
--- the line for `lasso` with these flags
-abbrev pub lasso_line : List Text → Line
-lasso_line [] = Lasso Controller
-lasso_line (flag ∷ flags) = Lasso Environment
-
--- the line for `solve` with these flags
-abbrev pub solve_line : List Text → Line
-solve_line [] = Solve false
-solve_line (flag ∷ flags) = Solve true
-
--- the line for `game` with these flags
-abbrev pub game_line : List Text → Line
-game_line [] = Game Mealy
-game_line (flag ∷ flags) = Game Moore
-
--- whether the flag is in the list
-abbrev pub has_flag : Text → List Text → Bool
-has_flag name [] = false
-has_flag name (flag ∷ flags) = if bytes_eq name flag then true else has_flag name flags
-
--- which player moves first if these flags are given
-abbrev pub order_of : List Text → Order
-order_of flags = if has_flag (codes "moore") flags then Moore else Mealy
-
--- the line for `cert` with these flags
-abbrev pub cert_line : List Text → Line
-cert_line flags = Cert (order_of flags) (has_flag (codes "compact") flags)
-
--- the line for `synth` with these flags
-abbrev pub synth_line : List Text → Line
-synth_line flags = Synth (record {
-  full = has_flag (codes "full") flags;
-  cert = has_flag (codes "cert") flags;
-  order = order_of flags;
-  compact = has_flag (codes "compact") flags;
-})
-
-abbrev pub usages : List Usage
-usages = record { name = codes "help"; flags = []; line = λ _. Help }
-    ∷ record { name = codes "closed"; flags = []; line = λ _. Closed }
-    ∷ record { name = codes "check"; flags = []; line = λ _. Check }
-    ∷ record { name = codes "judge"; flags = codes "compact" ∷ []; line = judge_line }
-    ∷ record { name = codes "sim"; flags = []; line = λ _. Sim }
-    ∷ record { name = codes "lasso"; flags = codes "env" ∷ []; line = lasso_line }
-    ∷ record { name = codes "solve"; flags = codes "compact" ∷ []; line = solve_line }
-    ∷ record { name = codes "game"; flags = codes "moore" ∷ []; line = game_line }
-    ∷ record { name = codes "cert"; flags = codes "moore" ∷ codes "compact" ∷ []; line = cert_line }
-    ∷ record {
-      name = codes "synth";
-      flags = codes "full" ∷ codes "cert" ∷ codes "moore" ∷ codes "compact" ∷ [];
-      line = synth_line;
-    } ∷ []
-
--- the lists that have the word inserted at one index of the given list
+-- a word put at each place of a list
 abbrev pub insertions : Text → List Text → List (List Text)
 insertions word [] = (word ∷ []) ∷ []
 insertions word (x ∷ xs) = (word ∷ (x ∷ xs)) ∷ map (λ rest. x ∷ rest) (insertions word xs)
 
--- all lists of words from the given list, each word at most once, in every order
+-- different words of a list, each choice in each order
 abbrev pub arrangements : List Text → List (List Text)
 arrangements [] = [] ∷ []
 arrangements (x ∷ xs) = arrangements xs ++ flat_map (insertions x) (arrangements xs)
 
--- a command and some flags, as the words of a line
+-- a command and some flags, as they occur in a line
 abbrev pub words_with : Text → List Text → List Text
 words_with name flags = name ∷ map (λ flag. codes "--" ++ flag) flags
 
--- the words are accepted, and mean the command line `line`
+-- the words are taken, and say the line
 abbrev pub AreRead : List Text → Line → Type 0
 AreRead words line = (fault_of table words ≡ []) × (line_said (subcommand_of table words) ≡ line)
 
--- the words of a command and some of its flags, each at most once and in any order, mean the command line that `usages`
--- gives for them
+-- a command with different flags of its own, in any order, is read as that command
 abbrev pub LinesAreRead : Type 0
 LinesAreRead =
-    AllByRecursion (λ usage. AllByRecursion (λ flags. AreRead (words_with usage.name flags) (usage.line flags))
-    (arrangements usage.flags)) usages
+    AllByRecursion (λ usage. AllByRecursion (λ flags. AreRead (words_with usage.name flags)
+    (usage.line (is_among flags))) (arrangements usage.flags)) commands
 
--- `--help` alone and `-h` alone ask for help
+-- words that ask for help, and for nothing else
 abbrev pub AskForHelp : Type 0
 AskForHelp =
     (fault_of table (codes "--help" ∷ []) ≡ DisplayHelp ∷ []) × (fault_of table (codes "-h" ∷ []) ≡ DisplayHelp ∷ [])

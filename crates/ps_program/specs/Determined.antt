@@ -7,7 +7,11 @@
 --     HasOneAnswer solvers      any two answers are equal, or agree as above, or one of them is the line of a fault
 --     HasOneCertified solvers      with a given certificate, `synth` has one answer, if the solver replays what it is
 --               fed
-use Rattle.std.specs.Prelude.{◌≡◌, ◌<◌, ◌⊎◌, ℕ, Bool, true, false, List, Option, Result, Ok}
+--     NeedsItsTexts solvers      a command with fewer texts than the table wants has one answer, the missing text
+use Rattle.std.specs.Prelude.{◌≡◌, ◌<◌, ◌⊎◌, ◌+◌, ◌-◌, ℕ, Bool, true, false, List, Option, Result, Ok, Err, filter}
+use Rattle.std.specs.Prelude.{length}
+use Rattle.std.specs.List.{AllByRecursion}
+use Rattle.clap.specs.Words.{Text}
 use Rattle.ps_certificate.specs.Certificates.{CertificateData, winner_of}
 use Rattle.ps_certificate.specs.Written.{text_in}
 use Rattle.ps_game.specs.Games.{NamedGameData, IsGame, vertex_count}
@@ -21,18 +25,18 @@ use Rattle.ps_machine.specs.declared.key.Order.{Order}
 use Rattle.ps_pgsolver.specs.Written.{game_text}
 use Rattle.ps_synthesis.specs.Promises.{IsAcceptedText}
 use Rattle.ps_synthesis.specs.declared.report.Report.{Report}
-use Rattle.ps_program.specs.CommandLine.{IsLine}
-use Rattle.ps_program.specs.Cut.{behind_line, first_line}
+use Rattle.ps_program.specs.CommandLine.{Usage, IsLine, commands}
+use Rattle.ps_program.specs.Cut.{HasFewerMarks, behind_line, first_line}
 use Rattle.ps_program.specs.Games.{ReadsGameOf}
 use Rattle.ps_program.specs.Judging.{ReadsSolved, LosesCycle}
-use Rattle.ps_program.specs.Program.{AnswersWhole}
+use Rattle.ps_program.specs.Program.{AnswersLine, AnswersWhole}
 use Rattle.ps_program.specs.Replies.{Reply, fault_reply, text_reply}
 use Rattle.ps_program.specs.Solvers.{Solvers}
 use Rattle.ps_program.specs.Synthesis.{report_reply}
-use Rattle.ps_program.specs.Texts.{CutsInTwo, ReadsGameText}
-use Rattle.ps_program.specs.declared.command_line.Line.{Line}
-use Rattle.ps_program.specs.declared.command_line.Line.TheVariants.{Judge, Solve, Cert, Synth}
-use Rattle.ps_program.specs.declared.command_line.SynthLine.{SynthLine}
+use Rattle.ps_program.specs.Texts.{CutsInTwo, ReadsGameText, missing_text}
+use Rattle.ps_program.specs.declared.commands.Line.{Line}
+use Rattle.ps_program.specs.declared.commands.Line.TheVariants.{Judge, Solve, Cert, Synth}
+use Rattle.ps_program.specs.declared.commands.SynthLine.{SynthLine}
 
 abbrev pub HasAutomaton : List ℕ → Type 0
 HasAutomaton text = (file : FileData) × IsAcceptedText text file
@@ -105,3 +109,14 @@ abbrev pub HasOneCertified : Solvers → Type 0
 HasOneCertified solvers = IsReplaying solvers.replay → (asked : SynthLine) → asked.cert ≡ true → (input : List ℕ) →
     IsLine (first_line input) (Synth asked)
     → (a b : Reply) → AnswersWhole solvers input a → AnswersWhole solvers input b → a ≡ b
+
+-- the number of texts that a command reads with these flags
+abbrev pub text_count : Usage → (Text → Bool) → ℕ
+text_count usage given = length usage.texts + length (filter (λ each. given each.0) usage.added)
+
+-- a command to which a text is missing has one answer
+abbrev pub NeedsItsTexts : Solvers → Type 0
+NeedsItsTexts solvers =
+    AllByRecursion (λ usage. (given : Text → Bool) (texts : List ℕ) (outcome : Result Reply (List ℕ)) →
+    HasFewerMarks (text_count usage given - 1) texts → AnswersLine solvers (usage.line given) texts outcome →
+    outcome ≡ Err missing_text) commands

@@ -5,6 +5,8 @@ pub mod Cut
 pub mod Determined
 pub mod Faults
 pub mod Games
+pub mod Help
+pub mod Inner
 pub mod Input
 pub mod Judging
 pub mod Lassos

@@ -1,9 +1,9 @@
 -- The program's answer to an input, and how the program writes this answer.
 use Rattle.std.specs.Prelude.{◌≡◌, ◌≤◌, ◌<◌, ◌⊎◌, ℕ, Bool, true, false, List, length, Option, Result, Ok}
 use Rattle.std.specs.Io.KnownBytes.{Appends}
-use Rattle.ps_program.specs.declared.command_line.Line.{Line}
-use Rattle.ps_program.specs.declared.command_line.Line.TheVariants.{Refused, Help, Closed, Check, Judge, Sim, Lasso}
-use Rattle.ps_program.specs.declared.command_line.Line.TheVariants.{Solve, Game, Cert, Synth}
+use Rattle.ps_program.specs.declared.commands.Line.{Line}
+use Rattle.ps_program.specs.declared.commands.Line.TheVariants.{Refused, Help, Closed, Check, Judge, Sim, Lasso}
+use Rattle.ps_program.specs.declared.commands.Line.TheVariants.{Solve, Game, Cert, Synth}
 use Rattle.ps_program.specs.CommandLine.{IsLine}
 use Rattle.ps_program.specs.Checks.{AnswersClosed, AnswersCheck}
 use Rattle.ps_program.specs.Cut.{first_line, behind_line}

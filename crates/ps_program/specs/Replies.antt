@@ -1,6 +1,6 @@
 -- The program's answers, as bytes and an exit status.
 use Rattle.std.specs.Prelude.{ℕ, List, ◌++◌, codes}
-use Rattle.ps_program.specs.declared.answer.TheConstants.{HELP}
+use Rattle.ps_program.specs.Help.{help_text}
 use Rattle.ps_program.specs.declared.answer.Answer.{Answer}
 
 -- the bytes that are written, and the exit status
@@ -29,7 +29,7 @@ usage = record { text = codes "fault usage\n"; status = 2 }
 
 -- the answer to a request for help
 abbrev pub help : Reply
-help = text_reply HELP.now
+help = text_reply help_text
 
 abbrev pub out_of_memory : Reply
 out_of_memory = fault_reply (codes "fault 24 OutOfMemory")

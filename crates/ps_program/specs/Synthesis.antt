@@ -7,7 +7,7 @@ use Rattle.ps_synthesis.specs.Reports.{IsReport}
 use Rattle.ps_synthesis.specs.SynthFaults.{IsSynthFault}
 use Rattle.ps_synthesis.specs.declared.fault.SynthFault.{SynthFault}
 use Rattle.ps_synthesis.specs.declared.report.Report.{Report}
-use Rattle.ps_program.specs.declared.command_line.SynthLine.{SynthLine}
+use Rattle.ps_program.specs.declared.commands.SynthLine.{SynthLine}
 use Rattle.ps_program.specs.Outcomes.{Then}
 use Rattle.ps_program.specs.Replies.{Reply}
 use Rattle.ps_program.specs.Solvers.{Solvers}

@@ -1,67 +1,20 @@
 //! The command line: the input's first line.
 
-ghost use Rattle.std.specs.Prelude.{◌≡◌, false, List, IfOk, IsTrue, map};
+ghost use Rattle.std.specs.Prelude.{◌≡◌, ◌↔◌, ◌<◌, false, length, All, List, IfOk, IsTrue, find, map};
+ghost use Rattle.std.specs.Option.{option_copied};
+ghost use Rattle.std.specs.Str.{bytes_eq};
 ghost use Rattle.clap.specs.Matches.{found_of};
 ghost use Rattle.clap.specs.Words.{app_of, rows_of, rule_of, subcommand_rows_of, with_subcommand};
 ghost use Rattle.ps_program.specs.CommandLine as words;
-ghost use Rattle.ps_program.specs.CommandLine.{table, words_of, line_said, Says, IsLine, LinesAreRead, AskForHelp};
+ghost use Rattle.ps_program.specs.Inner.Usages.{usage_of};
+ghost use Rattle.ps_program.specs.CommandLine.{words_of, line_said, Says, IsLine, LinesAreRead, AskForHelp};
 
+use crate::commands::{ENV_FLAG, Line, MOORE_FLAG, Usage, usages};
 use clap::error::ErrorKind;
 use clap::{Arg, ArgAction, ArgMatches, Command};
 use ps_machine::Order;
 use ps_simulate::Role;
 use std::alloc::{AllocError, Global};
-
-/// What the first line asks for.
-#[derive(Clone, Copy)]
-pub enum Line {
-    /// It is not a command with flags of its own, each given at most once.
-    Refused,
-    /// What psyn can do.
-    Help,
-    /// Whether a certificate's table keeps each region of a game.
-    Closed,
-    /// Whether a certificate of a game is valid.
-    Check,
-    /// The certificate of a game by a solution of it.
-    Judge {
-        /// As a compact text.
-        compact: bool,
-    },
-    /// What a circuit does, letter by letter.
-    Sim,
-    /// Whether an automaton accepts what a circuit of that role does on a stem and a lap.
-    Lasso(Role),
-    /// A certificate of a game.
-    Solve {
-        /// As a compact text.
-        compact: bool,
-    },
-    /// The game of an automaton, in that order of moves.
-    Game(Order),
-    /// A certificate of that game.
-    Cert {
-        /// Who moves first.
-        order: Order,
-        /// As a compact text.
-        compact: bool,
-    },
-    /// A circuit for an automaton.
-    Synth(SynthLine),
-}
-
-/// How a circuit is asked for.
-#[derive(Clone, Copy)]
-pub struct SynthLine {
-    /// With the game and its certificate.
-    pub full: bool,
-    /// By the certificate that follows the automaton.
-    pub cert: bool,
-    /// Who moves first.
-    pub order: Order,
-    /// With the certificate as a compact text.
-    pub compact: bool,
-}
 
 /// Reads the first line. Fails if memory runs out.
 pub fn read_line(alloc: Global, line: &[u8]) -> Result<Line, AllocError>
@@ -89,14 +42,21 @@ fn split_words(alloc: Global, text: &str) -> Result<Vec<&str>, AllocError>
         .collect(alloc)
 }
 
-/// The length of the longest name of a command.
-const LONGEST: usize = 6;
-
 /// Whether a first word is too long for a command, and is not a flag.
 fn names_nothing(word: &str) -> bool
     ensures { IsTrue result → words.NamesNothing word.now }
 {
-    word.len() > LONGEST && word.as_bytes()[0] != b'-'
+    match word.as_bytes() {
+        [first, ..] => *first != b'-' && is_longer(usages(), word),
+        [] => false,
+    }
+}
+
+/// Whether a word is longer than the name of each of these commands.
+fn is_longer(usages: &[Usage<'_>], word: &str) -> bool
+    ensures { IsTrue result ↔ All (λ usage. length usage.name.now < length word.now) usages.now }
+{
+    usages.iter().all(|usage| usage.name.len() < word.len())
 }
 
 /// Reads the words of a line. A first word that names nothing is not looked up among similar names.
@@ -115,7 +75,7 @@ fn read_words(alloc: Global, words: &[&str]) -> Result<Line, AllocError>
 fn parse_words(alloc: Global, words: &[&str]) -> Result<Line, AllocError>
     ensures { IfOk result (Says (map (λ word. word.now) words.now)) }
 {
-    match commands(alloc)?.try_get_matches_from(words) {
+    match table(alloc)?.try_get_matches_from(words) {
         Ok(matches) => Ok(line_of(&matches)),
         Err(error) => match error.kind() {
             ErrorKind::OutOfMemory => Err(AllocError),
@@ -133,28 +93,21 @@ fn flag<'a>(alloc: Global, name: &'a str) -> Arg<'a>
     Arg::new(alloc, name).long(name).action(ArgAction::SetTrue)
 }
 
-/// The commands, each with its flags.
-const COMMANDS: &[(&str, &[&str])] = &[
-    ("help", &[]),
-    ("closed", &[]),
-    ("check", &[]),
-    ("judge", &["compact"]),
-    ("sim", &[]),
-    ("lasso", &["env"]),
-    ("solve", &["compact"]),
-    ("game", &["moore"]),
-    ("cert", &["moore", "compact"]),
-    ("synth", &["full", "cert", "moore", "compact"]),
-];
+/// The program with all commands.
+fn table<'a>(alloc: Global) -> Result<Command<'a>, AllocError>
+    ensures { IfOk result (λ command. app_of command ≡ words.table) }
+{
+    with_commands(alloc, usages())
+}
 
-/// The program with its commands.
-fn commands<'a>(alloc: Global) -> Result<Command<'a>, AllocError>
-    ensures { IfOk result (λ command. app_of command ≡ table) }
+/// The program with these commands.
+fn with_commands<'a>(alloc: Global, usages: &[Usage<'a>]) -> Result<Command<'a>, AllocError>
+    ensures { IfOk result (λ command. app_of command ≡ words.with_commands words.program
+        (map usage_of usages.now)) }
 {
     let mut psyn = program(alloc);
-    let rows: &[(&'a str, &[&'a str])] = COMMANDS;
-    for &(name, flags) in rows {
-        psyn = with_command(alloc, psyn, name, flags)?;
+    for usage in usages {
+        psyn = with_command(alloc, psyn, usage.name, usage.flags)?;
     }
     Ok(psyn)
 }
@@ -208,66 +161,45 @@ fn line_of(matches: &ArgMatches) -> Line
 
 /// The line of a command with its flags.
 fn line_named(name: &str, flags: &ArgMatches) -> Line
-    ensures { result ≡ words.line_named name.now (rows_of (found_of flags.now)) }
+    ensures { result ≡ words.line_named name.now (λ flag. words.is_given flag (rows_of (found_of flags.now))) }
 {
-    match name {
-        "help" => Line::Help,
-        "closed" => Line::Closed,
-        "check" => Line::Check,
-        "judge" => Line::Judge {
-            compact: is_given(flags, "compact"),
-        },
-        "sim" => Line::Sim,
-        "lasso" => Line::Lasso(role_said(flags)),
-        "solve" => Line::Solve {
-            compact: is_given(flags, "compact"),
-        },
-        "game" => Line::Game(order_said(flags)),
-        "cert" => Line::Cert {
-            order: order_said(flags),
-            compact: is_given(flags, "compact"),
-        },
-        "synth" => Line::Synth(synth_said(flags)),
-        _ => Line::Refused,
+    match usage_named(usages(), name) {
+        Some(usage) => usage.line.with(flags),
+        None => Line::Refused,
     }
 }
 
-/// The role of a lasso's circuit.
-fn role_said(flags: &ArgMatches) -> Role
-    ensures { result ≡ words.role_said (rows_of (found_of flags.now)) }
+/// That of these commands which has the name.
+fn usage_named<'a>(usages: &'a [Usage<'a>], name: &str) -> Option<&'a Usage<'a>>
+    ensures { option_copied result ≡ find (λ usage. bytes_eq usage.name.now name.now) usages.now }
 {
-    if is_given(flags, "env") {
+    usages.iter().find(|usage| usage.name == name)
+}
+
+/// The role of a circuit, by its flag.
+pub fn role_given(flags: &ArgMatches) -> Role
+    ensures { result ≡ words.role_given (λ name. words.is_given name (rows_of (found_of flags.now))) }
+{
+    if is_given(flags, ENV_FLAG) {
         Role::Environment
     } else {
         Role::Controller
     }
 }
 
-/// Who moves first.
-fn order_said(flags: &ArgMatches) -> Order
-    ensures { result ≡ words.order_said (rows_of (found_of flags.now)) }
+/// Who moves first, by the flag.
+pub fn order_given(flags: &ArgMatches) -> Order
+    ensures { result ≡ words.order_given (λ name. words.is_given name (rows_of (found_of flags.now))) }
 {
-    if is_given(flags, "moore") {
+    if is_given(flags, MOORE_FLAG) {
         Order::Moore
     } else {
         Order::Mealy
     }
 }
 
-/// How a circuit is asked for.
-fn synth_said(flags: &ArgMatches) -> SynthLine
-    ensures { result ≡ words.synth_said (rows_of (found_of flags.now)) }
-{
-    SynthLine {
-        full: is_given(flags, "full"),
-        cert: is_given(flags, "cert"),
-        order: order_said(flags),
-        compact: is_given(flags, "compact"),
-    }
-}
-
 /// Whether the flag is given.
-fn is_given(flags: &ArgMatches, name: &str) -> bool
+pub fn is_given(flags: &ArgMatches, name: &str) -> bool
     ensures { result ≡ words.is_given name.now (rows_of (found_of flags.now)) }
 {
     match flags.get_str(name) {

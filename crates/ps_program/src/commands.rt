@@ -1,4 +1,14 @@
-//! The commands, by their names.
+//! The commands: how each is called, what it reads, and what answers it.
+
+ghost use Rattle.std.specs.Prelude.{◌≡◌, map};
+ghost use Rattle.clap.specs.Matches.{found_of};
+ghost use Rattle.clap.specs.Words.{rows_of};
+ghost use Rattle.ps_program.specs.CommandLine.{commands, is_given};
+ghost use Rattle.ps_program.specs.Inner.Usages.{usage_of, with_flags};
+ghost use Rattle.ps_program.specs.Outcomes.{Gives};
+ghost use Rattle.ps_program.specs.Program.{AnswersLine};
+ghost use Rattle.ps_program.specs.Replies.{reply_of};
+ghost use Rattle.ps_program.specs.Solvers.{solvers_of};
 
 pub mod cert;
 pub mod check;
@@ -8,3 +18,319 @@ pub mod lasso;
 pub mod sim;
 pub mod solve;
 pub mod synth;
+
+use crate::answer::{Answer, Refusal};
+use crate::command_line::{is_given, order_given, role_given};
+use clap::ArgMatches;
+use ps_machine::{Order, Solver};
+use ps_simulate::Role;
+use std::alloc::Global;
+
+/// What the first line asks for.
+#[derive(Clone, Copy)]
+pub enum Line {
+    /// It is not a command with flags of its own, each given at most once.
+    Refused,
+    /// What psyn can do.
+    Help,
+    /// Whether a certificate's table keeps each region of a game.
+    Closed,
+    /// Whether a certificate of a game is valid.
+    Check,
+    /// The certificate of a game by a solution of it.
+    Judge {
+        /// As a compact text.
+        compact: bool,
+    },
+    /// What a circuit does, letter by letter.
+    Sim,
+    /// Whether an automaton accepts what a circuit of that role does on a stem and a lap.
+    Lasso(Role),
+    /// A certificate of a game.
+    Solve {
+        /// As a compact text.
+        compact: bool,
+    },
+    /// The game of an automaton, in that order of moves.
+    Game(Order),
+    /// A certificate of that game.
+    Cert {
+        /// Who moves first.
+        order: Order,
+        /// As a compact text.
+        compact: bool,
+    },
+    /// A circuit for an automaton.
+    Synth(SynthLine),
+}
+
+/// How a circuit is asked for.
+#[derive(Clone, Copy)]
+pub struct SynthLine {
+    /// With the game and its certificate.
+    pub full: bool,
+    /// By the certificate that follows the automaton.
+    pub cert: bool,
+    /// Who moves first.
+    pub order: Order,
+    /// With the certificate as a compact text.
+    pub compact: bool,
+}
+
+/// A kind of input text.
+#[derive(Clone, Copy)]
+pub enum TextKind {
+    /// An automaton, as an HOA text.
+    Automaton,
+    /// A game.
+    Game,
+    /// A certificate of a game.
+    Certificate,
+    /// A solution of a game.
+    Solution,
+    /// A circuit.
+    Circuit,
+    /// Letters for the inputs of a circuit.
+    Stimulus,
+}
+
+/// How a command is used.
+#[derive(Clone, Copy)]
+pub struct Usage<'a> {
+    /// Its name.
+    pub name: &'a str,
+    /// Its flags, each of which follows `--`.
+    pub flags: &'a [&'a str],
+    /// The kinds of its texts, in their order.
+    pub texts: &'a [TextKind],
+    /// Flags that add a text behind these, of that kind.
+    pub added: &'a [(&'a str, TextKind)],
+    /// What it asks for with no flag.
+    pub line: Line,
+    /// What `help` says of it, behind the kinds of its texts.
+    pub says: &'a str,
+}
+
+/// An environment's circuit.
+pub const ENV_FLAG: &str = "env";
+
+/// Outputs move before inputs.
+pub const MOORE_FLAG: &str = "moore";
+
+/// A certificate as a compact text.
+pub const COMPACT_FLAG: &str = "compact";
+
+/// With the game and its certificate.
+pub const FULL_FLAG: &str = "full";
+
+/// By a certificate that is given.
+pub const CERT_FLAG: &str = "cert";
+
+/// What `help` says of `closed`, behind the kinds of its texts.
+pub const ON_CLOSED: &str = "\
+: `closed` where each path that follows the moves
+         stays with its winner, else the first flaw";
+
+/// What `help` says of `check`, behind the kinds of its texts.
+pub const ON_CHECK: &str = "\
+: `valid` where, besides, the counts show that
+         the winner wins each loop, else the first flaw";
+
+/// What `help` says of `judge`, behind the kinds of its texts.
+pub const ON_JUDGE: &str = " of it, as a solver found it: the certificate with
+         these winners and moves, if they hold, else a wrong move or edge, or
+         a cycle that its player loses; --compact";
+
+/// What `help` says of `sim`, behind the kinds of its texts.
+pub const ON_SIM: &str = "\
+: a line for each letter, with the latches before
+         it, the inputs and the outputs";
+
+/// What `help` says of `lasso`, behind the kinds of its texts.
+pub const ON_LASSO: &str = " with a line - between a stem and
+         a lap: whether the automaton accepts what the circuit does on the stem
+         and then on the lap again and again; the circuit is a controller, or
+         with the flag --env an environment";
+
+/// What `help` says of `solve`, behind the kinds of its texts.
+pub const ON_SOLVE: &str = "\
+: a certificate that says who wins each vertex, by which moves;
+         --compact: only the counts that are not 0, each as priority:count";
+
+/// What `help` says of `game`, behind the kinds of its texts.
+pub const ON_GAME: &str = "\
+: the game in which its inputs move before its outputs, or
+         with the flag --moore after them";
+
+/// What `help` says of `cert`, behind the kinds of its texts.
+pub const ON_CERT: &str = ": a certificate of that game; --moore, --compact";
+
+/// What `help` says of `synth`, behind the kinds of its texts.
+pub const ON_SYNTH: &str = "\
+: REALIZABLE and the circuit of a controller whose traces
+         the automaton accepts, or UNREALIZABLE and that of an environment
+         against which each trace is rejected; --moore;
+         --full: then a line %%, the game, a line %%, its certificate, with
+         --compact as a compact text;
+         --cert: by the certificate of that game that is its second text";
+
+/// What `help` says of `help`, behind the kinds of its texts.
+pub const ON_HELP: &str = "this text";
+
+/// The commands, in the order in which `help` tells them.
+const COMMANDS: &[Usage<'static>] = &[
+    Usage {
+        name: "closed",
+        flags: &[],
+        texts: &[TextKind::Game, TextKind::Certificate],
+        added: &[],
+        line: Line::Closed,
+        says: ON_CLOSED,
+    },
+    Usage {
+        name: "check",
+        flags: &[],
+        texts: &[TextKind::Game, TextKind::Certificate],
+        added: &[],
+        line: Line::Check,
+        says: ON_CHECK,
+    },
+    Usage {
+        name: "judge",
+        flags: &[COMPACT_FLAG],
+        texts: &[TextKind::Game, TextKind::Solution],
+        added: &[],
+        line: Line::Judge { compact: false },
+        says: ON_JUDGE,
+    },
+    Usage {
+        name: "sim",
+        flags: &[],
+        texts: &[TextKind::Circuit, TextKind::Stimulus],
+        added: &[],
+        line: Line::Sim,
+        says: ON_SIM,
+    },
+    Usage {
+        name: "lasso",
+        flags: &[ENV_FLAG],
+        texts: &[TextKind::Automaton, TextKind::Circuit, TextKind::Stimulus],
+        added: &[],
+        line: Line::Lasso(Role::Controller),
+        says: ON_LASSO,
+    },
+    Usage {
+        name: "solve",
+        flags: &[COMPACT_FLAG],
+        texts: &[TextKind::Game],
+        added: &[],
+        line: Line::Solve { compact: false },
+        says: ON_SOLVE,
+    },
+    Usage {
+        name: "game",
+        flags: &[MOORE_FLAG],
+        texts: &[TextKind::Automaton],
+        added: &[],
+        line: Line::Game(Order::Mealy),
+        says: ON_GAME,
+    },
+    Usage {
+        name: "cert",
+        flags: &[MOORE_FLAG, COMPACT_FLAG],
+        texts: &[TextKind::Automaton],
+        added: &[],
+        line: Line::Cert {
+            order: Order::Mealy,
+            compact: false,
+        },
+        says: ON_CERT,
+    },
+    Usage {
+        name: "synth",
+        flags: &[FULL_FLAG, CERT_FLAG, MOORE_FLAG, COMPACT_FLAG],
+        texts: &[TextKind::Automaton],
+        added: &[(CERT_FLAG, TextKind::Certificate)],
+        line: Line::Synth(SynthLine {
+            full: false,
+            cert: false,
+            order: Order::Mealy,
+            compact: false,
+        }),
+        says: ON_SYNTH,
+    },
+    Usage {
+        name: "help",
+        flags: &[],
+        texts: &[],
+        added: &[],
+        line: Line::Help,
+        says: ON_HELP,
+    },
+];
+
+/// The commands, in the order in which `help` tells them.
+pub(crate) fn usages() -> &'static [Usage<'static>]
+    ensures { map usage_of result.now ≡ commands }
+{
+    COMMANDS
+}
+
+impl Line {
+    /// The same with these flags.
+    pub(crate) fn with(self, flags: &ArgMatches) -> Line
+        ensures { result ≡ with_flags self (λ name. is_given name (rows_of (found_of flags.now))) }
+    {
+        match self {
+            Line::Judge { .. } => Line::Judge {
+                compact: is_given(flags, COMPACT_FLAG),
+            },
+            Line::Lasso(_) => Line::Lasso(role_given(flags)),
+            Line::Solve { .. } => Line::Solve {
+                compact: is_given(flags, COMPACT_FLAG),
+            },
+            Line::Game(_) => Line::Game(order_given(flags)),
+            Line::Cert { .. } => Line::Cert {
+                order: order_given(flags),
+                compact: is_given(flags, COMPACT_FLAG),
+            },
+            Line::Synth(_) => Line::Synth(SynthLine {
+                full: is_given(flags, FULL_FLAG),
+                cert: is_given(flags, CERT_FLAG),
+                order: order_given(flags),
+                compact: is_given(flags, COMPACT_FLAG),
+            }),
+            line => line,
+        }
+    }
+}
+
+/// The answer to a line, with what follows it.
+///
+/// # Errors
+///
+/// Fails with the first fault of the texts, or if memory runs out.
+pub(crate) fn answer_line<S: Solver, T: Solver>(
+    alloc: Global,
+    line: Line,
+    texts: &[u8],
+    built_in: &mut S,
+    replay: &mut T,
+) -> Result<Answer, Refusal>
+    ensures { Gives reply_of (AnswersLine (solvers_of (S.known built_in.old) (T.known replay.old)) line
+        texts.now) result }
+{
+    match line {
+        Line::Refused => Ok(Answer::usage(alloc)?),
+        Line::Help => Ok(Answer::help(alloc)?),
+        Line::Closed => check::closed(alloc, texts),
+        Line::Check => check::check(alloc, texts),
+        Line::Judge { compact } => judge::judge(alloc, compact, texts),
+        Line::Sim => sim::sim(alloc, texts),
+        Line::Lasso(role) => lasso::lasso(alloc, role, texts),
+        Line::Solve { compact } => solve::solve(alloc, texts, built_in, compact),
+        Line::Game(order) => game::game(alloc, order, texts),
+        Line::Cert { order, compact } => cert::cert(alloc, order, texts, built_in, compact),
+        Line::Synth(asked) => synth::synth(alloc, asked, texts, built_in, replay),
+    }
+}

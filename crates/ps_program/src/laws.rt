@@ -1,6 +1,6 @@
-//! The law that the program's answer is determined, except for the choice of a solver.
+//! The laws that the program's answer is determined, except for the choice of a solver.
 
-ghost use Rattle.ps_program.specs.Determined.{HasOneAnswer, HasOneCertified};
+ghost use Rattle.ps_program.specs.Determined.{HasOneAnswer, HasOneCertified, NeedsItsTexts};
 ghost use Rattle.ps_program.specs.Solvers.{solvers_of};
 
 use ps_machine::Solver;
@@ -31,3 +31,8 @@ pub fn one_answer<S: Solver, T: Solver>(built_in: &S, replay: &T)
     ps_referee::one_certificate();
     ps_referee::one_verdict();
 }
+
+/// A command reads a text of each kind that the table gives it. If one is missing, the answer is that.
+pub fn missing_text_is_told<S: Solver, T: Solver>(built_in: &S, replay: &T)
+    ensures { NeedsItsTexts (solvers_of (S.known built_in.now) (T.known replay.now)) }
+{}

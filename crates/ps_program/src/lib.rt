@@ -9,7 +9,8 @@
 //! | `answer_to(input, built_in, replay)` | the [`Answer`] to an input: what is written, with its exit status |
 //! | `closed`, `check`, `judge`, `sim`, `lasso`, `game` | that of a command that asks no solver, to its texts |
 //! | `solve`, `cert`, `synth` | that of a command that asks a solver |
-//! | `lines_are_read`, `one_answer` | laws: how command lines are read; one answer, except for a solver's choice |
+//! | `lines_are_read`, `missing_text_is_told` | laws: how command lines are read; a command needs each of its texts |
+//! | `one_answer` | a law: one answer, except for a solver's choice |
 //!
 //! The specs define the answer to an input, for all commands: `Program` has one case for each.
 #![tactic(auto)]
@@ -21,6 +22,7 @@ mod commands;
 mod cut;
 mod fault;
 mod fault_text;
+mod help;
 mod laws;
 mod printing;
 mod program;
@@ -32,9 +34,9 @@ mod texts;
 mod watched;
 
 pub use answer::{
-    Answer, FAULT, HELP, OUT_OF_MEMORY, READ_FAULT, REALIZABLE, Refusal, UNREALIZABLE, settle,
+    Answer, FAULT, OUT_OF_MEMORY, READ_FAULT, REALIZABLE, Refusal, UNREALIZABLE, settle,
 };
-pub use command_line::{Line, SynthLine, lines_are_read, read_line};
+pub use command_line::{lines_are_read, read_line};
 pub use commands::cert::cert;
 pub use commands::check::{check, closed};
 pub use commands::game::{game, read_game_of};
@@ -43,9 +45,10 @@ pub use commands::lasso::lasso;
 pub use commands::sim::sim;
 pub use commands::solve::{certify, solve};
 pub use commands::synth::synth;
+pub use commands::{Line, SynthLine, TextKind};
 pub use cut::first_line;
 pub use fault::{FaultLine, Place};
-pub use laws::one_answer;
+pub use laws::{missing_text_is_told, one_answer};
 pub use printing::print;
 pub use program::answer_to;
 pub use reading::{INPUT_LIMIT, InputFault, read_input};

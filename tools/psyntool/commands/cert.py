@@ -1,6 +1,5 @@
 """`cert`: a certificate of an automaton's game."""
 from psyntool import asking
-from psyntool.command import COMPACT, MOORE, Command
-from psyntool.kinds import Kind
+from psyntool.command import of_the_program
 
-COMMAND = Command("cert", "a certificate of that game", (Kind.AUTOMATON,), asking.run, flags=(MOORE, COMPACT))
+COMMAND = of_the_program("cert", "a certificate of that game", asking.run)

@@ -1,6 +1,5 @@
 """`check`: whether a certificate of a game is valid."""
 from psyntool import asking
-from psyntool.command import Command
-from psyntool.kinds import Kind
+from psyntool.command import of_the_program
 
-COMMAND = Command("check", "valid, or the first flaw", (Kind.GAME, Kind.CERTIFICATE), asking.run)
+COMMAND = of_the_program("check", "valid, or the first flaw", asking.run)

@@ -1,6 +1,5 @@
 """`closed`: whether the moves of a certificate keep each player's region."""
 from psyntool import asking
-from psyntool.command import Command
-from psyntool.kinds import Kind
+from psyntool.command import of_the_program
 
-COMMAND = Command("closed", "whether the moves keep each player's region", (Kind.GAME, Kind.CERTIFICATE), asking.run)
+COMMAND = of_the_program("closed", "whether the moves keep each player's region", asking.run)

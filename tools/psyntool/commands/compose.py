@@ -18,5 +18,4 @@ COMMAND = Command(
     run,
     own=OF_PARTS,
     least=0,
-    is_of_the_program=False,
 )

@@ -19,6 +19,4 @@ def run(request):
     return 0
 
 
-COMMAND = Command(
-    "convert", "a circuit in the other form of AIGER: `aag` to `aig`, and back", (Kind.CIRCUIT,), run, own=(DROP,), is_of_the_program=False
-)
+COMMAND = Command("convert", "a circuit in the other form of AIGER: `aag` to `aig`, and back", (Kind.CIRCUIT,), run, own=(DROP,))

@@ -45,5 +45,4 @@ COMMAND = Command(
     flags=(MOORE,),
     own=(*OF_PARTS, TO_FILES),
     least=0,
-    is_of_the_program=False,
 )

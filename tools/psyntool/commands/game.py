@@ -1,6 +1,5 @@
 """`game`: the parity game of an automaton."""
 from psyntool import asking
-from psyntool.command import MOORE, Command
-from psyntool.kinds import Kind
+from psyntool.command import of_the_program
 
-COMMAND = Command("game", "the parity game of an automaton", (Kind.AUTOMATON,), asking.run, flags=(MOORE,))
+COMMAND = of_the_program("game", "the parity game of an automaton", asking.run)

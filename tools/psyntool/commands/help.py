@@ -113,4 +113,4 @@ def run(request):
     return 0
 
 
-COMMAND = Command("help", "what the tool can do, or how a command is used", ("COMMAND",), run, least=0, is_of_the_program=False)
+COMMAND = Command("help", "what the tool can do, or how a command is used", ("COMMAND",), run, least=0)

@@ -1,7 +1,6 @@
 """`judge`: whether another solver's solution of a game is right; with --picture the cycle that a player loses is drawn."""
 from psyntool import asking, files, judging, program
-from psyntool.command import COMPACT, PICTURE, Command
-from psyntool.kinds import Kind
+from psyntool.command import PICTURE, of_the_program
 
 
 def run(request):
@@ -14,11 +13,4 @@ def run(request):
     return status
 
 
-COMMAND = Command(
-    "judge",
-    "the certificate by another solver's solution, or what is wrong with it",
-    (Kind.GAME, Kind.SOLUTION),
-    run,
-    flags=(COMPACT,),
-    own=(PICTURE,),
-)
+COMMAND = of_the_program("judge", "the certificate by another solver's solution, or what is wrong with it", run, own=(PICTURE,))

@@ -2,8 +2,7 @@
 import re
 
 from psyntool import asking, console, files, program
-from psyntool.command import ENV, Command, Flag
-from psyntool.kinds import Kind
+from psyntool.command import Flag, of_the_program
 from psyntool.texts import automaton, circuit, labels, stimulus
 
 TRACE = Flag("--trace", "the run below: of each step the state, the letter by names, and the sets")
@@ -60,11 +59,4 @@ def trace(texts, stem, lap):
     return "\n".join([*shown, ""])
 
 
-COMMAND = Command(
-    "lasso",
-    "whether the automaton accepts what the circuit does",
-    (Kind.AUTOMATON, Kind.CIRCUIT, Kind.STIMULUS),
-    run,
-    flags=(ENV,),
-    own=(TRACE,),
-)
+COMMAND = of_the_program("lasso", "whether the automaton accepts what the circuit does", run, own=(TRACE,))

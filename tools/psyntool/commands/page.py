@@ -68,5 +68,4 @@ COMMAND = Command(
     run,
     own=(PARTS,),
     instead={PARTS.name: (Kind.LIST,)},
-    is_of_the_program=False,
 )

@@ -95,5 +95,4 @@ COMMAND = Command(
     ("PREFIX", "SPEC"),
     run,
     own=(AUTO,),
-    is_of_the_program=False,
 )

@@ -54,5 +54,4 @@ COMMAND = Command(
     run,
     own=(REACH,),
     least=1,
-    is_of_the_program=False,
 )

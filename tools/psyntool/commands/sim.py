@@ -1,7 +1,6 @@
 """`sim`: what a circuit does, letter by letter; with --names below the names of its latches, inputs and outputs."""
 from psyntool import asking, console, files, program
-from psyntool.command import Command, Flag
-from psyntool.kinds import Kind
+from psyntool.command import Flag, of_the_program
 from psyntool.texts import circuit
 
 NAMES = Flag("--names", "a line above: the names of the latches, inputs and outputs")
@@ -18,4 +17,4 @@ def run(request):
     return asking.hand_on(request, texts, answer)
 
 
-COMMAND = Command("sim", "what a circuit does, letter by letter", (Kind.CIRCUIT, Kind.STIMULUS), run, own=(NAMES,))
+COMMAND = of_the_program("sim", "what a circuit does, letter by letter", run, own=(NAMES,))

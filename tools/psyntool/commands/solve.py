@@ -1,7 +1,6 @@
 """`solve`: a certificate of a game; with --by from the solution of another solver."""
 from psyntool import asking, judging, solvers
-from psyntool.command import BY, COMPACT, PICTURE, Command
-from psyntool.kinds import Kind
+from psyntool.command import BY, PICTURE, of_the_program
 
 
 def run(request):
@@ -12,4 +11,4 @@ def run(request):
     return solver.hand_on(*solver.judged(request.texts()[0]), path)
 
 
-COMMAND = Command("solve", "a certificate of a game", (Kind.GAME,), run, flags=(COMPACT,), own=(BY, PICTURE))
+COMMAND = of_the_program("solve", "a certificate of a game", run, own=(BY, PICTURE))

@@ -1,7 +1,7 @@
 """`synth`: a circuit for an automaton, or for parts; with -o the circuit, the game and the certificate in files of their own; with
 --by from the solution of another solver."""
 from psyntool import asking, console, files, judging, outputs, program, solvers
-from psyntool.command import BY, CERT, COMPACT, FULL, MOORE, OF_PARTS, PARTS, PICTURE, TO_FILES, Command
+from psyntool.command import BY, CERT, FULL, MOORE, OF_PARTS, PARTS, PICTURE, TO_FILES, of_the_program
 from psyntool.ends import FAULT, Refused
 from psyntool.kinds import Kind
 from psyntool.parts import specification
@@ -107,13 +107,10 @@ def stored(answer, paths, others):
     return answer.status
 
 
-COMMAND = Command(
+COMMAND = of_the_program(
     "synth",
     "a controller, or an environment that defeats every finite-state one; with --cert by the certificate of its game",
-    (Kind.AUTOMATON,),
     run,
-    flags=(FULL, CERT, MOORE, COMPACT),
     own=(TO_FILES, BY, PICTURE, PARTS, *OF_PARTS),
-    behind={CERT.name: Kind.CERTIFICATE},
     instead={flag.name: (Kind.LIST,) for flag in (PARTS, *OF_PARTS)},
 )

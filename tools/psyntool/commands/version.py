@@ -8,4 +8,4 @@ def run(_request):
     return 0
 
 
-COMMAND = Command("version", "which psyn this is", (), run, is_of_the_program=False)
+COMMAND = Command("version", "which psyn this is", (), run)

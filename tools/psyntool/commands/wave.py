@@ -46,4 +46,4 @@ def until_it_comes_again(texts, given):
         laps *= 2
 
 
-COMMAND = Command("wave", "what sim prints, as a VCD file", (Kind.CIRCUIT, Kind.STIMULUS), run, is_of_the_program=False)
+COMMAND = Command("wave", "what sim prints, as a VCD file", (Kind.CIRCUIT, Kind.STIMULUS), run)

@@ -6,7 +6,7 @@ ghost use Rattle.ps_program.specs.Solvers.{solvers_of};
 ghost use Rattle.ps_program.specs.Synthesis.{AnswersCertified, AnswersReport, AnswersSynth};
 
 use crate::answer::{Answer, Refusal};
-use crate::command_line::SynthLine;
+use crate::commands::SynthLine;
 use crate::printing::print;
 use crate::texts::two_texts;
 use ps_machine::Solver;

@@ -1,0 +1,137 @@
+-- A command to which a text is missing has one answer, that it is missing.
+use Rattle.std.proofs.Common.{◌≡◌, ◌∙◌, ◌-◌, ◌+◌, ℕ, Bool, true, false, List, [], ◌∷◌, length, Result, Ok, Err, refl}
+use Rattle.std.proofs.Common.{ap, inl, inr, subst}
+use Rattle.std.specs.Prelude.{codes, filter}
+use Rattle.clap.specs.Words.{Text}
+use Rattle.ps_game.specs.Games.{ParityGame}
+use Rattle.ps_certificate.specs.Certificates.{CertificateData, IsClosed, IsValid}
+use Rattle.ps_circuit.specs.Circuits.{IsCircuit}
+use Rattle.ps_simulate.specs.declared.role.Role.{Role}
+use Rattle.ps_program.specs.Automata.{ReadsAutomaton}
+use Rattle.ps_program.specs.Checks.{Tests}
+use Rattle.ps_program.specs.CommandLine.{cert_flag, compact_flag, role_given, synth_given}
+use Rattle.ps_program.specs.Judging.{AnswersJudge, Judges, ReadsSolutionText, ReadsSolved}
+use Rattle.ps_program.specs.Lassos.{AnswersLasso, RunsCircuit}
+use Rattle.ps_program.specs.Simulating.{AnswersSim, PrintsTrace}
+use Rattle.ps_program.specs.Cut.{HasFewerMarks}
+use Rattle.ps_program.specs.Determined.{NeedsItsTexts}
+use Rattle.ps_program.specs.Outcomes.{Then}
+use Rattle.ps_program.specs.Program.{AnswersLine}
+use Rattle.ps_program.specs.Replies.{Reply, text_reply}
+use Rattle.ps_program.specs.Solvers.{Solvers}
+use Rattle.ps_program.specs.Synthesis.{AnswersBy, AnswersReport}
+use Rattle.ps_machine.specs.Solvers.{once_fed}
+use Rattle.ps_program.specs.Texts.{CutsInTwo, CutsInThree, ReadsCertificateText, ReadsCertified, ReadsCircuitText}
+use Rattle.ps_program.specs.Texts.{ReadsGameText, ReadsSimulated, ReadsStimulusText, missing_text}
+use Rattle.ps_program.specs.declared.commands.SynthLine.{SynthLine}
+use Rattle.ps_program.specs.declared.commands.TextKind.{TextKind}
+use Rattle.ps_program.specs.declared.commands.TextKind.TheVariants as kind
+use Rattle.ps_program.proofs.OneCut.{cut_one, cut_three_one}
+use Rattle.ps_program.proofs.OneStep.{err_of, err_or, ok_is_not_err}
+
+-- the step has this fault, and no other outcome
+abbrev Fails : {V : Type 0} → (Result V (List ℕ) → Type 0) → List ℕ → Type 0
+Fails {V} step line = (outcome : Result V (List ℕ)) → step outcome → outcome ≡ Err line
+
+both_fail : {V W : Type 0} (step : Result V (List ℕ) → Type 0) (next : V → Result W (List ℕ) → Type 0)
+    (line : List ℕ) → Fails step line → Fails (Then step next) line
+both_fail {V} {W} step next line fails outcome (inl (l, s, e)) =
+    e ∙ ap (err_of {V = W}) (ap (err_or {V = V} line) (fails (Err l) s))
+both_fail step next line fails outcome (inr (v, s, n)) = absurd (ok_is_not_err v line (fails (Ok v) s))
+
+two_missing : (texts : List ℕ) → HasFewerMarks 1 texts → Fails (CutsInTwo texts) missing_text
+two_missing texts fewer outcome cuts = cut_one texts outcome (Err missing_text) cuts (fewer, refl)
+
+three_missing : (texts : List ℕ) → HasFewerMarks 2 texts → Fails (CutsInThree texts) missing_text
+three_missing texts fewer outcome cuts = cut_three_one texts outcome (Err missing_text) cuts (fewer, refl)
+
+-- the text that `synth` reads, and the certificate where it is given
+abbrev synth_count : Bool → ℕ
+synth_count false = 1
+synth_count true = 2
+
+synth_missing : (solvers : Solvers) (asked : SynthLine) (cert : Bool) (texts : List ℕ) (outcome : Result Reply (List ℕ))
+    →
+    HasFewerMarks (synth_count cert - 1) texts → AnswersBy cert solvers asked texts outcome →
+    outcome ≡ Err missing_text
+synth_missing solvers asked false texts outcome fewer answers = absurd fewer
+synth_missing solvers asked true texts outcome fewer answers =
+    both_fail (CutsInTwo texts) (λ (parts : List ℕ × List ℕ). AnswersReport (once_fed parts.1 solvers.replay) asked
+    parts.0) missing_text (two_missing texts fewer) outcome answers
+
+synth_counted : (cert : Bool) → 1 + length (filter (λ (each : Text × TextKind). cert)
+    ((cert_flag, kind.Certificate) ∷ [])) ≡ synth_count cert
+synth_counted false = refl
+synth_counted true = refl
+
+-- ---- two texts, and three
+
+certified_missing : (texts : List ℕ) → HasFewerMarks 1 texts → Fails (ReadsCertified texts) missing_text
+certified_missing texts fewer =
+    both_fail (CutsInTwo texts) (λ (parts : List ℕ × List ℕ). Then (ReadsGameText parts.0) (λ named.
+    Then (ReadsCertificateText named parts.1) (λ given outcome. outcome ≡ Ok (named, given)))) missing_text
+    (two_missing texts fewer)
+
+solved_missing : (texts : List ℕ) → HasFewerMarks 1 texts → Fails (ReadsSolved texts) missing_text
+solved_missing texts fewer =
+    both_fail (CutsInTwo texts) (λ (parts : List ℕ × List ℕ). Then (ReadsGameText parts.0) (λ named.
+    Then (ReadsSolutionText named parts.1) (λ given outcome. outcome ≡ Ok (named, given)))) missing_text
+    (two_missing texts fewer)
+
+simulated_missing : (texts : List ℕ) → HasFewerMarks 1 texts → Fails (ReadsSimulated texts) missing_text
+simulated_missing texts fewer =
+    both_fail (CutsInTwo texts) (λ (parts : List ℕ × List ℕ). Then (ReadsCircuitText parts.0) (λ c.
+    Then (ReadsStimulusText (length c.inputs) false parts.1) (λ s outcome. outcome ≡ Ok (c, s)))) missing_text
+    (two_missing texts fewer)
+
+tests_missing : (IsGood : ParityGame → CertificateData → Type 0) (word texts : List ℕ) → HasFewerMarks 1 texts →
+    Fails (Then (ReadsCertified texts) (λ both. Tests IsGood word both.0 both.1)) missing_text
+tests_missing IsGood word texts fewer = both_fail (ReadsCertified texts) (λ both. Tests IsGood word both.0 both.1)
+    missing_text (certified_missing texts fewer)
+
+judge_missing : (compact : Bool) (texts : List ℕ) → HasFewerMarks 1 texts → Fails (AnswersJudge compact texts)
+    missing_text
+judge_missing compact texts fewer = both_fail (ReadsSolved texts) (λ both. Judges compact both.0 both.1) missing_text
+    (solved_missing texts fewer)
+
+sim_missing : (texts : List ℕ) → HasFewerMarks 1 texts → Fails (AnswersSim texts) missing_text
+sim_missing texts fewer = both_fail (ReadsSimulated texts) (λ both outcome. IsCircuit both.0
+    × ((text : List ℕ) × PrintsTrace both.0 both.1.stem text × (outcome ≡ Ok (text_reply text)))) missing_text
+    (simulated_missing texts fewer)
+
+lasso_missing : (role : Role) (texts : List ℕ) → HasFewerMarks 2 texts → Fails (AnswersLasso role texts) missing_text
+lasso_missing role texts fewer = both_fail (CutsInThree texts) (λ (parts : List ℕ × List ℕ × List ℕ).
+    Then (ReadsAutomaton parts.0) (λ file. RunsCircuit role file parts.1 parts.2)) missing_text
+    (three_missing texts fewer)
+
+pub texts_needed : (solvers : Solvers) → NeedsItsTexts solvers
+texts_needed solvers = (
+  λ given texts outcome fewer answers. tests_missing IsClosed (codes "closed") texts fewer outcome answers,
+  (
+    λ given texts outcome fewer answers. tests_missing IsValid (codes "valid") texts fewer outcome answers,
+    (
+      λ given texts outcome fewer answers. judge_missing (given compact_flag) texts fewer outcome answers,
+      (
+        λ given texts outcome fewer answers. sim_missing texts fewer outcome answers,
+        (
+          λ given texts outcome fewer answers. lasso_missing (role_given given) texts fewer outcome answers,
+          (
+            λ given texts outcome fewer answers. absurd fewer,
+            (
+              λ given texts outcome fewer answers. absurd fewer,
+              (
+                λ given texts outcome fewer answers. absurd fewer,
+                (
+                  λ given texts outcome fewer answers. synth_missing solvers (synth_given given) (given cert_flag)
+                      texts outcome
+                      (subst (λ (n : ℕ). HasFewerMarks (n - 1) texts) (synth_counted (given cert_flag)) fewer) answers,
+                  (λ given texts outcome fewer answers. absurd fewer, tt),
+                ),
+              ),
+            ),
+          ),
+        ),
+      ),
+    ),
+  ),
+)

@@ -1,0 +1,5 @@
+use Rattle.ps_program.proofs.CommandLemmas.{made_table}
+use Rattle.ps_program.proofs.command_line.table.Goals as goal
+
+pub returns : goal.returns
+returns c = made_table c.with_commands.result c.usages.result.now c.usages.ensures c.with_commands.ensures

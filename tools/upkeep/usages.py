@@ -1,0 +1,47 @@
+"""The file tools/psyntool/program.toml, written from the program's table of commands by tools/command-files."""
+import os
+import re
+
+from psyntool import places
+
+TABLE = os.path.join(places.TOP, "crates", "ps_program", "src", "commands.rt")
+STORED = os.path.join(places.TOP, "tools", "psyntool", "program.toml")
+HEAD = """\
+# The commands of the program: their flags, and the kinds of their texts; `added` has the kind of a text that a flag adds.
+# Written by tools/command-files from the table of crates/ps_program/src/commands.rt.
+"""
+FLAG = r'const (\w+_FLAG): &str = "(\w+)";'
+ROW = r'Usage \{\s*name: "(\w+)",\s*flags: &\[(.*?)\],\s*texts: &\[(.*?)\],\s*added: &\[(.*?)\],\s'
+ADDED = r"\((\w+),\s*TextKind::(\w+)\)"
+
+
+class Unreadable(Exception):
+    """The table of the code is not written as this module reads it; the message says what it lacks."""
+
+
+def quoted(words):
+    return ", ".join(f'"{word}"' for word in words)
+
+
+def row(name, flags, texts, added):
+    """A command, as the file has it."""
+    more = ", ".join(f'{flag} = "{kind.lower()}"' for flag, kind in added)
+    return f"[{name}]\nflags = [{quoted(flags)}]\ntexts = [{quoted(kind.lower() for kind in texts)}]\nadded = {{{f' {more} ' if more else ''}}}\n"
+
+
+def written(code=None):
+    """The table of the code, as the tool reads it."""
+    if code is None:
+        with open(TABLE, encoding="utf-8") as file:
+            code = file.read()
+    names, rows = dict(re.findall(FLAG, code)), re.findall(ROW, code, re.S)
+    if not rows or len(rows) != len(re.findall(r"\bUsage \{\s*name:", code)):
+        raise Unreadable(f"{os.path.relpath(TABLE, places.TOP)}: {len(rows)} rows of the table are written as name, flags, texts, added")
+    parts = [HEAD]
+    for name, flags, texts, added in rows:
+        given, behind = re.findall(r"\w+", flags), re.findall(ADDED, added)
+        unknown = [flag for flag in (*given, *(flag for flag, _ in behind)) if flag not in names]
+        if unknown:
+            raise Unreadable(f"{os.path.relpath(TABLE, places.TOP)}: {name} has {unknown[0]}, which is no flag with a name")
+        parts.append(row(name, [names[flag] for flag in given], re.findall(r"TextKind::(\w+)", texts), [(names[flag], kind) for flag, kind in behind]))
+    return "\n".join(parts)
