@@ -2,7 +2,7 @@
 --     number_of bits      the first bit counts 1, the next one 2, then 4, and so on
 --     memory_at b code      the memory state with a code; memory state 0 for a code that belongs to none
 --     memory_of b latches      the memory state whose code the latches hold
---     Encodes b c      the circuit begins in memory state 0, and its step is the machine's
+--     Encodes b c      the circuit begins in memory state 0, and each of its steps is the machine's
 --     IsTidy c      how the circuit's variables are numbered, and which gates it has
 use Rattle.std.specs.Prelude.{◌≡◌, ◌≢◌, ℕ, ◌+◌, ◌*◌, ◌^◌, ◌<◌, ◌≤◌, Bool, false, cond, List, [], ◌∷◌, length, map}
 use Rattle.std.specs.Prelude.{Option, Some, None, All, AllPairs, nat_lt, if◌then◌else◌, slice_index_or}
@@ -39,7 +39,7 @@ bits_over ps letter = map (λ p. is_in p letter) ps
 abbrev pub symbols_of : List (List ℕ) → List ℕ → List (Option (List ℕ))
 symbols_of names ps = map (λ p. Some (slice_index_or names p [])) ps
 
--- for these latches and inputs, the outputs and the next latches are those of the machine's step
+-- for these latches and inputs, the outputs and the next values of the latches are those of the machine's step
 pub record StepsAs (b : Behaviour) (latches inputs outputs next : List Bool) : Type 0 where
   pub outputs_are : outputs ≡ bits_over b.outputs (b.plays (memory_of b latches) (letter_over b.inputs inputs))
   pub next_is : number_of next ≡ b.next (memory_of b latches) (letter_over b.inputs inputs)
@@ -57,14 +57,14 @@ pub record Encodes (b : Behaviour) (c : CircuitData) : Type 0 where
       StepsAs b latches inputs outputs next
 
 -- a gate of two literals with different variables, neither of which is constant; the first literal is the greater one,
--- and is less than the gate's own
+-- and is less than the gate's own literal
 pub record IsTidyGate (g : Gate) : Type 0 where
   pub below : g.first < g.literal
   pub falls : g.second < g.first
   pub different : variable g.second ≢ variable g.first
   pub not_constant : 0 < variable g.second
 
--- variables 1 to the greatest are the inputs, the latches and the gates, in this order; no two gates have the same two
+-- the inputs, the latches and the gates have the variables from 1 on, in this order; no two gates have the same two
 -- literals
 pub record IsTidy (c : CircuitData) : Type 0 where
   pub numbered : definitions c ≡ map (λ v. 2 * v) (range_with_len 1 c.most)

@@ -1,4 +1,4 @@
--- SeesNoInput c: if the latches are equal, the outputs of a circuit are equal for all inputs.
+-- SeesNoInput c: the outputs of a circuit depend only on the latches, not on the inputs.
 use Rattle.std.specs.Prelude.{◌≡◌, Bool, List}
 use Rattle.ps_circuit.specs.Circuits.{CircuitData}
 use Rattle.ps_circuit.specs.Values.{Steps}

@@ -1,7 +1,8 @@
 -- The gates of a machine's circuit in the order in which they are built, without a limit on their number.
---     over_variables variables f d      the literal of a function of the variables' bits
+--     over_variables variables f d      the literal of the Boolean function f of these variables
 --     next_bit b j, output_bit b p      a bit of the machine's step, by memory state and input letter
---     code_made b f latches code d      the literal of such a bit, for the memory states whose codes begin like `code`
+--     code_made b f latches code d      the literal of such a bit, for the memory states whose codes are `code` plus a
+--               number less than 2^latches
 --     next_wires, output_wires b latches      all literals: the next values of the latches, and then the outputs
 --     IsWired b c      the literals and gates of the circuit are these, in their order
 --     IsOutOfLiterals b      the gates need too many variables, so that there is no circuit
@@ -19,9 +20,9 @@ use Rattle.ps_aiger.specs.Encoded.{letter_over, memory_at}
 
 -- ## Functions
 
--- The literal of a function of the bits of variables. First comes the value if the first variable is true, then the
--- value if it is false, then the choice. If the function does not depend on that variable, both values are the same
--- literal, and the choice needs no gate.
+-- The literal of a Boolean function of variables. Gates are built first for the function with the first variable true,
+-- then for the function with that variable false, and then for the choice between the two. If the function does not
+-- depend on that variable, both literals are the same, and the choice needs no gate.
 unfoldable pub over_variables : List ℕ → (List Bool → Bool) → Drafted → Made
 over_variables [] f d = record { draft = d; literal = if f [] then 1 else 0 }
 over_variables (v ∷ vs) f d =
@@ -31,7 +32,7 @@ over_variables (v ∷ vs) f d =
 
 -- ## Bits of a step
 
--- a bit of a step, by memory state and input letter
+-- a bit of a step, as a function of the memory state and the input letter
 abbrev pub StepBit : Type 0
 StepBit = ℕ → ℕ → Bool
 
@@ -42,7 +43,7 @@ next_bit b j memory x = is_in j (b.next memory x)
 abbrev pub output_bit : Behaviour → ℕ → StepBit
 output_bit b p memory x = is_in p (b.plays memory x)
 
--- The literal of a bit, for the memory states whose codes are `code` plus a number less than 2^latches. The first
+-- The literal of a bit, for the memory states whose codes are `code` plus a number less than 2^latches. The outermost
 -- choice is by the highest of these latches. For one memory state, the bit is a function of the inputs.
 unfoldable pub code_made : Behaviour → StepBit → ℕ → ℕ → Drafted → Made
 code_made b f zero code d =
@@ -74,7 +75,7 @@ next_wires b latches =
 abbrev pub output_wires : Behaviour → ℕ → Wired
 output_wires b latches = wired b latches (map (output_bit b) b.outputs) (next_wires b latches).draft
 
--- the gates with the given sides, from variable `from` on
+-- the gates have the given sides, which are pairs of literals, and the variables from `from` on
 pub record AreGates (from : ℕ) (sides : List Sides) (gates : List Gate) : Type 0 where
   pub many : length gates ≡ length sides
   pub each : (k : ℕ) (s : Sides) → slice_get sides k ≡ Some s →

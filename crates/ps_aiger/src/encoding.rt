@@ -19,9 +19,9 @@ use ps_circuit::{Builder, Circuit, EncodeFault, Gate, Latch, Literal, Parts, Sid
 use ps_machine::Machine;
 use std::alloc::{AllocError, Global};
 
-/// Builds the circuit whose step is the machine's. The circuit begins in memory state 0. The latches hold the code of a
-/// memory state; a code that belongs to no memory state stands for memory state 0. Inputs and outputs have the names of
-/// their propositions.
+/// Builds the circuit of a machine, each step of which is the machine's step. The circuit begins in memory state 0. The
+/// latches hold the code of a memory state; a code that belongs to no memory state stands for memory state 0. Inputs
+/// and outputs have the names of their propositions.
 ///
 /// # Errors
 ///
@@ -83,7 +83,7 @@ fn output_literals(
     literals_of(alloc, builder, machine, latches, &output_bits)
 }
 
-/// The circuit with the given next literals and outputs.
+/// The circuit with the given literals for the next values of the latches and for the outputs.
 fn circuit_of(
     alloc: Global,
     builder: &Builder,
@@ -171,7 +171,7 @@ fn literals_of(
     Ok(literals)
 }
 
-/// The parts of the circuit with the given next literals and outputs.
+/// The parts of the circuit with the given literals for the next values of the latches and for the outputs.
 fn parts_of(
     alloc: Global,
     builder: &Builder,
@@ -212,7 +212,7 @@ fn literals_from(alloc: Global, first: u32, count: u32) -> Result<Vec<Literal>, 
     Ok(literals)
 }
 
-/// Latches with the given next literals, from variable `first` on.
+/// Latches with the variables from `first` on, whose next values are the given literals.
 fn latches_of(alloc: Global, first: u32, next: &[Literal]) -> Result<Vec<Latch>, AllocError>
     requires { first + length next.now ≤ 2 ^ 31 }
     ensures { IfOk result (λ latches. AreLatches first next.now latches.items) }

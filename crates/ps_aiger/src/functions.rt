@@ -26,8 +26,8 @@ pub(crate) enum Wanted {
     Output(u32),
 }
 
-/// The literal of the wanted bit of the row, for each memory state and each input letter. Input k is variable k + 1,
-/// and the variables of the latches follow those of the inputs.
+/// The literal of the bit `wanted` of the machine's row, at each memory state and each input letter. Input k is
+/// variable k + 1, and the variables of the latches follow those of the inputs.
 pub(crate) fn literal_of(
     alloc: Global,
     builder: &mut Builder,
@@ -49,8 +49,8 @@ pub(crate) fn literal_of(
     over_latches(builder, machine, wanted, &mut known, latches, 0)
 }
 
-/// The literal of the wanted bit, for the memory states whose codes are `code` plus a number less than 2^`latches`. The
-/// lowest `latches` latches are free, and the others are fixed by `code`.
+/// The literal of the bit `wanted`, for the memory states whose codes are `code` plus a number less than 2^`latches`.
+/// The lowest `latches` latches are free, and the others are fixed by `code`.
 fn over_latches(
     builder: &mut Builder,
     machine: &Machine,
@@ -95,8 +95,8 @@ fn node_at(machine: &Machine, code: usize) -> Node
     }
 }
 
-/// The literal of the wanted bit, for one memory state, given its diagram. The table `known` has the literals that were
-/// already computed for nodes.
+/// The literal of the bit `wanted`, for one memory state, given its diagram. The table `known` has the literals that
+/// were already computed for nodes.
 fn over_inputs(
     builder: &mut Builder,
     machine: &Machine,
@@ -141,7 +141,7 @@ fn over_inputs(
     }
 }
 
-/// The constant literal of the wanted bit, for the row to which a leaf refers.
+/// The constant literal of the bit `wanted` of the row to which a leaf refers.
 fn constant(machine: &Machine, wanted: Wanted, leaf: u64) -> Literal
     requires { wanted_place wanted < 64 }
     ensures { result ≡ (if wanted_bit wanted (row_of machine.now leaf) then 1 else 0) }
@@ -152,7 +152,7 @@ fn constant(machine: &Machine, wanted: Wanted, leaf: u64) -> Literal
     }
 }
 
-/// The wanted bit of a row.
+/// The bit `wanted` of a row.
 fn bit_of_row(wanted: Wanted, row: Row) -> bool
     requires { wanted_place wanted < 64 }
     ensures { result ≡ wanted_bit wanted row }

@@ -1,4 +1,4 @@
--- The aim of a player within the tables, and the result: the attractor of the vertices of the trail from an index on. A
+-- The aim of an attractor in the tables, and the result: the attractor of the vertices of the trail from an index on. A
 -- free vertex, which has the level `aim.free`, is in the subgame and not yet in the set.
 use Rattle.std.specs.Prelude.{◌≡◌, ◌≢◌, ℕ, ◌<◌, ◌≤◌, ◌⊎◌, length, drop, Option, Bool, IsTrue, slice_index}
 use Rattle.ps_game.specs.Games.{ParityGame, vertex_count}
@@ -31,14 +31,14 @@ pub record IsTaken (aim : Aim) (tables : TablesData) (subgame set : ℕ → Bool
   pub placed : (v : ℕ) → IsTrue (set v) → level_of tables v ≢ aim.free
   pub all : (v : ℕ) → IsTrue (subgame v) → level_of tables v ≢ aim.free → IsTrue (set v)
 
--- v has a successor in the subgame outside the set
+-- v has a successor that is in the subgame but not in the set
 pub record StaysOut (game : ParityGame) (subgame set : ℕ → Bool) (v : ℕ) : Type 0 where
   pub to : ℕ
   pub leads : LeadsInto game subgame v to
   pub outside : ¬ IsTrue (set to)
 
--- the set is the attractor: it is closed, its ranks decrease by the table, and it is the least closed set; the rest of
--- the subgame is a subgame
+-- the set is the attractor: it is closed, its ranks decrease along the moves of the table, and it is the least closed
+-- set; the rest of the subgame is a subgame
 pub record IsAttracted (game : ParityGame) (subgame : ℕ → Bool) (player : ℕ) (target set : ℕ → Bool)
     (table : ℕ → Option ℕ) (rank : ℕ → ℕ) : Type 0 where
   pub closed : IsClosed game subgame player target set

@@ -11,7 +11,7 @@ use Rattle.ps_attractor.specs.declared.attractor.Attracted.{Attracted}
 use Rattle.ps_attractor.specs.Tables.{TablesData, level_of, moves_of, place_in}
 use Rattle.ps_attractor.specs.Aims.{IsAttracted, IsGrown, IsTaken, StandsFrom, rank_of}
 
--- the vertices less than n have their levels, and the trail has exactly those of the target among them
+-- each vertex less than n has its level, and the trail has exactly those of these vertices that are in the target
 pub record AreLaidOut (subgame target : List Bool) (n : ℕ) (tables : TablesData) : Type 0 where
   pub targets : (v : ℕ) → v < n → IsTrue (has target v) → level_of tables v ≡ PLACED
   pub frees : (v : ℕ) → v < n → has target v ≡ false → IsTrue (has subgame v) → level_of tables v ≡ FREE
@@ -40,7 +40,7 @@ pub record IsRegionTo (tables : TablesData) (n : ℕ) (region : List Bool) : Typ
   pub all : (v : ℕ) → v < n → level_of tables v ≡ PLACED → IsTrue (has region v)
   pub later : (v : ℕ) → n ≤ v → has region v ≡ false
 
--- v belongs to the player, and was placed outside the target
+-- v belongs to the player, was placed, and is not in the target
 pub record Moves (game : ParityGame) (tables : TablesData) (player : ℕ) (target : List Bool) (v : ℕ) : Type 0 where
   pub placed : level_of tables v ≡ PLACED
   pub owns : owner_of game v ≡ player

@@ -3,8 +3,8 @@ use Rattle.std.specs.Prelude.{ℕ, ◌+◌, ◌*◌, ◌^◌, ◌<◌, ◌≤◌
 use Rattle.ps_game.specs.Games.{ParityGame, vertex_count}
 use Rattle.ps_attractor.specs.Sources.{edges_before}
 
--- the numbers up to a limit, of at most 8 bytes, suffice for the edges, and for two levels for each vertex and four
--- more levels
+-- the limit fits in 8 bytes; it is at least the number of edges, and at least the number of levels, which is two for
+-- each vertex and four more
 pub record HasRoom (game : ParityGame) (limit : ℕ) : Type 0 where
   pub levels : 2 * vertex_count game + 4 ≤ limit
   pub edges : edges_before game (vertex_count game) ≤ limit

@@ -79,7 +79,7 @@ pub record Reaching (game : ParityGame) (aim : Aim) (old new : TablesData) (P : 
   pub back : (j : ℕ) → length old.trail ≤ j → j < length new.trail →
       LeadsBack game aim old new j (slice_index new.trail j)
 
--- all edges to the vertices at index k and later are still to be examined
+-- all edges to the vertices at index k of the trail and later are still to be examined
 abbrev pub From : ℕ → ℕ → ℕ → Type 0
 From k v j = k ≤ j
 
@@ -89,8 +89,8 @@ pub record StandsAmong (list : List ℕ) (from v : ℕ) : Type 0 where
   pub within : number < length list
   pub is : slice_index list number ≡ v
 
--- all edges to the vertices after index k are still to be examined, and those to the vertex at index k from its sources
--- with index n and later
+-- all edges to the vertices after index k of the trail are still to be examined, and so are the edges to the vertex at
+-- index k from its sources with index n and later
 abbrev pub FromSource : ℕ → List ℕ → ℕ → ℕ → ℕ → Type 0
 FromSource k sources n v j = (k < j) ⊎ ((j ≡ k) × StandsAmong sources n v)
 

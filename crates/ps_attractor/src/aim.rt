@@ -1,6 +1,6 @@
-//! The aim of an attractor within given tables.
+//! The aim of an attractor: its player, its target, and the levels that it uses in the tables.
 
-/// The aim of a player within the tables of an attractor.
+/// The player of an attractor, the start of its target in the trail, and the levels that mark vertices in the tables.
 #[derive(Clone, Copy)]
 pub struct Aim {
     /// The player, 0 or 1.

@@ -25,7 +25,7 @@ const OUTSIDE: usize = 0;
 /// The level of the vertices in the set.
 const PLACED: usize = 1;
 
-/// The level of the remaining vertices of the subgame.
+/// The level of the free vertices: those of the subgame that are not in the set.
 const FREE: usize = 2;
 
 /// The vertices from which a player can force every play within a subgame to a target, with moves and ranks.
@@ -44,7 +44,7 @@ pub struct Attracted {
 /// each vertex of the player with an edge into the set, and each vertex of the other player with all edges within the
 /// subgame into the set.
 ///
-/// Fails if out of memory. For 2^63 - 2 vertices or more, and for 2^64 edges or more, the call always fails as out of
+/// Fails if out of memory. With 2^63 - 2 vertices or more, or 2^64 edges or more, the call always fails as if out of
 /// memory.
 pub fn attract<A: Arena>(
     alloc: Global,
@@ -214,7 +214,7 @@ fn placed_region<W: Width>(
     Ok(region)
 }
 
-/// The moves of the player's vertices that were placed outside the target. Fails if out of memory.
+/// The moves at the player's vertices that were placed and are not in the target. Fails if out of memory.
 fn placed_moves<A: Arena, W: Width>(
     alloc: Global,
     arena: &A,

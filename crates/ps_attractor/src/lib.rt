@@ -2,11 +2,11 @@
 //! so.
 //!
 //! The attractor is computed backwards from its target, along the edges into vertices already reached. A vertex of the
-//! player is reached by its first edge into a reached vertex. A vertex of the other player is reached as soon as it has
-//! no free successor. The search for a free successor continues where the previous one ended, so each edge is examined
-//! a bounded number of times. The time is proportional to the number of edges into reached vertices, plus the number of
-//! edges that leave the other player's vertices among their sources. The memory is proportional to the numbers of
-//! vertices and edges.
+//! player is reached as soon as one of its edges leads to a reached vertex. A vertex of the other player is reached as
+//! soon as it has no free successor. The search for a free successor continues where the previous one ended, so each
+//! edge is examined a bounded number of times. The time is proportional to the number of edges into reached vertices,
+//! plus the number of edges from those vertices of the other player that have an edge into a reached vertex. The memory
+//! is proportional to the numbers of vertices and edges.
 //!
 //! | Call | What it gives |
 //! |---|---|

@@ -1,4 +1,4 @@
-//! The widths that have room for the numbers of a game.
+//! The widths of numbers that suffice for the tables of a game.
 
 ghost use Rattle.std.specs.Prelude.{◌↔◌, ◌≤◌, IsTrue};
 ghost use Rattle.ps_game.specs.Games.{vertex_count};
@@ -8,7 +8,7 @@ ghost use Rattle.ps_attractor.specs.Room.{HasRoom};
 use ps_game::{Arena, Width};
 use std::alloc::{AllocError, Global};
 
-/// Whether the numbers of a width suffice for the edges, and for two levels for each vertex and four more levels.
+/// Whether a width has room for the number of edges, and for the levels, which are two for each vertex and four more.
 pub fn has_room<A: Arena, W: Width>(arena: &A) -> bool
     ensures { IsTrue result ↔ HasRoom (A.game arena.now) W.LIMIT }
 {
@@ -25,7 +25,7 @@ pub fn no_room(alloc: Global) -> AllocError {
     }
 }
 
-/// Whether the numbers of a width suffice for the edges.
+/// Whether a width has room for the number of edges.
 fn has_room_for_edges<A: Arena, W: Width>(arena: &A) -> bool
     ensures { IsTrue result ↔ (edges_before (A.game arena.now) (vertex_count (A.game arena.now)) ≤ W.LIMIT) }
 {

@@ -19,7 +19,7 @@ impl<W: Width> Tables<W> {
     /// Extends the trail by the attractor of the target, whose vertices are in the trail from index `aim.begin` on. The
     /// trail is walked to its end, and each free vertex from which the player can force every play to the target is
     /// appended. The time is proportional to the number of edges into the walked vertices, plus the number of edges
-    /// that leave the other player's vertices among their sources.
+    /// from those vertices of the other player that have an edge into a walked vertex.
     ///
     /// Fails if out of memory; then vertices that were already placed stay placed.
     pub fn attract<A: Arena>(

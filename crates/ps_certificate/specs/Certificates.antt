@@ -55,12 +55,12 @@ pub record HasRightMove (game : ParityGame) (certificate : CertificateData) (v :
   pub own : owner_of game v ≡ winner_of certificate v → IsSomeAnd (choice_of certificate v) (HasEdge game v)
   pub other : owner_of game v ≢ winner_of certificate v → choice_of certificate v ≡ None
 
--- moves are right, and remaining edges stay with the winner
+-- no move is wrong, and each remaining edge leads to a vertex with the same winner
 pub record IsClosed (game : ParityGame) (certificate : CertificateData) : Type 0 where
   pub moves : (v : ℕ) → v < vertex_count game → HasRightMove game certificate v
   pub stays : (v w : ℕ) → Remains game certificate v w → winner_of certificate w ≡ winner_of certificate v
 
--- the opposing priority with a given index, for the winner of a vertex
+-- the opposing priority with a given index: one of the priorities by which the winner of a vertex loses
 abbrev pub opposing_at : CertificateData → ℕ → ℕ → ℕ
 opposing_at certificate v k = slice_index (opposing certificate (winner_of certificate v)) k
 
@@ -70,8 +70,8 @@ KeepsCount game certificate v w k =
     KeepsRule (opposing_at certificate v k) (priority_of game v) (priority_of game w)
     (slice_index (counts_of certificate v) k) (slice_index (counts_of certificate w) k)
 
--- a valid certificate is closed, and each remaining edge between two vertices of one winner keeps the rule of counts
--- for each opposing priority
+-- a valid certificate is closed, and each remaining edge between two vertices with the same winner keeps the rule of
+-- counts for each opposing priority
 pub record IsValid (game : ParityGame) (certificate : CertificateData) : Type 0 where
   pub closed : IsClosed game certificate
   pub counts : (v w k : ℕ) → Remains game certificate v w → winner_of certificate w ≡ winner_of certificate v →
@@ -83,7 +83,7 @@ HasWrongMove game certificate v =
     ((owner_of game v ≡ winner_of certificate v) × ¬ IsSomeAnd (choice_of certificate v) (HasEdge game v))
     ⊎ ((owner_of game v ≢ winner_of certificate v) × IsSome (choice_of certificate v))
 
--- a remaining edge between two vertices of one winner breaks the rule of counts for a priority
+-- a remaining edge between two vertices with the same winner breaks the rule of counts for a priority
 pub record BreaksCount (game : ParityGame) (certificate : CertificateData) (v w p : ℕ) : Type 0 where
   pub remains : Remains game certificate v w
   pub same_winner : winner_of certificate w ≡ winner_of certificate v
@@ -110,8 +110,8 @@ StandsBefore xs x y =
 abbrev pub EdgePrecedes : ParityGame → ℕ → ℕ → ℕ → ℕ → Type 0
 EdgePrecedes game v w v' w' = (v < v') ⊎ ((v ≡ v') × StandsBefore (successors_of game v) w w')
 
--- The order of flaws: wrong moves and escapes come first, by vertex. At one vertex the move precedes the escapes, which
--- are in the order of successors. Flaws in counts follow, by vertex, successor and priority.
+-- The order of flaws: wrong moves and escapes come first, by vertex. At the same vertex, a wrong move precedes the
+-- escapes, which are in the order of successors. Flaws in counts follow, by vertex, successor and priority.
 abbrev pub Precedes : ParityGame → Flaw → Flaw → Type 0
 Precedes game (Move v _) (Move v' _) = v < v'
 Precedes game (Move v _) (Escape v' _) = v ≤ v'

@@ -1,5 +1,5 @@
--- How a certificate stores its entries: a list of winners, and a list of lines. A line has a move, and names the part
--- of a shared list that has the nonzero counts of a vertex. (For private fields.)
+-- How a certificate stores its entries: a list of winners, and a list of lines. A line has a move, and refers to the
+-- part of a shared list that has the nonzero counts of a vertex. (For private fields.)
 use Rattle.std.specs.Prelude.{◌≡◌, ℕ, ◌≤◌, List, length, map}
 use Rattle.std.specs.List.{All, slice_range, zip}
 use Rattle.ps_certificate.specs.Certificates.{EntryData}
@@ -7,11 +7,11 @@ use Rattle.ps_certificate.specs.Sparse.{row_of, IsRow}
 use Rattle.ps_certificate.specs.declared.entries.Line.{Line}
 use Rattle.ps_certificate.specs.declared.row.PlacedCount.{PlacedCount}
 
--- the part of the shared list that a line names
+-- the part of the shared list to which a line refers
 abbrev pub part_of : List PlacedCount → Line → List PlacedCount
 part_of placed line = slice_range placed line.start line.end
 
--- the entry that a winner and a line store
+-- the entry that is stored as a winner and a line
 abbrev pub entry_in : List PlacedCount → ℕ × Line → EntryData
 entry_in placed p =
     record { winner = p.0; choice = p.1.choice; counts = row_of p.1.width (part_of placed p.1) }
@@ -19,13 +19,13 @@ entry_in placed p =
 abbrev pub entries_in : List ℕ → List Line → List PlacedCount → List EntryData
 entries_in winners lines placed = map (entry_in placed) (zip winners lines)
 
--- the part of the list that the line names is a row
+-- the part of the list to which the line refers is a row
 pub record IsWithin (placed : List PlacedCount) (line : Line) : Type 0 where
   pub rises : line.start ≤ line.end
   pub ends : line.end ≤ length placed
   pub row : IsRow line.width (part_of placed line)
 
--- there is a winner for each line, and each line names a row of the list
+-- there is a winner for each line, and each line refers to a row in the list
 pub record AreLines (winners : List ℕ) (lines : List Line) (placed : List PlacedCount) : Type 0 where
   pub each : length winners ≡ length lines
   pub within : All (IsWithin placed) lines

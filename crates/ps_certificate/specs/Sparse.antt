@@ -8,7 +8,7 @@ abbrev pub count_at : List PlacedCount → ℕ → ℕ
 count_at [] place = 0
 count_at (p ∷ ps) place = if p.place == place then p.count else count_at ps place
 
--- a given number of counts, from one index on
+-- a given number of counts, from a given index on
 abbrev pub counts_from : List PlacedCount → ℕ → ℕ → List ℕ
 counts_from placed zero place = []
 counts_from placed (suc n) place = count_at placed place ∷ counts_from placed n (suc place)
@@ -49,11 +49,12 @@ pub record IsFirstFrom (placed : List PlacedCount) (place number : ℕ) : Type 0
   pub before : AreBefore placed place number
   pub behind : (i : ℕ) → number ≤ i → i < length placed → place ≤ place_at placed i
 
--- from index `from` up to index `end`, no count of one list is greater than that of the other list
+-- from index `from` up to, but not including, index `end`, no count of the first list is greater than that of the
+-- second
 abbrev pub AreAtMost : List ℕ → List ℕ → ℕ → ℕ → Type 0
 AreAtMost counts others from end = (k : ℕ) → from ≤ k → k < end → slice_index counts k ≤ slice_index others k
 
--- the first index, from `from` on, at which the count of one list is greater than that of the other
+-- the first index, from `from` on, at which the count of the first list is greater than that of the second
 pub record IsFirstAbove (counts others : List ℕ) (from place : ℕ) : Type 0 where
   pub from_there : from ≤ place
   pub within : place < length counts

@@ -1,4 +1,4 @@
--- The text of a certificate of a given game, by parts (`ps_text`), and its possible errors.
+-- The text of a certificate of a given game: its grammar, composed of parts (`ps_text`), and its possible errors.
 --     psyncert 1                      psyncert 2
 --     vertices n                      vertices n
 --     odd p p ..                      odd p p ..
@@ -11,10 +11,10 @@
 -- the nonzero counts, each after its priority, and these priorities ascend. A text that does not have this form is
 -- rejected with fault 53 (`Syntax`). The form allows any number as the number of vertices, as a priority, as an id and
 -- as a move, and any number of listed priorities. Three kinds of numbers are rejected with fault 53 at their first
--- digit. The first is a number that does not fit in 64 bits, and the second is a count 0 after its priority. The third
--- is a count's priority that is not greater than the previous one in the line, if a space, a newline or a colon follows
--- the priority. A text is rejected with fault 54 (`OtherGame`) at a number that is not the game's, if a space, a
--- newline or a colon follows the number. The fault is also 54 at a newline where a priority is missing.
+-- digit. The first is a number that does not fit in 64 bits, and the second is a count of 0 after its priority. The
+-- third is a count's priority that is not greater than the previous one in the line, if a space, a newline or a colon
+-- follows the priority. A text is rejected with fault 54 (`OtherGame`) at a number that does not fit the game, if a
+-- space, a newline or a colon follows the number. The fault is also 54 at a newline where a priority is missing.
 use Rattle.std.specs.Prelude.{◌≡◌, ◌≢◌, ℕ, zero, suc, ◌^◌, ◌<◌, ◌≤◌, ◌⊎◌, List, [], ◌∷◌, ◌++◌, length, map, drop}
 use Rattle.std.specs.Prelude.{Option, Some, None, Result, Bool, true, false, ◌==◌, if◌then◌else◌, slice_get, position}
 use Rattle.std.specs.List.{Contains}
@@ -73,11 +73,11 @@ judged Wrong = record {
   IsCause = λ front s f. (front ≡ []) × IsBadNumber Wrong s f;
 }
 
--- a space, a newline or a colon follows the number, and it is not the game's
+-- a space, a newline or a colon follows the number, and the number does not fit the game
 abbrev pub OfOtherGame : (ℕ → Type 0) → Verdict
 OfOtherGame Wrong more n f = (f ≡ OtherGame) × EndsField more × Wrong n
 
--- a number; `Wrong` states which numbers are not the game's
+-- a number; `Wrong` states which numbers do not fit the game
 abbrev pub number : (ℕ → Type 0) → Field ℕ
 number Wrong = judged (OfOtherGame Wrong)
 
@@ -126,7 +126,7 @@ abbrev pub WrongPriority : List ℕ → Pairs → Verdict
 WrongPriority ps pairs more n f =
     EndsField more × (((f ≡ Syntax) × DoesNotRise pairs n) ⊎ ((f ≡ OtherGame) × ¬ Contains ps n))
 
--- a count 0 is an error
+-- a count of 0 is an error
 abbrev pub IsZero : Verdict
 IsZero more n f = (f ≡ Syntax) × (n ≡ 0)
 
@@ -162,7 +162,7 @@ entries compact odd even all (id ∷ ids) =
 
 -- ## The text
 
--- 1, or 2 for a compact text
+-- the version: 1, or 2 for a compact text
 abbrev pub version : Field Bool
 version = two 49 50 false true
 

@@ -14,8 +14,9 @@ use crate::flaw::Flaw;
 use crate::rising::first_at_least;
 use ps_game::Arena;
 
-/// The first opposing priority for which an edge breaks the rule of counts. A search skips each priority that is less
-/// than the priority of an end of the edge. From there on, only nonzero counts are compared.
+/// The first opposing priority for which an edge breaks the rule of counts. A search finds the first opposing priority
+/// that is not less than the priority of either end of the edge. From that priority on, only nonzero counts are
+/// compared.
 fn broken_priority<A: Arena>(
     arena: &A,
     certificate: &Certificate,

@@ -1,4 +1,4 @@
-//! The first half of the check: moves are right, and remaining edges stay with the winner.
+//! The first half of the check: no move is wrong, and each remaining edge leads to a vertex with the same winner.
 
 ghost use Rattle.std.specs.Prelude.{◌≡◌, ◌≢◌, ℕ, ◌<◌, ◌↔◌, IsTrue, IsOk, IfErr, OnOk, IfNone, IfSome, length};
 ghost use Rattle.ps_game.specs.Games.{vertex_count, owner_of, successors_of, HasEdge};
@@ -85,9 +85,9 @@ pub(crate) fn unsound_at<A: Arena>(
     }
 }
 
-/// Checks whether moves are right and every remaining edge stays with the winner. Otherwise returns the first flaw by
-/// vertex. At one vertex, a wrong move precedes the edges to the other winner, which are in the order of successors.
-/// Ignores priorities and counts. Allocates no memory.
+/// Checks that no move is wrong, and that each remaining edge leads to a vertex with the same winner. Otherwise returns
+/// the first flaw by vertex. At the same vertex, a wrong move precedes the edges to the other winner, which are in the
+/// order of successors. Ignores priorities and counts. Allocates no memory.
 ///
 /// # Errors
 ///

@@ -39,7 +39,7 @@ pub(crate) fn number(cursor: &mut Cursor) -> Result<u64, CertFault>
     }
 }
 
-/// Parses the next number, which must be the wanted number if a space, a newline or a colon follows it.
+/// Parses the next number, which must equal `wanted` if a space, a newline or a colon follows it.
 pub(crate) fn exactly(cursor: &mut Cursor, wanted: u64) -> Result<u64, CertFault>
     ensures { Tells (λ n. n) (parts.number (λ n. n ≢ wanted)) cursor.old result cursor.new }
 {

@@ -12,7 +12,7 @@ pub fn closed_regions_are_kept()
         BothKeep game certificate }
 {}
 
-/// The moves of a valid certificate hold both regions.
+/// By the moves of a valid certificate, each player holds the region that the certificate gives that player.
 pub fn valid_regions_are_held()
     ensures { (game : ParityGame) (certificate : CertificateData) → Fits game certificate → IsValid game certificate →
         BothHold game certificate }

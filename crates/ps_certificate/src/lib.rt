@@ -1,9 +1,10 @@
 //! Certificates of parity games, which state who wins each vertex, by which move, and why.
 //!
-//! The reason is given by counts: each vertex has one count for each priority by which its winner loses. Take a
-//! priority and an edge that remains when the winner moves by the certificate, such that neither end of the edge has a
-//! greater priority. Along the edge the count does not rise, and it falls if the edge leaves a vertex of that priority.
-//! docs/CERTIFICATES.md describes the format and the rule, for those who write another checker.
+//! The reason is given by counts: each vertex has one count for each priority by which its winner loses. An edge
+//! remains if it is the winner's move in the certificate, or leaves a vertex that the loser owns. For each priority,
+//! the count does not rise along a remaining edge whose two ends have no greater priority, and it falls if the edge
+//! also leaves a vertex of that priority. docs/CERTIFICATES.md describes the format and the rule, for those who write
+//! another checker.
 //!
 //! | Call | What it gives |
 //! |---|---|

@@ -70,7 +70,7 @@ impl<'a> Row<'a> {
         Ok(())
     }
 
-    /// The first index, from a given one on, at which the count is greater than that of another row.
+    /// The first index, at `from` or later, at which this row's count is greater than the other row's.
     pub(crate) fn first_above(&self, other: &Row<'_>, from: usize) -> Option<usize>
         requires { length other.now ≡ length self.now }
         ensures none { IfNone result (AreAtMost self.now other.now from (length self.now)) }
@@ -90,8 +90,8 @@ impl<'a> Row<'a> {
     }
 }
 
-/// The number of stored counts whose index is less than `place`. The search starts at the hint, unless the result is
-/// smaller.
+/// The number of stored counts whose index is less than `place`. The search starts at `hint`, unless the result is less
+/// than `hint`.
 fn first_from(placed: &[PlacedCount], hint: usize, place: usize) -> usize
     requires { AreRising placed.now }
     ensures { IsFirstFrom placed.now place result }

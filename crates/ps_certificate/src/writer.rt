@@ -70,7 +70,7 @@ fn write_text(
     Ok(out)
 }
 
-/// The number of bytes that suffices for most texts, so that the buffer need not move.
+/// A number of bytes that suffices for most texts, so that the buffer need not be moved.
 fn room_for(entries: &Entries, compact: bool) -> usize {
     let mut room: usize = 0;
     for vertex in 0..entries.len() {

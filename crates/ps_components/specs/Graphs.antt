@@ -1,4 +1,4 @@
--- Directed graphs of numbered vertices, and ways through them.
+-- Directed graphs of numbered vertices, and ways, which are paths along their links.
 use Rattle.std.specs.Prelude.{◌≡◌, ℕ, ◌<◌, ◌⊎◌, List, slice_get, Option, Some}
 
 -- a graph with the vertices 0 .. count - 1; the vertex v has `degree v` slots, and each slot has a target or is empty
@@ -18,12 +18,12 @@ pub record Link (g : Digraph) (v w : ℕ) : Type 0 where
 abbrev pub IsWithin : Digraph → Type 0
 IsWithin g = (v w : ℕ) → Link g v w → w < g.count
 
--- a way: one or more steps of R, from one number to another
+-- a way: a path of one or more steps of R, from one number to another
 pub data Way (R : ℕ → ℕ → Type 0) : ℕ → ℕ → Type 0 where
   last : {i j : ℕ} → R i j → Way R i j
   next : {i j k : ℕ} → R i j → Way R j k → Way R i k
 
--- w is v, or a way of links leads from v to w
+-- w is v, or w can be reached from v along links
 abbrev pub SameOrWay : Digraph → ℕ → ℕ → Type 0
 SameOrWay g v w = (v ≡ w) ⊎ Way (Link g) v w
 

@@ -5,19 +5,19 @@ use Rattle.ps_components.specs.ComponentLists.{ComponentsData, IsIn}
 use Rattle.ps_components.specs.declared.arranging.Arrangement.{Arrangement}
 use Rattle.ps_components.specs.declared.arranging.Arrangement.TheVariants.{Order, Cyclic}
 
--- the list has each number less than n once, after all numbers to which R leads from it
+-- the list has each number less than n once; if R leads from i to j, then j is before i
 pub record IsOrder (R : ℕ → ℕ → Type 0) (n : ℕ) (order : List ℕ) : Type 0 where
   pub within : (k i : ℕ) → slice_get order k ≡ Some i → i < n
   pub once : (k l i : ℕ) → slice_get order k ≡ Some i → slice_get order l ≡ Some i → k ≡ l
   pub each : (i : ℕ) → i < n → (k : ℕ) × (slice_get order k ≡ Some i)
   pub behind : (k l i j : ℕ) → slice_get order k ≡ Some i → slice_get order l ≡ Some j → R i j → l < k
 
--- i is the smallest number that leads back to itself
+-- i is the smallest number from which a way leads back to the same number
 pub record IsFirstOnCycle (R : ℕ → ℕ → Type 0) (i : ℕ) : Type 0 where
   pub cyclic : Way R i i
   pub first : (j : ℕ) → Way R j j → i ≤ j
 
--- an order if no vertex leads back to itself, and otherwise the first vertex that does
+-- the result is an order if no vertex leads back to itself, and otherwise the first vertex that does
 abbrev pub IsArrangement : Digraph → Arrangement → Type 0
 IsArrangement g (Order order) = IsOrder (Link g) g.count order.items × ((i : ℕ) → ¬ Way (Link g) i i)
 IsArrangement g (Cyclic i) = IsFirstOnCycle (Link g) i

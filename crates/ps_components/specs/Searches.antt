@@ -1,7 +1,7 @@
 -- The search for components, as a state that its steps change.
 --     IsSound g s      the lists of the search are sound
---     IsIdle, IsFresh      it is sound and its path is empty; nothing is marked either
---     Visits, Runs, Advances, Enters, Merges, Takes      what its methods do
+--     IsIdle, IsFresh      the search is sound and its path is empty; for IsFresh, all items are also unseen
+--     Visits, Runs, Advances, Enters, Merges, Takes      what the methods of the search do
 use Rattle.std.specs.Prelude.{◌≡◌, ℕ, ◌<◌, ◌≤◌, List, [], ◌∷◌, ◌++◌, length, slice_get, slice_set, Some, All}
 use Rattle.ps_components.specs.Graphs.{Digraph}
 use Rattle.ps_components.specs.Searching.{IsSoundSearch, IsSoundBut, IsSettled, KeepsMarks, ChangesReached, HasMet}
@@ -13,11 +13,11 @@ use Rattle.ps_components.specs.declared.search.Search.{Search}
 abbrev pub IsSound : Digraph → Search → Type 0
 IsSound g s = IsSoundSearch g s.marks s.active.items s.bounds.items s.pending.items s.order.items
 
--- sound except for pending links to the item that were taken off
+-- the search would be sound if some more links, which all lead to `item`, were pending
 abbrev pub IsSoundButFor : Digraph → ℕ → Search → Type 0
 IsSoundButFor g item s = IsSoundBut g item s.marks s.active.items s.bounds.items s.pending.items s.order.items
 
--- a bound on the turns that are left
+-- a bound on the number of turns that the search still needs
 abbrev pub turns_left : Digraph → Search → ℕ
 turns_left g s = turns g s.marks s.bounds.items s.pending.items
 
@@ -26,24 +26,24 @@ pub record IsIdle (g : Digraph) (s : Search) : Type 0 where
   pub sound : IsSound g s
   pub ended : length s.bounds.items ≡ 0
 
--- and nothing was seen
+-- the search is idle, and all items are unseen
 pub record IsFresh (g : Digraph) (s : Search) : Type 0 where
   pub idle : IsIdle g s
   pub unseen : All (λ m. m ≡ Unseen) s.marks
 
--- the items that were visited are exactly those to which the roots lead
+-- the visited items are exactly the roots and the items reachable from them
 pub record HasVisited (g : Digraph) (roots : List ℕ) (s : Search) : Type 0 where
   pub idle : IsIdle g s
   pub met : HasMet g roots s.marks
 
--- the item was visited, and only items to which it leads changed their marks
+-- the item was visited, and only the marks of items reachable from it changed
 pub record Visits (g : Digraph) (item : ℕ) (old new : Search) : Type 0 where
   pub idle : IsIdle g new
   pub kept : KeepsMarks old.marks new.marks
   pub seen : ¬ (slice_get new.marks item ≡ Some Unseen)
   pub reached : ChangesReached g (item ∷ []) old.marks new.marks
 
--- the path is empty again, and only items to which it leads changed their marks
+-- the path is empty again, and only the marks of items reachable from the old path changed
 pub record Runs (g : Digraph) (old new : Search) : Type 0 where
   pub idle : IsIdle g new
   pub kept : KeepsMarks old.marks new.marks
@@ -56,7 +56,7 @@ pub record Advances (g : Digraph) (old new : Search) : Type 0 where
   pub kept : KeepsMarks old.marks new.marks
   pub reached : ChangesReached g old.active.items old.marks new.marks
 
--- the item is at the end of the path
+-- the item was appended to the path
 pub record Enters (g : Digraph) (item : ℕ) (old new : Search) : Type 0 where
   pub sound : IsSound g new
   pub fewer : turns_left g new < turns_left g old
@@ -64,7 +64,7 @@ pub record Enters (g : Digraph) (item : ℕ) (old new : Search) : Type 0 where
   pub entered : new.marks ≡ slice_set old.marks item (Active (length old.active.items))
   pub path : new.active.items ≡ old.active.items ++ item ∷ []
 
--- the pending link leads into the last segment
+-- segments were merged, so that the target of the pending link is settled
 pub record Merges (g : Digraph) (link : Pending) (old new : Search) : Type 0 where
   pub sound : IsSound g new
   pub settled : IsSettled new.marks new.bounds.items link.from link.to
@@ -72,7 +72,7 @@ pub record Merges (g : Digraph) (link : Pending) (old new : Search) : Type 0 whe
   pub shorter : length new.bounds.items ≤ length old.bounds.items
   pub pending : new.pending.items ≡ old.pending.items
 
--- the last pending link is taken off
+-- the last pending link was removed
 pub record Takes (g : Digraph) (old new : Search) : Type 0 where
   pub sound : IsSound g new
   pub fewer : turns_left g new < turns_left g old

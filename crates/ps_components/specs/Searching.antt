@@ -63,7 +63,7 @@ pub record IsSoundBut (g : Digraph) (item : ℕ) (marks : List Mark) (active bou
   pub lead : (i : ℕ) (e : Pending) → slice_get skipped i ≡ Some e → e.to ≡ item
   pub sound : IsSoundSearch g marks active bounds (pending ++ skipped) order
 
--- each marked item is in the order, and each item of the order is in the list of marks
+-- each marked item is in the order, and each item of the order has an entry in the list of marks
 pub record AreListed (marks : List Mark) (order : List ℕ) : Type 0 where
   pub within : (i v : ℕ) → slice_get order i ≡ Some v → v < length marks
   pub listed : (v : ℕ) (m : Mark) → slice_get marks v ≡ Some m →
@@ -85,7 +85,7 @@ pub record IsCut (bounds : List ℕ) (place : ℕ) (fewer : List ℕ) : Type 0 w
   pub below : (k b : ℕ) → slice_get fewer k ≡ Some b → b ≤ place
   pub shorter : length fewer ≤ length bounds
 
--- the marks after each item of the list is closed in the component k
+-- the marks that result when each item of the list is closed, in the component k
 abbrev pub close_all : List Mark → List ℕ → ℕ → List Mark
 close_all marks [] k = marks
 close_all marks (v ∷ vs) k = close_all (slice_set marks v (Closed k)) vs k

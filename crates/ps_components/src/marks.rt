@@ -13,7 +13,7 @@ use std::marker::Model;
 pub enum Mark {
     /// Not visited yet.
     Unseen,
-    /// On the path, with its index.
+    /// On the path, at the given index.
     Active(usize),
     /// Finished, with the number of its component.
     Closed(usize),

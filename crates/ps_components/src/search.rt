@@ -60,7 +60,7 @@ impl Search {
         }
     }
 
-    /// Forgets the graph, but keeps the memory.
+    /// Forgets the graph, but keeps the allocated memory.
     pub fn forget(&mut self)
         ensures marks { self.new.marks ≡ [] }
         ensures order { self.new.order.items ≡ [] }

@@ -23,8 +23,8 @@ struct Spread {
     steps: Vec<Step>,
 }
 
-/// A trail from the end of a way back to its start, on which each vertex occurs once. `None` if there is no way from
-/// the start to the end. Fails if out of memory.
+/// A trail from `end` back to `start`, on which each vertex occurs once. `None` if `end` is not reachable from `start`.
+/// Fails if out of memory.
 pub fn way_back<G: Graph>(
     alloc: Global,
     graph: &G,
@@ -49,7 +49,7 @@ pub fn way_back<G: Graph>(
 }
 
 impl Spread {
-    /// The start of a search, at which only the vertex `start` is reached. Fails if out of memory.
+    /// A search that has only reached the vertex `start`. Fails if out of memory.
     fn new<G: Graph>(alloc: Global, graph: &G, start: usize) -> Result<Self, AllocError>
         requires { start < (G.graph graph.now).count }
         ensures spread { IfOk result (λ s. IsSpread (G.graph graph.now) s.seen.items s.steps.items 0) }
@@ -65,7 +65,7 @@ impl Spread {
         Ok(Spread { seen, steps })
     }
 
-    /// Reaches each vertex to which the vertex of step `place` has a link. Fails if out of memory.
+    /// Records as reached each vertex to which the vertex of step `place` has a link. Fails if out of memory.
     fn reach_from<G: Graph>(&mut self, graph: &G, place: usize) -> Result<(), AllocError>
         requires place { place < length self.old.steps.items }
         requires spread { IsSpread (G.graph graph.now) self.old.seen.items self.old.steps.items place }
@@ -84,7 +84,7 @@ impl Spread {
         Ok(())
     }
 
-    /// Reaches a vertex from step `place`, unless it was reached before. Fails if out of memory.
+    /// Records a vertex as reached from step `place`, unless it was reached before. Fails if out of memory.
     fn reach<G: Graph>(&mut self, graph: &G, to: usize, place: usize) -> Result<(), AllocError>
         requires to { to < length self.old.seen.items }
         requires linked { (s : Step) × (slice_get self.old.steps.items place ≡ Some s) ×
@@ -108,7 +108,7 @@ impl Spread {
     }
 }
 
-/// The items from a step back to the first step. Fails if out of memory.
+/// The trail from the item of step `place` back to the item of the first step. Fails if out of memory.
 fn trail_from<G: Graph>(
     alloc: Global,
     graph: &G,

@@ -28,7 +28,7 @@ pub record Falls (game : ParityGame) (subgame : ℕ → Bool) (player : ℕ) (ta
   pub other : (v w : ℕ) → IsTrue (set v) → ¬ IsTrue (target v) → owner_of game v ≢ player → LeadsInto game subgame v w →
       LeadsDown game subgame set rank v w
 
--- every closed set contains the set
+-- the set is contained in every closed set
 abbrev pub IsLeast : ParityGame → (ℕ → Bool) → ℕ → (ℕ → Bool) → (ℕ → Bool) → Type 0
 IsLeast game subgame player target set =
     (closed : ℕ → Bool) → IsClosed game subgame player target closed → IsWithin set closed

@@ -41,7 +41,7 @@ pub record AreOffsets (game : ParityGame) (offsets : List ℕ) : Type 0 where
   pub offset_each : length offsets ≡ length game + 1
   pub in_front : (v : ℕ) → v ≤ length game → slice_index offsets v ≡ length (all_successors (take v game))
 
--- the arrays have the content of the game
+-- the arrays represent the game
 pub record TellGame (game : ParityGame) (offsets successors owners priorities : List ℕ) : Type 0 where
   pub offsets_are : AreOffsets game offsets
   pub successors_are : successors ≡ all_successors game
@@ -49,13 +49,13 @@ pub record TellGame (game : ParityGame) (offsets successors owners priorities : 
   pub owners_are : owners ≡ map (λ v. v.owner) game
   pub priorities_are : priorities ≡ map (λ v. v.priority) game
 
--- the arrays of vertices with an owner 0 or 1, whose successors may be any numbers
+-- the arrays represent vertices that have an owner 0 or 1, and whose successors may be any numbers
 pub record AreVertices (offsets successors owners priorities : List ℕ) : Type 0 where
   pub tell : TellGame (game_in offsets successors owners priorities) offsets successors owners priorities
   pub players : All (λ v. v.owner < 2) (game_in offsets successors owners priorities)
 
--- each array has an entry for each vertex, the offsets are ascending and within the array of successors, and the arrays
--- represent a game
+-- each vertex has an owner, a priority and an offset; the offsets are ascending and within the array of successors, and
+-- the arrays represent a game
 pub record AreFlat (offsets successors owners priorities : List ℕ) : Type 0 where
   pub offset_each : length offsets ≡ length owners + 1
   pub priority_each : length priorities ≡ length owners

@@ -12,7 +12,7 @@ pub record VertexData : Type 0 where
 abbrev pub ParityGame : Type 0
 ParityGame = List VertexData
 
--- the vertex that is read past the end of the list
+-- the default vertex for an index past the end of the list
 abbrev pub no_vertex : VertexData
 no_vertex = record { owner = 0; priority = 0; successors = [] }
 

@@ -47,7 +47,8 @@ pub record KeepsTo (game : ParityGame) (player : ℕ) (set : ℕ → Bool) (tabl
   pub stays : (path : List ℕ) → IsPath game path → IsTrue (set (slice_index path 0)) → Follows game player table path →
       (k : ℕ) → k < length path → IsTrue (set (slice_index path k))
 
--- the player keeps to the set, and wins each loop of each path that begins in the set and follows the table
+-- the player stays in the set by the table, and wins each loop of each path that begins in the set and follows the
+-- table
 pub record Holds (game : ParityGame) (player : ℕ) (set : ℕ → Bool) (table : ℕ → Option ℕ) : Type 0 where
   pub keeps : KeepsTo game player set table
   pub wins : (path : List ℕ) (i j : ℕ) → IsPath game path → IsTrue (set (slice_index path 0)) →

@@ -1,5 +1,5 @@
--- The edges that remain when a player moves by a table, the priorities of a game by parity, and the rule for the counts
--- of these priorities along these edges.
+-- The edges that remain when a player moves according to a table, the priorities of a game by parity, and the rule for
+-- the counts of these priorities along these edges.
 use Rattle.std.specs.Prelude.{◌≡◌, ℕ, ◌%◌, ◌<◌, ◌≤◌, List, Option, Some, Bool, IsTrue}
 use Rattle.std.specs.List.{All, Contains}
 use Rattle.std.specs.List.Sorted.{IsStrictlyIncreasing}

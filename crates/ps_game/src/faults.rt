@@ -19,7 +19,7 @@ pub enum GameFault {
     UnknownSuccessor {
         /// The number of the vertex, from 0.
         vertex: usize,
-        /// The end of the edge: a number that is not less than the number of vertices.
+        /// The target of the edge, which is not less than the number of vertices.
         successor: usize,
     },
 

@@ -26,7 +26,7 @@ pub fn no_history_wins_outside()
         (v : ℕ) → v < vertex_count game → IsTrue (set v) → AllHistoriesBeaten game player v }
 {}
 
-/// If a subgame consists of all vertices, a set that a player holds within it is also held on paths.
+/// If a subgame consists of all vertices, a player who holds a set within the subgame also holds the set on paths.
 pub fn holds_on_paths()
     ensures { (game : ParityGame) (player : ℕ) (subgame set : ℕ → Bool) (table : ℕ → Option ℕ) →
         ((v : ℕ) → v < vertex_count game → IsTrue (subgame v)) →

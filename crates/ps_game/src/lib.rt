@@ -2,8 +2,8 @@
 //!
 //! In clauses, a game is a `ParityGame`, the list of its vertices, which are numbered from 0. Player 0 wins a loop
 //! whose greatest priority is even, and player 1 wins a loop whose greatest priority is odd. Sets of vertices and
-//! tables of moves are lists with an entry for each vertex. A call that takes a set or a table *requires* that it is as
-//! long as the game.
+//! tables of moves are lists with an entry for each vertex. A call that takes a set or a table *requires* that it has
+//! one entry for each vertex of the game.
 //!
 //! | Call | What it gives |
 //! |---|---|

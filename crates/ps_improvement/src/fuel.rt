@@ -17,8 +17,8 @@ impl Fuel {
         self.left = self.left.saturating_sub(cells as u64).saturating_sub(1);
     }
 
-    /// Counts a row of `cells` cells as stored in place of a row of `instead` cells. If there is no room for the row,
-    /// all fuel is spent.
+    /// Records that a row of `cells` cells is stored in place of a row of `instead` cells. If there is no room for the
+    /// row, all fuel is spent.
     pub fn hold(&mut self, cells: usize, instead: usize) {
         let room = self.room.saturating_add(instead as u64);
         if room < cells as u64 {

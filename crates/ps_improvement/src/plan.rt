@@ -159,7 +159,8 @@ impl Plan {
         }
     }
 
-    /// The successor that the owner of a vertex chooses: player 0 by its move, player 1 one that is worth least.
+    /// The successor that a vertex's owner chooses: the move of player 0, or a least valuable successor if player 1
+    /// owns the vertex.
     fn target<A: Arena>(&self, arena: &A, vertex: usize, fuel: &mut Fuel) -> Option<usize>
         requires places { length self.now.rows.items ≡ vertex_count (A.game arena.now) }
         requires vertex { vertex < length self.now.rows.items }

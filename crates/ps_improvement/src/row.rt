@@ -13,13 +13,14 @@ pub struct Cell {
     pub count: u64,
 }
 
-/// The priorities that a play meets before it stops, in descending order, each with how often it is met. No count is 0.
+/// The priorities that a play meets before it stops, in descending order, each with the number of times that the play
+/// meets it. No count is 0.
 pub type Row = Vec<Cell>;
 
-/// The value of a play to player 0.
+/// The value of a play for player 0.
 #[derive(Clone, Copy)]
 pub enum Value<'a> {
-    /// The play never stops, which is worth most.
+    /// The play never stops; such a play is worth most.
     Endless,
     /// The play stops after meeting these priorities.
     Stops(&'a [Cell]),
@@ -63,7 +64,7 @@ fn order_of_cells(cell: Cell, beside: Cell) -> Ordering {
     }
 }
 
-/// Compares meeting a priority once more with not meeting it.
+/// Whether a play is worth more (`Greater`) or less (`Less`) if it meets a priority once more.
 fn worth_of(priority: u64) -> Ordering {
     if priority % 2 == 0 {
         Ordering::Greater

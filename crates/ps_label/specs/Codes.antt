@@ -1,12 +1,12 @@
--- A code for expressions, with which proofs distinguish them. The code is the list of steps that build an expression on
--- a stack of expressions and a stack of operand lists.
+-- A code for expressions, by which proofs distinguish expressions. The code is the list of steps that build an
+-- expression on a stack of expressions and a stack of operand lists.
 use Rattle.std.specs.Prelude.{◌≡◌, ℕ, ◌⊎◌, Bool, true, false, List, [], ◌∷◌, refl}
 use Rattle.std.proofs.Common.{inl, inr, ◌∙◌}
 use Rattle.std.specs.Coded.{Coded, code_by, coded_list, coded⊎, coded_bool, coded_ℕ}
 use Rattle.ps_label.specs.Expression.{Expression, constant, proposition, alias, not_of, all_of, any_of, Operands, last}
 use Rattle.ps_label.specs.Expression.{more}
 
--- push a constant, a proposition or an alias, or combine the tops of the stacks
+-- a step pushes a constant, a proposition or an alias, or combines the tops of the stacks
 abbrev pub Step : Type 0
 Step = (Bool ⊎ (ℕ ⊎ ℕ)) ⊎ (Bool ⊎ (Bool ⊎ Bool))
 

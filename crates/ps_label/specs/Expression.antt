@@ -30,7 +30,7 @@ abbrev mutual
   operands end_of-Label = last
   operands (more_of-Label l row) = more (expression l) (operands row)
 
--- the operands from a list of expressions
+-- the expressions of a list as operands
 abbrev pub row_of : List Expression → Operands
 row_of [] = last
 row_of (e ∷ es) = more e (row_of es)

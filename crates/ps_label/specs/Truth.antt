@@ -27,7 +27,7 @@ abbrev mutual
   any_true known letter last = false
   any_true known letter (more e es) = cond (truth known letter e) true (any_true known letter es)
 
--- the table `known` has the truth of each alias: that of the alias's expression by the same table
+-- the table `known` gives each alias the truth of the alias's expression, computed with the same table
 pub record AreTruths (aliases : List Expression) (letter : ℕ) (known : List Bool) : Type 0 where
   pub one_each : length known ≡ length aliases
   pub each : (k : ℕ) → k < length aliases → slice_index_or known k false ≡ truth known letter
@@ -39,7 +39,7 @@ truths_behind known letter [] = known
 truths_behind known letter (e ∷ es) = truths_behind (known ++ truth known letter e ∷ []) letter es
 
 -- The truth of a label at a letter, where alias k is the expression with index k in `aliases`. If each alias uses only
--- earlier aliases, there is exactly one table of their truths, and this is the truth by that table.
+-- earlier aliases, exactly one table has their truths, and the label's truth is computed with it.
 unfoldable pub alias_truths : List Expression → ℕ → List Bool
 alias_truths aliases letter = truths_behind [] letter aliases
 

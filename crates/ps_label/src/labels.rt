@@ -75,8 +75,8 @@ impl Labels {
 }
 
 /// If each alias uses only earlier aliases, there is exactly one table of their truths at a letter: each entry is the
-/// truth of the alias's expression by the same table. The truth of a label is determined by the table of the aliases'
-/// truths.
+/// truth of the alias's expression, computed with the same table. The truth of a label is determined by the table of
+/// the aliases' truths.
 pub fn one_table_of_truths()
     ensures table { (aliases : List Expression) (letter : ℕ) → AreOrdered aliases →
         AreTruths aliases letter (alias_truths aliases letter) }

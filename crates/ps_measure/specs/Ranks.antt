@@ -13,8 +13,8 @@ abbrev pub count_with : ParityGame → (ℕ → Bool) → ℕ → ℕ
 count_with game set p = count_below (λ v. (priority_of game v == p) && set v) (vertex_count game)
 
 -- Counts for one priority that keep the rule on each edge that remains within the set, and are the least counts that
--- do. The counts are 0 outside the set and at greater priorities. Each count is at most the number of vertices of the
--- priority in the set.
+-- do. The counts are 0 at vertices outside the set and at vertices of greater priority. Each count is at most the
+-- number of vertices of the priority in the set.
 pub record AreLeastFor (game : ParityGame) (player : ℕ) (set : ℕ → Bool) (table : ℕ → Option ℕ) (p : ℕ)
     (count : ℕ → ℕ) : Type 0 where
   pub keep : KeepRuleWithin game player set table p count
@@ -60,8 +60,8 @@ total_of rows count width = sum_below (λ k. sum_below (λ v. count_of rows v k)
 abbrev pub raised_of : List (List ℕ) → ℕ → ℕ → ℕ
 raised_of rows count width = sum_below (λ k. count_below (λ v. nat_lt 0 (count_of rows v k)) count) width
 
--- for each priority, the number of vertices of the set times the number of those that have the priority; summed over
--- the priorities
+-- the sum, over the priorities, of the number of vertices of the set times the number of vertices of the set with that
+-- priority
 abbrev pub most_raises : ParityGame → (ℕ → Bool) → List ℕ → ℕ
 most_raises game set priorities =
     sum_below (λ k. count_below set (vertex_count game) * count_with game set (slice_index priorities k))

@@ -10,6 +10,6 @@ sum_below f (suc n) = sum_below f n + f n
 abbrev pub counted : Bool → ℕ
 counted b = if b then 1 else 0
 
--- the number of those among 0 .. n - 1 that pass the test
+-- how many of the numbers 0 .. n - 1 pass the test
 abbrev pub count_below : (ℕ → Bool) → ℕ → ℕ
 count_below test n = sum_below (λ v. counted (test v)) n

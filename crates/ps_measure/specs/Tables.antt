@@ -14,8 +14,7 @@ abbrev pub count_here : Option CountCell → ℕ → ℕ
 count_here None k = 0
 count_here (Some cell) k = if cell.place == k then cell.count else 0
 
--- the greatest count at index k in the first cells of a chain, given by the number of its first cell; `fuel` limits the
--- number of cells
+-- the greatest count at index k among the first `fuel` cells of the chain that begins with the cell of the given number
 unfoldable pub count_from : List CountCell → ℕ → ℕ → ℕ → ℕ
 count_from cells zero number k = 0
 count_from cells (suc fuel) zero k = 0
@@ -30,7 +29,7 @@ row_from width cells head = map (count_from cells head head) (range_with_len 0 w
 unfoldable pub rows_in : ℕ → List ℕ → List CountCell → List (List ℕ)
 rows_in width heads cells = map (row_from width cells) heads
 
--- each cell names an earlier cell as the next one, or none, and its index is within the rows
+-- each cell names an earlier cell, or none, as its next cell, and its index is less than the width of the rows
 pub record AreChained (width : ℕ) (cells : List CountCell) : Type 0 where
   pub falls : (i : ℕ) (cell : CountCell) → slice_get cells i ≡ Some cell → cell.next ≤ i
   pub places : (i : ℕ) (cell : CountCell) → slice_get cells i ≡ Some cell → cell.place < width

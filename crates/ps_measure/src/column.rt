@@ -35,7 +35,7 @@ impl Column {
     }
 
     /// Computes the least counts for the priority of `low`. If no counts keep the rule, returns a link to a vertex of
-    /// that priority, from which a way leads back to the start of the link.
+    /// that priority, from which the start of the link is reachable.
     pub(crate) fn work_out(
         &mut self,
         low: &Low,
@@ -109,7 +109,7 @@ impl Column {
     }
 
     /// Raises the value of the target's component as a link requires. Returns true if the link stays within a component
-    /// and leads to a vertex of the priority.
+    /// and leads to a vertex of the priority of `low`.
     fn pass(&mut self, low: &Low, from: usize, number: usize, to: usize) -> bool
         requires counting { IsCounting (low_graph low.now) (low_weight low.now) self.old.components
             self.old.values.items }

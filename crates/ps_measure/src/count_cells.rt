@@ -97,7 +97,7 @@ impl CountCells {
         self.push_wide(cell)
     }
 
-    /// Appends a cell to a list whose cells take 24 bytes each from now on. If out of memory, nothing changes.
+    /// Appends a cell, and from then on stores every cell of the list in 24 bytes. If out of memory, nothing changes.
     #[inline(never)]
     fn push_wide(&mut self, cell: CountCell) -> Result<(), AllocError>
         ensures ok { OnOk result (self.new ≡ self.old ++ cell ∷ []) }

@@ -5,8 +5,8 @@ ghost use Rattle.ps_game.specs.Games.{ParityGame};
 ghost use Rattle.ps_game.specs.Plays.{Holds};
 ghost use Rattle.ps_measure.specs.Ranks.{AreRanks, IsLostCycle};
 
-/// A player's region and moves have least counts, or a cycle that the player loses. If the player holds the region by
-/// these moves, least counts exist.
+/// For a player's region and moves there are least counts, or a cycle that the player loses. If the player holds the
+/// region by these moves, least counts exist.
 pub fn counts_are_there()
     ensures either { (game : ParityGame) (player : ℕ) (set : ℕ → Bool) (table : ℕ → Option ℕ) →
         ((priorities : List ℕ) × (rows : List (List ℕ)) × AreRanks game player set table priorities rows) ⊎

@@ -1,9 +1,9 @@
 //! The least counts of a player's region, or a cycle that the player loses.
 //!
-//! [`ranks`] considers the edges that remain inside a region when its player moves by a table. For each priority by
-//! which the player loses, [`ranks`] returns the least counts that keep the rule of counts. The result also states how
-//! often a count was raised. If the player loses a cycle of such edges, no counts keep the rule, and [`ranks`] returns
-//! such a cycle.
+//! [`ranks`] considers the edges that remain inside a region when its player moves according to a table. For each
+//! priority by which the player loses, [`ranks`] returns the least counts that keep the rule of counts. The result also
+//! states how often a count was raised. If the player loses a cycle of such edges, no counts keep the rule, and
+//! [`ranks`] returns such a cycle.
 //!
 //! The counts for one priority are a progress measure (Jurdzinski) for that priority, but the least counts are not
 //! computed by lifting them step by step. If there are many priorities, vertices are first grouped by priority. For
@@ -19,7 +19,7 @@
 //! | `counts_are_there` | a law: a region has least counts or a lost cycle; a region that is held has least counts |
 //!
 //! The counts for a priority are 0 outside the region, and at most the number of vertices of that priority in the
-//! region. The region and the table are arbitrary; the region need not be closed. `raises` is at least the number of
+//! region. Any region and any table may be given; the region need not be closed. `raises` is at least the number of
 //! nonzero counts, and at most the sum of the counts.
 #![tactic(auto)]
 

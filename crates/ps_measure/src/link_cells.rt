@@ -93,7 +93,7 @@ impl LinkCells {
         self.push_wide(cell)
     }
 
-    /// Appends a cell to a list whose cells take 16 bytes each from now on.
+    /// Appends a cell, and from then on stores every cell of the list in 16 bytes.
     #[inline(never)]
     fn push_wide(&mut self, cell: Cell) -> Result<(), AllocError>
         ensures { OnOk result (self.new ≡ self.old ++ cell ∷ []) }

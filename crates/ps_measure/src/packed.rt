@@ -107,7 +107,7 @@ impl Packed {
         self.push_wide(number)
     }
 
-    /// Appends a number to a list whose numbers take 8 bytes each from now on.
+    /// Appends a number, and from then on stores every number of the list in 8 bytes.
     #[inline(never)]
     fn push_wide(&mut self, number: usize) -> Result<(), AllocError>
         ensures { OnOk result (self.new ≡ self.old ++ number ∷ []) }
@@ -137,7 +137,7 @@ impl Packed {
         self.set_wide(place, number)
     }
 
-    /// Replaces the number at an index of a list whose numbers take 8 bytes each from now on.
+    /// Replaces the number at an index, and from then on stores every number of the list in 8 bytes.
     #[inline(never)]
     fn set_wide(&mut self, place: usize, number: usize) -> Result<(), AllocError>
         requires { place < length self.old }

@@ -28,7 +28,7 @@ name_size behind = if is_closed behind then prefix_len is_unquoted behind + 2 el
 abbrev pub mark_sign : ℕ → Sign
 mark_sign b = if b == 44 then Comma else (if b == 59 then Semicolon else Wrong)
 
--- the sign with which a text begins, after the bytes `before`
+-- the first sign of a text that follows the bytes `before`
 unfoldable pub first_sign : List ℕ → List ℕ → Sign
 first_sign before [] = Wrong
 first_sign before (b ∷ bs) =
@@ -46,7 +46,7 @@ first_size (b ∷ bs) =
     else (if b == 34 then name_size bs
     else 1))
 
--- the pieces of a text after the bytes `before`; its first `skip` bytes belong to a token that was read already
+-- the pieces of a text that follows the bytes `before`; its first `skip` bytes belong to a token that was read already
 unfoldable pub lex : ℕ → List ℕ → List ℕ → List (Piece Sign)
 lex skip before [] = []
 lex (suc skip) before (b ∷ bs) = lex skip (before ++ b ∷ []) bs

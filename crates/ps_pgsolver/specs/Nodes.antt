@@ -39,7 +39,7 @@ pub record IsNewNode (ids : List ℕ) (node : NodeData) : Type 0 where
   pub new : ¬ Contains ids node.id
   pub is_node : IsNode node
 
--- each item of a list, each successor of a node, and each successor of every node is one of the given ids
+-- each item of a list is one of the given ids; the same for the successors of a node, and for those of all nodes
 abbrev pub KnowsEach : List ℕ → List ℕ → Type 0
 KnowsEach ids list = All (λ id. Contains ids id) list
 

@@ -337,7 +337,7 @@ fn name_at<'a>(behind: &'a [u8]) -> (Kind<'a>, usize)
     }
 }
 
-/// The token of a byte that is a token by itself or is never allowed.
+/// The token of a byte that is a token on its own, or that is never allowed.
 fn mark<'a>(byte: u8) -> Kind<'a>
     ensures sign { sign_of result ≡ Some (mark_sign byte) }
     ensures plain { IsPlain result }

@@ -5,9 +5,9 @@
 --     claimed game won first second      the claim, as a certificate without priorities and counts
 --     AreSizedFor game won first second      the three lists have an entry for each vertex
 --     IsSolution game won first second      each player holds the vertices that it wins by its table
---     IsCycleOf game won first second player cycle      all remaining edges stay with the winner, but the player loses
---               a cycle
---     IsRefusal game won first second fault      the fault is what is wrong with the solution
+--     IsCycleOf game won first second player cycle      each remaining edge leads to a vertex with the same winner, but
+--               the player loses a cycle of such edges
+--     IsRefusal game won first second fault      the fault states what is wrong with the solution
 --     IsCertificateOf game won first second c      the certificate of a solution that holds
 use Rattle.std.specs.Prelude.{◌≡◌, ℕ, ◌<◌, ◌==◌, if◌then◌else◌, List, [], length, map, Option, None, Bool, not}
 use Rattle.std.specs.List.{range_with_len}
@@ -57,8 +57,8 @@ pub record IsSolution (game : ParityGame) (won : List Bool) (first second : List
   pub first_holds : Holds game 0 (has won) (move_at first)
   pub second_holds : Holds game 1 (λ v. not (has won v)) (move_at second)
 
--- Moves are right and every remaining edge stays with its winner, but the player loses a cycle of such edges. If that
--- player is player 1, player 0 holds the vertices that it is claimed to win.
+-- No move is wrong, and each remaining edge leads to a vertex with the same winner, but the player loses a cycle of
+-- such edges. If player 1 loses the cycle, player 0 holds the vertices that player 0 is claimed to win.
 pub record IsCycleOf (game : ParityGame) (won : List Bool) (first second : List (Option ℕ)) (player : ℕ)
     (cycle : List ℕ) : Type 0 where
   pub closed : IsClosed game (claimed game won first second)
@@ -66,7 +66,8 @@ pub record IsCycleOf (game : ParityGame) (won : List Bool) (first second : List 
   pub lost : IsLostCycle game player (won_by won player) (moves_by first second player) cycle
   pub first_holds : player ≡ 1 → Holds game 0 (has won) (move_at first)
 
--- what a fault guarantees: the flaw is the first of the claim, or the cycle is lost; out of memory guarantees nothing
+-- what a fault guarantees: the flaw is the first flaw of the claim, or the cycle is lost; out of memory guarantees
+-- nothing
 abbrev pub IsRefusal : ParityGame → List Bool → List (Option ℕ) → List (Option ℕ) → JudgeFault → Type 0
 IsRefusal game won first second (Unclosed flaw) = IsFirstFlaw game (claimed game won first second) flaw
 IsRefusal game won first second (BadCycle player cycle) = IsCycleOf game won first second player cycle.items

@@ -16,10 +16,10 @@ use ps_game::{Arena, Counts, Region, Strategy};
 use ps_measure::{MeasureFault, Ranks, ranks};
 use std::alloc::{AllocError, Global};
 
-/// Judges a solution, and returns the certificate that the solution gives. The solution consists of the vertices that
-/// player 0 wins, and of a table of moves for each player; player 1 wins all other vertices. The certificate has the
-/// winners and moves of the solution, and the least counts. The only moves that are checked are those of a winner at
-/// vertices that the winner owns.
+/// Judges a solution, and returns its certificate. The solution consists of the vertices that player 0 wins, and of a
+/// table of moves for each player; player 1 wins all other vertices. The certificate has the winners and moves of the
+/// solution, and the least counts. The only moves that are checked are those of a winner at vertices that the winner
+/// owns.
 ///
 /// # Errors
 ///
@@ -35,7 +35,7 @@ pub fn judge<A: Arena>(
 ) -> Result<Certificate, JudgeFault>
     requires sized { AreSizedFor (A.game arena.now) won.now first.now second.now }
 
-    // Ok exactly if each player holds the vertices that it wins, unless out of memory.
+    // Ok exactly if each player holds the vertices that the player is claimed to win, unless out of memory.
     ensures solution { OnOk result (IsSolution (A.game arena.now) won.now first.now second.now) }
     ensures judged { IsSolution (A.game arena.now) won.now first.now second.now → IfErr result IsOutOfMemory }
 
@@ -49,8 +49,8 @@ pub fn judge<A: Arena>(
     counting(alloc, arena, won, first, second)
 }
 
-/// The certificate that a solution gives. The solution is known to hold, and is not judged. The certificate has the
-/// solution's winners and moves, and the least counts. Fails only if out of memory.
+/// The certificate of a solution. The solution is known to hold, and is not judged. The certificate has the solution's
+/// winners and moves, and the least counts. Fails only if out of memory.
 pub fn certificate_of_solution<A: Arena>(
     alloc: Global,
     arena: &A,
@@ -78,7 +78,7 @@ pub fn certificate_of_solution<A: Arena>(
     }
 }
 
-/// Checks that the moves of a solution are right, and that each remaining edge stays with its winner.
+/// Checks that no move of a solution is wrong, and that each remaining edge leads to a vertex with the same winner.
 fn closing<A: Arena>(
     alloc: Global,
     arena: &A,
@@ -98,7 +98,8 @@ fn closing<A: Arena>(
     }
 }
 
-/// The certificate of a solution whose remaining edges stay with their winners, or a cycle that a player loses.
+/// The certificate of a solution whose remaining edges all lead to vertices with the same winner, or a cycle that a
+/// player loses.
 fn counting<A: Arena>(
     alloc: Global,
     arena: &A,

@@ -1,9 +1,10 @@
 //! Whether a solution of a game holds, no matter where the solution comes from.
 //!
 //! A solution states which vertices player 0 wins, and by which moves the players win; player 1 wins all other
-//! vertices. [`judge`] returns the certificate that the solution gives, with the least counts. If the solution does not
+//! vertices. [`judge`] returns the certificate of the solution, which has the least counts. If the solution does not
 //! hold, [`judge`] returns the reason. The reason is the first flaw, which is a wrong move or a remaining edge to a
-//! vertex with the other winner. If there is no flaw, the reason is a cycle that its claimed winner loses.
+//! vertex with the other winner. If there is no flaw, the reason is a cycle that is lost by the player who is claimed
+//! to win its vertices.
 //!
 //! | Call | What it gives |
 //! |---|---|
@@ -14,9 +15,9 @@
 //! | `one_verdict` | a law: a solution never has both a flaw and a lost cycle; if it holds, it has neither |
 //!
 //! Moves may be any numbers. The only moves that are checked are those of a winner at vertices that the winner owns. A
-//! cycle that player 1 loses is reported only if player 0 holds the vertices that it is claimed to win.
+//! cycle that player 1 loses is reported only if player 0 holds the vertices that player 0 is claimed to win.
 //!
-//! Both calls take the time of `ps_measure::ranks` for both players, and call no solver.
+//! Both calls take as long as `ps_measure::ranks` for both players, and call no solver.
 #![tactic(auto)]
 
 mod building;

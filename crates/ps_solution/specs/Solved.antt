@@ -31,7 +31,7 @@ abbrev pub with_move : List (Option ℕ) → ℕ → Option ℕ → List (Option
 with_move moves v None = moves
 with_move moves v (Some w) = slice_set moves v (Some w)
 
--- the entries with one more: who wins a vertex, and by which move
+-- the entries with one entry more, which states who wins a vertex, and by which move
 abbrev pub with_entry : SolvedData → ℕ → ℕ → Option ℕ → SolvedData
 with_entry s v winner choice = record {
   named = slice_set s.named v true;

@@ -75,7 +75,7 @@ keyword word = one (keyword_in word) NoBad
 unfoldable pub choice : List ℕ → Field (Option ℕ)
 choice ids = either (mapped (λ v. Some v) (successor ids)) (give None)
 
--- an entry, after the entries that were read before
+-- one more entry after those that were read
 unfoldable pub entry : List ℕ → SolvedData → Field SolvedData
 entry ids s =
     then_by (vertex ids s) (λ v.

@@ -74,7 +74,7 @@ impl Solved {
         true
     }
 
-    /// The solution that the entries give.
+    /// The solution that the entries define.
     pub(crate) fn into_solution(self) -> Solution
         ensures value { result ≡ solution_of self }
         ensures won { length result.won ≡ length self.named }

@@ -64,7 +64,7 @@ IsRefusedAs game (solver.BadCycle cycle) (BadCycle ids) = ids.items ≡ map (λ 
 IsRefusedAs game (solver.Text cause offset) fault = fault ≡ Certificate cause offset
 IsRefusedAs game given fault = fault ≡ OutOfMemory
 
--- the machine that a certificate of the automaton's game gives the winner
+-- the winner's machine, which a certificate of the automaton's game determines
 pub record IsExtracted (order : Order) (a : AutomatonData) (game : ParityGame) (certificate : CertificateData)
     (m : Behaviour) : Type 0 where
   pub is_machine : IsMachine m

@@ -91,7 +91,7 @@ impl Problem {
         &self.game.game
     }
 
-    /// Frees the problem. This function carries the proof about freeing the problem's parts, so that callers need not
+    /// Frees the problem. This function contains the proof about freeing the problem's parts, so that callers need not
     /// repeat that proof.
     pub fn close(self) {
         drop(self);

@@ -24,8 +24,8 @@ pub struct Report {
     pub certificate_text: Vec<u8>,
 }
 
-/// The report of a circuit, a game and a certificate, which is printed as a plain or a compact text. Fails if out of
-/// memory.
+/// The report of a circuit, a game and a certificate; the certificate is printed as a plain or a compact text. Fails if
+/// out of memory.
 pub fn report_of(
     alloc: Global,
     game: &NamedGame,

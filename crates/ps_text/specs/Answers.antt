@@ -2,10 +2,10 @@
 --     Piece, Stream      a sign of a text with the offset of its first byte; the pieces of a text, and the offset of
 --               its end
 --     Begins IsText front      some text of the grammar begins with the signs `front`
---     NoneGoesOn IsText front there      after `front` no text continues with the sign `there`; for None: no text ends
---               there
---     IsRefused IsText front there      `front` begins a text, and the grammar does not allow the sign `there` (or the
---               end) after it
+--     NoneGoesOn IsText front there      no text begins with `front` and then the sign `there`; for None: `front` is
+--               not a text
+--     IsRefused IsText front there      some text begins with `front`, but the grammar does not allow the sign `there`
+--               (or the end) after `front`
 --     IsClean IsCause all      the text has no error
 --     IsFirst number IsCause front rest f      f is an error between `front` and `rest`, and no other error precedes it
 --     IsFirstAt number IsCause stream found      the same for signs with offsets
@@ -57,12 +57,12 @@ pub record Begins {T V : Type 0} (IsText : List T → V → Type 0) (front : Lis
   pub value : V
   pub is_text : IsText (front ++ more) value
 
--- after `front` no text of the grammar continues with the sign `there`; for None: no text ends there
+-- no text of the grammar begins with `front` and then the sign `there`; for None: `front` is not a text of the grammar
 abbrev pub NoneGoesOn : {T V : Type 0} → (List T → V → Type 0) → List T → Option T → Type 0
 NoneGoesOn {T} {V} IsText front None = (v : V) → IsText front v → ⊥
 NoneGoesOn IsText front (Some t) = Begins IsText (front ++ t ∷ []) → ⊥
 
--- `front` begins a text of the grammar, but no text continues with the next sign (or ends there)
+-- some text of the grammar begins with `front`, but none with `front` and then `there`; for None: `front` is not a text
 pub record IsRefused {T V : Type 0} (IsText : List T → V → Type 0) (front : List T) (there : Option T) : Type 0 where
   pub before : Begins IsText front
   pub none : NoneGoesOn IsText front there
@@ -71,8 +71,8 @@ pub record IsRefused {T V : Type 0} (IsText : List T → V → Type 0) (front : 
 abbrev pub IsClean : {T F : Type 0} → (List T → Option T → F → Type 0) → List T → Type 0
 IsClean {T} {F} IsCause all = (front rest : List T) (f : F) → all ≡ front ++ rest → IsCause front (first_of rest) f → ⊥
 
--- f is an error between `front` and `rest`. Each error of the text is later, or at the same position with a number that
--- is not smaller
+-- f is an error between `front` and `rest`. Every other error of the text is later, or is at the same position and its
+-- number is not smaller
 pub record IsFirst {T F : Type 0} (number : F → ℕ) (IsCause : List T → Option T → F → Type 0) (front rest : List T)
     (f : F) : Type 0 where
   pub stands : IsCause front (first_of rest) f

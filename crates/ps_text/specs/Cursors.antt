@@ -1,4 +1,4 @@
--- What clauses see of a cursor over bytes: the signs that are still unread.
+-- A cursor over bytes as clauses see it: the signs that are still unread.
 --     next_byte stream, place_of stream      the next byte; its offset, or the offset of the end
 --     IsAhead stream      each sign carries the bytes that follow it
 --     Passes p old new run      the cursor moved past `run`, the longest run of bytes that pass p, which may be empty

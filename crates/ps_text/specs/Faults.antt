@@ -9,7 +9,7 @@ abbrev pub found_of : {C : Type 0} → Fault C → Option (Found C)
 found_of (Text cause offset) = Some (record { cause = cause; offset = offset })
 found_of OutOfMemory = None
 
--- a call returns an answer that the text has, unless the program is out of memory
+-- a call returns the answer to the text, unless the program is out of memory
 abbrev pub UnlessMemory : {V C : Type 0} → (Result V (Found C) → Type 0) → Result V (Fault C) → Type 0
 UnlessMemory IsAnswer (Ok value) = IsAnswer (Ok value)
 UnlessMemory IsAnswer (Err (Text cause offset)) = IsAnswer (Err (record { cause = cause; offset = offset }))

@@ -1,11 +1,11 @@
 -- Grammars composed of parts. A part is a grammar together with the errors that its texts can have. Combinators join
--- parts, so that a grammar reads like the one in the standard.
+-- parts, so that a grammar reads like the grammar in the standard of the format.
 --     Part      IsText: these signs are a text of the part with this value. IsCause: after these signs of the part, the
 --               next sign is an error of this kind. A sign that the grammar itself does not allow is not an error of a
 --               part
 --     Causes      the causes of a format: their numbers, the error that a sign is by itself wherever it occurs, and the
 --               error for a sign (or an end) that the grammar does not allow
---     IsWrong causes part      an error of a whole text that is one part: the IsCause of `Answers`
+--     IsWrong causes part      an error of a text whose grammar is the part: the IsCause of `Answers`
 --     IsRead part all v rest      the part was parsed at the start of `all`: its longest text, without an error up to
 --               and including the next sign
 --     IsFault causes part all f rest      the part has its first fault in `all`, and `rest` begins there
@@ -18,13 +18,14 @@
 --     times n item c, many item c      n items, or any number of items, in a row. `item c` is the item in the context
 --               c. Its value is the context of the next item, and the last context is the value of the whole
 --     mapped h P      P with the value h v in place of v
---     barred P Bad      P, with the errors that Bad finds, from the value of P, at the sign after P
+--     barred P Bad      P with additional errors, which Bad finds at the sign after P, given the value of P
 -- For example, the grammar of a list of numbers such as `1, 2, 3;` is as follows:
 --         number = one number_of IsTooLarge
 --         more ns = then_by comma (λ _. mapped (λ n. ns ++ n ∷ []) number)
 --         list = then_by number (λ n. then_by (many more (n ∷ [])) (λ ns. mapped (λ _. ns) semicolon))
--- For each production, a private clause of the parser states that the production was parsed or has its first fault
--- (specs/Readers.antt). The theorems in proofs/ join parts, and derive `Answers` for a text that is one part.
+-- For each production, a private clause of the parser states that the production was parsed, or that its first fault
+-- was found (specs/Readers.antt). The theorems in proofs/ combine these statements, and derive `Answers` for a text
+-- whose grammar is one part.
 use Rattle.std.specs.Prelude.{◌≡◌, ℕ, zero, suc, ◌+◌, ◌<◌, ◌≤◌, ◌⊎◌, List, [], ◌∷◌, ◌++◌, length, Option, None, Some}
 use Rattle.std.specs.Prelude.{Result}
 use Rattle.std.specs.Option.{unwrap_or}
@@ -53,7 +54,7 @@ pub data IsWrong {T V F : Type 0} (causes : Causes T F) (part : Part T V F) (fro
   by_grammar : IsRefused part.IsText front there → ((t : T) (g : F) → there ≡ Some t → part.IsCause front t g → ⊥)
       → ((t : T) → there ≡ Some t → causes.own t ≡ None) → f ≡ causes.syntax → IsWrong causes part front there f
 
--- the answer to a text that is one part
+-- the answer to a text whose grammar is one part
 abbrev pub PartAnswers : {T V F : Type 0} → Causes T F → Part T V F → Stream T → Result V (Found F) → Type 0
 PartAnswers causes part = Answers part.IsText (IsWrong causes part) causes.number
 
@@ -62,7 +63,7 @@ abbrev pub CleanUpTo : {T V F : Type 0} → Part T V F → List T → ℕ → Ty
 CleanUpTo {T} {V} {F} part all n =
     (front rest : List T) (t : T) (f : F) → all ≡ front ++ t ∷ rest → length front < n → part.IsCause front t f → ⊥
 
--- no text of the part continues with the next sign
+-- no text of the part begins with `front` and then the next sign
 abbrev pub StopsAt : {T V F : Type 0} → Part T V F → List T → Option T → Type 0
 StopsAt part front None = Unit {0}
 StopsAt part front (Some t) = Begins part.IsText (front ++ t ∷ []) → ⊥

@@ -8,7 +8,8 @@
 --     Carries causes whole start rest now      the invariant of a loop: the result of parsing `rest` from `now` is also
 --               the result of parsing `whole` from `start`
 --     tail stream      the stream without its next piece
---     refusal_at causes stream      the error that the grammar does not allow the next sign or the end, with its offset
+--     refusal_at causes stream      the error for a next sign, or an end, that the grammar does not allow; with its
+--               offset
 use Rattle.std.specs.Prelude.{◌≡◌, List, [], ◌∷◌, ◌++◌, Option, None, Some, Result, Ok, Err}
 use Rattle.ps_text.specs.Answers.{Piece, Stream, Found, signs, next_of, offset_of}
 use Rattle.ps_text.specs.Parts.{Part, Causes, IsRead, IsFault, refusal_of}

@@ -19,7 +19,8 @@ pub trait Format {
     /// A list of signs is a text of the grammar with a given meaning.
     ghost is_text: { List Self.Sign → Self.Value → Type 0 };
 
-    /// Parsing a list of signs ends with an error, at the sign that follows the list or, for `None`, at the end.
+    /// After a list of signs there is an error: at the sign that follows the list or, for `None`, at the end of the
+    /// text.
     ghost is_cause: { List Self.Sign → Option Self.Sign → Self.Cause → Type 0 };
 
     /// The number of a cause. If one sign has two errors, the error with the smaller number is the answer.
@@ -42,7 +43,7 @@ pub trait Grammar {
     /// The reasons why a text is rejected.
     type Cause;
 
-    /// The part that makes up a whole text.
+    /// The part that is the grammar of a whole text.
     ghost part: { Part Self.Sign Self.Value Self.Cause };
 
     /// The causes of the format: their numbers, the causes of bad signs, and the cause of a syntax error.

@@ -11,7 +11,7 @@ pub trait Lexicon {
     /// A byte that may occur between two tokens.
     ghost is_blank: { ℕ → Type 0 };
 
-    /// A list of bytes is a given token, between the bytes before it and the bytes after it.
+    /// A list of bytes forms a token, given the bytes before it and the bytes after it.
     ghost is_token: { List ℕ → Self.Sign → List ℕ → List ℕ → Type 0 };
 }
 

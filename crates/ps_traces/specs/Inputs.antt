@@ -31,7 +31,7 @@ abbrev pub EachInputGoesOn : CircuitData → Type 0
 EachInputGoesOn c =
     (stem lap : List (List Bool)) → AreInputs c stem → AreInputs c lap → 0 < length lap → GoesOnInLasso c stem lap
 
--- the steps have exactly one list of letters
+-- exactly one list of letters belongs to the steps
 pub record HasLetters (names : List (List ℕ)) (c : CircuitData) (moments : List Moment) : Type 0 where
   pub letters : List ℕ
   pub are_letters : AreLetters names c moments letters

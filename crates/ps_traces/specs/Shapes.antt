@@ -30,7 +30,7 @@ pub record HasShape (order : Order) (role : Role) (file : FileData) (c : Circuit
 
 -- ## Latches that traces reach
 
--- some trace reaches the latches
+-- some trace reaches these values of the latches
 abbrev pub IsReached : CircuitData → List Bool → Type 0
 IsReached c latches = (moments : List Moment) × GoesOn c (resets c) moments latches
 

@@ -1,5 +1,5 @@
--- Traces of a circuit that return to the same latches, and their words.
---     IsLassoTrace c stem lap      a trace of the stem and then the lap, which returns to the latches before the lap
+-- Lasso traces of a circuit, which return to earlier values of the latches, and their words.
+--     IsLassoTrace c stem lap      a trace of the stem and then the lap, with the same latches before and after the lap
 --     IsLassoWord names c stem lap      the letters of such a trace
 --     AllAccepted file c, NoneAccepted file c      the automaton accepts each of these words, or none of them
 use Rattle.std.specs.Prelude.{ℕ, ◌<◌, Bool, List, length}

@@ -1,4 +1,4 @@
-//! Laws about traces that return to the same latches.
+//! Laws about lasso traces, which return to earlier values of the latches.
 
 ghost use Rattle.std.specs.Prelude.{◌≡◌, ◌≢◌, ℕ, ◌<◌, Bool, List, length};
 ghost use Rattle.ps_hoa.specs.Files.{FileData};
@@ -37,8 +37,7 @@ use ps_machine::lassos_won;
 use ps_simulate::circuit_has_one_values;
 
 /// Every periodic input extends to a lasso trace of a circuit. For each stem and each non-empty lap of letters of the
-/// circuit's width, there are two numbers of laps, both at least 1. A lasso trace reads the stem and the first number
-/// of laps, and then repeats the second number of laps.
+/// circuit's width, some lasso trace reads the stem and one or more laps, and then repeats one or more laps.
 pub fn every_input_goes_on()
     ensures { (c : CircuitData) → IsCircuit c → EachInputGoesOn c }
 {
@@ -51,8 +50,8 @@ pub fn every_trace_has_letters()
         HasSymbols role file.names file.controllable c → HasLetters file.names c moments }
 {}
 
-/// A sound, admitted file, and a circuit with the inputs and outputs of a role, have a verdict on each stem and each
-/// non-empty lap. The letters of the stem and the lap have the circuit's width.
+/// For a sound, admitted file and a circuit with the inputs and outputs of a role, there is a verdict on each stem and
+/// each non-empty lap whose letters have the circuit's width.
 pub fn verdict_is_there()
     ensures { (role : Role) (file : FileData) (c : CircuitData) (stem lap : List (List Bool)) → IsSoundFile file →
         IsAdmitted file → IsCircuit c →
@@ -63,8 +62,8 @@ pub fn verdict_is_there()
     circuit_has_one_values();
 }
 
-/// If the outputs of a circuit are in time at all latches, they are in time at the latches that traces reach, which is
-/// all that meetings require.
+/// The outputs of a circuit are in time if its player moves second, or if they depend only on the latches. Outputs that
+/// are in time at all latches are in time at the latches that traces reach, which is all that meetings require.
 pub fn in_time_where_reached()
     ensures { (order : Order) (role : Role) (c : CircuitData) → IsInTime order role c →
         IsInTimeWhereReached order role c }
@@ -87,8 +86,8 @@ pub fn every_meeting_goes_on()
     circuit_has_one_values();
 }
 
-/// If no lasso trace of an environment's circuit is accepted, its meeting with every finite-state controller is
-/// rejected.
+/// If the automaton accepts no lasso trace of an environment's circuit, it rejects the circuit's meeting with every
+/// finite-state controller.
 pub fn every_meeting_is_rejected()
     ensures { (order : Order) (file : FileData) (c : CircuitData) (k : FiniteController) → AreNames file.names →
         IsCircuit c → HasSymbols Environment file.names file.controllable c → IsInTimeWhereReached order Environment c →
@@ -103,8 +102,8 @@ pub fn circuit_has_machine_words()
         IsLassoWord m.names c stem lap → IsLasso m stem lap }
 {}
 
-/// If a machine of player 0 wins its lassos, the automaton accepts all words of the circuit's lasso traces. If the
-/// machine belongs to player 1, the automaton accepts none of them.
+/// If a machine of player 0 wins its lassos, the automaton accepts all words of the lasso traces of the machine's
+/// circuit. If a machine of player 1 wins its lassos, the automaton accepts none of these words.
 pub fn circuit_is_won()
     ensures accepted { (file : FileData) (m : Behaviour) (c : CircuitData) → IsMachine m → m.names ≡ file.names →
         Encodes m c → LassosWon file m → m.player ≡ 0 → AllAccepted file c }

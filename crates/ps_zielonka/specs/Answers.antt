@@ -1,4 +1,4 @@
--- From winners and moves to a region and strategies.
+-- How the region and the strategies follow from winners and moves.
 use Rattle.std.specs.Prelude.{◌≡◌, ℕ, ◌<◌, ◌≤◌, List, Option, Some, None, IsSome, Bool, false, IsTrue, not, slice_index}
 use Rattle.std.specs.Prelude.{length}
 use Rattle.ps_game.specs.Games.{ParityGame, vertex_count, owner_of}

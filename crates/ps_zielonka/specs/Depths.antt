@@ -1,4 +1,5 @@
--- The number of distinct priorities of a set, and sets that are closed for the winner of the greatest priority.
+-- The number of distinct priorities of a set, and sets that are closed for the player who wins by the greatest
+-- priority.
 use Rattle.std.specs.Prelude.{◌≡◌, ◌↔◌, ℕ, ◌%◌, ◌<◌, ◌≤◌, List, length, Bool, IsTrue, nat_lt}
 use Rattle.std.specs.List.{Contains}
 use Rattle.ps_game.specs.Games.{ParityGame, vertex_count, priority_of}
@@ -17,7 +18,7 @@ pub record IsGreatest (game : ParityGame) (greatest : ℕ) : Type 0 where
   pub bounds : (v : ℕ) → v < vertex_count game → priority_of game v ≤ greatest
   pub stands : (v : ℕ) × (v < vertex_count game) × (priority_of game v ≡ greatest)
 
--- the set is closed for the player who wins the greatest priority, and contains all vertices of this priority; the
+-- the set is closed for the player who wins by the greatest priority, and contains all vertices of this priority; the
 -- attractor to these vertices is the least such set
 pub record IsClosedToTops (game : ParityGame) (set : ℕ → Bool) : Type 0 where
   pub greatest : ℕ

@@ -1,4 +1,4 @@
-//! The attraction of a player to vertices of the trail.
+//! Attractions, which compute a player's attractor to vertices of the trail.
 
 ghost use Rattle.std.specs.Prelude.{◌≡◌, ◌<◌};
 ghost use Rattle.ps_zielonka.specs.Inner.Levels.{mark_of, aim_of};
@@ -7,7 +7,7 @@ use crate::level::Level;
 use ps_attractor::Aim;
 use ps_game::Player;
 
-/// An attraction of a player to the vertices of the trail from an index on.
+/// An attraction, which computes a player's attractor to the vertices of the trail from index `begin` on.
 #[derive(Drop)]
 pub struct Attraction {
     /// The player.

@@ -1,5 +1,5 @@
-//! The board records what is decided about each vertex. The steps on the board attract vertices, keep them or take them
-//! back.
+//! The board records what is decided about each vertex. Its methods attract vertices to a player, test whether the
+//! player keeps the tops, and take vertices back.
 
 ghost use Rattle.std.specs.Prelude.{◌≡◌, ◌≢◌, ◌+◌, ◌-◌, ◌<◌, ◌≤◌, ℕ, Bool, false, IfSome, IfNone, OnOk, IsTrue, length};
 ghost use Rattle.std.specs.Prelude.{take, slice_index, replicate, IfOk, []};
@@ -46,8 +46,8 @@ impl<W: Width> Board<W> {
         })
     }
 
-    /// Extends the trail by the attractor of its vertices from index `begin` on. The player then wins all vertices of
-    /// the trail from index `begin` on. Fails if out of memory.
+    /// Extends the trail by the attractor of its vertices from index `begin` on. Then records the player as the winner
+    /// of all vertices of the trail from index `begin` on. Fails if out of memory.
     pub fn attract<A: Arena>(
         &mut self,
         arena: &A,
@@ -91,8 +91,8 @@ impl<W: Width> Board<W> {
         }
     }
 
-    /// Whether the player keeps each top, and so wins all vertices that the opponent did not win. Writes the moves at
-    /// the tops.
+    /// Whether the player keeps each top (see `keeps`), and so wins all vertices that the opponent did not win. Writes
+    /// the moves at the tops.
     pub fn is_kept<A: Arena>(&mut self, arena: &A, frame: &Frame, level: Level) -> bool
         requires game { IsGame (A.game arena.now) }
         requires fits { FitsGame (A.game arena.now) self.old.tables }
@@ -119,7 +119,8 @@ impl<W: Width> Board<W> {
         true
     }
 
-    /// Whether the player keeps a top. If the player owns and keeps the top, the move at the top is written.
+    /// Whether the player keeps a top: a top of the player has a successor that the player won, and a top of the
+    /// opponent has no successor that the opponent won. Writes the move at a top that the player owns and keeps.
     fn keeps<A: Arena>(&mut self, arena: &A, player: Player, level: Level, vertex: usize) -> bool
         requires game { IsGame (A.game arena.now) }
         requires fits { FitsGame (A.game arena.now) self.old.tables }
@@ -175,8 +176,8 @@ impl<W: Width> Board<W> {
         None
     }
 
-    /// Takes back the vertices of the trail from index `turn` on. The vertices that the player won are no longer
-    /// placed. All other vertices are placed again, at the given level. Fails if out of memory.
+    /// Takes back the vertices of the trail from index `turn` on. Those that the player won are then no longer placed;
+    /// the others are placed again, at the given level. Fails if out of memory.
     pub fn reopen(&mut self, frame: &Frame, level: Level) -> Result<(), AllocError>
         requires vertices { (j : ℕ) → j < length self.old.tables.trail →
             slice_index self.old.tables.trail j < length self.old.tables.level }
@@ -201,7 +202,7 @@ impl<W: Width> Board<W> {
         Ok(())
     }
 
-    /// Moves the vertices from index `turn` on from the trail to `spare`. Fails if out of memory.
+    /// Moves the trail's vertices from index `turn` on into `spare`. Fails if out of memory.
     fn take_off(&mut self, turn: usize) -> Result<(), AllocError>
         requires turn { turn ≤ length self.old.tables.trail }
         requires vertices { (j : ℕ) → j < length self.old.tables.trail →

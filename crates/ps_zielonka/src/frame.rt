@@ -2,12 +2,13 @@
 
 use ps_game::Player;
 
-/// A pending call. The next call solves the part of its subgame that is outside the attractor of its current turn.
+/// A pending call. The next call solves the part of the pending call's subgame that is outside the attractor of the
+/// current turn.
 #[derive(Drop)]
 pub struct Frame {
-    /// An index of the order; the call has no open vertex before it.
+    /// An index into the list of vertices by descending priority, before which the call has no open vertex.
     pub cursor: usize,
-    /// The player who wins the greatest priority of the open part.
+    /// The player who wins by the greatest priority of the open part.
     pub player: Player,
     /// The index of the trail at which the tops begin. The attracted vertices follow the tops.
     pub turn: usize,

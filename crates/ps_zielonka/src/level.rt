@@ -1,12 +1,12 @@
-//! The state of a vertex in the calls.
+//! The state of a vertex in the nested calls.
 
 ghost use Rattle.std.specs.Prelude.{◌≡◌, ◌≤◌};
 ghost use Rattle.ps_zielonka.specs.Inner.Levels.{mark_of};
 
-/// The mark of the vertices that are not placed.
+/// The mark of each vertex that is currently not placed.
 const UNPLACED: usize = usize::MAX;
 
-/// The state of a vertex in the calls. The depth of a call is the number of calls that are pending when it runs.
+/// The state of a vertex in the nested calls. The depth of a call is the number of calls that are pending when it runs.
 #[derive(Clone, Copy)]
 pub enum Level {
     /// Decided by a call, and final within this call.

@@ -1,12 +1,13 @@
 //! The vertices of a parity game from which each player wins, and the moves by which the player wins.
 //!
 //! This is the recursive algorithm of McNaughton and Zielonka, with a list of frames instead of recursion: no function
-//! calls itself. A call starts from the greatest priority of its subgame. The player who wins the greatest priority
-//! attracts to the tops, which are the vertices of that priority. In all calls except the first, the tops also include
-//! vertices of lower priorities, down to the first priority of the other parity. The remaining vertices are solved
-//! first. If the player then keeps each top, the player wins all vertices that the opponent did not win in the
-//! remaining part. Otherwise the opponent attracts to the vertices that it won in the remaining part, and the call
-//! continues with the rest.
+//! calls itself. A call starts from the greatest priority of its subgame. The player who wins by the greatest priority
+//! attracts vertices to the tops, which are the vertices of that priority. In all calls except the first, the tops also
+//! include vertices of lower priorities, down to the first priority of the other parity. The remaining vertices are
+//! solved first. The player keeps a top of its own if it can move from there to a vertex that it won. It keeps a top of
+//! the opponent if no edge leads from there to a vertex that the opponent won. If the player keeps each top, the player
+//! wins all vertices that the opponent did not win in the remaining part. Otherwise the opponent attracts vertices to
+//! those that it won in the remaining part, and the call continues with the rest.
 //!
 //! | Call | What it gives |
 //! |---|---|

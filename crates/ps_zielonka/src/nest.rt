@@ -29,7 +29,7 @@ pub struct Nest<W: Width> {
     pub order: Numbers<W>,
     /// The pending calls.
     pub frames: Vec<Frame>,
-    /// An index of the order; the current call has no open vertex before it.
+    /// An index into `order`, before which the current call has no open vertex.
     pub cursor: usize,
     /// Whether the current call is solved.
     pub solved: bool,
@@ -106,7 +106,7 @@ impl<W: Width> Nest<W> {
         Ok(true)
     }
 
-    /// Whether the budget is used up, which is never the case if there is none.
+    /// Whether the budget is used up; false if there is no budget.
     fn has_spent(&self, budget: Option<u64>) -> bool
         ensures { budget ≡ None → result ≡ false }
     {
@@ -132,10 +132,10 @@ impl<W: Width> Nest<W> {
         }
     }
 
-    /// Begins a turn at index `cursor` of the order, which has an unplaced vertex of the greatest priority. The player
-    /// who wins the greatest priority attracts to all vertices of that priority. Except in the first call, the player
-    /// also attracts to vertices of lower priorities, down to the first priority of the other parity. Fails if out of
-    /// memory.
+    /// Begins a turn at index `cursor` of the order, which has an unplaced vertex of the greatest priority. Computes
+    /// the attractor of the player who wins by the greatest priority to all vertices of that priority. Except in the
+    /// first call, the target also has vertices of lower priorities, down to the first priority of the other parity.
+    /// Fails if out of memory.
     fn begin_turn<A: Arena>(
         &mut self,
         arena: &A,

@@ -16,7 +16,7 @@ use std::alloc::{AllocError, Global};
 /// The vertices that player 0 wins, the moves by which player 0 wins them, and the moves by which player 1 wins all
 /// others.
 ///
-/// Fails if out of memory. For 2^63 - 2 vertices or more, and for 2^64 edges or more, the call always fails as out of
+/// Fails if out of memory. With 2^63 - 2 vertices or more, or 2^64 edges or more, the call always fails as if out of
 /// memory. There is no other fault, since each vertex of a game is won by one of the players.
 pub fn regions<A: Arena>(
     alloc: Global,
@@ -51,9 +51,9 @@ pub fn regions_in<A: Arena, W: Width>(
     answer_by(alloc, arena, counts, &nest)
 }
 
-/// The result of `regions`, or `None` if a budget is used up first. The budget is used up when vertices were placed
-/// `budget` times or more before all vertices were decided. No clause states how often vertices are placed: a vertex is
-/// placed again each time after it was taken back.
+/// The result of `regions`, or `None` if a budget is used up first. The budget is used up if vertices are placed
+/// `budget` times or more before all vertices are decided. No clause states how often vertices are placed: a vertex
+/// that was taken back is placed again.
 ///
 /// Fails if out of memory, like `regions`.
 pub fn regions_within<A: Arena>(

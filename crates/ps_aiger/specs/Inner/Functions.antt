@@ -1,7 +1,7 @@
 -- The bits of a machine's step as functions of latches and inputs, and how their literals are built. (For private
 -- functions.)
 --     Wanted, wanted_bit w row      one bit of a row: of the next memory state, or of the letter
---     node_made m w node d      the literal of the wanted bit of the row to which a node leads, with its gates
+--     node_made m w node d      the literal of the bit w of the row to which a node leads, with its gates
 --     IsLiteralOf m w d node literal, KnowsMade m w d known      that literal exists; each known literal exists
 --     code_wanted m w latches code d      the literal for the memory states whose codes are `code` plus a number less
 --               than 2^latches
@@ -34,7 +34,7 @@ wanted_place (Output p) = p
 abbrev pub row_by : MachineData → ℕ → ℕ → Row
 row_by m node x = row_of m (unwrap_or (leaf_of m.store node x) (length m.rows))
 
--- the literal of the wanted bit of that row, as a function of the input letter
+-- the literal of the bit w of the row to which a node leads, as a function of the input letter
 unfoldable pub node_made : MachineData → Wanted → ℕ → Drafted → Made
 node_made m w node d =
     over_variables (range_with_len 1 (length m.inputs)) (λ bits.
@@ -48,7 +48,7 @@ pub record IsLiteralOf (m : MachineData) (w : Wanted) (d : Drafted) (node litera
 abbrev pub KnowsMade : MachineData → Wanted → Drafted → (ℕ → Option ℕ) → Type 0
 KnowsMade m w d known = (node literal : ℕ) → known node ≡ Some literal → IsLiteralOf m w d node literal
 
--- the wanted bit of a step
+-- the bit w of the machine's step
 abbrev pub bit_wanted : Behaviour → Wanted → StepBit
 bit_wanted b w memory x = wanted_bit w (record { memory = b.next memory x; letter = b.plays memory x })
 

@@ -25,8 +25,8 @@ weight_from k (Some (Some m)) x = if nat_le k m then x else 0
 abbrev pub weights_from : ComponentsData → (ℕ → ℕ) → ℕ → ℕ → ℕ
 weights_from c weight k n = sum_below (λ v. weight_from k (slice_get c.numbers v) (weight v)) n
 
--- a value for each component, which is a lower bound for all counts of its vertices, and is at most the sum of the
--- weights of the components from that one on
+-- a value for each component, which is a lower bound for the counts of its vertices, and is at most the sum of the
+-- weights of the vertices in this component and in later ones
 pub record IsColumn (g : Digraph) (weight : ℕ → ℕ) (c : ComponentsData) (values : List ℕ) : Type 0 where
   pub each : length values ≡ length c.order
   pub least : (d : ℕ → ℕ) → AreCounts g weight d → (v k : ℕ) → IsIn c v k → slice_index values k ≤ d v
@@ -36,7 +36,7 @@ pub record IsColumn (g : Digraph) (weight : ℕ → ℕ) (c : ComponentsData) (v
 abbrev pub AreRaised : ComponentsData → List ℕ → List ℕ → Type 0
 AreRaised c values roots = (i v k : ℕ) → slice_get roots i ≡ Some v → IsIn c v k → 1 ≤ slice_index values k
 
--- components with a column of values
+-- the components of a graph, with a column of values for them
 pub record IsCounting (g : Digraph) (weight : ℕ → ℕ) (c : ComponentsData) (values : List ℕ) : Type 0 where
   pub components : AreComponents g c
   pub column : IsColumn g weight c values
@@ -75,7 +75,7 @@ value_at values (Some (Some k)) = slice_index values k
 abbrev pub value_of : ComponentsData → List ℕ → ℕ → ℕ
 value_of c values v = value_at values (slice_get c.numbers v)
 
--- the numbers grow along the links, are the least that do, and are at most the sum of all weights
+-- the numbers grow along the links, are the least numbers that do so, and are at most the sum of all weights
 pub record AreLeast (g : Digraph) (weight : ℕ → ℕ) (d : ℕ → ℕ) : Type 0 where
   pub counts : AreCounts g weight d
   pub least : (other : ℕ → ℕ) → AreCounts g weight other → (v : ℕ) → d v ≤ other v

@@ -1,4 +1,5 @@
--- Rows of counts, filled for one priority after another, and cycles in the graph of low vertices.
+-- Rows of counts, filled for one priority after another, and cycles among the vertices whose priorities do not exceed a
+-- given one.
 use Rattle.std.specs.Prelude.{◌≡◌, ℕ, ◌<◌, ◌≤◌, Bool, List, length, Option, nat_lt, slice_index}
 use Rattle.ps_components.specs.Graphs.{Digraph}
 use Rattle.ps_components.specs.Trails.{IsTrail}

@@ -65,7 +65,7 @@ pub record IsReverse (g r : Digraph) : Type 0 where
   pub there : (v w : ℕ) → Link g v w → Link r w v
   pub back : (v w : ℕ) → Link r w v → Link g v w
 
--- a stored graph, a region of its vertices, a level for each vertex, and a priority
+-- a stored graph, a region of its vertices, a level for each vertex (the vertex's priority), and a priority
 pub record LowData : Type 0 where
   pub star : StarData
   pub region : List Bool
@@ -86,6 +86,6 @@ low_graph low = record {
       if nat_le (slice_index low.levels w) low.priority then Some w else None;
 }
 
--- the weight of a vertex: 1 if it is in the region and its level is the priority, and otherwise 0
+-- the weight of a vertex: 1 if it is in the region and its level equals the priority, and otherwise 0
 abbrev pub low_weight : LowData → ℕ → ℕ
 low_weight low v = counted ((slice_index low.levels v == low.priority) && has low.region v)

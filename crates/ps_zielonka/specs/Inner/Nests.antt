@@ -24,7 +24,7 @@ abbrev pub size_from : ℕ → List ℕ → ℕ
 size_from c [] = 0
 size_from c (level ∷ levels) = cond (nat_le c level) 1 0 + size_from c levels
 
--- the winner of a vertex, from a list
+-- the winner of a vertex, according to a list of winners
 abbrev pub winner_of : List ℕ → ℕ → ℕ
 winner_of winner v = slice_index winner v
 
@@ -53,7 +53,7 @@ pub record StandsBetween (tables : TablesData) (from to v : ℕ) : Type 0 where
   pub before : place < to
   pub is : slice_index tables.trail place ≡ v
 
--- a pending call of depth a / 2, which waits for the next call
+-- for an even number a, the call of depth a / 2 is pending, and waits for the result of the next call
 pub record Waits (game : ParityGame) (tables : TablesData) (winner order : List ℕ) (a : ℕ) (frame : Frame) : Type 0
   where
     pub alive : IsSubgame game (from tables.level (a + 2))
@@ -69,7 +69,7 @@ pub record Waits (game : ParityGame) (tables : TablesData) (winner order : List 
     pub only_tops : (v : ℕ) → StandsBetween tables frame.turn frame.top v → IsTrue (prepared.tops v)
     pub front : IsCursor order tables.level frame.cursor (a + 2)
 
--- a call of depth a / 2 searches for its next turn: its open vertices are not placed
+-- the call of depth a / 2 searches for its next turn, and no open vertex of the call is placed
 pub record Searches (game : ParityGame) (tables : TablesData) (winner order : List ℕ) (a cursor : ℕ) : Type 0 where
   pub alive : IsSubgame game (from tables.level (a + 2))
   pub progress : Progress game (from tables.level (a + 1)) (from tables.level (a + 2)) (winner_of winner)
@@ -78,7 +78,7 @@ pub record Searches (game : ParityGame) (tables : TablesData) (winner order : Li
   pub unplaced : (v : ℕ) → a + 2 ≤ level_of tables v → level_of tables v ≡ UNPLACED
   pub front : IsCursor order tables.level cursor (a + 2)
 
--- a call of depth a / 2 is solved, and each vertex is placed
+-- the call of depth a / 2 is solved, and each vertex is placed
 pub record HasAnswer (game : ParityGame) (tables : TablesData) (winner : List ℕ) (a : ℕ) : Type 0 where
   pub solved : Solved game (from tables.level (a + 1)) (winner_of winner) (moves_of tables)
   pub placed : (v : ℕ) → level_of tables v < UNPLACED
@@ -87,7 +87,7 @@ pub record HasAnswer (game : ParityGame) (tables : TablesData) (winner : List �
 abbrev pub frame_at : List Frame → ℕ → Frame
 frame_at frames i = slice_index_or frames i (record { cursor = 0; player = 0; turn = 0; top = 0 })
 
--- the facts about the board that always hold
+-- the invariants of the board
 pub record IsSoundBoard (game : ParityGame) (tables : TablesData) (winner order : List ℕ) : Type 0 where
   pub is_game : IsGame game
   pub fits : FitsGame game tables
@@ -116,7 +116,7 @@ abbrev pub rest_of : ℕ → ℕ
 rest_of zero = 1
 rest_of (suc m) = 1 + steps m
 
--- the share of the first k calls in the bound
+-- the part of the bound that the first k calls contribute
 abbrev pub waiting_steps : List ℕ → ℕ → ℕ
 waiting_steps levels zero = 0
 waiting_steps levels (suc k) = waiting_steps levels k + rest_of (size_from (2 * k + 2) levels)
@@ -139,8 +139,8 @@ pub record IsTop (game : ParityGame) (order : List ℕ) (cursor behind : ℕ) (j
   pub parity : priority_of game v % 2 ≡ priority_of game (slice_index order cursor) % 2
   pub just : just_greatest ≡ true → priority_of game v ≡ priority_of game (slice_index order cursor)
 
--- The free vertices of the order from index `cursor` up to `behind` are placed. They have the greatest priority or,
--- unless `just_greatest` is true, lower priorities down to the first of the other parity
+-- The free vertices of the order from index `cursor` up to `behind` are placed. Each of them has the greatest priority
+-- or, unless `just_greatest` is true, a priority of the same parity
 pub record ArePlaced (game : ParityGame) (aim : Aim) (old new : TablesData) (order : List ℕ) (cursor behind : ℕ)
     (just_greatest : Bool) : Type 0 where
   pub grown : IsGrown aim old new

@@ -37,9 +37,9 @@ pub record Progress (game : ParityGame) (subgame open_part : ℕ → Bool) (win 
 abbrev pub Solved : ParityGame → (ℕ → Bool) → (ℕ → ℕ) → (ℕ → Option ℕ) → Type 0
 Solved game subgame win table = Progress game subgame nothing win table
 
--- a turn is prepared: the player of the greatest priority has attracted to the tops, and the rest is still to be
--- solved. The tops include all vertices of the greatest priority. The priority of each top has the player's parity, and
--- is greater than all priorities of the other parity in the open part
+-- a turn is prepared: the player who wins by the greatest priority has attracted vertices to the tops, and the rest is
+-- still to be solved. The tops include all vertices of the greatest priority. The priority of each top has the player's
+-- parity, and is greater than all priorities of the other parity in the open part
 pub record IsTurned (game : ParityGame) (open_part rest : ℕ → Bool) (player : ℕ) (win : ℕ → ℕ)
     (table : ℕ → Option ℕ) : Type 0 where
   pub greatest : ℕ
