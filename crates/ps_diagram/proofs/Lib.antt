@@ -20,4 +20,5 @@ pub mod Halving
 pub mod Unions
 pub mod Distinct
 pub mod Choosing
+pub mod Composing
 pub mod Pairing

@@ -1,6 +1,7 @@
 -- Definitions that only private contracts use; no public clause refers to them.
 
 pub mod Chosen
+pub mod Composed
 pub mod Known
 pub mod Numbered
 pub mod Parts

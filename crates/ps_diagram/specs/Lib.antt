@@ -9,4 +9,5 @@ pub mod Clashes
 pub mod Views
 pub mod Reached
 pub mod Classes
+pub mod Composing
 pub mod Inner

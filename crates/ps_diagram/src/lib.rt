@@ -21,6 +21,7 @@
 //! | `relabel(node, values)` | `values[k]` where the node has k, else none |
 //! | `relabel_or(node, values, other)` | the same, and `other` where the node has none |
 //! | `relabel_from(other, node, values)` | `values[k]` where a node of another store has k, else none |
+//! | `composed_from(other, node, truths)` | that of a node of another store at the letter of the truths there |
 //!
 //! Each of these calls keeps each node that was held, with the same leaf at each letter, also if it fails (`Keeps`).
 //! `eval`, `same` and `view` read a node and use no memory. `leaves` lists the leaves of a node with the least letter
@@ -30,7 +31,9 @@
 //!
 //! A store never drops a node, and equal diagrams are one node, which a hash table finds. `negated`, `guard`, `fill`,
 //! `relabel` and `relabel_from` visit each node below theirs once, `overlay` and `both` each pair of nodes to which
-//! they come, `choose` each triple. The first few may be visited more often, and most calls keep no table of those.
+//! they come, `choose` each triple. `composed_from` visits each node once, and chooses by the truth of its proposition;
+//! of a truth that is the same at every letter only one side is visited. The first few may be visited more often, and
+//! most calls keep no table of those.
 //! `of_letter` makes a node for each proposition. `of_label` makes one for each literal of a product, and joins the
 //! diagrams of other operands by halves. `classes` copies the store first.
 #![tactic(auto)]
@@ -39,6 +42,7 @@ mod both;
 mod choose;
 mod classes;
 mod cofactors;
+mod composed;
 mod fault;
 mod labels;
 mod letter;
