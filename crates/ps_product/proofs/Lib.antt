@@ -6,3 +6,11 @@ pub mod Stamps
 pub mod Gates
 pub mod Outcomes
 pub mod StepsOf
+pub mod RoleLemmas
+pub mod GroupLemmas
+pub mod TruthNodes
+pub mod NumberLemmas
+pub mod EdgeLemmas
+pub mod ExploringLemmas
+pub mod TimingLemmas
+pub mod FinishedLemmas

@@ -71,6 +71,13 @@ impl Truths {
         &self.store
     }
 
+    /// The store alone.
+    pub(crate) fn into_store(self) -> Store
+        ensures { result ≡ self }
+    {
+        self.store
+    }
+
     /// The truth of a proposition.
     pub fn proposition(&mut self, proposition: u32) -> Result<Truth, AllocError>
         requires named { proposition < self.old.propositions }

@@ -1,0 +1,36 @@
+-- Which proposition is which input or output of a circuit.
+use Rattle.std.specs.Prelude.{◌≡◌, ◌⊎◌, ℕ, ◌<◌, ◌≤◌, Bool, List, Option, length, slice_index}
+use Rattle.std.specs.List.{Contains}
+use Rattle.ps_circuit.specs.Circuits.{CircuitData}
+use Rattle.ps_hoa.specs.Files.{is_among}
+use Rattle.ps_product.specs.declared.roles.Roles.{Roles}
+use Rattle.ps_simulate.specs.Symbols.{IsSymbol}
+
+-- the proposition of each of the first symbols, all of them on one side
+pub record IsListing (names : List (List ℕ)) (controllable : List ℕ) (wanted : Bool)
+    (symbols : List (Option (List ℕ))) (count : ℕ) (list : List ℕ) : Type 0 where
+  pub one_each : length list ≡ count
+  pub each : (k : ℕ) → k < length list → IsSymbol names symbols k (slice_index list k)
+  pub side : (k : ℕ) → k < length list → is_among (slice_index list k) controllable ≡ wanted
+  pub differ : (j k : ℕ) → j < length list → k < length list → slice_index list j ≡ slice_index list k → j ≡ k
+
+-- each proposition on that side is in the list
+abbrev pub IsFull : List (List ℕ) → List ℕ → Bool → List ℕ → Type 0
+IsFull names controllable wanted list =
+    (p : ℕ) → p < length names → is_among p controllable ≡ wanted → Contains list p
+
+-- the propositions of the inputs and those of the outputs: each is one of these, and once
+pub record AreRoles (names : List (List ℕ)) (c : CircuitData) (roles : Roles) : Type 0 where
+  pub few : length names ≤ 64
+  pub inputs_each : length roles.inputs.items ≡ length c.input_names
+  pub outputs_each : length roles.outputs.items ≡ length c.output_names
+  pub inputs_are : (k : ℕ) → k < length roles.inputs.items → IsSymbol names c.input_names k
+      (slice_index roles.inputs.items k)
+  pub outputs_are : (k : ℕ) → k < length roles.outputs.items → IsSymbol names c.output_names k
+      (slice_index roles.outputs.items k)
+  pub inputs_differ : (j k : ℕ) → j < length roles.inputs.items → k < length roles.inputs.items →
+      slice_index roles.inputs.items j ≡ slice_index roles.inputs.items k → j ≡ k
+  pub outputs_differ : (j k : ℕ) → j < length roles.outputs.items → k < length roles.outputs.items →
+      slice_index roles.outputs.items j ≡ slice_index roles.outputs.items k → j ≡ k
+  pub apart : (p : ℕ) → Contains roles.inputs.items p → ¬ Contains roles.outputs.items p
+  pub every : (p : ℕ) → p < length names → Contains roles.inputs.items p ⊎ Contains roles.outputs.items p

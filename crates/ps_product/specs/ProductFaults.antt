@@ -1,0 +1,28 @@
+-- Why there is no product.
+--     IsProductRefusal order role a c fault      what the fault says: of symbols, then of the order of moves
+--     asked_of role      the player who is asked about, 0 for a controller; the other one owns all vertices
+use Rattle.std.specs.Prelude.{ℕ, ⊤, IsTrue}
+use Rattle.ps_automaton.specs.Automata.{AutomatonData}
+use Rattle.ps_circuit.specs.Circuits.{CircuitData}
+use Rattle.ps_machine.specs.declared.key.Order.{Order}
+use Rattle.ps_simulate.specs.Symbols.{HasSymbols}
+use Rattle.ps_simulate.specs.declared.role.Role.{Role}
+use Rattle.ps_simulate.specs.declared.role.Role.TheVariants.{Controller, Environment}
+use Rattle.ps_traces.specs.Shapes.{SeesNoInputWhereReached, moves_first}
+use Rattle.ps_product.specs.declared.fault.ProductFault.{ProductFault}
+use Rattle.ps_product.specs.declared.fault.ProductFault.TheVariants.{Symbols, Timing, OutOfMemory}
+
+-- the player moves first, and sees the other player's letter of the same moment at latches that are reached
+pub record IsTooEarly (order : Order) (role : Role) (c : CircuitData) : Type 0 where
+  pub first : IsTrue (moves_first order role)
+  pub sees : ¬ SeesNoInputWhereReached c
+
+-- the first fault that applies; memory may run out at any time
+abbrev pub IsProductRefusal : Order → Role → AutomatonData → CircuitData → ProductFault → Type 0
+IsProductRefusal order role a c Symbols = ¬ HasSymbols role a.names a.controllable c
+IsProductRefusal order role a c Timing = HasSymbols role a.names a.controllable c × IsTooEarly order role c
+IsProductRefusal order role a c OutOfMemory = ⊤
+
+abbrev pub asked_of : Role → ℕ
+asked_of Controller = 0
+asked_of Environment = 1

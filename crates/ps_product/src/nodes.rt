@@ -1,0 +1,119 @@
+//! The nodes of truths, and what they say at a letter.
+
+ghost use Rattle.std.specs.Prelude.{◌≡◌, ◌≢◌, ◌^◌, ◌<◌, ◌≤◌, ℕ, All, IfNone, IfOk, IfSome, false, is_some, length};
+ghost use Rattle.std.specs.Prelude.{slice_index};
+ghost use Rattle.ps_diagram.specs.Composing.{IsLetterOfTruths};
+ghost use Rattle.ps_diagram.specs.Table.{IsNode, Keeps, leaf_of};
+ghost use Rattle.ps_label.specs.Truth.{is_in};
+ghost use Rattle.ps_product.specs.Inner.Edges.{AreDifferent, StandFor};
+ghost use Rattle.ps_product.specs.Truths.{IsTruth, bits_of, truth_at};
+
+use crate::truth::Truth;
+use ps_diagram::{Node, Store};
+use std::alloc::{AllocError, Global};
+
+/// The node of a truth, which has a leaf where the truth holds.
+fn node_of(store: &mut Store, truth: Truth) -> Result<Node, AllocError>
+    requires { IsTruth store.old truth }
+    ensures keeps { Keeps store.old store.new }
+    ensures held { IfOk result (λ node. IsNode store.new node) }
+    ensures leaf { IfOk result (λ node. (letter : ℕ) → is_some (leaf_of store.new node letter) ≡
+        truth_at store.old truth letter) }
+{
+    match truth {
+        Truth::Never => store.none(),
+        Truth::Always => store.leaf(1),
+        Truth::Sometimes(node) => Ok(node),
+    }
+}
+
+/// For each proposition the node of its truth: that of the output whose proposition it is, or else its own.
+pub(crate) fn nodes_of(
+    alloc: Global,
+    store: &mut Store,
+    list: &[u32],
+    outputs: &[Truth],
+) -> Result<Vec<Node>, AllocError>
+    requires one_each { length list.now ≡ length outputs.now }
+    requires different { AreDifferent list.now }
+    requires truths { All (IsTruth store.old) outputs.now }
+    ensures keeps { Keeps store.old store.new }
+    ensures count { IfOk result (λ nodes. length nodes.items ≡ store.old.propositions) }
+    ensures nodes { IfOk result (λ nodes. StandFor store.new list.now outputs.now nodes.items) }
+{
+    let mut nodes = Vec::new(alloc);
+    for p in 0..store.propositions() {
+        let node = match place_in(list, p) {
+            Some(k) => node_of(store, outputs[k])?,
+            None => store.of_proposition(p)?,
+        };
+        nodes.push(node)?;
+    }
+    Ok(nodes)
+}
+
+/// The first place of a proposition in a list.
+fn place_in(list: &[u32], p: u32) -> Option<usize>
+    ensures some { IfSome result (λ k. (k < length list.now) × (slice_index list.now k ≡ p)) }
+    ensures none { IfNone result ((k : ℕ) → k < length list.now → slice_index list.now k ≢ p) }
+{
+    for (k, q) in list.iter().enumerate() {
+        if *q == p {
+            return Some(k);
+        }
+    }
+    None
+}
+
+/// The letter of the truths at a letter: proposition p is true where the node with that number has a leaf.
+pub(crate) fn letter_at(store: &Store, nodes: &[Node], letter: u64) -> u64
+    requires few { length nodes.now ≤ 64 }
+    requires held { All (IsNode store.now) nodes.now }
+    ensures few { result < 2 ^ length nodes.now }
+    ensures letter { IsLetterOfTruths store.now nodes.now letter result }
+{
+    let mut whole = 0;
+    for (p, node) in nodes.iter().enumerate() {
+        whole = with_bit(whole, p, store.eval(*node, letter).is_some());
+    }
+    whole
+}
+
+/// A letter with one more bit.
+fn with_bit(letter: u64, p: usize, bit: bool) -> u64
+    requires { p < 64 }
+    ensures at { is_in p letter ≡ false → is_in p result ≡ bit }
+    ensures others { (q : ℕ) → q ≢ p → is_in q result ≡ is_in q letter }
+    ensures few { (count : ℕ) → p < count → letter < 2 ^ count → result < 2 ^ count }
+{
+    if bit { letter | 1 << p } else { letter }
+}
+
+/// The bits of truths at a letter.
+pub(crate) fn bits_of(
+    alloc: Global,
+    store: &Store,
+    truths: &[Truth],
+    letter: u64,
+) -> Result<Vec<bool>, AllocError>
+    requires { All (IsTruth store.now) truths.now }
+    ensures { IfOk result (λ bits. bits.items ≡ bits_of store.now truths.now letter) }
+{
+    let mut bits = Vec::new(alloc);
+    for truth in truths {
+        bits.push(holds(store, *truth, letter))?;
+    }
+    Ok(bits)
+}
+
+/// Whether a truth holds at a letter.
+fn holds(store: &Store, truth: Truth, letter: u64) -> bool
+    requires { IsTruth store.now truth }
+    ensures { result ≡ truth_at store.now truth letter }
+{
+    match truth {
+        Truth::Never => false,
+        Truth::Always => true,
+        Truth::Sometimes(node) => store.eval(node, letter).is_some(),
+    }
+}

@@ -1,0 +1,181 @@
+//! Which proposition of an automaton is which input or output of a circuit.
+
+ghost use Rattle.std.specs.Prelude.{◌≡◌, ◌<◌, ◌≤◌, ℕ, false, true, IfNone, IfOk, IfSome, length, map};
+ghost use Rattle.std.specs.Option.{option_copied};
+ghost use Rattle.ps_hoa.specs.Files.{is_among};
+ghost use Rattle.ps_hoa.specs.Memory.{bytes_of};
+ghost use Rattle.ps_hoa.specs.Sound.{AreNames};
+ghost use Rattle.ps_simulate.specs.Inner.Namings.{IsPropositionOf};
+ghost use Rattle.ps_simulate.specs.Symbols as symbols;
+ghost use Rattle.ps_simulate.specs.Symbols.{AreNamesOnce, HasSymbols};
+ghost use Rattle.ps_product.specs.Inner.Roles.{AreRoles, IsFull, IsListing};
+
+use ps_automaton::Automaton;
+use ps_circuit::Circuit;
+use ps_simulate::Role;
+use std::alloc::{AllocError, Global};
+
+/// The propositions of a circuit's inputs and outputs.
+#[derive(Drop)]
+pub(crate) struct Roles {
+    /// The proposition of each input.
+    pub inputs: Vec<u32>,
+    /// The proposition of each output.
+    pub outputs: Vec<u32>,
+}
+
+/// The propositions of a circuit of that role, if its symbols are the role's. Fails if memory runs out.
+pub(crate) fn roles_of(
+    alloc: Global,
+    circuit: &Circuit,
+    automaton: &Automaton,
+    role: Role,
+) -> Result<Option<Roles>, AllocError>
+    ensures some { IfOk result (λ roles. IfSome roles (AreRoles automaton.now.names circuit.now)) }
+    ensures fits { IfOk result (λ roles. IfSome roles (λ _.
+        HasSymbols role automaton.now.names automaton.now.controllable circuit.now)) }
+    ensures none { IfOk result (λ roles. IfNone roles (¬ HasSymbols role automaton.now.names automaton.now.controllable
+        circuit.now)) }
+{
+    let names = automaton.names();
+    let controllable = automaton.controllable();
+    let reads = reads_controllable(role);
+    let symbols = input_symbols(alloc, circuit)?;
+    let Some(inputs) = propositions_of(alloc, names, controllable, reads, &symbols)? else {
+        return Ok(None);
+    };
+    let symbols = output_symbols(alloc, circuit)?;
+    let Some(outputs) = propositions_of(alloc, names, controllable, !reads, &symbols)? else {
+        return Ok(None);
+    };
+    Ok(Some(Roles { inputs, outputs }))
+}
+
+/// Whether the inputs are the controllable propositions.
+fn reads_controllable(role: Role) -> bool
+    ensures { result ≡ symbols.reads_controllable role }
+{
+    match role {
+        Role::Controller => false,
+        Role::Environment => true,
+    }
+}
+
+/// The names of the inputs.
+fn input_symbols(alloc: Global, circuit: &Circuit) -> Result<Vec<Option<&[u8]>>, AllocError>
+    ensures symbols { IfOk result (λ symbols. map option_copied symbols.items ≡ circuit.now.input_names) }
+{
+    let mut symbols = Vec::new(alloc);
+    for k in 0..circuit.inputs().len() {
+        symbols.push(circuit.input_name(k))?;
+    }
+    Ok(symbols)
+}
+
+/// The names of the outputs.
+fn output_symbols(alloc: Global, circuit: &Circuit) -> Result<Vec<Option<&[u8]>>, AllocError>
+    ensures symbols { IfOk result (λ symbols. map option_copied symbols.items ≡ circuit.now.output_names) }
+{
+    let mut symbols = Vec::new(alloc);
+    for k in 0..circuit.outputs().len() {
+        symbols.push(circuit.output_name(k))?;
+    }
+    Ok(symbols)
+}
+
+/// Whether a proposition is in a list.
+fn is_in_list(list: &[u32], proposition: usize) -> bool
+    ensures { result ≡ is_among proposition list.now }
+{
+    for other in list {
+        if proposition == *other as usize {
+            return true;
+        }
+    }
+    false
+}
+
+/// The proposition that a symbol names, if it is a controllable one (or one that is not controllable).
+fn proposition_of(
+    names: &[Vec<u8>],
+    controllable: &[u32],
+    wanted: bool,
+    symbol: &[u8],
+) -> Option<usize>
+    ensures { IsPropositionOf (map bytes_of names.now) controllable.now wanted symbol.now result }
+{
+    for (p, name) in names.iter().enumerate() {
+        if name.as_slice() == symbol && is_in_list(controllable, p) == wanted {
+            return Some(p);
+        }
+    }
+    None
+}
+
+/// The proposition of each symbol, if the symbols name the propositions that are controllable (or those that are not),
+/// each once.
+fn propositions_of(
+    alloc: Global,
+    names: &[Vec<u8>],
+    controllable: &[u32],
+    wanted: bool,
+    symbols: &[Option<&[u8]>],
+) -> Result<Option<Vec<u32>>, AllocError>
+    requires names { AreNames (map bytes_of names.now) }
+    requires few { length names.now ≤ 64 }
+    ensures listing { IfOk result (λ list. IfSome list (λ l.
+        IsListing (map bytes_of names.now) controllable.now wanted (map option_copied symbols.now) (length symbols.now)
+        l.items)) }
+    ensures full { IfOk result (λ list. IfSome list (λ l. IsFull (map bytes_of names.now) controllable.now
+        wanted l.items)) }
+    ensures none { IfOk result (λ list. IfNone list (¬ AreNamesOnce (map bytes_of names.now) controllable.now wanted
+        (map option_copied symbols.now))) }
+{
+    match listed(alloc, names, controllable, wanted, symbols)? {
+        Some(list) if is_full(names.len(), controllable, wanted, &list) => Ok(Some(list)),
+        _ => Ok(None),
+    }
+}
+
+/// The proposition of each symbol, if each names one on that side, and no two the same.
+fn listed(
+    alloc: Global,
+    names: &[Vec<u8>],
+    controllable: &[u32],
+    wanted: bool,
+    symbols: &[Option<&[u8]>],
+) -> Result<Option<Vec<u32>>, AllocError>
+    requires few { length names.now ≤ 64 }
+    ensures listing { IfOk result (λ list. IfSome list (λ l.
+        IsListing (map bytes_of names.now) controllable.now wanted (map option_copied symbols.now) (length symbols.now)
+        l.items)) }
+    ensures none { IfOk result (λ list. IfNone list (¬ AreNamesOnce (map bytes_of names.now) controllable.now wanted
+        (map option_copied symbols.now))) }
+{
+    let mut list = Vec::new(alloc);
+    for symbol in symbols {
+        let Some(name) = symbol else {
+            return Ok(None);
+        };
+        match proposition_of(names, controllable, wanted, name) {
+            Some(p) if !is_in_list(&list, p) => list.push(p as u32)?,
+            _ => return Ok(None),
+        }
+    }
+    Ok(Some(list))
+}
+
+/// Whether each of the first propositions that is controllable (or that is not) is in a list.
+fn is_full(count: usize, controllable: &[u32], wanted: bool, list: &[u32]) -> bool
+    ensures full { result ≡ true → (p : ℕ) → p < count → is_among p controllable.now ≡ wanted →
+        is_among p list.now ≡ true }
+    ensures missing { result ≡ false → (p : ℕ) × (p < count) × (is_among p controllable.now ≡ wanted) ×
+        (is_among p list.now ≡ false) }
+{
+    for p in 0..count {
+        if is_in_list(controllable, p) == wanted && !is_in_list(list, p) {
+            return false;
+        }
+    }
+    true
+}
