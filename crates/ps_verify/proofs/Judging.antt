@@ -1,0 +1,117 @@
+-- What is told of a product is a judgement of its circuit.
+--     winning      where the player wins all loops
+--     judgement      in both cases
+use Rattle.std.proofs.Common.{◌≡◌, ◌≢◌, ℕ, ◌%◌, ◌<◌, ◌↔◌, true, List, length, refl, subst, arith}
+use Rattle.std.proofs.Common.{Some}
+use Rattle.std.proofs.lemmas.Bool.{eq-eqb, eqb-true}
+use Rattle.ps_hoa.specs.Files.{FileData}
+use Rattle.ps_hoa.specs.Sound.{AreNames}
+use Rattle.ps_automaton.specs.Acceptance.{IsAccepted}
+use Rattle.ps_automaton.specs.Automata.{AutomatonData, IsBuiltFrom, auto_of}
+use Rattle.ps_automaton.specs.Autos.{Auto, IsAutoOf, greatest_of_laps, state_after, state_behind}
+use Rattle.ps_automaton.specs.Chains.{Chain, chain_of, is_even}
+use Rattle.ps_automaton.proofs.Accepting.{laps_decide}
+use Rattle.ps_circuit.specs.Circuits.{CircuitData, IsCircuit}
+use Rattle.ps_circuit.specs.Values.{HasOneValues}
+use Rattle.ps_game.specs.Games.{IsGame}
+use Rattle.ps_game.specs.Plays.{other_player}
+use Rattle.ps_machine.specs.declared.key.Order.{Order}
+use Rattle.ps_product.specs.ProductFaults.{asked_of}
+use Rattle.ps_product.specs.Products.{IsProductOf, ProductData}
+use Rattle.ps_simulate.specs.Symbols.{HasSymbols}
+use Rattle.ps_simulate.specs.declared.role.Role.{Role}
+use Rattle.ps_simulate.specs.declared.role.Role.TheVariants.{Controller, Environment}
+use Rattle.ps_simulate.proofs.LassoLemmas.{few_letters, length_letters}
+use Rattle.ps_traces.specs.Shapes.{IsInTimeWhereReached}
+use Rattle.ps_traces.specs.Traces.{IsLassoWord, AllAccepted, NoneAccepted}
+use Rattle.ps_traces.proofs.Inputs.{each_goes_on}
+use Rattle.ps_traces.proofs.Letters.{has_letters}
+use Rattle.ps_traces.proofs.OneMeeting.{meeting_is_one}
+use Rattle.ps_traces.proofs.Rejected.{meeting_is_rejected}
+use Rattle.ps_verify.specs.Inner.Readings.{IsToldOf}
+use Rattle.ps_verify.specs.Inner.Rounds.{WinsLoops}
+use Rattle.ps_verify.specs.Judgements.{IsJudgement, IsWinning}
+use Rattle.ps_verify.specs.declared.judgement.Judgement.{Judgement}
+use Rattle.ps_verify.specs.declared.judgement.Judgement.TheVariants.{Wins, Loses}
+use Rattle.ps_verify.proofs.Laps.{loop}
+use Rattle.ps_verify.proofs.Losing.{losing}
+
+module _ (role : Role) {file : FileData} {chain : Chain} {auto : Auto} {c : CircuitData} {p : ProductData}
+    (is_chain : chain_of file.condition ≡ Some chain) (is_auto : IsAutoOf file chain auto)
+    (product : IsProductOf (other_player (asked_of role)) file.names auto c p)
+    (wins : WinsLoops p.game (asked_of role)) where
+  -- the greatest priority of a loop by which the player wins decides on the word
+  record IsDecided (stem lap : List ℕ) : Type 0 where
+    top : ℕ
+    won : top % 2 ≢ other_player (asked_of role)
+    decides : (is_even top ≡ true) ↔ IsAccepted file stem lap
+
+  decided : (stem lap : List ℕ) → IsLassoWord file.names c stem lap → IsDecided stem lap
+  decided stem lap word =
+      let some : 0 < length lap = omega (
+        arith,
+        word.trace.some,
+        length_letters file.names c word.lap_moments lap word.lap_letters,
+      ) in
+      let l = loop product word.trace stem lap word.stem_letters word.lap_letters some in
+      let state = state_after auto (state_behind auto auto.start stem) lap l.before in
+      record {
+        top = greatest_of_laps auto state lap l.laps;
+        won = λ lost. l.none (wins (greatest_of_laps auto state lap l.laps) lost);
+        decides = laps_decide file chain auto stem lap l.before l.laps state is_chain is_auto some
+            (few_letters file.names c word.stem_moments stem word.stem_letters)
+            (few_letters file.names c word.lap_moments lap word.lap_letters) l.some_laps refl l.returns;
+      }
+
+  all_accepted : role ≡ Controller → AllAccepted file c
+  all_accepted same stem lap word =
+      let d = decided stem lap word in
+      let won : d.top % 2 ≢ 1 = subst (λ (r : Role). d.top % 2 ≢ other_player (asked_of r)) same d.won in
+      d.decides.0 (eq-eqb (d.top % 2) 0 (omega (arith, won)))
+
+  none_accepted : role ≡ Environment → NoneAccepted file c
+  none_accepted same stem lap word accepted =
+      let d = decided stem lap word in
+      let won : d.top % 2 ≢ 0 = subst (λ (r : Role). d.top % 2 ≢ other_player (asked_of r)) same d.won in
+      won (eqb-true (d.top % 2) 0 (d.decides.1 accepted))
+
+  pub winning : (order : Order) → AreNames file.names → IsCircuit c → HasOneValues c →
+      HasSymbols role file.names file.controllable c → IsInTimeWhereReached order role c → IsWinning order role file c
+  winning order are_names is_circuit one symbols in_time = record {
+    symbols = symbols;
+    in_time = in_time;
+    accepted = all_accepted;
+    rejected = none_accepted;
+    goes_on = each_goes_on c one;
+    letters = has_letters are_names symbols;
+    meetings = λ same k controller.
+        (let symbols_there = subst (λ (r : Role). HasSymbols r file.names file.controllable c) same symbols in
+        let in_time_there = subst (λ (r : Role). IsInTimeWhereReached order r c) same in_time in
+        record {
+          one = λ count. meeting_is_one order c k count is_circuit one in_time_there controller;
+          rejected = meeting_is_rejected order file c k are_names one symbols_there in_time_there controller
+              (none_accepted same);
+        });
+  }
+
+-- what is told of the product of an automaton that was built from a file
+pub judgement : (order : Order) (role : Role) {a : AutomatonData} {c : CircuitData} {p : ProductData} (file : FileData)
+    (chain : Chain) (told : Judgement) → IsBuiltFrom file chain a → AreNames a.names → IsCircuit c → HasOneValues c →
+    IsGame p.game → IsProductOf (other_player (asked_of role)) a.names (auto_of a) c p →
+    HasSymbols role a.names a.controllable c → IsInTimeWhereReached order role c → IsToldOf (asked_of role) p told →
+    IsJudgement order role file c told
+judgement order role {a} {c} {p} file chain told built names is_circuit one is_game product symbols in_time is =
+    let of_file = subst (λ (names : List (List ℕ)). IsProductOf (other_player (asked_of role)) names (auto_of a) c p)
+    built.names product in
+    let symbols_of_file : HasSymbols role file.names file.controllable c = rw (built.names, built.controllable) at
+    symbols in
+    let are_names = subst AreNames built.names names in
+    which told is of_file symbols_of_file are_names
+  where
+    which : (told : Judgement) → IsToldOf (asked_of role) p told →
+        IsProductOf (other_player (asked_of role)) file.names (auto_of a) c p →
+        HasSymbols role file.names file.controllable c → AreNames file.names → IsJudgement order role file c told
+    which Wins is of_file symbols are_names =
+        winning role built.is_chain built.auto of_file is order are_names is_circuit one symbols in_time
+    which (Loses stimulus) is of_file symbols are_names =
+        losing role built.is_chain built.auto of_file is_game is order symbols in_time

@@ -1,0 +1,35 @@
+-- The inputs that are read along paths of a product.
+--     ReadsEdge p v w inputs      the inputs are those of a step along the edge
+--     ReadsPath p path letters      inputs for each edge of a path
+--     IsToldOf player p judgement      the player wins all loops; or a stimulus follows a cycle that the player loses
+use Rattle.std.specs.Prelude.{◌≡◌, ℕ, ◌+◌, ◌<◌, Bool, List, [], length, slice_get, slice_index, slice_index_or, Some}
+use Rattle.ps_game.specs.Games.{successors_of}
+use Rattle.ps_product.specs.Products.{ProductData, inputs_at}
+use Rattle.ps_simulate.specs.Stimuli.{StimulusData}
+use Rattle.ps_verify.specs.declared.judgement.Judgement.{Judgement}
+use Rattle.ps_verify.specs.declared.judgement.Judgement.TheVariants.{Wins, Loses}
+use Rattle.ps_verify.specs.Inner.Rounds.{IsLostRound, WinsLoops, round_of}
+use Rattle.ps_verify.specs.Inner.Ways.{IsWayTo}
+
+pub record ReadsEdge (p : ProductData) (v w : ℕ) (inputs : List Bool) : Type 0 where
+  pub number : ℕ
+  pub edge : slice_get (successors_of p.game v) number ≡ Some w
+  pub inputs_are : inputs ≡ inputs_at p v number
+
+pub record ReadsPath (p : ProductData) (path : List ℕ) (letters : List (List Bool)) : Type 0 where
+  pub one_each : length letters + 1 ≡ length path
+  pub each : (k : ℕ) → k < length letters → ReadsEdge p (slice_index path k) (slice_index path (k + 1))
+      (slice_index_or letters k [])
+
+-- the stem is read on the way to a cycle that the player loses, and the lap along it
+pub record ReadsRound (player : ℕ) (p : ProductData) (s : StimulusData) : Type 0 where
+  pub cycle : List ℕ
+  pub lost : IsLostRound p.game player cycle
+  pub way : List ℕ
+  pub leads : IsWayTo p.game way (slice_index cycle 0)
+  pub stem : ReadsPath p way s.stem
+  pub lap : ReadsPath p (round_of cycle) s.lap
+
+abbrev pub IsToldOf : ℕ → ProductData → Judgement → Type 0
+IsToldOf player p Wins = WinsLoops p.game player
+IsToldOf player p (Loses stimulus) = ReadsRound player p stimulus

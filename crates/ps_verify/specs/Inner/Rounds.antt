@@ -1,0 +1,24 @@
+-- Who wins the loops of a game in which only one player moves.
+--     WinsLoops game player      counts keep the rule on each edge, for each priority by which the player loses
+--     IsLostRound game player cycle      a cycle that the player loses
+use Rattle.std.specs.Prelude.{◌≡◌, ℕ, ◌%◌, ◌<◌, List, [], ◌∷◌, ◌++◌, length, map, slice_index}
+use Rattle.ps_game.specs.Games.{ParityGame, HasEdge, priority_of}
+use Rattle.ps_game.specs.Plays.{IsPath, greatest, other_player}
+use Rattle.ps_game.specs.Ranking.{KeepsRule}
+
+pub record HasCounts (game : ParityGame) (priority : ℕ) : Type 0 where
+  pub count : ℕ → ℕ
+  pub keep : (v w : ℕ) → HasEdge game v w → KeepsRule priority (priority_of game v) (priority_of game w) (count v)
+      (count w)
+
+abbrev pub WinsLoops : ParityGame → ℕ → Type 0
+WinsLoops game player = (priority : ℕ) → priority % 2 ≡ other_player player → HasCounts game priority
+
+-- a cycle, with its first vertex once more
+abbrev pub round_of : List ℕ → List ℕ
+round_of cycle = cycle ++ slice_index cycle 0 ∷ []
+
+pub record IsLostRound (game : ParityGame) (player : ℕ) (cycle : List ℕ) : Type 0 where
+  pub some : 0 < length cycle
+  pub is_path : IsPath game (round_of cycle)
+  pub lost : greatest (map (priority_of game) cycle) % 2 ≡ other_player player

@@ -1,0 +1,50 @@
+-- What it means that an automaton accepts each lasso trace of a circuit, or none; and what shows that it does not.
+--     IsWinning order role file c      a controller's lasso traces are all accepted, an environment's none of them
+--     IsLosing order role file c s      the lasso trace of the stimulus has the wrong verdict
+--     IsJudgement order role file c judgement      what the judgement says
+use Rattle.std.specs.Prelude.{◌≡◌, ◌<◌, ◌↔◌, IsTrue, List, length}
+use Rattle.ps_hoa.specs.Files.{FileData}
+use Rattle.ps_circuit.specs.Circuits.{CircuitData}
+use Rattle.ps_circuit.specs.Values.{Moment}
+use Rattle.ps_machine.specs.declared.key.Order.{Order}
+use Rattle.ps_simulate.specs.LassoFaults.{AreWide}
+use Rattle.ps_simulate.specs.Lassos.{IsVerdictOf}
+use Rattle.ps_simulate.specs.Stimuli.{StimulusData}
+use Rattle.ps_simulate.specs.Symbols.{HasSymbols}
+use Rattle.ps_simulate.specs.declared.lassos.Verdict.{Verdict}
+use Rattle.ps_simulate.specs.declared.role.Role.{Role}
+use Rattle.ps_simulate.specs.declared.role.Role.TheVariants.{Controller, Environment}
+use Rattle.ps_traces.specs.Answers.{LosesMeeting}
+use Rattle.ps_traces.specs.Inputs.{EachInputGoesOn, HasLetters}
+use Rattle.ps_traces.specs.Meetings.{FiniteController, IsController}
+use Rattle.ps_traces.specs.Shapes.{IsInTimeWhereReached}
+use Rattle.ps_traces.specs.Traces.{AllAccepted, NoneAccepted}
+use Rattle.ps_verify.specs.declared.judgement.Judgement.{Judgement}
+use Rattle.ps_verify.specs.declared.judgement.Judgement.TheVariants.{Wins, Loses}
+
+-- the circuit is worth what a printed one is, except that it need be in time only where traces lead
+pub record IsWinning (order : Order) (role : Role) (file : FileData) (c : CircuitData) : Type 0 where
+  pub symbols : HasSymbols role file.names file.controllable c
+  pub in_time : IsInTimeWhereReached order role c
+  pub accepted : role ≡ Controller → AllAccepted file c
+  pub rejected : role ≡ Environment → NoneAccepted file c
+  -- none of this is empty
+  pub goes_on : EachInputGoesOn c
+  pub letters : (moments : List Moment) → HasLetters file.names c moments
+  pub meetings : role ≡ Environment → (k : FiniteController) → IsController order c k → LosesMeeting file c k
+
+-- the stimulus is a counterexample: its verdict is the wrong one, and its lap repeats from the first time on
+pub record IsLosing (order : Order) (role : Role) (file : FileData) (c : CircuitData) (s : StimulusData) : Type 0 where
+  pub symbols : HasSymbols role file.names file.controllable c
+  pub in_time : IsInTimeWhereReached order role c
+  pub wide : AreWide c s.stem s.lap
+  pub some : 0 < length s.lap
+  pub verdict : Verdict
+  pub is_verdict : IsVerdictOf file c s.stem s.lap verdict
+  pub is_wrong : IsTrue verdict.accepted ↔ (role ≡ Environment)
+  pub stem_is : verdict.stem ≡ length s.stem
+  pub lap_is : verdict.lap ≡ length s.lap
+
+abbrev pub IsJudgement : Order → Role → FileData → CircuitData → Judgement → Type 0
+IsJudgement order role file c Wins = IsWinning order role file c
+IsJudgement order role file c (Loses stimulus) = IsLosing order role file c stimulus

@@ -1,0 +1,32 @@
+//! A cycle that a player loses, in a game in which only the other player moves.
+
+ghost use Rattle.std.specs.Prelude.{◌≡◌, ◌<◌, ℕ, IfNone, IfOk, IfSome};
+ghost use Rattle.ps_game.specs.Games.{IsGame, owner_of, vertex_count};
+ghost use Rattle.ps_game.specs.Plays.{other_player};
+ghost use Rattle.ps_verify.specs.Inner.Rounds.{IsLostRound, WinsLoops};
+
+use ps_game::{Arena, Counts, Game, Region, Strategy};
+use ps_measure::{MeasureFault, ranks};
+use std::alloc::{AllocError, Global};
+
+/// A cycle of edges that the player loses, if there is one. Fails if memory runs out.
+pub(crate) fn lost_cycle(
+    alloc: Global,
+    game: &Game,
+    player: u8,
+) -> Result<Option<Vec<usize>>, AllocError>
+    requires player { player < 2 }
+    requires owners { (v : ℕ) → v < vertex_count game.now → owner_of game.now v ≡ other_player player }
+    ensures is_game { IsGame game.now }
+    ensures none { IfOk result (λ found. IfNone found (WinsLoops game.now player)) }
+    ensures cycle { IfOk result (λ found. IfSome found (λ cycle. IsLostRound game.now player cycle.items)) }
+{
+    let region = Region::full(alloc, game.count())?;
+    let strategy = Strategy::empty(alloc, game.count())?;
+    let mut counts = Counts::default();
+    match ranks(alloc, game, player, &region, &strategy, &mut counts) {
+        Ok(_ranks) => Ok(None),
+        Err(MeasureFault::BadCycle { cycle }) => Ok(Some(cycle)),
+        Err(MeasureFault::OutOfMemory) => Err(AllocError),
+    }
+}

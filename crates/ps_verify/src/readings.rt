@@ -1,0 +1,88 @@
+//! What a circuit reads along paths of its product.
+
+ghost use Rattle.std.specs.Prelude.{◌≡◌, ◌<◌, Some, slice_get, IfOk, slice_index, ℕ};
+ghost use Rattle.ps_game.specs.Games.{HasEdge, successors_of, vertex_count};
+ghost use Rattle.ps_game.specs.Plays.{IsPath};
+ghost use Rattle.ps_product.specs.Products.{IsLedTo};
+ghost use Rattle.ps_simulate.specs.Stimuli.{letters_of};
+ghost use Rattle.ps_verify.specs.Inner.Readings.{ReadsEdge, ReadsPath, ReadsRound};
+ghost use Rattle.ps_verify.specs.Inner.Rounds.{IsLostRound};
+ghost use Rattle.ps_verify.specs.Inner.Ways.{IsWayTo};
+
+use crate::ways::{firsts, way_to};
+use ps_game::{Arena, Game};
+use ps_product::Product;
+use ps_simulate::Stimulus;
+use std::alloc::{AllocError, Global};
+
+/// The number of a successor of a vertex.
+fn number_of(game: &Game, vertex: usize, next: usize) -> usize
+    requires { HasEdge game.now vertex next }
+    ensures { slice_get (successors_of game.now vertex) result ≡ Some next }
+{
+    for number in 0..game.degree(vertex) {
+        if game.successor(vertex, number) == next {
+            return number;
+        }
+    }
+    unreachable!()
+}
+
+/// The inputs of a step along an edge.
+fn inputs_of(
+    alloc: Global,
+    product: &Product,
+    vertex: usize,
+    next: usize,
+) -> Result<Vec<bool>, AllocError>
+    requires { HasEdge product.now.game vertex next }
+    ensures { IfOk result (λ inputs. ReadsEdge product.now vertex next inputs.items) }
+{
+    let number = number_of(product.game(), vertex, next);
+    product.inputs(alloc, vertex, number)
+}
+
+/// The inputs of each step along a path.
+fn letters_along(
+    alloc: Global,
+    product: &Product,
+    path: &[usize],
+) -> Result<Vec<Vec<bool>>, AllocError>
+    requires { IsPath product.now.game path.now }
+    ensures { IfOk result (λ letters. ReadsPath product.now path.now (letters_of letters.items)) }
+{
+    let mut letters = Vec::new(alloc);
+    for place in 1..path.len() {
+        letters.push(inputs_of(alloc, product, path[place - 1], path[place])?)?;
+    }
+    Ok(letters)
+}
+
+/// The way from the first vertex to this one.
+fn way_in(alloc: Global, game: &Game, vertex: usize) -> Result<Vec<usize>, AllocError>
+    requires vertex { vertex < vertex_count game.now }
+    requires reached { (w : ℕ) → 0 < w → w < vertex_count game.now → IsLedTo game.now w }
+    ensures { IfOk result (λ way. IsWayTo game.now way.items vertex) }
+{
+    let firsts = firsts(alloc, game)?;
+    let way = way_to(alloc, &firsts, vertex)?;
+    Ok(way)
+}
+
+/// The inputs that are read on the way to a cycle, and along it.
+pub(crate) fn stimulus_of(
+    alloc: Global,
+    product: &Product,
+    mut cycle: Vec<usize>,
+    player: u8,
+) -> Result<Stimulus, AllocError>
+    requires lost { IsLostRound product.now.game player cycle.items }
+    requires reached { (w : ℕ) → 0 < w → w < vertex_count product.now.game → IsLedTo product.now.game w }
+    ensures { IfOk result (ReadsRound player product.now) }
+{
+    let way = way_in(alloc, product.game(), cycle[0])?;
+    let stem = letters_along(alloc, product, &way)?;
+    cycle.push(cycle[0])?;
+    let lap = letters_along(alloc, product, &cycle)?;
+    Ok(Stimulus { stem, lap })
+}

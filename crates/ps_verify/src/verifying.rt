@@ -1,0 +1,85 @@
+//! The judgement of a circuit.
+
+ghost use Rattle.std.specs.Prelude.{◌≡◌, ◌<◌, ℕ, IfErr, IfOk};
+ghost use Rattle.ps_hoa.specs.Files.{FileData};
+ghost use Rattle.ps_hoa.specs.Sound.{AreNames};
+ghost use Rattle.ps_automaton.specs.Automata.{IsBuiltFrom};
+ghost use Rattle.ps_automaton.specs.Chains.{Chain};
+ghost use Rattle.ps_circuit.specs.Circuits.{IsCircuit};
+ghost use Rattle.ps_game.specs.Games.{IsGame, owner_of, vertex_count};
+ghost use Rattle.ps_game.specs.Plays.{other_player};
+ghost use Rattle.ps_product.specs.ProductFaults.{IsProductRefusal, asked_of};
+ghost use Rattle.ps_product.specs.Products.{IsLedTo};
+ghost use Rattle.ps_verify.specs.Inner.Readings.{IsToldOf};
+ghost use Rattle.ps_verify.specs.Judgements.{IsJudgement};
+
+use crate::cycle::lost_cycle;
+use crate::judgement::Judgement;
+use crate::readings::stimulus_of;
+use ps_automaton::Automaton;
+use ps_circuit::Circuit;
+use ps_machine::Order;
+use ps_product::{Product, ProductFault};
+use ps_simulate::{Role, circuit_has_one_values};
+use std::alloc::{AllocError, Global};
+
+/// Whether the automaton accepts each lasso trace of a controller's circuit, or none of an environment's. If not, a
+/// stimulus shows it: its lap repeats from the first time on.
+///
+/// # Errors
+///
+/// [`ProductFault::Symbols`] if the inputs and outputs are not those of the role, by name; else
+/// [`ProductFault::Timing`] if the role moves first and an output depends on an input where some trace leads; out of
+/// memory.
+pub fn verified(
+    alloc: Global,
+    circuit: &Circuit,
+    automaton: &Automaton,
+    order: Order,
+    role: Role,
+) -> Result<Judgement, ProductFault>
+    ensures judged { IfOk result (λ judgement. (file : FileData) (chain : Chain) →
+        IsBuiltFrom file chain automaton.now → IsJudgement order role file circuit.now judgement) }
+    ensures refused { IfErr result (IsProductRefusal order role automaton.now circuit.now) }
+{
+    circuit_has_one_values();
+    sound(circuit, automaton);
+    let product = Product::build(alloc, circuit, automaton, order, role)?;
+    let judgement = told(alloc, &product, asked(role))?;
+    Ok(judgement)
+}
+
+/// What holds of every circuit and every automaton.
+fn sound(circuit: &Circuit, automaton: &Automaton)
+    ensures circuit { IsCircuit circuit.now }
+    ensures names { AreNames automaton.now.names }
+{
+    circuit.most();
+    automaton.names();
+}
+
+/// The player who is asked about.
+fn asked(role: Role) -> u8
+    ensures { result ≡ asked_of role }
+{
+    match role {
+        Role::Controller => 0,
+        Role::Environment => 1,
+    }
+}
+
+/// Whether the player wins all loops of a product in which only the other one moves.
+fn told(alloc: Global, product: &Product, player: u8) -> Result<Judgement, AllocError>
+    requires player { player < 2 }
+    requires owners { (v : ℕ) → v < vertex_count product.now.game →
+        owner_of product.now.game v ≡ other_player player }
+    requires reached { (w : ℕ) → 0 < w → w < vertex_count product.now.game → IsLedTo product.now.game w }
+    ensures is_game { IsGame product.now.game }
+    ensures told { IfOk result (IsToldOf player product.now) }
+{
+    let Some(cycle) = lost_cycle(alloc, product.game(), player)? else {
+        return Ok(Judgement::Wins);
+    };
+    let stimulus = stimulus_of(alloc, product, cycle, player)?;
+    Ok(Judgement::Loses(stimulus))
+}
