@@ -6,3 +6,5 @@ pub mod Losing
 pub mod Judging
 pub mod FirstWays
 pub mod PathReadings
+pub mod OneJudgement
+pub mod Turning

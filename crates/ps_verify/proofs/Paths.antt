@@ -1,8 +1,8 @@
 -- Inputs that are read along a path of the product make a trace of the circuit, whose letters the automaton reads.
 --     Follows      the moments and letters along a path
 --     follow      they are there
-use Rattle.std.proofs.Common.{◌≡◌, ℕ, suc, ◌+◌, ◌<◌, Bool, List, [], ◌∷◌, length, map, get_or, refl, sym, ap₂}
-use Rattle.std.proofs.Common.{◌∙◌, arith, Some}
+use Rattle.std.proofs.Common.{rules, ◌≡◌, ℕ, suc, ◌+◌, ◌<◌, Bool, List, [], ◌∷◌, length, map, get_or, refl}
+use Rattle.std.proofs.Common.{arith, Some}
 use Rattle.std.specs.Prelude.{slice_get}
 use Rattle.std.proofs.Math.Nat.{suc-add}
 use Rattle.std.proofs.lemmas.Option.{slice_get-get_or, slice_get_within}
@@ -78,7 +78,7 @@ module _ {owner : ℕ} {names : List (List ℕ)} {auto : Auto} {c : CircuitData}
             ∷ more.moments;
         letters = step.letter ∷ more.letters;
         goes_on = (w.latches, refl, step.leads.steps, more.goes_on);
-        reads = ap₂ ◌∷◌ (step.reads ∙ sym reads.inputs_are) more.reads;
+        reads = search (rules, step.reads, reads.inputs_are, more.reads);
         are_letters = (step.leads.is_letter, more.are_letters);
         state = rw (← step.leads.state) more.state;
         greatest_is =

@@ -1,15 +1,16 @@
 //! A cycle that a player loses, in a game in which only the other player moves.
 
-ghost use Rattle.std.specs.Prelude.{◌≡◌, ◌<◌, ℕ, IfNone, IfOk, IfSome};
+ghost use Rattle.std.specs.Prelude.{◌≡◌, ◌<◌, ◌≤◌, ℕ, length, slice_index, IfNone, IfOk, IfSome};
 ghost use Rattle.ps_game.specs.Games.{IsGame, owner_of, vertex_count};
 ghost use Rattle.ps_game.specs.Plays.{other_player};
-ghost use Rattle.ps_verify.specs.Inner.Rounds.{IsLostRound, WinsLoops};
+ghost use Rattle.ps_verify.specs.Inner.Rounds.{IsLostRound, IsTurned, WinsLoops};
 
 use ps_game::{Arena, Counts, Game, Region, Strategy};
 use ps_measure::{MeasureFault, ranks};
 use std::alloc::{AllocError, Global};
 
-/// A cycle of edges that the player loses, if there is one. Fails if memory runs out.
+/// A cycle of edges that the player loses, if there is one, from its vertex of least number on. Fails if memory runs
+/// out.
 pub(crate) fn lost_cycle(
     alloc: Global,
     game: &Game,
@@ -26,7 +27,33 @@ pub(crate) fn lost_cycle(
     let mut counts = Counts::default();
     match ranks(alloc, game, player, &region, &strategy, &mut counts) {
         Ok(_ranks) => Ok(None),
-        Err(MeasureFault::BadCycle { cycle }) => Ok(Some(cycle)),
+        Err(MeasureFault::BadCycle { cycle }) => Ok(Some(turned(cycle))),
         Err(MeasureFault::OutOfMemory) => Err(AllocError),
     }
+}
+
+/// The same cycle, from its vertex of least number on.
+fn turned(mut cycle: Vec<usize>) -> Vec<usize>
+    requires { 0 < length cycle.items }
+    ensures { IsTurned cycle.items result.items }
+{
+    let place = place_of_least(&cycle);
+    cycle.rotate_left(place);
+    cycle
+}
+
+/// The place of the least vertex.
+fn place_of_least(vertices: &[usize]) -> usize
+    requires { 0 < length vertices.now }
+    ensures within { result < length vertices.now }
+    ensures least { (k : ℕ) → k < length vertices.now →
+        slice_index vertices.now result ≤ slice_index vertices.now k }
+{
+    let mut least = 0;
+    for (place, vertex) in vertices.iter().enumerate() {
+        if *vertex < vertices[least] {
+            least = place;
+        }
+    }
+    least
 }

@@ -7,13 +7,16 @@
 //! | Call | What it gives |
 //! |---|---|
 //! | `verified(circuit, automaton, order, role)` | `Judgement`: the circuit wins, or a stimulus on which it does not |
+//! | `judgement_is_one` | a law: no stimulus shows of a circuit that wins that it does not |
 #![tactic(auto)]
 
 mod cycle;
 mod judgement;
+mod laws;
 mod readings;
 mod verifying;
 mod ways;
 
 pub use judgement::Judgement;
+pub use laws::judgement_is_one;
 pub use verifying::verified;

@@ -1,7 +1,9 @@
 -- Who wins the loops of a game in which only one player moves.
 --     WinsLoops game player      counts keep the rule on each edge, for each priority by which the player loses
 --     IsLostRound game player cycle      a cycle that the player loses
-use Rattle.std.specs.Prelude.{◌≡◌, ℕ, ◌%◌, ◌<◌, List, [], ◌∷◌, ◌++◌, length, map, slice_index}
+--     IsTurned old new      the same cycle from its least vertex on
+use Rattle.std.specs.Prelude.{◌≡◌, ℕ, ◌%◌, ◌<◌, ◌≤◌, List, [], ◌∷◌, ◌++◌, length, map, slice_index, take}
+use Rattle.std.specs.Prelude.{drop}
 use Rattle.ps_game.specs.Games.{ParityGame, HasEdge, priority_of}
 use Rattle.ps_game.specs.Plays.{IsPath, greatest, other_player}
 use Rattle.ps_game.specs.Ranking.{KeepsRule}
@@ -22,3 +24,10 @@ pub record IsLostRound (game : ParityGame) (player : ℕ) (cycle : List ℕ) : T
   pub some : 0 < length cycle
   pub is_path : IsPath game (round_of cycle)
   pub lost : greatest (map (priority_of game) cycle) % 2 ≡ other_player player
+
+-- the cycle from its least vertex on
+pub record IsTurned (old new : List ℕ) : Type 0 where
+  pub place : ℕ
+  pub within : place < length old
+  pub least : (k : ℕ) → k < length old → slice_index old place ≤ slice_index old k
+  pub new_is : new ≡ drop place old ++ take place old

@@ -1,0 +1,91 @@
+-- A stimulus that has the wrong verdict is a word of the circuit.
+--     parted      a trace, and its letters, before a place and from there on
+--     apart      so a circuit does not both win and lose
+use Rattle.std.proofs.Common.{◌≡◌, ℕ, zero, suc, ◌≤◌, Bool, List, [], ◌∷◌, length, take, drop}
+use Rattle.std.proofs.Common.{get_or}
+use Rattle.std.proofs.Common.{refl, sym, subst, arith, length-drop}
+use Rattle.ps_hoa.specs.Files.{FileData}
+use Rattle.ps_circuit.specs.Circuits.{CircuitData}
+use Rattle.ps_circuit.specs.Values.{Moment, GoesOn, Steps, resets}
+use Rattle.ps_machine.specs.declared.key.Order.{Order}
+use Rattle.ps_simulate.specs.LassoRuns.{RepeatsBy}
+use Rattle.ps_simulate.specs.Lassos.{AreLetters, latches_along}
+use Rattle.ps_simulate.specs.Stimuli.{StimulusData}
+use Rattle.ps_simulate.specs.declared.role.Role.{Role}
+use Rattle.ps_simulate.specs.declared.role.Role.TheVariants.{Controller, Environment}
+use Rattle.ps_simulate.proofs.LassoLemmas.{lap_within, length_letters}
+use Rattle.ps_traces.specs.Traces.{IsLassoWord}
+use Rattle.ps_verify.specs.Judgements.{IsLosing, IsWinning}
+
+record Parted (names : List (List ℕ)) (c : CircuitData) (from : List Bool) (ms : List Moment) (last : List Bool)
+    (ls : List ℕ) (n : ℕ) : Type 0 where
+  there : GoesOn c from (take n ms) (get_or (latches_along ms last) n [])
+  on : GoesOn c (get_or (latches_along ms last) n []) (drop n ms) last
+  before : AreLetters names c (take n ms) (take n ls)
+  behind : AreLetters names c (drop n ms) (drop n ls)
+
+parted : (names : List (List ℕ)) (c : CircuitData) (from : List Bool) (ms : List Moment) (last : List Bool)
+    (ls : List ℕ) (n : ℕ) → GoesOn c from ms last → AreLetters names c ms ls → n ≤ length ms →
+    Parted names c from ms last ls n
+parted names c from [] last [] zero goes are le = record { there = goes; on = refl; before = refl; behind = refl }
+parted names c from [] last [] (suc n) goes are le = absurd (omega arith)
+parted names c from [] last (l ∷ ls) n goes are le = cc
+parted names c from (m ∷ ms) last [] n goes are le = absurd are
+parted names c from (m ∷ ms) last (l ∷ ls) zero (next, at, steps, rest) are le = record {
+  there = sym at;
+  on = (next, refl, subst (λ (latches : List Bool). Steps c latches m.inputs m.outputs next) (sym at) steps, rest);
+  before = refl;
+  behind = are;
+}
+parted names c from (m ∷ ms) last (l ∷ ls) (suc n) (next, at, steps, rest) (letter, are) le =
+    let more = parted names c next ms last ls n rest are (omega arith) in
+    record {
+      there = (next, at, steps, more.there);
+      on = more.on;
+      before = (letter, more.before);
+      behind = more.behind;
+    }
+
+module _ {order : Order} {role : Role} {file : FileData} {c : CircuitData} {s : StimulusData}
+    (loses : IsLosing order role file c s) where
+  abbrev n : ℕ
+  n = loses.verdict.stem
+
+  word : IsLassoWord file.names c (take n loses.is_verdict.letters) (drop n loses.is_verdict.letters)
+  word =
+      let v = loses.is_verdict in
+      let by : RepeatsBy file.names c s.stem s.lap v.i v.letters =
+      record { j = v.j; trace = v.trace; repeats = v.repeats; are_letters = v.are_letters } in
+      let within = lap_within by in
+      let many = length_letters file.names c v.trace v.letters v.are_letters in
+      let parts = parted file.names c (resets c) v.trace v.repeats.last v.letters n v.repeats.goes_on v.are_letters
+      (omega (arith, within, many, v.stem_is)) in
+      let back : get_or (latches_along v.trace v.repeats.last) n [] ≡ v.repeats.last =
+      rw v.stem_is v.repeats.returns in
+      record {
+        stem_moments = take n v.trace;
+        lap_moments = drop n v.trace;
+        trace = record {
+          some = omega (arith, length-drop n v.trace, within, many, v.stem_is, loses.some);
+          back = v.repeats.last;
+          goes_there = rw back at parts.there;
+          comes_back = rw back at parts.on;
+        };
+        stem_letters = parts.before;
+        lap_letters = parts.behind;
+      }
+
+  wins_not : (r : Role) → r ≡ role → IsWinning order role file c → ⊥
+  wins_not Controller same wins =
+      let v = loses.is_verdict in
+      let accepted = wins.accepted (sym same) (take n v.letters) (drop n v.letters) word in
+      let wrong : Controller ≡ Environment = rw same (loses.is_wrong.0 (v.accepted.1 accepted)) in
+      cc
+  wins_not Environment same wins =
+      let v = loses.is_verdict in
+      wins.rejected (sym same) (take n v.letters) (drop n v.letters) word
+      (v.accepted.0 (loses.is_wrong.1 (sym same)))
+
+pub apart : (order : Order) (role : Role) (file : FileData) (c : CircuitData) (s : StimulusData) →
+    IsWinning order role file c → IsLosing order role file c s → ⊥
+apart order role file c s wins loses = wins_not loses role refl wins
