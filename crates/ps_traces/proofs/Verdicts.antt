@@ -45,7 +45,7 @@ module _ (file : FileData) (chain : Chain) (a : Auto) (is_chain : chain_of file.
   after_within q lap zero le each = le
   after_within q lap (suc laps) le each = search (rules, behind_within, after_within q lap laps le each)
 
-  accepted_or_not : (stem lap : List ℕ) → 0 < length lap → All IsLetter stem → All IsLetter lap →
+  pub accepted_or_not : (stem lap : List ℕ) → 0 < length lap → All IsLetter stem → All IsLetter lap →
       (accepted : Bool) × (IsTrue accepted ↔ IsAccepted file stem lap)
   accepted_or_not stem lap some in_stem in_lap =
       let start = state_behind a a.start stem in

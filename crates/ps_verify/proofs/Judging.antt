@@ -24,10 +24,6 @@ use Rattle.ps_simulate.specs.declared.role.Role.TheVariants.{Controller, Environ
 use Rattle.ps_simulate.proofs.LassoLemmas.{few_letters, length_letters}
 use Rattle.ps_traces.specs.Shapes.{IsInTimeWhereReached}
 use Rattle.ps_traces.specs.Traces.{IsLassoWord, AllAccepted, NoneAccepted}
-use Rattle.ps_traces.proofs.Inputs.{each_goes_on}
-use Rattle.ps_traces.proofs.Letters.{has_letters}
-use Rattle.ps_traces.proofs.OneMeeting.{meeting_is_one}
-use Rattle.ps_traces.proofs.Rejected.{meeting_is_rejected}
 use Rattle.ps_verify.specs.Inner.Readings.{IsToldOf}
 use Rattle.ps_verify.specs.Inner.Rounds.{WinsLoops}
 use Rattle.ps_verify.specs.Judgements.{IsJudgement, IsWinning}
@@ -35,6 +31,7 @@ use Rattle.ps_verify.specs.declared.judgement.Judgement.{Judgement}
 use Rattle.ps_verify.specs.declared.judgement.Judgement.TheVariants.{Wins, Loses}
 use Rattle.ps_verify.proofs.Laps.{loop}
 use Rattle.ps_verify.proofs.Losing.{losing}
+use Rattle.ps_verify.proofs.Worth.{winning_by}
 
 module _ (role : Role) {file : FileData} {chain : Chain} {auto : Auto} {c : CircuitData} {p : ProductData}
     (is_chain : chain_of file.condition ≡ Some chain) (is_auto : IsAutoOf file chain auto)
@@ -77,22 +74,7 @@ module _ (role : Role) {file : FileData} {chain : Chain} {auto : Auto} {c : Circ
 
   pub winning : (order : Order) → AreNames file.names → IsCircuit c → HasOneValues c →
       HasSymbols role file.names file.controllable c → IsInTimeWhereReached order role c → IsWinning order role file c
-  winning order are_names is_circuit one symbols in_time = record {
-    symbols = symbols;
-    in_time = in_time;
-    accepted = all_accepted;
-    rejected = none_accepted;
-    goes_on = each_goes_on c one;
-    letters = has_letters are_names symbols;
-    meetings = λ same k controller.
-        (let symbols_there = subst (λ (r : Role). HasSymbols r file.names file.controllable c) same symbols in
-        let in_time_there = subst (λ (r : Role). IsInTimeWhereReached order r c) same in_time in
-        record {
-          one = λ count. meeting_is_one order c k count is_circuit one in_time_there controller;
-          rejected = meeting_is_rejected order file c k are_names one symbols_there in_time_there controller
-              (none_accepted same);
-        });
-  }
+  winning order = winning_by order role all_accepted none_accepted
 
 -- what is told of the product of an automaton that was built from a file
 pub judgement : (order : Order) (role : Role) {a : AutomatonData} {c : CircuitData} {p : ProductData} (file : FileData)

@@ -2,6 +2,7 @@ pub mod Rounds
 pub mod Walks
 pub mod Laps
 pub mod Paths
+pub mod Worth
 pub mod Losing
 pub mod Judging
 pub mod FirstWays

@@ -1,11 +1,10 @@
 -- A stimulus that follows a cycle that the player loses has the wrong verdict.
---     inputs_wide      what a trace reads has a bit for each input
 --     losing      a stimulus that follows such a cycle is a counterexample
-use Rattle.std.proofs.Common.{◌≡◌, ℕ, zero, suc, ◌+◌, ◌*◌, ◌%◌, ◌<◌, ◌↔◌, max, Bool, IsTrue, List, []}
-use Rattle.std.proofs.Common.{◌∷◌, ◌++◌, length, map, get_or, take_at, Some, refl, sym, ap, ap₂, subst, ◌∙◌}
+use Rattle.std.proofs.Common.{◌≡◌, ℕ, ◌%◌, ◌<◌, ◌↔◌, max, Bool, IsTrue, List, []}
+use Rattle.std.proofs.Common.{◌∷◌, ◌++◌, length, map, get_or, Some, refl, ap, subst, ◌∙◌}
 use Rattle.std.proofs.Common.{arith}
 use Rattle.std.specs.Prelude.{slice_get}
-use Rattle.std.proofs.lemmas.List.{drop_at, get_or_push, length-map, length_push, map-append}
+use Rattle.std.proofs.lemmas.List.{get_or_push, length-map, length_push}
 use Rattle.std.proofs.lemmas.Bool.{eq-eqb, eqb-true}
 use Rattle.ps_hoa.specs.Files.{FileData}
 use Rattle.ps_automaton.specs.Acceptance.{IsAccepted}
@@ -13,26 +12,26 @@ use Rattle.ps_automaton.specs.Autos.{Auto, IsAutoOf, greatest_along}
 use Rattle.ps_automaton.specs.Chains.{Chain, chain_of, is_even}
 use Rattle.ps_automaton.proofs.Accepting.{laps_decide}
 use Rattle.ps_circuit.specs.Circuits.{CircuitData}
-use Rattle.ps_circuit.specs.Values.{Moment, GoesOn, bit_of, resets}
+use Rattle.ps_circuit.specs.Values.{Moment, GoesOn}
 use Rattle.ps_game.specs.Games.{IsGame, priority_of}
 use Rattle.ps_game.specs.Plays.{greatest, other_player}
 use Rattle.ps_game.specs.Strategies.{last_vertex}
 use Rattle.ps_machine.specs.declared.key.Order.{Order}
 use Rattle.ps_product.specs.ProductFaults.{asked_of}
 use Rattle.ps_product.specs.Products.{IsProductOf, ProductData, ProductVertex, first_vertex}
-use Rattle.ps_simulate.specs.Lassos.{IsVerdictOf, Repeats}
 use Rattle.ps_simulate.specs.Stimuli.{StimulusData}
 use Rattle.ps_simulate.specs.Symbols.{HasSymbols}
-use Rattle.ps_simulate.specs.declared.lassos.Verdict.{Verdict}
 use Rattle.ps_simulate.specs.declared.role.Role.{Role}
 use Rattle.ps_simulate.specs.declared.role.Role.TheVariants.{Controller, Environment}
-use Rattle.ps_simulate.proofs.LassoLemmas.{AreLetters-append, GoesOn-append, along_more, at_end, few_letters}
+use Rattle.ps_simulate.proofs.LassoLemmas.{few_letters}
 use Rattle.ps_simulate.proofs.LassoLemmas.{length_letters}
 use Rattle.ps_traces.specs.Shapes.{IsInTimeWhereReached}
+use Rattle.ps_traces.specs.Traces.{IsLassoWord}
 use Rattle.ps_verify.specs.Inner.Readings.{ReadsPath, ReadsRound}
 use Rattle.ps_verify.specs.Inner.Rounds.{round_of}
 use Rattle.ps_verify.specs.Judgements.{IsLosing}
 use Rattle.ps_verify.proofs.Paths.{Follows, follow}
+use Rattle.ps_verify.proofs.Worth.{refuted}
 
 -- ## Lists
 
@@ -48,15 +47,6 @@ greatest_of_round : (f : ℕ → ℕ) (cycle : List ℕ) → 0 < length cycle �
     greatest (map f (behind_first (round_of cycle))) ≡ greatest (map f cycle)
 greatest_of_round f [] some = absurd (omega arith)
 greatest_of_round f (x ∷ xs) some = greatest_turned f x xs
-
-inputs_wide : (c : CircuitData) (from to : List Bool) (ms : List Moment) → GoesOn c from ms to →
-    (k : ℕ) (d : List Bool) → k < length (map (λ m. m.inputs) ms) →
-    length (get_or (map (λ m. m.inputs) ms) k d) ≡ length c.inputs
-inputs_wide c from to [] goes k d within = absurd (omega arith)
-inputs_wide c from to (m ∷ ms) (next, at, steps, rest) zero d within =
-    ap length (sym steps.are_values.inputs_are) ∙ length-map c.inputs (bit_of steps.values)
-inputs_wide c from to (m ∷ ms) (next, at, steps, rest) (suc k) d within =
-    inputs_wide c next to ms rest k d (omega arith)
 
 -- the player who is asked about loses the priority
 wrong : (role : Role) (n : ℕ) → n % 2 ≡ other_player (asked_of role) → IsTrue (is_even n) ↔ (role ≡ Environment)
@@ -101,27 +91,23 @@ module _ (role : Role) {file : FileData} {chain : Chain} {auto : Auto} {c : Circ
     comes_back : GoesOn c stem.w.latches lap.moments stem.w.latches
     comes_back = subst (λ (w : ProductVertex). GoesOn c stem.w.latches lap.moments w.latches) again lap.goes_on
 
-    many_stem : length stem.moments ≡ length s.stem
-    many_stem = sym (length-map stem.moments (λ (m : Moment). m.inputs)) ∙ ap length stem.reads
+    some_lap : 0 < length lap.moments
+    some_lap = omega (
+      arith,
+      length-map lap.moments (λ (m : Moment). m.inputs),
+      ap length lap.reads,
+      r.lap.one_each,
+      length_push r.cycle (get_or r.cycle 0 0),
+      r.lost.some,
+    )
 
-    many_lap : length lap.moments ≡ length s.lap
-    many_lap = sym (length-map lap.moments (λ (m : Moment). m.inputs)) ∙ ap length lap.reads
-
-    some_lap : 0 < length s.lap
-    some_lap = omega (arith, r.lap.one_each, length_push r.cycle (get_or r.cycle 0 0), r.lost.some)
-
-    repeats : Repeats c s.stem s.lap 0 1 (stem.moments ++ lap.moments)
-    repeats = record {
-      has_letter = some_lap;
-      last = stem.w.latches;
-      goes_on =
-          GoesOn-append c (resets c) stem.w.latches stem.w.latches stem.moments lap.moments stem.goes_on comes_back;
-      reads = map-append (λ (m : Moment). m.inputs) stem.moments lap.moments ∙ ap₂ ◌++◌ stem.reads lap.reads;
-      earlier = omega arith;
-      returns = (let place : length s.stem + 0 * length s.lap ≡ length stem.moments = omega (arith, many_stem) in
-          rw place (along_more c stem.moments lap.moments stem.w.latches stem.w.latches (length stem.moments) comes_back
-          (omega arith) ∙ at_end stem.moments stem.w.latches));
-      first = λ k l less below. absurd (omega arith);
+    word : IsLassoWord file.names c stem.letters lap.letters
+    word = record {
+      stem_moments = stem.moments;
+      lap_moments = lap.moments;
+      trace = record { some = some_lap; back = stem.w.latches; goes_there = stem.goes_on; comes_back = comes_back };
+      stem_letters = stem.are_letters;
+      lap_letters = lap.are_letters;
     }
 
     -- ## The verdict
@@ -137,33 +123,10 @@ module _ (role : Role) {file : FileData} {chain : Chain} {auto : Auto} {c : Circ
         =
         omega arith in
         rw alone at (laps_decide file chain auto stem.letters lap.letters 0 1 stem.w.state is_chain is_auto
-        (omega (arith, few, many_lap, some_lap))
+        (omega (arith, few, some_lap))
         (few_letters file.names c stem.moments stem.letters stem.are_letters)
         (few_letters file.names c lap.moments lap.letters lap.are_letters) (omega arith) stem.state
         (rw stem.state (lap.state ∙ ap (λ (w : ProductVertex). w.state) again)))
-
-    verdict : Verdict
-    verdict = record { accepted = is_even top; stem = length s.stem; lap = length s.lap }
-
-    is_verdict : IsVerdictOf file c s.stem s.lap verdict
-    unfolding verdict
-    is_verdict =
-        let few = length_letters file.names c stem.moments stem.letters stem.are_letters in
-        record {
-          i = 0;
-          j = 1;
-          trace = stem.moments ++ lap.moments;
-          letters = stem.letters ++ lap.letters;
-          repeats = repeats;
-          are_letters = AreLetters-append file.names c stem.moments lap.moments stem.letters lap.letters
-              stem.are_letters lap.are_letters;
-          stem_is = omega arith;
-          lap_is = omega arith;
-          accepted = rw (
-            take_at stem.letters lap.letters (length s.stem) (few ∙ many_stem),
-            drop_at stem.letters lap.letters (length s.stem) (few ∙ many_stem),
-          ) told;
-        }
 
     top_is : top % 2 ≡ other_player (asked_of role)
     unfolding top
@@ -172,18 +135,6 @@ module _ (role : Role) {file : FileData} {chain : Chain} {auto : Auto} {c : Circ
 
     pub losing : (order : Order) → HasSymbols role file.names file.controllable c →
         IsInTimeWhereReached order role c → IsLosing order role file c s
-    unfolding verdict
-    losing order symbols in_time = record {
-      symbols = symbols;
-      in_time = in_time;
-      wide = record {
-        stem_is = rw stem.reads at (inputs_wide c (resets c) stem.w.latches stem.moments stem.goes_on);
-        lap_is = rw lap.reads at (inputs_wide c stem.w.latches stem.w.latches lap.moments comes_back);
-      };
-      some = some_lap;
-      verdict = verdict;
-      is_verdict = is_verdict;
-      is_wrong = wrong role top top_is;
-      stem_is = refl;
-      lap_is = refl;
-    }
+    unfolding word
+    losing order symbols in_time = rw (stem.reads, lap.reads) at
+        (refuted order role symbols in_time word (is_even top) told (wrong role top top_is))

@@ -1,21 +1,31 @@
 -- A stimulus that has the wrong verdict is a word of the circuit.
 --     parted      a trace, and its letters, before a place and from there on
 --     apart      so a circuit does not both win and lose
+--     wins      a circuit that no stimulus refutes wins
 use Rattle.std.proofs.Common.{◌≡◌, ℕ, zero, suc, ◌≤◌, Bool, List, [], ◌∷◌, length, take, drop}
 use Rattle.std.proofs.Common.{get_or}
 use Rattle.std.proofs.Common.{refl, sym, subst, arith, length-drop}
+use Rattle.std.specs.Prelude.{◌↔◌, IsTrue, true, false, Some}
 use Rattle.ps_hoa.specs.Files.{FileData}
-use Rattle.ps_circuit.specs.Circuits.{CircuitData}
-use Rattle.ps_circuit.specs.Values.{Moment, GoesOn, Steps, resets}
+use Rattle.ps_hoa.specs.Sound.{AreNames}
+use Rattle.ps_automaton.specs.Acceptance.{IsAccepted}
+use Rattle.ps_automaton.specs.Autos.{Auto, IsAutoOf}
+use Rattle.ps_automaton.specs.Chains.{Chain, chain_of}
+use Rattle.ps_circuit.specs.Circuits.{CircuitData, IsCircuit}
+use Rattle.ps_circuit.specs.Values.{Moment, GoesOn, HasOneValues, Steps, resets}
 use Rattle.ps_machine.specs.declared.key.Order.{Order}
 use Rattle.ps_simulate.specs.LassoRuns.{RepeatsBy}
 use Rattle.ps_simulate.specs.Lassos.{AreLetters, latches_along}
 use Rattle.ps_simulate.specs.Stimuli.{StimulusData}
+use Rattle.ps_simulate.specs.Symbols.{HasSymbols}
 use Rattle.ps_simulate.specs.declared.role.Role.{Role}
 use Rattle.ps_simulate.specs.declared.role.Role.TheVariants.{Controller, Environment}
-use Rattle.ps_simulate.proofs.LassoLemmas.{lap_within, length_letters}
-use Rattle.ps_traces.specs.Traces.{IsLassoWord}
+use Rattle.ps_simulate.proofs.LassoLemmas.{few_letters, lap_within, length_letters}
+use Rattle.ps_traces.specs.Shapes.{IsInTimeWhereReached}
+use Rattle.ps_traces.specs.Traces.{AllAccepted, IsLassoWord, NoneAccepted}
+use Rattle.ps_traces.proofs.Verdicts.{accepted_or_not}
 use Rattle.ps_verify.specs.Judgements.{IsLosing, IsWinning}
+use Rattle.ps_verify.proofs.Worth.{refuted, winning_by}
 
 record Parted (names : List (List ℕ)) (c : CircuitData) (from : List Bool) (ms : List Moment) (last : List Bool)
     (ls : List ℕ) (n : ℕ) : Type 0 where
@@ -89,3 +99,43 @@ module _ {order : Order} {role : Role} {file : FileData} {c : CircuitData} {s : 
 pub apart : (order : Order) (role : Role) (file : FileData) (c : CircuitData) (s : StimulusData) →
     IsWinning order role file c → IsLosing order role file c s → ⊥
 apart order role file c s wins loses = wins_not loses role refl wins
+
+-- ## A circuit that no stimulus refutes
+
+is_true : (b : Bool) → ((b ≡ true → ⊥) → ⊥) → b ≡ true
+is_true true twice = refl
+is_true false twice = absurd (twice (λ (e : false ≡ true). cc))
+
+module _ {order : Order} {role : Role} {file : FileData} {c : CircuitData} {chain : Chain} {auto : Auto}
+    (is_chain : chain_of file.condition ≡ Some chain) (is_auto : IsAutoOf file chain auto)
+    (symbols : HasSymbols role file.names file.controllable c) (in_time : IsInTimeWhereReached order role c)
+    (none : (s : StimulusData) → IsLosing order role file c s → ⊥) where
+  record HasVerdict (stem lap : List ℕ) : Type 0 where
+    accepted : Bool
+    told : IsTrue accepted ↔ IsAccepted file stem lap
+    not_wrong : (IsTrue accepted ↔ (role ≡ Environment)) → ⊥
+
+  verdict_of : (stem lap : List ℕ) → IsLassoWord file.names c stem lap → HasVerdict stem lap
+  verdict_of stem lap word =
+      let many = length_letters file.names c word.lap_moments lap word.lap_letters in
+      let told = accepted_or_not file chain auto is_chain is_auto stem lap (omega (arith, many, word.trace.some))
+      (few_letters file.names c word.stem_moments stem word.stem_letters)
+      (few_letters file.names c word.lap_moments lap word.lap_letters) in
+      record {
+        accepted = told.0;
+        told = told.1;
+        not_wrong = λ wrong. none _ (refuted order role symbols in_time word told.0 told.1 wrong);
+      }
+
+  all : role ≡ Controller → AllAccepted file c
+  all same stem lap word =
+      let v = verdict_of stem lap word in
+      v.told.0 (is_true v.accepted (λ no. v.not_wrong (λ yes. absurd (no yes), λ other. absurd (grind arith))))
+
+  none_of : role ≡ Environment → NoneAccepted file c
+  none_of same stem lap word accepted =
+      let v = verdict_of stem lap word in
+      v.not_wrong (λ yes. same, λ other. v.told.1 accepted)
+
+  pub wins : AreNames file.names → IsCircuit c → HasOneValues c → IsWinning order role file c
+  wins are_names is_circuit one = winning_by order role all none_of are_names is_circuit one symbols in_time

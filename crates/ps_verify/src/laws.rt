@@ -1,14 +1,30 @@
 //! Laws on the definitions.
 
 ghost use Rattle.ps_hoa.specs.Files.{FileData};
-ghost use Rattle.ps_circuit.specs.Circuits.{CircuitData};
+ghost use Rattle.ps_hoa.specs.Sound.{IsSoundFile};
+ghost use Rattle.ps_automaton.specs.Answers.{IsAdmitted};
+ghost use Rattle.ps_circuit.specs.Circuits.{CircuitData, IsCircuit};
 ghost use Rattle.ps_machine.specs.declared.key.Order.{Order};
 ghost use Rattle.ps_simulate.specs.Stimuli.{StimulusData};
+ghost use Rattle.ps_simulate.specs.Symbols.{HasSymbols};
 ghost use Rattle.ps_simulate.specs.declared.role.Role.{Role};
+ghost use Rattle.ps_traces.specs.Shapes.{IsInTimeWhereReached};
 ghost use Rattle.ps_verify.specs.Judgements.{IsLosing, IsWinning};
 
-/// A judgement is one: no stimulus shows of a circuit that wins that it does not.
+use ps_automaton::automaton_is_there;
+use ps_simulate::circuit_has_one_values;
+
+/// A judgement is one, of a file that was read and is admitted, and a circuit with the inputs and outputs of the role,
+/// in time where traces lead. A circuit of which no stimulus shows that it loses wins, and of a circuit that wins none
+/// does.
 pub fn judgement_is_one()
+    ensures wins { (order : Order) (role : Role) (file : FileData) (c : CircuitData) → IsSoundFile file →
+        IsAdmitted file → IsCircuit c → HasSymbols role file.names file.controllable c →
+        IsInTimeWhereReached order role c → ((s : StimulusData) → ¬ IsLosing order role file c s) →
+        IsWinning order role file c }
     ensures apart { (order : Order) (role : Role) (file : FileData) (c : CircuitData) (s : StimulusData) →
         IsWinning order role file c → ¬ IsLosing order role file c s }
-{}
+{
+    automaton_is_there();
+    circuit_has_one_values();
+}

@@ -7,7 +7,7 @@
 //! | Call | What it gives |
 //! |---|---|
 //! | `verified(circuit, automaton, order, role)` | `Judgement`: the circuit wins, or a stimulus on which it does not |
-//! | `judgement_is_one` | a law: no stimulus shows of a circuit that wins that it does not |
+//! | `judgement_is_one` | a law: a circuit wins exactly if no stimulus shows that it loses |
 #![tactic(auto)]
 
 mod cycle;
