@@ -52,15 +52,22 @@ pub found_at : (ids : List ℕ) {shown : List ℕ} (id place : ℕ) → AreDisti
 found_at ids id place distinct same at =
     subst (λ xs. Some place ≡ position (is_id id) xs) same (sym (position_here ids id place distinct at.0 at.1))
 
+-- the table records only the indices of ids
+pub near_at : (first : ℕ) (ids near : List ℕ) (far : ℕ → Option ℕ) (id place : ℕ) → IsTable first ids near far →
+    first ≤ id → slice_index near (own_place first id) ≡ place + 1 → IsAt ids place id
+near_at first ids near far id place is above e =
+    let at = is.near_sound (own_place first id) place e in
+    (at.0, at.1 ∙ omega arith)
+
 -- the tree has the index of an id that is neither at its own index nor at the index in the table
 pub position_by_table : (first : ℕ) (ids near : List ℕ) (far : ℕ → Option ℕ) (id : ℕ) → IsTable first ids near far →
-    (IsAt ids (own_place first id) id → ⊥) → (IsAt ids (slice_index near (own_place first id)) id → ⊥) →
+    ((first ≤ id) → slice_index near (own_place first id) ≡ 0) → (IsAt ids (own_place first id) id → ⊥) →
     far id ≡ position (is_id id) ids
-position_by_table first ids near far id is not_own not_near = go (far id) refl
+position_by_table first ids near far id is not_near not_own = go (far id) refl
   where
     not_kept : (k : ℕ) → k < length ids → get_or ids k 0 ≡ id → far id ≡ None → IsKept first near far id k → ⊥
     not_kept k l same e (inl own) = not_own (grind arith)
-    not_kept k l same e (inr (inl (above, at))) = not_near (grind arith)
+    not_kept k l same e (inr (inl (above, at))) = absurd (omega (arith, at, not_near above))
     not_kept k l same e (inr (inr at)) = some_none k (sym at ∙ e)
 
     nowhere : far id ≡ None → (k : ℕ) → k < length ids → get_or ids k 0 ≢ id
@@ -90,6 +97,10 @@ table_push first ids ids' near near' old new id place is at keeps absent e =
       sound = λ q p h. ⊎_elim (λ (here : (q ≡ id) × (p ≡ place)). grind (arith, longer, get_or-append_seam))
           (λ (before : old q ≡ Some p). let r = is.sound q p before in
           (omega (arith, r.0, longer), get_or_append_left ids (id ∷ []) 0 p r.0 ∙ r.1)) (keeps.sound q p h);
+      near_sound = λ k p h. ⊎_elim
+          (λ (here : (first + k ≡ id) × (p ≡ place)). grind (arith, longer, get_or-append_seam))
+          (λ (before : slice_index near k ≡ p + 1). let r = is.near_sound k p before in
+          (omega (arith, r.0, longer), get_or_append_left ids (id ∷ []) 0 p r.0 ∙ r.1)) (keeps.near_sound k p h);
       whole = grind (arith, ⊎_elim, before, last, longer, cases_lt);
     })
   where
@@ -110,6 +121,7 @@ table_same first ids ids' near near' old new is e n same =
     subst (λ xs. IsTable first xs near' new) (sym e) (subst (λ ns. IsTable first ids ns new) (sym n) (record {
       distinct = is.distinct;
       sound = λ q p h. is.sound q p (sym (same q) ∙ h);
+      near_sound = is.near_sound;
       whole = λ p l. kept_same (get_or ids p 0) p (is.whole p l);
     }))
   where

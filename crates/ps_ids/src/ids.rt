@@ -1,7 +1,8 @@
 //! Distinct ids, and the index of each id.
 
-ghost use Rattle.std.specs.Prelude.{◌≡◌, ◌==◌, ◌<◌, ◌^◌, ◌++◌, ◌∷◌, ◌↔◌, ℕ, List, [], OnOk, OnErr, IfSome, IsTrue};
-ghost use Rattle.std.specs.Prelude.{Contains};
+ghost use Rattle.std.specs.Prelude.{◌≡◌, ◌==◌, ◌+◌, ◌<◌, ◌≤◌, ◌^◌, ◌++◌, ◌∷◌, ◌↔◌, ℕ, List, [], OnOk, OnErr, IfSome};
+ghost use Rattle.std.specs.Prelude.{IsTrue};
+ghost use Rattle.std.specs.Prelude.{Contains, MatchOption};
 ghost use Rattle.std.specs.Prelude.{is_some, length, position, slice_index, if◌then◌else◌};
 ghost use Rattle.std.specs.Ordering.{nat_cmp};
 ghost use Rattle.std.specs.List.{list_any};
@@ -23,6 +24,7 @@ const MOST_PER_ID: usize = 4;
 pub struct Ids {
     list: Vec<u64>,
     first: u64,
+    /// At the distance of an id from `first`, one more than the index of the id, or 0.
     near: Vec<u32>,
     far: BTreeMap<u64, usize>,
 }
@@ -78,13 +80,12 @@ impl Ids {
         ensures member { is_some result ≡ list_any (λ other. id == other) self.now }
         ensures within { IfSome result (λ place. place < length self.now) }
     {
+        if let Some(near) = near_place(&self.near, self.first, id) {
+            return Some(near);
+        }
         let own = own_place(self.first, id);
         if stands_at(&self.list, id, own) {
             return Some(own);
-        }
-        let near = near_place(&self.near, own);
-        if stands_at(&self.list, id, near) {
-            return Some(near);
         }
         self.far.get(&id).copied()
     }
@@ -117,11 +118,19 @@ fn stands_at(list: &[u64], id: u64, place: usize) -> bool
     place < list.len() && list[place] == id
 }
 
-/// The index that the table has at a distance from `first`, or 0 if it has none.
-fn near_place(near: &[u32], distance: usize) -> usize
-    ensures { result ≡ slice_index near.now distance }
+/// The index that the table records for an id, if it records one.
+fn near_place(near: &[u32], first: u64, id: u64) -> Option<usize>
+    ensures { MatchOption result ((first ≤ id) → slice_index near.now (own_place first id) ≡ 0)
+        (λ place. (first ≤ id) × (slice_index near.now (own_place first id) ≡ place + 1)) }
 {
-    near.get(distance).map_or(0, |place| *place as usize)
+    if id < first {
+        return None;
+    }
+    let entry = near.get(own_place(first, id)).copied().unwrap_or(0);
+    if entry == 0 {
+        return None;
+    }
+    Some(entry as usize - 1)
 }
 
 /// An id's own index: its distance from `first`.
@@ -149,8 +158,8 @@ fn keep_place(
     if own == place {
         return Ok(());
     }
-    if id >= first && own / MOST_PER_ID <= place && place <= u32::MAX as usize {
-        put_near(near, own, place as u32)
+    if id >= first && own / MOST_PER_ID <= place && place < u32::MAX as usize {
+        put_near(near, own, place as u32 + 1)
     } else {
         far.insert(id, place)?;
         Ok(())
@@ -158,15 +167,15 @@ fn keep_place(
 }
 
 /// Writes an entry of the table. A table that is too short is first extended by zeros.
-fn put_near(near: &mut Vec<u32>, distance: usize, place: u32) -> Result<(), AllocError>
+fn put_near(near: &mut Vec<u32>, distance: usize, entry: u32) -> Result<(), AllocError>
     requires { distance < 2 ^ 62 }
     ensures ok { OnOk result ((k : ℕ) → slice_index near.new.items k ≡
-        (if k == distance then place else slice_index near.old.items k)) }
+        (if k == distance then entry else slice_index near.old.items k)) }
     ensures err { OnErr result (near.new.items ≡ near.old.items) }
 {
     if near.len() <= distance {
         near.resize(distance + 1, 0)?;
     }
-    near[distance] = place;
+    near[distance] = entry;
     Ok(())
 }
