@@ -17,6 +17,4 @@ def run(request):
     return 0
 
 
-COMMAND = Command(
-    "games", "a parity game of a family, made by a rule: " + ", ".join(families.FAMILIES), ("FAMILY", "N"), run, is_of_the_program=False
-)
+COMMAND = Command("games", "a parity game of a family, made by a rule: " + ", ".join(families.FAMILIES), ("FAMILY", "N"), run)

@@ -16,6 +16,4 @@ def run(request):
     return 0
 
 
-COMMAND = Command(
-    "solution", "a certificate's winners and moves as a solution (`paritysol`)", (Kind.GAME, Kind.CERTIFICATE), run, is_of_the_program=False
-)
+COMMAND = Command("solution", "a certificate's winners and moves as a solution (`paritysol`)", (Kind.GAME, Kind.CERTIFICATE), run)
