@@ -32,7 +32,25 @@ class Commands(OnFiles):
         turned = self.tool("lasso", "--env", automaton, circuit, stimulus)
         self.assertEqual((turned.stdout, turned.returncode), (b"fault 72 Symbols\n", 1))
         self.assertIn(b"the symbols are those of a controller: ask without --env\n", turned.stderr)
-        self.assertIn(b"cause: for `lasso`, the symbols", turned.stderr)
+        self.assertIn(b"cause: for `lasso` and `verify`, the symbols", turned.stderr)
+
+    def test_where_a_circuit_loses_the_run_is_shown_and_the_stimulus_stored(self):
+        judge = f"#!/bin/sh\nread line\ncase $line in verify*) cat > /dev/null; printf '%s' \"$SAID\" ;; *) (echo $line; cat) | '{program()}' ;; esac\n"
+        fake, automaton = self.file("fake", judge.encode()), self.file("automaton", AUTOMATON)
+        os.chmod(fake, 0o755)
+        circuit, path = self.file("silent", b"aag 1 1 0 1 0\n2\n0\ni0 r\no0 g\n"), os.path.join(self.room, "lost.stim")
+        loses = {"PSYN": fake, "SAID": "loses\n0\n1\n-\n1\n"}
+        done = self.tool("verify", "--stimulus", path, automaton, circuit, environment=loses)
+        self.assertEqual((done.stdout, done.returncode), (b"loses\n0\n1\n-\n1\n", 0))
+        shown = ["step  state  letter  sets", "0     0 off  !r !g   0", "1     0 off  r !g", "the lap begins; it comes again behind step 2", "2     1      r !g"]
+        self.assertEqual([line.rstrip() for line in done.stderr.decode().splitlines()], shown)
+        with open(path, "rb") as file:
+            self.assertEqual(file.read(), b"0\n1\n-\n1\n")
+        self.assertEqual(self.tool("lasso", automaton, circuit, path).stdout, b"rejected stem 2 lap 1\n")
+        won = self.tool("verify", automaton, circuit, environment={"PSYN": fake, "SAID": "wins\n"})
+        self.assertEqual((won.stdout, won.stderr), (b"wins\n", b""))
+        self.assertEqual(self.tool("--quiet", "verify", automaton, circuit, environment=loses).stderr, b"")
+        self.assertEqual(self.tool("verify", "--stimulus", os.path.join(self.room, "no", "x"), automaton, circuit, environment=loses).returncode, 2)
 
     def test_synth_reads_an_automaton_and_with_its_flag_a_certificate(self):
         automaton = self.file("automaton", b"HOA: v1 Start: 0 controllable-AP: Acceptance: 0 t --BODY-- State: 0 0 --END--")

@@ -12,6 +12,7 @@ pub mod MissingTexts
 pub mod OneAnswer
 pub mod OneCertified
 pub mod OneCut
+pub mod OneJudgement
 pub mod OneLine
 pub mod OneStage
 pub mod OneStep
@@ -23,3 +24,4 @@ pub mod StreamLemmas
 pub mod SynthLemmas
 pub mod TextLemmas
 pub mod TraceLemmas
+pub mod VerifyLemmas

@@ -9,9 +9,11 @@ use Rattle.ps_circuit.specs.Circuits.{IsCircuit}
 use Rattle.ps_simulate.specs.declared.role.Role.{Role}
 use Rattle.ps_program.specs.Automata.{ReadsAutomaton}
 use Rattle.ps_program.specs.Checks.{Tests}
-use Rattle.ps_program.specs.CommandLine.{cert_flag, compact_flag, role_given, synth_given}
+use Rattle.ps_program.specs.CommandLine.{cert_flag, compact_flag, order_given, role_given, synth_given}
 use Rattle.ps_program.specs.Judging.{AnswersJudge, Judges, ReadsSolutionText, ReadsSolved}
 use Rattle.ps_program.specs.Lassos.{AnswersLasso, RunsCircuit}
+use Rattle.ps_machine.specs.declared.key.Order.{Order}
+use Rattle.ps_program.specs.Verifying.{AnswersVerify, VerifiesText}
 use Rattle.ps_program.specs.Simulating.{AnswersSim, PrintsTrace}
 use Rattle.ps_program.specs.Cut.{HasFewerMarks}
 use Rattle.ps_program.specs.Determined.{NeedsItsTexts}
@@ -104,6 +106,12 @@ lasso_missing role texts fewer = both_fail (CutsInThree texts) (λ (parts : List
     Then (ReadsAutomaton parts.0) (λ file. RunsCircuit role file parts.1 parts.2)) missing_text
     (three_missing texts fewer)
 
+verify_missing : (order : Order) (role : Role) (texts : List ℕ) → HasFewerMarks 1 texts →
+    Fails (AnswersVerify order role texts) missing_text
+verify_missing order role texts fewer = both_fail (CutsInTwo texts) (λ (parts : List ℕ × List ℕ).
+    Then (ReadsAutomaton parts.0) (λ file. VerifiesText order role file parts.1)) missing_text
+    (two_missing texts fewer)
+
 pub texts_needed : (solvers : Solvers) → NeedsItsTexts solvers
 texts_needed solvers = (
   λ given texts outcome fewer answers. tests_missing IsClosed (codes "closed") texts fewer outcome answers,
@@ -116,16 +124,20 @@ texts_needed solvers = (
         (
           λ given texts outcome fewer answers. lasso_missing (role_given given) texts fewer outcome answers,
           (
-            λ given texts outcome fewer answers. absurd fewer,
+            λ given texts outcome fewer answers. verify_missing (order_given given) (role_given given) texts fewer
+                outcome answers,
             (
               λ given texts outcome fewer answers. absurd fewer,
               (
                 λ given texts outcome fewer answers. absurd fewer,
                 (
-                  λ given texts outcome fewer answers. synth_missing solvers (synth_given given) (given cert_flag)
-                      texts outcome
-                      (subst (λ (n : ℕ). HasFewerMarks (n - 1) texts) (synth_counted (given cert_flag)) fewer) answers,
-                  (λ given texts outcome fewer answers. absurd fewer, tt),
+                  λ given texts outcome fewer answers. absurd fewer,
+                  (
+                    λ given texts outcome fewer answers. synth_missing solvers (synth_given given) (given cert_flag)
+                        texts outcome
+                        (subst (λ (n : ℕ). HasFewerMarks (n - 1) texts) (synth_counted (given cert_flag)) fewer) answers,
+                    (λ given texts outcome fewer answers. absurd fewer, tt),
+                  ),
                 ),
               ),
             ),

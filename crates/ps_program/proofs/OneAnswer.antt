@@ -29,7 +29,8 @@ use Rattle.ps_program.specs.Simulating.{AnswersSim}
 use Rattle.ps_program.specs.Solvers.{Solvers}
 use Rattle.ps_program.specs.Solving.{AnswersGame, AnswersSolve}
 use Rattle.ps_program.specs.Synthesis.{AnswersBy, AnswersReport}
-use Rattle.ps_program.specs.Texts.{CutsInTwo, ReadsCertified, ReadsGameText, ReadsSimulated}
+use Rattle.ps_program.specs.Verifying.{AnswersVerify}
+use Rattle.ps_program.specs.Texts.{CutsInTwo, ReadsCertified, ReadsCircuitText, ReadsGameText, ReadsSimulated}
 use Rattle.ps_program.specs.declared.commands.SynthLine.{SynthLine}
 use Rattle.ps_program.proofs.Agreeing.{OneCertificate, OneFile, OneFileGame, OneWinner, reports-winner, reports-game}
 use Rattle.ps_program.proofs.Agreeing.{certificates_agree, report_game}
@@ -39,6 +40,7 @@ use Rattle.ps_program.proofs.OneCut.{cut_one, cut_three_one}
 use Rattle.ps_program.proofs.OneStage.{OneGame, OneFlaw, OneCircuit, OneStimulus, OneRefusal, OneOutcome, OneVerdict}
 use Rattle.ps_program.proofs.OneStage.{OneValues, automaton_one, makes_one, tells_one, game_accepted, RefusedOr}
 use Rattle.ps_program.proofs.OneStage.{report_refused}
+use Rattle.ps_program.proofs.OneJudgement.{NotBoth, verify_one_or}
 use Rattle.ps_program.proofs.OneLine.{is_line_one}
 use Rattle.ps_program.proofs.JudgeLemmas.{OneSolution, OneJudged, NoFlawAndCycle, NoFlaw, NoCycle, judges_one_or}
 use Rattle.ps_solution.specs.Solved.{SolutionData}
@@ -46,7 +48,7 @@ use Rattle.ps_solution.specs.Solved.{SolutionData}
 module _ (games : OneGame) (certificates : OneCertificate) (flaws : OneFlaw) (circuits : OneCircuit)
     (stimuli : OneStimulus) (files : OneFile) (refusals : OneRefusal) (outcomes : OneOutcome) (verdicts : OneVerdict)
     (values : OneValues) (file_games : OneFileGame) (winners : OneWinner) (solutions : OneSolution)
-    (judged : OneJudged) (apart : NoFlawAndCycle) (no_flaw : NoFlaw) (no_cycle : NoCycle) where
+    (judged : OneJudged) (not_both : NotBoth) (apart : NoFlawAndCycle) (no_flaw : NoFlaw) (no_cycle : NoCycle) where
   certified_one : (texts : List ℕ) → IsOne (ReadsCertified texts)
   certified_one texts = then_one _ _ (cut_one texts) (λ parts. search (rules, then_one, reading_one, ended_one))
 
@@ -114,6 +116,22 @@ module _ (games : OneGame) (certificates : OneCertificate) (flaws : OneFlaw) (ci
           (x ≡ y) ⊎ (IsOpen (line.Judge compact) texts × Alike (Agree (line.Judge compact) texts) x y)
       by (inl same) = inl same
       by (inr (both, reads, (lost, (l, e)))) = inr ((both.0, both.1, reads, lost), inl (fault_is x l e))
+
+  circuit_one : (text : List ℕ) → IsOne (ReadsCircuitText text)
+  circuit_one text = reading_one circuit.cause_number circuit_names.cause_name (circuit_text.ReadsCircuit text)
+      (circuits text)
+
+  verify_or_one : (order : Order) (role : Role) (texts : List ℕ) (x y : Result Reply (List ℕ)) →
+      AnswersVerify order role texts x → AnswersVerify order role texts y
+      → (x ≡ y) ⊎ (IsOpen (line.Verify order role) texts × Alike (Agree (line.Verify order role) texts) x y)
+  verify_or_one order role texts x y h k = by (verify_one_or (automaton_one files refusals outcomes) circuit_one not_both
+      order role x y texts h k)
+    where
+      by : (x ≡ y) ⊎ Agree (line.Verify order role) texts (printed x) (printed y) →
+          (x ≡ y) ⊎ (IsOpen (line.Verify order role) texts × Alike (Agree (line.Verify order role) texts) x y)
+      by (inl same) = inl same
+      by (inr (file, c, reads, agree)) =
+          inr ((file, c, reads, (agree.one, agree.one_loses)), inr (inr (file, c, reads, agree)))
 
   solve_one_or : (solver : SolverData) (compact : Bool) (text : List ℕ) (x y : Result Reply (List ℕ)) →
       AnswersSolve solver compact text x → AnswersSolve solver compact text y
@@ -232,6 +250,7 @@ module _ (games : OneGame) (certificates : OneCertificate) (flaws : OneFlaw) (ci
   line_one solvers (line.Judge compact) texts x y h k = judge_one_or compact texts x y h k
   line_one solvers line.Sim texts x y h k = inl (sim_one texts x y h k)
   line_one solvers (line.Lasso role) texts x y h k = inl (lasso_one role texts x y h k)
+  line_one solvers (line.Verify order role) texts x y h k = verify_or_one order role texts x y h k
   line_one solvers (line.Solve compact) texts x y h k = solve_one_or solvers.built_in compact texts x y h k
   line_one solvers (line.Game order) texts x y h k = inl (game_one order texts x y h k)
   line_one solvers (line.Cert order compact) texts x y h k = cert_one_or solvers.built_in order compact texts x y h k

@@ -1,9 +1,10 @@
--- The program's answer is determined, with two exceptions: the lost cycle that `judge` reports, and the certificate
--- that a solver chooses. Even this choice is partly determined.
+-- The program's answer is determined, with three exceptions: the lost cycle that `judge` reports, the stimulus that
+-- `verify` reports, and the certificate that a solver chooses. Even these choices are partly determined.
 --     IsOpen line texts      the line may have more than one correct answer
 --     IsReplaying solver      the solver may only answer the result of parsing the text that it was fed
 --     AgreeAsReports order full text a b      two reports for a text have the same winner and the automaton's game
 --     AgreeInWinners compact game a b      in two certificates of the game, each vertex has the same winner
+--     AgreeAsLosing order role file c a b      on both stimuli, the circuit has the wrong verdict
 --     HasOneAnswer solvers      any two answers are equal, or agree as above, or one of them is the line of a fault
 --     HasOneCertified solvers      with a given certificate, `synth` has one answer, if the solver replays what it is
 --               fed
@@ -15,6 +16,10 @@ use Rattle.clap.specs.Words.{Text}
 use Rattle.ps_certificate.specs.Certificates.{CertificateData, winner_of}
 use Rattle.ps_certificate.specs.Written.{text_in}
 use Rattle.ps_game.specs.Games.{NamedGameData, IsGame, vertex_count}
+use Rattle.ps_circuit.specs.Circuits.{CircuitData}
+use Rattle.ps_simulate.specs.Stimuli.{StimulusData}
+use Rattle.ps_simulate.specs.declared.role.Role.{Role}
+use Rattle.ps_verify.specs.Judgements.{IsLosing}
 use Rattle.ps_solution.specs.Solved.{SolutionData}
 use Rattle.ps_hoa.specs.Files.{FileData}
 use Rattle.ps_machine.specs.FileGames.{IsGameOfFile}
@@ -33,9 +38,10 @@ use Rattle.ps_program.specs.Program.{AnswersLine, AnswersWhole}
 use Rattle.ps_program.specs.Replies.{Reply, fault_reply, text_reply}
 use Rattle.ps_program.specs.Solvers.{Solvers}
 use Rattle.ps_program.specs.Synthesis.{report_reply}
+use Rattle.ps_program.specs.Verifying.{ReadsVerified, loses_reply}
 use Rattle.ps_program.specs.Texts.{CutsInTwo, ReadsGameText, missing_text}
 use Rattle.ps_program.specs.declared.commands.Line.{Line}
-use Rattle.ps_program.specs.declared.commands.Line.TheVariants.{Judge, Solve, Cert, Synth}
+use Rattle.ps_program.specs.declared.commands.Line.TheVariants.{Judge, Verify, Solve, Cert, Synth}
 use Rattle.ps_program.specs.declared.commands.SynthLine.{SynthLine}
 
 abbrev pub HasAutomaton : List ℕ → Type 0
@@ -51,6 +57,8 @@ AsksFor true texts text = (certificate : List ℕ) × CutsInTwo texts (Ok (text,
 abbrev pub IsOpen : Line → List ℕ → Type 0
 IsOpen (Judge compact) texts =
     (named : NamedGameData) × (given : SolutionData) × ReadsSolved texts (Ok (named, given)) × LosesCycle named given
+IsOpen (Verify order role) texts =
+    (file : FileData) × (c : CircuitData) × ReadsVerified texts file c × ((s : StimulusData) × IsLosing order role file c s)
 IsOpen (Solve compact) text = (game : NamedGameData) × ReadsGameText text (Ok game)
 IsOpen (Cert order compact) text = HasAutomaton text
 IsOpen (Synth asked) texts = (text : List ℕ) × AsksFor asked.cert texts text × HasAutomaton text
@@ -85,8 +93,19 @@ pub record AgreeInWinners (compact : Bool) (game : NamedGameData) (a b : Reply) 
   pub is_other : b ≡ text_reply (text_in compact game other)
   pub winners : IsGame game.game → (v : ℕ) → v < vertex_count game.game → winner_of one v ≡ winner_of other v
 
+-- two stimuli on which the circuit loses, as they are printed
+pub record AgreeAsLosing (order : Order) (role : Role) (file : FileData) (c : CircuitData) (a b : Reply) : Type 0 where
+  pub one : StimulusData
+  pub other : StimulusData
+  pub one_loses : IsLosing order role file c one
+  pub other_loses : IsLosing order role file c other
+  pub is_one : a ≡ loses_reply one
+  pub is_other : b ≡ loses_reply other
+
 -- what two answers to a line have in common if neither is the line of a fault; `text` or `texts` follows the line
 abbrev pub Agree : Line → List ℕ → Reply → Reply → Type 0
+Agree (Verify order role) texts a b =
+    (file : FileData) × (c : CircuitData) × ReadsVerified texts file c × AgreeAsLosing order role file c a b
 Agree (Solve compact) text a b = (game : NamedGameData) × ReadsGameText text (Ok game) × AgreeInWinners compact game a b
 Agree (Cert order compact) text a b =
     (game : NamedGameData) × ReadsGameOf order text (Ok game) × AgreeInWinners compact game a b

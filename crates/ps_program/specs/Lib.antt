@@ -21,4 +21,5 @@ pub mod StageFaults
 pub mod Streams
 pub mod Synthesis
 pub mod Texts
+pub mod Verifying
 pub mod Watched

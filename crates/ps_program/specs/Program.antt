@@ -3,7 +3,7 @@ use Rattle.std.specs.Prelude.{◌≡◌, ◌≤◌, ◌<◌, ◌⊎◌, ℕ, Boo
 use Rattle.std.specs.Io.KnownBytes.{Appends}
 use Rattle.ps_program.specs.declared.commands.Line.{Line}
 use Rattle.ps_program.specs.declared.commands.Line.TheVariants.{Refused, Help, Closed, Check, Judge, Sim, Lasso}
-use Rattle.ps_program.specs.declared.commands.Line.TheVariants.{Solve, Game, Cert, Synth}
+use Rattle.ps_program.specs.declared.commands.Line.TheVariants.{Verify, Solve, Game, Cert, Synth}
 use Rattle.ps_program.specs.CommandLine.{IsLine}
 use Rattle.ps_program.specs.Checks.{AnswersClosed, AnswersCheck}
 use Rattle.ps_program.specs.Cut.{first_line, behind_line}
@@ -18,6 +18,7 @@ use Rattle.ps_program.specs.Solvers.{Solvers}
 use Rattle.ps_program.specs.Solving.{AnswersSolve}
 use Rattle.ps_program.specs.Streams.{SinkState, AppendsSome, Breaks}
 use Rattle.ps_program.specs.Synthesis.{AnswersSynth}
+use Rattle.ps_program.specs.Verifying.{AnswersVerify}
 
 -- the answer to a command line and the texts after it; if the command uses a solver, the answer depends on what is
 -- known about the solver
@@ -29,6 +30,7 @@ AnswersLine solvers Check texts outcome = AnswersCheck texts outcome
 AnswersLine solvers (Judge compact) texts outcome = AnswersJudge compact texts outcome
 AnswersLine solvers Sim texts outcome = AnswersSim texts outcome
 AnswersLine solvers (Lasso role) texts outcome = AnswersLasso role texts outcome
+AnswersLine solvers (Verify order role) texts outcome = AnswersVerify order role texts outcome
 AnswersLine solvers (Solve compact) texts outcome = AnswersSolve solvers.built_in compact texts outcome
 AnswersLine solvers (Game order) texts outcome = AnswersGameText order texts outcome
 AnswersLine solvers (Cert order compact) texts outcome = AnswersCert solvers.built_in order compact texts outcome

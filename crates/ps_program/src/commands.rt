@@ -18,6 +18,7 @@ pub mod lasso;
 pub mod sim;
 pub mod solve;
 pub mod synth;
+pub mod verify;
 
 use crate::answer::{Answer, Refusal};
 use crate::command_line::{is_given, order_given, role_given};
@@ -46,6 +47,13 @@ pub enum Line {
     Sim,
     /// Whether an automaton accepts what a circuit of that role does on a stem and a lap.
     Lasso(Role),
+    /// Whether an automaton accepts each lasso trace of a circuit, or none.
+    Verify {
+        /// Who moves first.
+        order: Order,
+        /// What part the circuit plays.
+        role: Role,
+    },
     /// A certificate of a game.
     Solve {
         /// As a compact text.
@@ -152,6 +160,12 @@ pub const ON_LASSO: &str = " with a line - between a stem and
          and then on the lap again and again; the circuit is a controller, or
          with the flag --env an environment";
 
+/// What `help` says of `verify`, behind the kinds of its texts.
+pub const ON_VERIFY: &str = "\
+: `wins` where the automaton accepts each lasso
+         trace of the circuit, or with --env none; else `loses`, and a stimulus
+         on which that is not so; --moore";
+
 /// What `help` says of `solve`, behind the kinds of its texts.
 pub const ON_SOLVE: &str = "\
 : a certificate that says who wins each vertex, by which moves;
@@ -220,6 +234,17 @@ const COMMANDS: &[Usage<'static>] = &[
         says: ON_LASSO,
     },
     Usage {
+        name: "verify",
+        flags: &[ENV_FLAG, MOORE_FLAG],
+        texts: &[TextKind::Automaton, TextKind::Circuit],
+        added: &[],
+        line: Line::Verify {
+            order: Order::Mealy,
+            role: Role::Controller,
+        },
+        says: ON_VERIFY,
+    },
+    Usage {
         name: "solve",
         flags: &[COMPACT_FLAG],
         texts: &[TextKind::Game],
@@ -286,6 +311,10 @@ impl Line {
                 compact: is_given(flags, COMPACT_FLAG),
             },
             Line::Lasso(_) => Line::Lasso(role_given(flags)),
+            Line::Verify { .. } => Line::Verify {
+                order: order_given(flags),
+                role: role_given(flags),
+            },
             Line::Solve { .. } => Line::Solve {
                 compact: is_given(flags, COMPACT_FLAG),
             },
@@ -328,6 +357,7 @@ pub(crate) fn answer_line<S: Solver, T: Solver>(
         Line::Judge { compact } => judge::judge(alloc, compact, texts),
         Line::Sim => sim::sim(alloc, texts),
         Line::Lasso(role) => lasso::lasso(alloc, role, texts),
+        Line::Verify { order, role } => verify::verify(alloc, order, role, texts),
         Line::Solve { compact } => solve::solve(alloc, texts, built_in, compact),
         Line::Game(order) => game::game(alloc, order, texts),
         Line::Cert { order, compact } => cert::cert(alloc, order, texts, built_in, compact),

@@ -6,8 +6,9 @@ ghost use Rattle.ps_program.specs.Solvers.{solvers_of};
 use ps_machine::Solver;
 
 /// An input has at most one answer, whatever the solvers: each program that meets the definitions writes the same bytes
-/// and ends with the same status, or runs out of memory. There are two exceptions. If the line is `judge` and a player
-/// loses a cycle, it is open which such cycle the answer names. If the line is `solve`, `cert` or `synth` and its text
+/// and ends with the same status, or runs out of memory. There are three exceptions. If the line is `judge` and a player
+/// loses a cycle, it is open which such cycle the answer names. If it is `verify` and the circuit loses, it is open on
+/// which stimulus. If the line is `solve`, `cert` or `synth` and its text
 /// is accepted, two answers that are not lines of faults have the same winners: `synth` has the same status, first line
 /// and game, `solve` and `cert` the same regions. With `synth --cert` there is only one answer, to the last byte, if
 /// the second solver answers only what reading the certificate that it was fed answers.
@@ -30,6 +31,7 @@ pub fn one_answer<S: Solver, T: Solver>(built_in: &S, replay: &T)
     ps_solution::one_answer();
     ps_referee::one_certificate();
     ps_referee::one_verdict();
+    ps_verify::judgement_is_one();
 }
 
 /// A command reads a text of each kind that the table gives it. If one is missing, the answer is that.

@@ -7,7 +7,7 @@
 //! | `Watched::new` | a [`Source`] or a [`Sink`] of a reader or a writer of std |
 //! | `first_line`, `read_line` | the first line of an input and the rest; the [`Line`] that is asked for |
 //! | `answer_to(input, built_in, replay)` | the [`Answer`] to an input: what is written, with its exit status |
-//! | `closed`, `check`, `judge`, `sim`, `lasso`, `game` | that of a command that asks no solver, to its texts |
+//! | `closed`, `check`, `judge`, `sim`, `lasso`, `verify`, `game` | that of a command that asks no solver, to its texts |
 //! | `solve`, `cert`, `synth` | that of a command that asks a solver |
 //! | `lines_are_read`, `missing_text_is_told` | laws: how command lines are read; a command needs each of its texts |
 //! | `one_answer` | a law: one answer, except for a solver's choice |
@@ -45,6 +45,7 @@ pub use commands::lasso::lasso;
 pub use commands::sim::sim;
 pub use commands::solve::{certify, solve};
 pub use commands::synth::synth;
+pub use commands::verify::verify;
 pub use commands::{Line, SynthLine, TextKind};
 pub use cut::first_line;
 pub use fault::{FaultLine, Place};

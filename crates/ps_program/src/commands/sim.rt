@@ -59,7 +59,7 @@ fn write_step(
 }
 
 /// Writes a digit for each bit, and then the byte `end`.
-fn write_bits(text: &mut Vec<u8>, bits: &[bool], end: u8) -> Result<(), AllocError>
+pub(crate) fn write_bits(text: &mut Vec<u8>, bits: &[bool], end: u8) -> Result<(), AllocError>
     ensures { OnOk result (text.new.items ≡ text.old.items ++ digits_of bits.now ++ end ∷ []) }
 {
     for &bit in bits {

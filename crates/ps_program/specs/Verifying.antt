@@ -1,0 +1,64 @@
+-- The command that asks whether an automaton accepts each lasso trace of a circuit, or none.
+use Rattle.std.specs.Prelude.{◌≡◌, ◌⊎◌, ℕ, Bool, List, [], ◌++◌, flat_map, codes, Result, Ok, Err}
+use Rattle.ps_circuit.specs.Circuits.{CircuitData, IsCircuit}
+use Rattle.ps_hoa.specs.Files.{FileData}
+use Rattle.ps_machine.specs.declared.key.Order.{Order}
+use Rattle.ps_product.specs.ProductFaultNames.{fault_number, fault_name}
+use Rattle.ps_product.specs.ProductFaults.{IsTooEarly}
+use Rattle.ps_product.specs.declared.fault.ProductFault.{ProductFault}
+use Rattle.ps_product.specs.declared.fault.ProductFault.TheVariants.{Symbols, Timing}
+use Rattle.ps_simulate.specs.Stimuli.{StimulusData}
+use Rattle.ps_simulate.specs.StimulusTexts.{digits_of}
+use Rattle.ps_simulate.specs.Symbols.{HasSymbols}
+use Rattle.ps_simulate.specs.declared.role.Role.{Role}
+use Rattle.ps_verify.specs.Judgements.{IsLosing, IsWinning}
+use Rattle.ps_program.specs.Automata.{ReadsAutomaton}
+use Rattle.ps_program.specs.Faults.{line_text}
+use Rattle.ps_program.specs.Outcomes.{Then}
+use Rattle.ps_program.specs.Replies.{Reply, line_reply, text_reply}
+use Rattle.ps_program.specs.Texts.{CutsInTwo, ReadsCircuitText}
+
+-- a line for each letter
+abbrev pub letter_lines : List (List Bool) → List ℕ
+letter_lines letters = flat_map (λ letter. digits_of letter ++ codes "\n") letters
+
+-- the stimulus on which a circuit loses, as it is read again
+abbrev pub losing_text : StimulusData → List ℕ
+losing_text s = codes "loses\n" ++ letter_lines s.stem ++ codes "-\n" ++ letter_lines s.lap
+
+abbrev pub wins_reply : Reply
+wins_reply = line_reply (codes "wins")
+
+abbrev pub loses_reply : StimulusData → Reply
+loses_reply s = text_reply (losing_text s)
+
+-- the line of what is wrong with the symbols or the order of moves
+abbrev pub product_line : ProductFault → List ℕ
+product_line fault = line_text (fault_number fault) (fault_name fault) []
+
+-- what is wrong with the symbols, else with the order of moves
+abbrev pub IsProductLine : Order → Role → FileData → CircuitData → List ℕ → Type 0
+IsProductLine order role file c line =
+    (¬ HasSymbols role file.names file.controllable c × (line ≡ product_line Symbols))
+    ⊎ (HasSymbols role file.names file.controllable c × IsTooEarly order role c × (line ≡ product_line Timing))
+
+-- that the circuit wins, or a stimulus on which it does not; else the first of these faults
+abbrev pub TellsJudgement : Order → Role → FileData → CircuitData → Result Reply (List ℕ) → Type 0
+TellsJudgement order role file c (Ok reply) = IsCircuit c
+    × ((IsWinning order role file c × (reply ≡ wins_reply))
+    ⊎ ((s : StimulusData) × IsLosing order role file c s × (reply ≡ loses_reply s)))
+TellsJudgement order role file c (Err line) = IsProductLine order role file c line
+
+-- the circuit of a text in that role
+abbrev pub VerifiesText : Order → Role → FileData → List ℕ → Result Reply (List ℕ) → Type 0
+VerifiesText order role file text = Then (ReadsCircuitText text) (TellsJudgement order role file)
+
+-- `verify` of an automaton and a circuit of that role
+abbrev pub AnswersVerify : Order → Role → List ℕ → Result Reply (List ℕ) → Type 0
+AnswersVerify order role texts =
+    Then (CutsInTwo texts) (λ parts. Then (ReadsAutomaton parts.0) (λ file. VerifiesText order role file parts.1))
+
+-- the file and the circuit of these texts
+abbrev pub ReadsVerified : List ℕ → FileData → CircuitData → Type 0
+ReadsVerified texts file c = (parts : List ℕ × List ℕ) × CutsInTwo texts (Ok parts) × ReadsAutomaton parts.0 (Ok file)
+    × ReadsCircuitText parts.1 (Ok c)
