@@ -2,10 +2,9 @@
 import dataclasses
 import os
 import shlex
-import subprocess
 import tempfile
 
-from psyntool import asking, console, files, judging, program, signals
+from psyntool import asking, children, console, files, judging, program
 from psyntool.command import BY
 from psyntool.ends import Refused, Unwritten
 from psyntool.files import Reader
@@ -69,37 +68,16 @@ class Solver:
             open(paths[SOLUTION] if not is_named[SOLUTION] else os.devnull, "wb") as written,
         ):
             said = nowhere if self.request.quiet else console.ERROR
-            child = None
-            try:
-                signals.hold()
-                child = self.started(words, stdin=given, stdout=said if is_named[SOLUTION] else written, stderr=said)
-                signals.let_go()
-                program.waited_for(child, None)
-            finally:
-                signals.let_go()
-                if child:
-                    end(child)
-        if child.returncode:
-            raise Unwritten(f"{self.name} {ended(child.returncode)}, so there is no solution to judge")
+            status = self.status_of(words, stdin=given, stdout=said if is_named[SOLUTION] else written, stderr=said)
+        if status:
+            raise Unwritten(f"{self.name} {children.ended(status)}, so there is no solution to judge")
 
-    def started(self, words, **streams):
-        """The command at work, in a group of processes of its own, so that all of them can be ended."""
+    def status_of(self, words, **streams):
         try:
-            return subprocess.Popen(words, process_group=0, preexec_fn=program.before_it_runs(), **streams)
+            return children.run(words, **streams)
         except (OSError, ValueError) as error:
             why = error.strerror if isinstance(error, OSError) else error
             raise Refused(f"{BY.shown}: {self.words[0]} can't be run: {why}") from None
-
-
-def end(child):
-    """Ends what is left of a solver."""
-    if child.poll() is None:
-        os.killpg(child.pid, signals.KILL)
-    child.wait()
-
-
-def ended(status):
-    return f"was ended by {signals.name_of(-status)}" if status < 0 else f"ended with status {status}"
 
 
 def read(path):

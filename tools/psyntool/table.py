@@ -5,10 +5,10 @@ here too.
 """
 import importlib
 
-from psyntool.commands import compose, convert, core, games, page, play, show, solution, version, wave
+from psyntool.commands import compose, convert, core, games, page, play, show, shrink, solution, version, wave
 from psyntool.commands import help as help_
 from psyntool.usages import USAGES
 
 OF_THE_PROGRAM = [importlib.import_module(f"psyntool.commands.{name}") for name in USAGES if name != "help"]
-ROWS = [*OF_THE_PROGRAM, compose, core, play, page, show, wave, convert, solution, games, help_, version]
+ROWS = [*OF_THE_PROGRAM, compose, core, play, page, show, wave, convert, shrink, solution, games, help_, version]
 COMMANDS = {row.COMMAND.name: row.COMMAND for row in ROWS}

@@ -1,28 +1,38 @@
 """`verify`: whether the automaton accepts all that the circuit does; else a stimulus on which it does not, and that run step by step."""
 from psyntool import asking, console, files, outputs, program, tracing
 from psyntool.command import Flag, of_the_program
+from psyntool.commands import wave
 from psyntool.kinds import Kind
-from psyntool.texts import stimulus
+from psyntool.texts import circuit, stimulus, vcd
 
 STIMULUS = Flag("--stimulus", "where the circuit loses: the stimulus goes to FILE", "FILE")
+WAVE = Flag("--wave", "where the circuit loses: what it does on the stimulus goes to FILE, as a VCD file", "FILE")
 LOSES = b"loses\n"
 
 
 def run(request):
-    if request.quiet and not request.has(STIMULUS):
+    flags = [flag for flag in (STIMULUS, WAVE) if request.has(flag)]
+    if request.quiet and not flags:
         return asking.run(request)
-    path = outputs.checked([request.value(STIMULUS)], STIMULUS.shown, request.value(STIMULUS)) if request.has(STIMULUS) else []
+    for flag in flags:
+        outputs.checked([request.value(flag)], flag.shown, request.value(flag))
     texts = request.texts()
     answer = program.ask(files.joined("verify", request.passed, texts))
     status = asking.hand_on(request, texts, answer)
     if not asking.is_had(answer) or not answer.bytes.startswith(LOSES):
         return status
     given = files.Text(Kind.STIMULUS, "the stimulus", answer.bytes.removeprefix(LOSES))
-    outputs.write_all({name: given.bytes for name in path})
+    read = stimulus.read(given.string)
+    made = {STIMULUS: lambda: given.bytes, WAVE: lambda: wave_of(texts[1], read)}
+    outputs.write_all({request.value(flag): made[flag]() for flag in flags})
     if not request.quiet:
-        read = stimulus.read(given.string)
         console.tell(*tracing.trace([*texts, given], len(read.stem), len(read.lap)).splitlines())
     return status
 
 
-COMMAND = of_the_program("verify", "wins if the automaton accepts all that the circuit does, else a stimulus on which it does not", run, own=(STIMULUS,))
+def wave_of(text, read):
+    """What the circuit does on the stem, and on laps until its latches come again, as a VCD text."""
+    return vcd.wave(circuit.read(text.string), wave.until_it_comes_again([text], read).text, len(read.stem))
+
+
+COMMAND = of_the_program("verify", "wins if the automaton accepts all that the circuit does, else a stimulus on which it does not", run, own=(STIMULUS, WAVE))

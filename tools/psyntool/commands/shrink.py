@@ -1,0 +1,62 @@
+"""`shrink`: a circuit made smaller by abc; only one that `verify` finds to win is written."""
+import os
+import shutil
+import tempfile
+from dataclasses import replace
+
+from psyntool import asking, children, console, files, program
+from psyntool.command import ENV, MOORE, Command
+from psyntool.ends import FAULT, Refused, Unwritten
+from psyntool.kinds import Kind
+from psyntool.texts import binary, circuit
+
+NAMES = ("abc", "berkeley-abc", "yosys-abc")
+# abc knows no latch that begins with 1, so `zero` inverts those that do.
+SCRIPT = "read_aiger before.aig; zero; strash; scorr; dc2; dc2; dc2; write_aiger -s after.aig"
+
+
+def run(request):
+    abc = next((name for name in NAMES if shutil.which(name)), None)
+    if abc is None:
+        raise Refused(f"shrink needs abc: none of {', '.join(NAMES)} is installed")
+    texts = request.texts()
+    before = circuit.read(texts[1].string)
+    after = by_abc(abc, before)
+    chosen = after if len(after.gates) < len(before.gates) else before
+    judged = [texts[0], files.Text(Kind.CIRCUIT, f"the circuit of {abc}" if chosen is after else texts[1].name, chosen.text().encode("utf-8", "surrogateescape"))]
+    answer = program.ask(files.joined("verify", request.passed, judged))
+    if not asking.is_had(answer):
+        return asking.hand_on(request, judged, answer)
+    if answer.bytes != b"wins\n":
+        console.tell(f"psyn: {judged[1].name} loses, so nothing is written; `verify` tells a counterexample of a circuit")
+        return FAULT
+    if not request.quiet:
+        console.tell(f"gates: {len(before.gates)} before, {len(chosen.gates)} after; latches: {len(before.latches)} before, {len(chosen.latches)} after")
+    console.write(judged[1].bytes)
+    return 0
+
+
+def by_abc(abc, made):
+    """What abc makes of a circuit; symbols of latches and comments are abc's own, and are left out."""
+    with tempfile.TemporaryDirectory() as room:
+        with open(os.path.join(room, "before.aig"), "wb") as file:
+            file.write(binary.binary_form(made))
+        with open(os.devnull, "r+b") as nowhere:
+            status = children.run([abc, "-q", SCRIPT], cwd=room, stdin=nowhere, stdout=nowhere, stderr=nowhere)
+        path = os.path.join(room, "after.aig")
+        if status or not os.path.isfile(path):
+            raise Unwritten(f"{abc} {children.ended(status)}, and wrote no circuit")
+        with open(path, "rb") as file:
+            after = circuit.read(binary.ascii_form(file.read()).decode("utf-8", "surrogateescape"))
+    symbols = {place: name for place, name in after.symbols.items() if place[0] != "l"}
+    return replace(after, symbols=symbols, comment="")
+
+
+COMMAND = Command(
+    "shrink",
+    "a circuit made smaller by abc, if the smaller one wins",
+    (Kind.AUTOMATON, Kind.CIRCUIT),
+    run,
+    flags=(ENV, MOORE),
+    is_of_the_program=False,
+)
