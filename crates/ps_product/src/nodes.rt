@@ -1,6 +1,6 @@
 //! The nodes of truths, and what they say at a letter.
 
-ghost use Rattle.std.specs.Prelude.{◌≡◌, ◌≢◌, ◌^◌, ◌<◌, ◌≤◌, ℕ, All, IfNone, IfOk, IfSome, false, is_some, length};
+ghost use Rattle.std.specs.Prelude.{◌≡◌, ◌≢◌, ◌+◌, ◌^◌, ◌<◌, ◌≤◌, ℕ, All, IfNone, IfOk, IfSome, is_some, length};
 ghost use Rattle.std.specs.Prelude.{slice_index};
 ghost use Rattle.ps_diagram.specs.Composing.{IsLetterOfTruths};
 ghost use Rattle.ps_diagram.specs.Table.{IsNode, Keeps, leaf_of};
@@ -79,14 +79,15 @@ pub(crate) fn letter_at(store: &Store, nodes: &[Node], letter: u64) -> u64
     whole
 }
 
-/// A letter with one more bit.
+/// A letter of the first p propositions with the bit of one more.
 fn with_bit(letter: u64, p: usize, bit: bool) -> u64
-    requires { p < 64 }
-    ensures at { is_in p letter ≡ false → is_in p result ≡ bit }
-    ensures others { (q : ℕ) → q ≢ p → is_in q result ≡ is_in q letter }
-    ensures few { (count : ℕ) → p < count → letter < 2 ^ count → result < 2 ^ count }
+    requires named { p < 64 }
+    requires few { letter < 2 ^ p }
+    ensures few { result < 2 ^ (p + 1) }
+    ensures at { is_in p result ≡ bit }
+    ensures before { (q : ℕ) → q < p → is_in q result ≡ is_in q letter }
 {
-    if bit { letter | 1 << p } else { letter }
+    if bit { letter + (1 << p) } else { letter }
 }
 
 /// The bits of truths at a letter.
