@@ -80,9 +80,7 @@ class Names(unittest.TestCase):
                     if below != crate:
                         cited.setdefault(below, set()).add(module.split(".")[-1])
         rows = [line.split("|")[1:3] for line in documents.read("docs/architecture.md") if re.match(r"\| `ps_\w+` \| (`[A-Z]|all of)", line)]
-        listed = {}
-        for crate, modules in rows:
-            listed.setdefault(crate.strip(" `"), set()).update(re.findall(r"`(\w+)`", modules))
+        listed = {crate.strip(" `"): set(re.findall(r"`(\w+)`", modules)) for crate, modules in rows}
         self.assertEqual(listed.pop("ps_text"), set())
         cited.pop("ps_text")
         self.assertEqual(listed, cited)
