@@ -8,10 +8,10 @@
 --     reads_next, stops_bad, stops_refusal      one sign: it is taken; it is bad; it is not allowed, or the text ends
 --     reads_give, reads_mapped, stops_mapped      no sign was taken; another function is applied to the value
 --     exits found causes view part old new e r s c      the exit of a `?`. s is the Stops of the error e, and c states
---               that the result r is this error, `c.from_residual.ensures.1`. For example, the calls
+--               that the result r is this error, `c.from_residual.ensures.1`. For example, these calls parse
+--               `line = then_by number (λ n. mapped (λ _. n) semicolon)`:
 --                   let n = number(tokens)?; semicolon(tokens)?; Ok(n)
---               parse `line = then_by number (λ n. mapped (λ _. n) semicolon)`. With the joint j of the two parts,
---               write
+--               With the joint j of the two parts, their proof is:
 --                   returns-in_err-n c = exits found causes view line _ _ _ _
 --                       (stops_first causes j _ _ c.in_err-n.ensures) c.from_residual.ensures.1
 --                   returns c = reads_then j c.in_ok-n.ensures (reads_mapped _ c.in_ok-semicolon.ensures)
