@@ -143,7 +143,7 @@ commands =
       line = λ given. Synth (synth_given given);
       says = ON_SYNTH.now;
     } ∷ record { name = codes "help"; flags = []; texts = []; added = []; line = λ given. Help; says = ON_HELP.now } ∷
-        []
+    []
 
 -- the line of the command of a name
 abbrev pub line_named : Text → (Text → Bool) → Line
