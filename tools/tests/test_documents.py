@@ -14,6 +14,7 @@ ALL = ["README.md", "CONTRIBUTING.md", *sorted(os.path.relpath(path, TOP) for pa
 WITH_COMMANDS = ["README.md", "CONTRIBUTING.md", "docs/CERTIFICATES.md", "docs/GALLERY.md", "docs/INTEROP.md", "docs/TUTORIAL.md"]
 LINES = {"README.md": 100, "CONTRIBUTING.md": 200, "docs/TESTED.md": 150}
 WORDS = 35
+OTHERS = "commands of documents that need other programs"
 
 
 class Forms(unittest.TestCase):
@@ -119,17 +120,30 @@ class Names(unittest.TestCase):
 
 class Commands(unittest.TestCase):
     def test_each_prints_what_is_shown(self):
-        path, wrong, ran = program(), [], 0
+        path, wrong, ran, missing = program(), [], {False: 0, True: 0}, set()
         for name in WITH_COMMANDS:
             fences = documents.fences_of(documents.read(name))
             wrong += [f"{name}:{fence.line}: a fence of no known kind" for fence in fences if not fence.is_known()]
-            shown = [fence for fence in fences if fence.kind == "console" and fence.mark is None]
-            ran += sum(len(fence.commands()) for fence in shown)
+            missing.update(*(fence.missing() for fence in fences if fence.is_run()))
+            shown = [fence for fence in fences if fence.is_run() and not fence.missing()]
+            for fence in shown:
+                ran[bool(fence.marks)] += len(fence.commands())
             with tempfile.TemporaryDirectory() as room:
                 documents.furnish(room)
                 wrong += documents.wrong_answers(name, shown, room, {**os.environ, "PSYN": path})
-        counts.ran("examples", "commands of documents", ran)
+        counts.ran("examples", "commands of documents", ran[False])
+        counts.ran("examples", OTHERS, ran[True])
         self.assertFalse(wrong, "\n".join(["", *wrong]))
+        if missing:
+            counts.left_out("examples", OTHERS)
+            self.skipTest(f"those that need {', '.join(sorted(missing))}, not installed; all others ran")
+
+    def test_what_fences_need(self):
+        fences = [documents.Fence(1, info, []) for info in ("console", "console yosys dot", "console foreign", "console gate", "text")]
+        self.assertEqual([fence.is_run() for fence in fences], [True, True, False, False, False])
+        self.assertTrue(all(fence.is_known() for fence in fences))
+        for info in ("", "sh", "console none", "console foreign yosys", "text yosys"):
+            self.assertFalse(documents.Fence(1, info, []).is_known(), info)
 
     def test_a_wrong_answer_is_seen(self):
         lines = ["```console", "$ echo a; \\", "> echo b", "a", "b", "$ false", "$ echo c", "d", "```", "```", "x", "```"]

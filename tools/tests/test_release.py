@@ -49,7 +49,7 @@ class Archive(unittest.TestCase):
 
     def test_the_commands_of_the_readme_run_where_it_is_unpacked(self):
         place = self.unpacked()
-        fences = [fence for fence in documents.fences_of(documents.read("README.md")) if fence.kind == "console" and fence.mark is None]
+        fences = [fence for fence in documents.fences_of(documents.read("README.md")) if fence.is_run() and not fence.marks]
         self.assertTrue(sum(len(fence.commands()) for fence in fences))
         self.assertEqual(documents.wrong_answers("README.md", fences, place, self.environment), [])
         sums = subprocess.run(["sha256sum", "--check", "--quiet", packing.SUMS], cwd=place, capture_output=True, text=True, check=False)

@@ -1,31 +1,40 @@
 """Documents as tests see them: their lines and sentences, their links, and the commands that they show.
 
 A fence that begins with ```console shows commands. Each is marked by `$ ` (its further lines by `> `), and what it prints
-on standard output and standard error follows it. ```console foreign shows commands of other tools, and ```console gate those
-that build or prove psyn; ```text and the like show no command.
+on standard output and standard error follows it. ```console yosys shows commands that need that program; more names may follow.
+```console foreign shows commands that are not run, and ```console gate those that build or prove psyn; ```text and the like show
+no command.
 """
 import glob
 import os
 import re
+import shutil
 import subprocess
 
 from upkeep.sweeps import TOP
 
 PLAIN = {"text", "python", "rust", "verilog"}
-MARKS = {"foreign", "gate"}
+NOT_RUN = ["foreign"], ["gate"]
+PROGRAMS = {"berkeley-abc", "dot", "yosys"}
 SECONDS = 60
 
 
 class Fence:
-    """A fence of a document: the line at which it begins, its kind, its mark or none, and its lines."""
+    """A fence of a document: the line at which it begins, its kind, its marks, and its lines."""
 
     def __init__(self, line, info, lines):
-        words = info.split()
-        self.line, self.kind, self.lines = line, words[0] if words else "", lines
-        self.mark = words[1] if len(words) > 1 else None
+        self.line, self.lines = line, lines
+        self.kind, *self.marks = info.split() or [""]
 
     def is_known(self):
-        return self.kind in PLAIN and self.mark is None or self.kind == "console" and self.mark in MARKS | {None}
+        return self.kind in PLAIN and not self.marks or self.kind == "console" and (self.marks in NOT_RUN or PROGRAMS.issuperset(self.marks))
+
+    def is_run(self):
+        return self.kind == "console" and self.marks not in NOT_RUN
+
+    def missing(self):
+        """The programs that the commands need and that are not installed."""
+        return [name for name in self.marks if not shutil.which(name)]
 
     def commands(self):
         """The commands, each with what it prints."""
