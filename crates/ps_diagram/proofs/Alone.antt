@@ -29,7 +29,7 @@ empty_blind level t e f g _ = e f ∙ sym (e g)
 bool_same : (a b : Bool) → (a ≡ b) ⊎ (a ≡ b → ⊥)
 bool_same a b = grind (arith, true_is_not_false)
 
--- one more proposition: the new tree is the old tree if the proposition is as in the letter, and has no leaf otherwise
+-- the tree of one more proposition: the old tree if the proposition is as in the letter, and no leaf otherwise
 alone_step : {n : ℕ} (p letter : ℕ) (v : Bool) (node made : Tree) → IsAlone n (p + 1) letter node →
     is_in p letter ≡ v → p < n → IsBlind p made → ((f : ℕ → Bool) → f p ≡ v → leaf_at made f ≡ leaf_at node f) →
     ((f : ℕ → Bool) → (f p ≡ v → ⊥) → leaf_at made f ≡ None) → IsAlone n p letter made

@@ -58,7 +58,7 @@ only_leaf level n (choice p low high) o r x e =
     let same = λ (v : Bool) (f : ℕ → Bool). sym (choice_side n p v low high o.2 o.3 f) ∙ e (changed f p v) in
     absurd (r.0 (only_leaf (p + 1) n low o.2 r.1 x (same false) ∙ sym (only_leaf (p + 1) n high o.3 r.2 x (same true))))
 
--- every ordered and reduced tree with the same leaves is equal to this tree
+-- every ordered and reduced tree that has the same leaves as the given tree is equal to it
 abbrev Only : ℕ → Tree → Type 0
 Only n t = (u : Tree) (b : ℕ) → IsFrom b n u → IsReduced u → HaveSameLeaves t u → t ≡ u
 

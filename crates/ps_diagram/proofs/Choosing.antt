@@ -1,4 +1,4 @@
--- Trees that are chosen from two trees by a third.
+-- Trees that are chosen from two trees by a third tree.
 use Rattle.std.proofs.Common.{◌≡◌, ℕ, Option, Some, inl, inr, rules}
 use Rattle.ps_diagram.specs.Inner.Chosen.{IsChosen, KnowsTriples}
 use Rattle.ps_diagram.specs.Inner.Rests.{test_eq}
@@ -31,7 +31,7 @@ chosen_sides {t} {u} {v} w k m {a} {b} {c} {p} {al} {ah} {bl} {bh} {cl} {ch} {lo
     (rw (m.same low held) l)
     (rw (← k.same ah sa.high_held, ← k.same bh sb.high_held, ← k.same ch sc.high_held) h)
 
--- choosing between a tree and itself gives this tree
+-- a choice between a tree and itself gives this tree
 pub chosen_same : (a b : Tree) → IsChosen a b b b
 chosen_same a b f = search rules
 

@@ -1,4 +1,4 @@
--- Trees in which truths stand for propositions.
+-- Trees in which truths replace propositions.
 use Rattle.std.proofs.Common.{◌≡◌, ℕ, ◌<◌, Bool, cond, List, All, Option, None, Some, length, get_or, refl, ap, sym}
 use Rattle.std.proofs.Common.{◌∙◌}
 use Rattle.std.proofs.Common.{inl, inr}
@@ -12,7 +12,7 @@ use Rattle.ps_diagram.specs.Table.{Table, IsNode, Keeps, leaf_of, tree_of}
 use Rattle.ps_diagram.specs.Tree.{Tree, leaf_at}
 use Rattle.ps_diagram.proofs.Cells.{bool_cases}
 
--- the only side that counts is an earlier node
+-- the side that is needed is an earlier node
 pub side_of : {s : Table} (t : Table) {node p low high : ℕ} (truth : ℕ) {side : ℕ} → IsChoice s node p low high →
     IsOnlySide t truth low high side → (side < node) × IsNode s side
 side_of t {low} {high} truth {side} h only = let e = only 0 in elim (bool_cases (is_some (leaf_of t truth 0))) [
@@ -45,7 +45,7 @@ chosen_side : (x a b : Option ℕ) → chosen x a b ≡ cond (is_some x) a b
 chosen_side None a b = refl
 chosen_side (Some k) a b = refl
 
--- a node whose low side was composed first, and then the high side, and which is chosen by the truth
+-- a node is composed if its low side is composed first and then its high side, and the truth chooses between the two
 pub composed_sides : {s r u v : Table} (w : Table) (truths : List ℕ) → All (IsNode r) truths → Keeps r u → Keeps u v →
     {node p low high low' : ℕ} (high' made' : ℕ) → IsChoice s node p low high → p < length truths → IsNode u low' →
     IsComposed r truths (tree_of s low) (tree_of u low') → IsComposed u truths (tree_of s high) (tree_of v high') →

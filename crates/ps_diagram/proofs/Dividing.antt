@@ -129,7 +129,7 @@ place_of t level d h node e =
     let r = h (λ _. false) in
     search rules
 
--- a test between nodes of three tables, each of which keeps the one before
+-- a test whose sides are nodes of three tables, each of which keeps the nodes of the one before
 pub tested_between : {t u v : Table} → Keeps t u → Keeps u v → (p : ℕ) (a b d : Tree) {low high made : ℕ} →
     ((f : ℕ → Bool) → leaf_at a f ≡ Some low) → ((f : ℕ → Bool) → leaf_at b f ≡ Some high) →
     ((f : ℕ → Bool) → leaf_at d f ≡ Some made) → IsNode t low → IsNode t high → IsNode u made →

@@ -21,7 +21,7 @@ in_power p m = grind (arith, bit_at-pow_same m, bit_at-pow_other m p)
 in_more : (q p bits : ℕ) → p < 64 → is_in q (bit_or bits (1 * 2 ^ p % 2 ^ 64)) ≡ (is_in q bits || nat_eq q p)
 in_more q p bits small = rw (one_shl p 64 small, in_or q bits (2 ^ p), in_power q p) refl
 
--- conjuncts in another order
+-- conjuncts are reordered
 and_swap : (a rest here : Bool) → ((a && here) && rest) ≡ ((a && rest) && here)
 and_swap false rest here = refl
 and_swap true false false = refl

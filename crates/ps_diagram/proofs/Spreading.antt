@@ -1,4 +1,4 @@
--- The rest of a diagram for each letter over some propositions.
+-- What remains of a diagram after each letter over some propositions has been read.
 use Rattle.std.proofs.Common.{◌≡◌, ℕ, ◌+◌, ◌^◌, ◌<◌, Bool, true, false, cond, refl, sym, ◌∙◌}
 use Rattle.std.proofs.Common.{arith, inl, inr}
 use Rattle.std.proofs.lemmas.Bool.{cases_lt}
@@ -70,7 +70,7 @@ spread_kept k mask level letter a d h f agree =
 below_next : (level q : ℕ) → q < level + 1 → (q < level → ⊥) → q ≡ level
 below_next level q lt not = omega arith
 
--- the next proposition is not in the mask
+-- one proposition more is read, which is not in the mask
 pub spread_on : (t : Table) (mask level letter : ℕ) (a d : Tree) → is_in level mask ≡ false →
     IsSpread t mask (level + 1) letter a d → IsSpread t mask level letter a d
 spread_on t mask level letter a d isnt h f agree = h f (λ q lt is. elim (cases_lt q level) [
@@ -81,7 +81,7 @@ spread_on t mask level letter a d isnt h f agree = h f (λ q lt is. elim (cases_
       cc
 ])
 
--- the next proposition is in the mask
+-- one proposition more is read, which is in the mask
 spread_test : (t : Table) (mask level letter : ℕ) (a dl dh d : Tree) → letter < 2 ^ level →
     IsSpread t mask (level + 1) letter a dl → IsSpread t mask (level + 1) (letter + 2 ^ level) a dh →
     IsTestOf level dl dh d → IsSpread t mask level letter a d

@@ -48,8 +48,8 @@ opposite_of b = search rules
 pub joined_of : (a b : Bool) → joined (one_where a) (one_where b) ≡ one_where (cond a true b)
 joined_of a b = search rules
 
--- The operands so far decide the whole, or the rest decides it. If any operand suffices, a true operand decides; if all
--- are needed, a false operand decides.
+-- The operands so far decide the truth value of the whole, or the remaining operands decide it. If one true operand
+-- suffices, a true operand decides; if all operands are needed, a false operand decides.
 pub record IsDecided (any : Bool) (leaf : Option ℕ) (rest whole : Bool) : Type 0 where
   pub so_far : Bool
   pub is : leaf ≡ one_where so_far
@@ -71,7 +71,7 @@ drop_is items k {x} lt is = rw (add-one, drop-cons items k x, ← is)
 
 -- ## The nodes of aliases
 
--- one more alias
+-- the nodes of the aliases, with one more alias
 pub truths_push : {t u : Table} {nodes : List ℕ} {node : ℕ} {known : ℕ → List Bool} → Keeps t u →
     HaveTruths t nodes known → IsNode u node →
     ((letter : ℕ) → leaf_of u node letter ≡ one_where (get_or (known letter) (length nodes) false)) →

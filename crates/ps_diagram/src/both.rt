@@ -1,4 +1,4 @@
-//! Two diagrams as one diagram of pairs.
+//! Joins two diagrams into one, whose leaves are indices of pairs of leaves.
 
 ghost use Rattle.std.specs.Prelude.{◌≡◌, ℕ, ◌+◌, IfOk, Some};
 ghost use Rattle.indexmap.specs.IndexMap.{get};
@@ -16,8 +16,8 @@ use indexmap::IndexSet;
 use std::alloc::AllocError;
 
 impl Store {
-    /// The diagram whose leaf at a letter is the place in the list of the pair of both leaves there. It has no leaf
-    /// where one of the two has none. A new pair is appended to the list.
+    /// The diagram whose leaf at a letter is the index, in `pairs`, of the pair of the two nodes' leaves. The diagram
+    /// has no leaf at letters at which one of the nodes has none. New pairs are appended to `pairs`.
     pub fn both(
         &mut self,
         first: Node,
@@ -37,7 +37,7 @@ impl Store {
         self.paired(first, second, pairs, &mut known)
     }
 
-    /// The same, with a table of what was paired already.
+    /// As `both`, with a table of the pairs of nodes that were paired before.
     fn paired(
         &mut self,
         first: Node,
@@ -81,7 +81,7 @@ impl Store {
         Ok(made)
     }
 
-    /// The same of two diagrams that test nothing.
+    /// As `paired`, for two diagrams that test nothing.
     fn paired_leaves(
         &mut self,
         first: Node,

@@ -1,4 +1,4 @@
-//! One of two diagrams, letter by letter.
+//! Chooses between two diagrams at each letter.
 
 ghost use Rattle.std.specs.Prelude.{◌≡◌, ℕ, ◌+◌, ◌<◌, IfOk, Some};
 ghost use Rattle.indexmap.specs.IndexMap.{get};
@@ -14,21 +14,22 @@ use crate::store::Store;
 use crate::view::{Node, View};
 use std::alloc::AllocError;
 
-/// Three nodes at the first proposition that one of them tests.
+/// Three nodes, split at the first proposition that one of them tests.
 #[derive(Clone, Copy)]
 pub(crate) struct Cut {
     /// The proposition.
     pub proposition: u32,
-    /// The sides of the truth, which decides.
+    /// The sides of the truth, the node that decides between the other two.
     pub truth: Sides,
-    /// The sides of the node that is chosen where the truth has a leaf.
+    /// The sides of the node that is chosen at letters at which the truth has a leaf.
     pub one: Sides,
-    /// The sides of the node that is chosen elsewhere.
+    /// The sides of the node that is chosen at all other letters.
     pub other: Sides,
 }
 
 impl Store {
-    /// The diagram that has the leaf of `one`, or none, where the truth has a leaf, and that of `other` elsewhere.
+    /// The diagram that has the leaf of `one`, or none, at letters at which `truth` has a leaf, and that of `other`
+    /// elsewhere.
     pub fn choose(&mut self, truth: Node, one: Node, other: Node) -> Result<Node, AllocError>
         requires truth { IsNode self.old truth }
         requires one { IsNode self.old one }
@@ -43,7 +44,7 @@ impl Store {
         self.chosen(truth, one, other, &mut known)
     }
 
-    /// The same, with a table of what was chosen already.
+    /// As `choose`, with a table of the choices that were made before.
     fn chosen(
         &mut self,
         truth: Node,
@@ -86,7 +87,7 @@ impl Store {
         Ok(made)
     }
 
-    /// Three nodes cut at the first proposition that one of them tests; the truth tests `first`.
+    /// Three nodes, split at `first`, the first proposition that one of them tests; the truth tests it.
     fn cut(&self, first: u32, truth: Node, one: Node, other: Node) -> Cut
         requires truth { IsNode self.now truth }
         requires one { IsNode self.now one }

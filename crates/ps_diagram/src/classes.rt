@@ -1,4 +1,4 @@
-//! The classes of the letters over some of the propositions.
+//! Divides the letters over some of the propositions into classes.
 
 ghost use Rattle.std.specs.Prelude.{◌≡◌, ◌≢◌, ℕ, ◌+◌, ◌<◌, Bool, AllPairs, IfOk, IsSome, Some, length, nat_eq};
 ghost use Rattle.indexmap.specs.IndexMap.{get};
@@ -17,31 +17,32 @@ use crate::view::{Node, View};
 use indexmap::IndexMap;
 use std::alloc::{AllocError, Global};
 
-/// Up to this number of propositions are few: each letter over them is tried.
+/// If there are at most this many propositions, each letter over them is tried.
 const FEW: u32 = 4;
 
-/// Letters over some propositions that lead, with each letter over the others, to the same leaf, or to none.
+/// A class of letters over some propositions. Two letters are in one class if, for all truth values of the other
+/// propositions, they lead to the same leaf, or both to none.
 #[derive(Debug, Clone, Copy, PartialEq, Eq)]
 pub struct Class {
-    /// The least of them.
+    /// The least letter of the class.
     pub letter: u64,
-    /// The diagram over the other propositions that they share.
+    /// The diagram, over the other propositions, that all letters of the class share.
     pub rest: Node,
 }
 
 /// The classes of the letters over some propositions.
 #[derive(Debug, Drop)]
 pub struct Classes {
-    /// Each class, ascending by letters.
+    /// The classes, in the order of their letters.
     pub list: Vec<Class>,
-    /// The diagram whose leaf at a letter is the place of its class in the list.
+    /// The diagram whose leaf at a letter is the index, in the list, of the letter's class.
     pub places: Node,
 }
 
 impl Store {
-    /// The classes of the letters over the propositions of `split`: two are in one class exactly if each letter over
-    /// the others leads both to the same leaf, or both to none. The node is read in a copy of the store; `classes_from`
-    /// reads one that is lent.
+    /// The classes of the letters over the propositions of `split`. Two letters are in one class exactly if, for all
+    /// truth values of the other propositions, they lead to the same leaf, or both to none. The node is read in a copy
+    /// of the store; `classes_from` reads it in a borrowed one.
     pub fn classes(&mut self, node: Node, split: u64) -> Result<Classes, AllocError>
         requires held { IsNode self.old node }
         ensures keeps { Keeps self.old self.new }
@@ -52,7 +53,7 @@ impl Store {
         Ok(classes)
     }
 
-    /// The same classes, of a node of another store. Their diagrams are made in this store.
+    /// As `classes`, for a node of another store. The diagrams of the classes are made in this store.
     pub fn classes_from(
         &mut self,
         other: &Store,
@@ -71,8 +72,8 @@ impl Store {
         Ok(classes)
     }
 
-    /// The diagram over the propositions of `split` whose leaf at a letter is the place of what is left there of a node
-    /// of another store.
+    /// The diagram over the propositions of `split` whose leaves are nodes: the leaf at a letter is the node of what
+    /// remains of the given node after that letter has been read.
     fn rests(&mut self, other: &Store, node: Node, split: u64) -> Result<Node, AllocError>
         requires held { IsNode other.now node }
         requires letters { self.old.propositions ≡ other.now.propositions }
@@ -90,7 +91,7 @@ impl Store {
         self.divided(other, node, split, &mut known, &mut tests)
     }
 
-    /// The classes of the leaves of a diagram, and the diagram with the place of each.
+    /// The classes of the leaves of a diagram, and the diagram that gives each letter the index of its class.
     fn classes_of_leaves(
         &mut self,
         divided: Node,
@@ -110,9 +111,8 @@ impl Store {
         Ok(Classes { list, places })
     }
 
-    /// The diagram over the propositions of `split` whose leaf at a letter is the place of a node. That node has, at
-    /// each letter over the others, the leaf that the other store's node has at the two letters together. The tables
-    /// have what was made already.
+    /// As `rests`, with tables of what was made before: at the letter x, the leaf is a node. At each letter y over the
+    /// other propositions, this node has the leaf that the given node has at the letter made of x and y.
     fn divided(
         &mut self,
         other: &Store,
@@ -153,7 +153,7 @@ impl Store {
         }
     }
 
-    /// The diagram that leads each letter to the place of the node with that leaf, or none, at each letter.
+    /// The diagram that gives every letter the same node, which has this leaf, or none, at every letter.
     fn place_of_leaf(&mut self, leaf: Option<u64>) -> Result<Node, AllocError>
         ensures keeps { Keeps self.old self.new }
         ensures held { IfOk result (λ made. IsNode self.new made) }
@@ -164,7 +164,7 @@ impl Store {
         self.intern(View::Leaf(node.place as u64))
     }
 
-    /// The same for a test whose two sides are divided.
+    /// As `divided`, for a test whose two sides have been divided.
     fn divided_test(
         &mut self,
         proposition: u32,
@@ -195,8 +195,8 @@ impl Store {
         self.tested(proposition, low, high, tests)
     }
 
-    /// The diagram whose leaf at a letter is the place of the test of the proposition between the nodes at the places
-    /// that `low` and `high` have there.
+    /// The diagram whose leaf at a letter is a node that tests the proposition. The sides of this node are the nodes to
+    /// which `low` and `high` lead the letter.
     fn tested(
         &mut self,
         proposition: u32,
@@ -239,7 +239,7 @@ impl Store {
         Ok(made)
     }
 
-    /// The same for two diagrams that test nothing.
+    /// As `tested`, for two diagrams that test nothing.
     fn tested_leaves(&mut self, proposition: u32, low: Node, high: Node) -> Result<Node, AllocError>
         requires named { proposition < self.old.propositions }
         requires low_held { IsNode self.old low }
@@ -260,7 +260,7 @@ impl Store {
         self.intern(View::Leaf(made.place as u64))
     }
 
-    /// The node to whose place a diagram leads; the diagram tests nothing.
+    /// The node to which a diagram that tests nothing leads every letter.
     fn node_at(&self, node: Node) -> Node
         requires held { IsNode self.now node }
         requires constant { IsConstant (tree_of self.now node) }
@@ -274,7 +274,7 @@ impl Store {
     }
 }
 
-/// The classes of leaves with their least letters, and the place of each leaf.
+/// The classes of leaves, each with its least letter, and the index of each leaf's class.
 fn numbered(
     alloc: Global,
     leaves: &[(u64, u64)],

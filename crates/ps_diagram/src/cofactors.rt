@@ -1,4 +1,4 @@
-//! What is left of a diagram after each letter over a few propositions.
+//! What remains of a diagram after a letter over a few propositions has been read.
 
 ghost use Rattle.std.specs.Prelude.{◌≡◌, ℕ, ◌+◌, ◌^◌, ◌<◌, ◌≤◌, IfOk, nat_eq};
 ghost use Rattle.indexmap.specs.IndexMap.{get};
@@ -13,9 +13,9 @@ use crate::view::{Node, View};
 use std::alloc::AllocError;
 
 impl Store {
-    /// The diagram over the propositions of `split` whose leaf at a letter is the place of what is left there of a node
-    /// of another store. The propositions below the level are as in the letter. Each letter is tried, so `split` should
-    /// be small.
+    /// The diagram over the propositions of `split` whose leaf at a letter is the node of what remains of the given
+    /// node after that letter. The propositions below `level` are read already: they are as in `letter`. Each letter is
+    /// tried, so `split` should have few propositions.
     pub(crate) fn spread(
         &mut self,
         other: &Store,
@@ -46,7 +46,7 @@ impl Store {
         self.spread(other, node, split, level + 1, letter)
     }
 
-    /// The diagram that leads each letter to the place of what is left after that letter.
+    /// The diagram that gives every letter the same node: what remains of the given node after `letter`.
     fn spread_leaf(
         &mut self,
         other: &Store,
@@ -68,8 +68,8 @@ impl Store {
         self.intern(View::Leaf(rest.place as u64))
     }
 
-    /// The diagram that has, at each letter, the leaf that the other store's node has if the propositions of `split`
-    /// are as in another letter.
+    /// The diagram that has, at each letter, the leaf of the other store's node, where the propositions of `split` are
+    /// as in `letter`.
     fn cofactor(
         &mut self,
         other: &Store,

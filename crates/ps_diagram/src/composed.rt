@@ -1,4 +1,4 @@
-//! Diagrams with truths in the place of propositions.
+//! Replaces the propositions of a diagram by truths.
 
 ghost use Rattle.std.specs.Prelude.{◌≡◌, ◌<◌, ◌≤◌, ℕ, All, IfOk, IfSome, OnOk, length, nat_eq};
 ghost use Rattle.indexmap.specs.IndexMap.{get};
@@ -13,9 +13,9 @@ use crate::view::{Node, View};
 use std::alloc::AllocError;
 
 impl Store {
-    /// The diagram of a node of another store, in which the truth with the number of a proposition stands for that
-    /// proposition. Its leaf at a letter is the node's leaf at the letter of the truths there. A truth holds where the
-    /// node that is given for it has a leaf.
+    /// The diagram of a node of another store, in which the truth at the index p of `truths` replaces the proposition
+    /// p. A truth is true at the letters at which its node has a leaf. At each letter, the truths form a second letter,
+    /// and the diagram has the leaf of the given node at this second letter.
     pub fn composed_from(
         &mut self,
         other: &Store,
@@ -34,7 +34,7 @@ impl Store {
         self.composed_by(other, node, truths, &mut known)
     }
 
-    /// The same, with a table of what was composed already.
+    /// As `composed_from`, with a table of the nodes that were composed before.
     fn composed_by(
         &mut self,
         other: &Store,
@@ -76,7 +76,7 @@ impl Store {
         Ok(made)
     }
 
-    /// The high side if the truth always holds, the low side if it never does.
+    /// The high side if the truth is true at every letter, and the low side if it is true at none.
     fn only_side(&self, truth: Node, low: Node, high: Node) -> Option<Node>
         requires held { IsNode self.now truth }
         ensures { IfSome result (IsOnlySide self.now truth low high) }

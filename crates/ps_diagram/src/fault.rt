@@ -9,12 +9,12 @@ use thiserror::Error;
 /// Why two diagrams are not joined.
 #[derive(Debug, Drop, Error)]
 pub enum OverlayError {
-    /// At some letter the two have different leaves.
+    /// At some letter the two diagrams have different leaves.
     #[error("two different leaves, {first} and {second}, at one letter")]
     Clash {
-        /// The leaf of the first.
+        /// The leaf of the first diagram.
         first: u64,
-        /// The leaf of the second.
+        /// The leaf of the second diagram.
         second: u64,
     },
     /// Memory ran out.

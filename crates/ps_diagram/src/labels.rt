@@ -1,4 +1,4 @@
-//! The diagrams of labels.
+//! Makes the diagrams of labels.
 
 ghost use Rattle.std.specs.Prelude.{◌≡◌, ℕ, ◌<◌, All, Bool, List, IfOk, length};
 ghost use Rattle.ps_label.specs.Expression.{AreOverFrom, Expression, IsOver, expression};
@@ -15,8 +15,8 @@ use ps_label::{Label, Labels};
 use std::alloc::AllocError;
 
 impl Store {
-    /// The diagram with the leaf 1 at the letters at which the label is true, and without a leaf elsewhere. Each alias
-    /// is visited once. If many labels have the same aliases, make those once, by `of_aliases`.
+    /// The diagram that has the leaf 1 at letters at which the label is true, and no leaf elsewhere. The diagram of
+    /// each alias is made once. If many labels have the same aliases, make the diagrams of these once, by `of_aliases`.
     pub fn of_label(&mut self, labels: &Labels, label: &Label) -> Result<Node, AllocError>
         requires aliases { AreOverFrom 0 self.old.propositions (expressions labels.now) }
         requires within { IsOver (length labels.now) self.old.propositions (expression label.now) }
@@ -44,7 +44,7 @@ impl Store {
         Ok(nodes)
     }
 
-    /// The diagram of a label, from the nodes of its aliases.
+    /// The diagram of a label, made from the diagrams of its aliases.
     pub fn of_label_by(&mut self, aliases: &[Node], label: &Label) -> Result<Node, AllocError>
         requires aliases { (names : List Expression) × AreNodesOf self.old names aliases.now }
         requires within { IsOver (length aliases.now) self.old.propositions (expression label.now) }
@@ -60,8 +60,9 @@ impl Store {
         }
     }
 
-    /// The diagram with that leaf where a label is true, from the nodes of its aliases. It equals the `guard` of
-    /// `of_label_by`, but a product of literals is made at once.
+    /// The diagram that has the leaf `value` at letters at which the label is true, made from the diagrams of its
+    /// aliases. It equals the `guard` of `of_label_by`, but if the label is a product of literals, its diagram is made
+    /// in one step.
     pub fn of_label_as(
         &mut self,
         aliases: &[Node],
@@ -85,7 +86,7 @@ impl Store {
         }
     }
 
-    /// The same, whatever the nodes' truths are.
+    /// The diagram of a label, whatever truth values the nodes of its aliases represent.
     fn truth_by(&mut self, aliases: &[Node], label: &Label) -> Result<Node, AllocError>
         requires aliases { (known : ℕ → List Bool) × HaveTruths self.old aliases.now known }
         requires within { IsOver (length aliases.now) self.old.propositions (expression label.now) }
@@ -104,7 +105,7 @@ impl Store {
                 self.negated(node)
             }
             Label::Both(operands) => {
-                // some operand is false
+                // a conjunction is true if no operand is false
                 let mut nodes = Vec::new(self.allocator());
                 for operand in operands {
                     let node = self.truth_by(aliases, operand)?;
@@ -123,8 +124,8 @@ impl Store {
         }
     }
 
-    /// The diagram that has the leaf 1 wherever one of the nodes has it. The halves are joined first, so that the
-    /// number of joins of which a node is a part is the logarithm of the number of nodes.
+    /// The diagram that has the leaf 1 at letters at which one of the nodes has it. Each half of the list is joined
+    /// first, so each node takes part in only logarithmically many joins.
     fn union_of(&mut self, nodes: &[Node]) -> Result<Node, AllocError>
         requires truths { All (IsTruth self.old) nodes.now }
         ensures keeps { Keeps self.old self.new }
@@ -155,7 +156,7 @@ impl Store {
         if value { self.leaf(1) } else { self.none() }
     }
 
-    /// The diagram with the leaf 1 at the letters at which the proposition is true, and without a leaf elsewhere.
+    /// The diagram that has the leaf 1 at letters at which the proposition is true, and no leaf elsewhere.
     pub fn of_proposition(&mut self, proposition: u32) -> Result<Node, AllocError>
         requires named { proposition < self.old.propositions }
         ensures keeps { Keeps self.old self.new }
@@ -168,7 +169,7 @@ impl Store {
         self.test(proposition, none, one)
     }
 
-    /// The diagram that has the leaf 1 wherever one of the two has it.
+    /// The diagram that has the leaf 1 at letters at which one of the two nodes has it.
     fn either(&mut self, first: Node, second: Node) -> Result<Node, AllocError>
         requires first { IsNode self.old first }
         requires second { IsNode self.old second }

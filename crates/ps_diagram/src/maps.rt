@@ -1,4 +1,4 @@
-//! Diagrams with their leaves changed by a rule.
+//! Changes the leaves of diagrams by a rule.
 
 ghost use Rattle.std.specs.Prelude.{◌≡◌, ℕ, ◌+◌, ◌^◌, ◌<◌, ◌≤◌, Bool, Option, Some, None, IfOk, IfSome, length, nat_eq};
 ghost use Rattle.std.specs.Prelude.{option_map, option_and_then, unwrap_or, slice_index, is_none, cond};
@@ -15,7 +15,7 @@ use crate::view::{Node, View};
 use indexmap::IndexMap;
 use std::alloc::AllocError;
 
-/// What becomes of each leaf, and of none.
+/// The rule: what each leaf, or a missing leaf, is replaced by.
 trait LeafRule {
     ghost fits: { Self → Option ℕ → Type 0 };
 
@@ -26,7 +26,7 @@ trait LeafRule {
         ensures { result ≡ rule self.now leaf };
 }
 
-/// That leaf wherever there is one.
+/// Each leaf becomes this leaf.
 #[derive(Drop)]
 struct Guarded(u64);
 
@@ -43,7 +43,7 @@ impl LeafRule for Guarded {
     }
 }
 
-/// That leaf wherever there is none.
+/// A missing leaf becomes this leaf.
 #[derive(Drop)]
 struct Filled(u64);
 
@@ -60,7 +60,7 @@ impl LeafRule for Filled {
     }
 }
 
-/// The leaf at its place in a table.
+/// The leaf k becomes the value at the index k of a list.
 #[derive(Drop)]
 struct Relabelled<'a>(&'a [u64]);
 
@@ -77,7 +77,7 @@ impl LeafRule for Relabelled<'_> {
     }
 }
 
-/// The leaf at its place in a table, and another leaf wherever there is none.
+/// The leaf k becomes the value at the index k of a list, and a missing leaf becomes another leaf.
 #[derive(Drop)]
 struct Replaced<'a> {
     values: &'a [u64],
@@ -97,7 +97,7 @@ impl LeafRule for Replaced<'_> {
     }
 }
 
-/// What a table has at the leaf.
+/// Each leaf becomes what a table has for it.
 #[derive(Drop)]
 struct Placed<'a>(&'a IndexMap<u64, u64>);
 
@@ -114,7 +114,7 @@ impl LeafRule for Placed<'_> {
     }
 }
 
-/// 1 where there is no leaf, and none where there is one.
+/// A missing leaf becomes the leaf 1, and each leaf is removed.
 #[derive(Drop)]
 struct Negated;
 
@@ -136,7 +136,7 @@ impl LeafRule for Negated {
 impl Store {
     ghost use Rattle.ps_diagram.specs.Leaves.{opposite};
 
-    /// The diagram with that leaf wherever the node has one.
+    /// The diagram that has the leaf `value` at letters at which the node has a leaf.
     pub fn guard(&mut self, node: Node, value: u64) -> Result<Node, AllocError>
         requires held { IsNode self.old node }
         ensures keeps { Keeps self.old self.new }
@@ -148,7 +148,7 @@ impl Store {
         self.mapped(None, node, &Guarded(value))
     }
 
-    /// The diagram with the node's leaves, and with that leaf wherever it has none.
+    /// The diagram that has the node's leaves, and the leaf `value` at letters at which the node has none.
     pub fn fill(&mut self, node: Node, value: u64) -> Result<Node, AllocError>
         requires held { IsNode self.old node }
         ensures keeps { Keeps self.old self.new }
@@ -160,7 +160,7 @@ impl Store {
         self.mapped(None, node, &Filled(value))
     }
 
-    /// The diagram with `values[k]` wherever the node has the leaf k.
+    /// The diagram that has the leaf `values[k]` at letters at which the node has the leaf k.
     pub fn relabel(&mut self, node: Node, values: &[u64]) -> Result<Node, AllocError>
         requires held { IsNode self.old node }
         requires within { (letter : ℕ) → letter < 2 ^ self.old.propositions →
@@ -175,7 +175,8 @@ impl Store {
         self.mapped(None, node, &Relabelled(values))
     }
 
-    /// The diagram with `values[k]` wherever the node has the leaf k, and with another leaf wherever it has none.
+    /// The diagram that has the leaf `values[k]` at letters at which the node has the leaf k, and the leaf `other` at
+    /// letters at which it has none.
     pub fn relabel_or(&mut self, node: Node, values: &[u64], other: u64) -> Result<Node, AllocError>
         requires held { IsNode self.old node }
         requires within { (letter : ℕ) → letter < 2 ^ self.old.propositions →
@@ -190,7 +191,7 @@ impl Store {
         self.mapped(None, node, &Replaced { values, other })
     }
 
-    /// The diagram with `values[k]` wherever a node of another store has the leaf k.
+    /// The diagram that has the leaf `values[k]` at letters at which a node of another store has the leaf k.
     pub fn relabel_from(
         &mut self,
         other: &Store,
@@ -211,7 +212,7 @@ impl Store {
         self.mapped(Some(other), node, &Relabelled(values))
     }
 
-    /// The diagram with 1 wherever the node has no leaf, and with no leaf wherever it has one.
+    /// The diagram that has the leaf 1 at letters at which the node has none, and no leaf elsewhere.
     pub fn negated(&mut self, node: Node) -> Result<Node, AllocError>
         requires held { IsNode self.old node }
         ensures keeps { Keeps self.old self.new }
@@ -222,7 +223,7 @@ impl Store {
         self.mapped(None, node, &Negated)
     }
 
-    /// The diagram with what the table has at the node's leaf.
+    /// The diagram that has, at each letter, what the table has for the node's leaf.
     pub(crate) fn placed(
         &mut self,
         node: Node,
@@ -238,7 +239,7 @@ impl Store {
         self.mapped(None, node, &Placed(places))
     }
 
-    /// The diagram of a node of another store, or else of this one, with its leaves changed.
+    /// The diagram of a node of `other`, or of this store if there is no other, with its leaves changed by the rule.
     fn mapped<R: LeafRule>(
         &mut self,
         other: Option<&Store>,
@@ -259,7 +260,7 @@ impl Store {
         self.mapped_by(other, node, rule, &mut known)
     }
 
-    /// The same, with a table of what was changed already.
+    /// As `mapped`, with a table of the nodes that were changed before.
     fn mapped_by<R: LeafRule>(
         &mut self,
         other: Option<&Store>,
@@ -301,7 +302,7 @@ impl Store {
         }
     }
 
-    /// The cell of a node of another store, or else of this one.
+    /// The cell of a node of `other`, or of this store if there is no other.
     fn cell_of(&self, other: Option<&Store>, node: Node) -> View
         requires held { IsNode (unwrap_or (option_copied other) self.now) node }
         ensures part { IsPart (unwrap_or (option_copied other.entry) self.now) node result }
@@ -312,7 +313,7 @@ impl Store {
         }
     }
 
-    /// The diagram with that leaf, or none, at each letter.
+    /// The diagram that has the given leaf, or none, at every letter.
     pub(crate) fn constant(&mut self, leaf: Option<u64>) -> Result<Node, AllocError>
         ensures keeps { Keeps self.old self.new }
         ensures held { IfOk result (λ made. IsNode self.new made) }

@@ -1,4 +1,4 @@
-//! What was made already, by what it was made from.
+//! A table of the nodes that were made before.
 
 ghost use Rattle.std.specs.Prelude.{◌≡◌, ◌⊎◌, [], OnErr, Some, true};
 ghost use Rattle.indexmap.specs.IndexMap.{get};
@@ -8,21 +8,21 @@ use indexmap::IndexMap;
 use std::alloc::{AllocError, Global};
 use std::hash::Hash;
 
-/// The number of nodes that are made before nodes are kept.
+/// How many nodes are made before the table keeps any.
 const PASSED: u32 = 64;
 
-/// The nodes that were made for keys. The first few are not kept, so that a small diagram needs no table. Those nodes
-/// are made again if their keys occur again.
+/// The nodes that were made, each by the key from which it was made. The first few are not kept, so that a small
+/// diagram needs no table. They are made again if their keys occur again.
 #[derive(Drop)]
 pub(crate) struct Memo<K: Eq + Hash> {
-    /// The node of each key that is kept.
+    /// The kept nodes, by their keys.
     pub table: IndexMap<K, Node>,
     /// The number of nodes that were not kept.
     passed: u32,
 }
 
 impl<K: Eq + Hash + Copy + Drop> Memo<K> {
-    /// No nodes yet.
+    /// An empty table.
     pub(crate) fn new(alloc: Global) -> Self
         ensures { result.table.entries ≡ [] }
     {
@@ -39,7 +39,7 @@ impl<K: Eq + Hash + Copy + Drop> Memo<K> {
         self.table.get(&key).copied()
     }
 
-    /// Keeps the node of a key, or not.
+    /// Keeps the node of a key, unless it is one of the first few.
     pub(crate) fn put(&mut self, key: K, node: Node) -> Result<(), AllocError>
         ensures put { (q : K) → (get K.eq self.new.table q ≡ get K.eq self.old.table q)
             ⊎ ((K.eq key q ≡ true) × (get K.eq self.new.table q ≡ Some node)) }

@@ -1,4 +1,4 @@
-//! Two diagrams joined.
+//! Joins two diagrams into one.
 
 ghost use Rattle.std.specs.Prelude.{◌≡◌, ◌≢◌, ℕ, ◌+◌, ◌^◌, ◌<◌, IfOk, IfErr, OnOk, Some};
 ghost use Rattle.indexmap.specs.IndexMap.{get};
@@ -15,11 +15,11 @@ use crate::store::Store;
 use crate::view::Node;
 
 impl Store {
-    /// The diagram that has the leaf of the first, or else that of the second.
+    /// The diagram that has the leaf of the first node, or, where that has none, the leaf of the second.
     ///
     /// # Errors
     ///
-    /// Fails at a letter at which they have two different leaves, or if memory runs out.
+    /// Fails if the two nodes have different leaves at some letter, or if memory runs out.
     pub fn overlay(&mut self, first: Node, second: Node) -> Result<Node, OverlayError>
         requires first { IsNode self.old first }
         requires second { IsNode self.old second }
@@ -36,7 +36,7 @@ impl Store {
         self.overlaid(first, second, &mut known)
     }
 
-    /// The same, with a table of what was joined already.
+    /// As `overlay`, with a table of the pairs of nodes that were joined before.
     fn overlaid(
         &mut self,
         first: Node,
@@ -77,7 +77,7 @@ impl Store {
         Ok(node)
     }
 
-    /// The same for two diagrams that test nothing.
+    /// As `overlaid`, for two diagrams that test nothing.
     fn overlaid_leaves(&self, first: Node, second: Node) -> Result<Node, OverlayError>
         requires first { IsNode self.now first }
         requires second { IsNode self.now second }

@@ -14,7 +14,8 @@ use indexmap::IndexMap;
 use std::alloc::{AllocError, Global};
 
 impl Store {
-    /// The different leaves of a node, each with the least letter that leads to it, in the order of those letters.
+    /// The different leaves of a node, each with the least letter that leads to it. They are in the order of these
+    /// letters.
     pub fn leaves(&self, node: Node) -> Result<Vec<(u64, u64)>, AllocError>
         requires held { IsNode self.now node }
         ensures { IfOk result (λ found. AreLeaves self.now node found.items) }
@@ -22,7 +23,7 @@ impl Store {
         listed(self.allocator(), self.found_below(node)?)
     }
 
-    /// The least letter that leads from a node to the leaf, if one does.
+    /// The least letter that leads from the node to the leaf, if any letter does.
     pub fn path_to(&self, node: Node, leaf: u64) -> Result<Option<u64>, AllocError>
         requires held { IsNode self.now node }
         ensures { IfOk result
@@ -43,8 +44,8 @@ impl Store {
         Ok(found)
     }
 
-    /// Gathers the leaves that were not found before, of the letters that begin like `letter`. The leaves of the nodes
-    /// that were seen are already found.
+    /// Collects the leaves that were not found before, to which letters lead that begin like `letter`. The leaves of
+    /// all nodes in `seen` have been found already.
     fn gather(
         &self,
         node: Node,

@@ -1,4 +1,4 @@
-//! The diagrams of products: of literals that are true together.
+//! The diagrams of products, which are conjunctions of literals.
 
 ghost use Rattle.std.specs.Prelude.{◌≡◌, ◌&&◌, ℕ, ◌<◌, Bool, true, false, List, IfOk, IfSome, cond};
 ghost use Rattle.ps_label.specs.Expression.{IsOver, expression, proposition};
@@ -12,17 +12,17 @@ use crate::view::Node;
 use ps_label::Label;
 use std::alloc::AllocError;
 
-/// Literals that are true together, as two sets of propositions: proposition p is bit p.
+/// A conjunction of literals, as two sets of propositions: proposition p is bit p.
 #[derive(Clone, Copy)]
 pub(crate) struct Product {
-    /// Those that are to be true.
+    /// The propositions that must be true.
     pub positive: u64,
-    /// Those that are to be false.
+    /// The propositions that must be false.
     pub negative: u64,
 }
 
 impl Product {
-    /// The product with a proposition that is to be true.
+    /// The product that also requires a proposition to be true.
     fn with(self, proposition: u32) -> Product
         requires named { proposition < 64 }
         ensures { (n letter : ℕ) → proposition < n →
@@ -34,7 +34,7 @@ impl Product {
         }
     }
 
-    /// The product with a proposition that is to be false.
+    /// The product that also requires a proposition to be false.
     fn without(self, proposition: u32) -> Product
         requires named { proposition < 64 }
         ensures { (n letter : ℕ) → proposition < n →
@@ -48,7 +48,8 @@ impl Product {
 }
 
 impl Store {
-    /// The diagram with that leaf where a label is true, if it is a product of literals.
+    /// The diagram that has the leaf `value` at letters at which the label is true, if the label is a product of
+    /// literals.
     pub(crate) fn of_literals(
         &mut self,
         label: &Label,
@@ -71,7 +72,7 @@ impl Store {
         Ok(Some(node))
     }
 
-    /// A product with the literals of a label, if the label is a product of literals.
+    /// The product extended by the literals of a label, if the label is a product of literals.
     fn with_label(&self, product: Product, label: &Label) -> Option<Product>
         requires within { (aliases : ℕ) × IsOver aliases self.now.propositions (expression label.now) }
         ensures { IfSome result (λ more. (known : List Bool) (letter : ℕ) → meets self.now.propositions more letter ≡
@@ -92,7 +93,7 @@ impl Store {
         }
     }
 
-    /// The diagram with that leaf where a product is true.
+    /// The diagram that has the leaf `value` at letters at which the product is true.
     fn of_product(&mut self, product: Product, value: u64) -> Result<Node, AllocError>
         ensures keeps { Keeps self.old self.new }
         ensures held { IfOk result (λ node. IsNode self.new node) }
@@ -110,7 +111,7 @@ impl Store {
     }
 }
 
-/// The first node if the proposition is one of some, and else the second.
+/// The first node if the proposition is in the set `some`, and otherwise the second.
 fn side(some: u64, proposition: u32, first: Node, second: Node) -> Node
     requires named { proposition < 64 }
     ensures { result ≡ cond (is_in proposition some) first second }
@@ -122,7 +123,7 @@ fn side(some: u64, proposition: u32, first: Node, second: Node) -> Node
     }
 }
 
-/// The proposition of a label, if it is one.
+/// The proposition of a label that is a single proposition.
 fn atom_of(label: &Label) -> Option<u32>
     ensures { IfSome result (λ p. expression label.now ≡ proposition p) }
 {

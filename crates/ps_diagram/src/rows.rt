@@ -1,5 +1,5 @@
-//! The diagram of a list of leaves: a row of nodes for the last proposition, half as many for the one before it, and so
-//! on.
+//! Makes the diagram of a list of leaves: a row of nodes for the last proposition, then a row half as long for the
+//! proposition before it, and so on.
 
 ghost use Rattle.std.specs.Prelude.{◌≡◌, ℕ, ◌+◌, ◌%◌, ◌^◌, ◌<◌, ◌≤◌, List, IfOk, length, slice_get, slice_index_or};
 ghost use Rattle.ps_diagram.specs.Inner.Rows.{AreLeafNodes, IsRow, LeadsOn};
@@ -10,8 +10,8 @@ use crate::view::Node;
 use std::alloc::AllocError;
 
 impl Store {
-    /// The diagram whose leaf at a letter is at the letter's place in the list. Letters after the end of the list have
-    /// no leaf. Each letter is read once.
+    /// The diagram whose leaf at a letter is the entry of the list at the index that the letter is. Letters past the
+    /// end of the list have no leaf. Each entry is read once.
     pub fn of_leaves(&mut self, leaves: &[u64]) -> Result<Node, AllocError>
         ensures keeps { Keeps self.old self.new }
         ensures held { IfOk result (λ node. IsNode self.new node) }
@@ -27,7 +27,7 @@ impl Store {
         Ok(node_or(&nodes, 0, none))
     }
 
-    /// The nodes of leaves.
+    /// A node for each leaf.
     fn leaf_nodes(&mut self, leaves: &[u64]) -> Result<Vec<Node>, AllocError>
         ensures keeps { Keeps self.old self.new }
         ensures nodes { IfOk result (λ nodes. AreLeafNodes self.new leaves.now (length leaves.now) nodes.items) }
@@ -39,7 +39,8 @@ impl Store {
         Ok(nodes)
     }
 
-    /// The row for the propositions before one, from that for the propositions up to it.
+    /// The row whose nodes depend on propositions from `proposition` on, made from the row whose nodes depend only on
+    /// later ones.
     fn halved(
         &mut self,
         proposition: u32,
@@ -65,7 +66,7 @@ impl Store {
     }
 }
 
-/// The node at a place, or another if the row ends before it.
+/// The node at an index, or `other` if the row is too short.
 fn node_or(nodes: &[Node], place: usize, other: Node) -> Node
     ensures { result ≡ slice_index_or nodes.now place other }
 {

@@ -1,4 +1,4 @@
-//! Nodes split at the first proposition that they test.
+//! Splits nodes at the first proposition that they test.
 
 ghost use Rattle.std.specs.Prelude.{◌≡◌, ℕ, ◌+◌, ◌≤◌, ◌<◌, ◌↔◌, IsTrue, MatchOption};
 ghost use Rattle.ps_diagram.specs.Tree.{empty};
@@ -7,23 +7,23 @@ ghost use Rattle.ps_diagram.specs.Table.{IsNode, IsSoundTable, tree_of};
 use crate::store::Store;
 use crate::view::{Node, View};
 
-/// The two sides of a node for a proposition: the diagrams for it false and for it true.
+/// The two sides of a node at a proposition: the diagrams of the node if the proposition is false, and if it is true.
 #[derive(Clone, Copy)]
 pub(crate) struct Sides {
-    /// For the proposition false.
+    /// The diagram if the proposition is false.
     pub low: Node,
-    /// For the proposition true.
+    /// The diagram if the proposition is true.
     pub high: Node,
 }
 
-/// Two nodes at the first proposition that either tests.
+/// Two nodes, split at the first proposition that one of them tests.
 #[derive(Clone, Copy)]
 pub(crate) struct Split {
     /// The proposition.
     pub proposition: u32,
     /// The sides of the first node.
     pub left: Sides,
-    /// The sides of the second.
+    /// The sides of the second node.
     pub right: Sides,
 }
 
@@ -43,7 +43,7 @@ impl Store {
         }
     }
 
-    /// The sides of a node for a proposition. The node tests no proposition before it.
+    /// The sides of a node at a proposition. The node tests no earlier proposition.
     pub(crate) fn sides(&self, node: Node, proposition: u32) -> Sides
         requires held { IsNode self.now node }
         requires later { proposition ≤ root_of self.now.propositions (tree_of self.now node) }
@@ -73,7 +73,7 @@ impl Store {
         }
     }
 
-    /// Two nodes split at the first proposition that either tests, if one does.
+    /// Two nodes, split at the first proposition that one of them tests; nothing if neither tests any.
     pub(crate) fn split(&self, first: Node, second: Node) -> Option<Split>
         requires first { IsNode self.now first }
         requires second { IsNode self.now second }

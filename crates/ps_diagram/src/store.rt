@@ -14,7 +14,8 @@ use std::alloc::{AllocError, Global};
 use std::marker::Model;
 
 /// Reduced ordered decision diagrams over at most 64 propositions, with numbers as leaves. Equal diagrams are one node.
-/// Calls that return a `Result` fail if memory runs out; `overlay` also fails at two different leaves.
+/// Calls that return a `Result` fail if memory runs out; `overlay` also fails if the diagrams have different leaves at
+/// some letter.
 #[derive(Debug, Drop)]
 pub struct Store {
     alloc: Global,
@@ -33,7 +34,7 @@ impl Model for Store {
 }
 
 impl Store {
-    /// A store without nodes, over that number of propositions.
+    /// A store without nodes, over the given number of propositions.
     pub fn new(alloc: Global, propositions: u32) -> Self
         requires few { propositions ≤ 64 }
         ensures propositions { result.propositions ≡ propositions }
@@ -55,7 +56,7 @@ impl Store {
         self.propositions
     }
 
-    /// The diagram with that leaf at each letter.
+    /// The diagram that has the given leaf at every letter.
     pub fn leaf(&mut self, value: u64) -> Result<Node, AllocError>
         ensures keeps { Keeps self.old self.new }
         ensures held { IfOk result (λ node. IsNode self.new node) }
@@ -116,7 +117,7 @@ impl Store {
         first == second
     }
 
-    /// A node by its parts.
+    /// The parts of a node.
     pub fn view(&self, node: Node) -> View
         requires held { IsNode self.now node }
         ensures { Sees self.now node result }
@@ -137,7 +138,7 @@ impl Store {
         })
     }
 
-    /// The cell of a node, whose nodes are earlier ones.
+    /// The cell of a node; the nodes in the cell are earlier ones.
     pub(crate) fn cell(&self, node: Node) -> View
         requires held { IsNode self.now node }
         ensures sound { IsSoundTable self.now }
@@ -146,7 +147,7 @@ impl Store {
         self.cells.as_slice()[node.place]
     }
 
-    /// The diagram that goes to `low` where the proposition is false, and to `high` where it is true.
+    /// The diagram that leads to `low` if the proposition is false, and to `high` if it is true.
     pub(crate) fn test(
         &mut self,
         proposition: u32,
@@ -174,7 +175,7 @@ impl Store {
         })
     }
 
-    /// The node of a cell, which is made if there is none.
+    /// The node with this cell, which is added if the table has none.
     pub(crate) fn intern(&mut self, cell: View) -> Result<Node, AllocError>
         requires within { IsWithin (length self.old.cells) cell }
         requires ordered { IsFrom 0 self.old.propositions (tree_in self.old.cells cell) }

@@ -2,7 +2,7 @@
 
 use std::marker::Model;
 
-/// A decision diagram of a store. It means something in that store, and in those copied from it later.
+/// A decision diagram, as a node of a store. It may be used with that store, and with later copies of it.
 #[derive(Debug, Clone, Copy, PartialEq, Eq, Hash)]
 pub struct Node {
     pub(crate) place: usize,
@@ -18,14 +18,14 @@ impl Model for Node {
     ghost inverse = { λ n. record { place = n } };
 }
 
-/// A node by its parts.
+/// The parts of a node.
 #[derive(Debug, Clone, Copy, PartialEq, Eq, Hash)]
 pub enum View {
     /// No letter has a leaf.
     Nothing,
-    /// Each letter has that leaf.
+    /// Every letter has this leaf.
     Leaf(u64),
-    /// The least proposition on which the leaf depends, and the diagrams for it false and true.
+    /// The least proposition on which the leaf depends, and the diagrams for the proposition false and true.
     Test {
         proposition: u32,
         low: Node,

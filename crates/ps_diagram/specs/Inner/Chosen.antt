@@ -1,4 +1,4 @@
--- How the trees that `choose` and `both` make are related to the trees that they take. (For private functions.)
+-- How the trees that `choose` and `both` make are related to the given trees. (For private functions.)
 use Rattle.std.specs.Prelude.{◌≡◌, ℕ, ◌+◌, ◌<◌, Bool, List, Option, Some}
 use Rattle.ps_diagram.specs.declared.choose.Cut.{Cut}
 use Rattle.ps_diagram.specs.Leaves.{chosen}
@@ -19,8 +19,8 @@ KnowsTriples t known =
     IsNode t truth × IsNode t one × IsNode t other × IsNode t made ×
     IsChosen (tree_of t truth) (tree_of t one) (tree_of t other) (tree_of t made)
 
--- three nodes are cut at the same proposition; the sum of their low sides, and that of their high sides, is less than
--- the sum of the nodes
+-- three nodes are split at the same proposition; the sum of their low sides is less than the sum of the nodes, and so
+-- is the sum of their high sides
 pub record IsCut (t : Table) (truth one other : ℕ) (c : Cut) : Type 0 where
   pub named : c.proposition < t.propositions
   pub truth_sides : IsSides t truth c.proposition c.truth.low c.truth.high

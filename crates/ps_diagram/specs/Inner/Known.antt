@@ -1,4 +1,4 @@
--- The nodes that a memo table already has, and how a new diagram is related to the diagrams from which it is made.
+-- The nodes that a memo table already has, and how each new diagram is related to the diagrams from which it is made.
 use Rattle.std.specs.Prelude.{◌≡◌, ◌≢◌, ℕ, Bool, ◌&&◌, nat_eq, Option, Some}
 use Rattle.ps_diagram.specs.declared.fault.OverlayError.{OverlayError}
 use Rattle.ps_diagram.specs.declared.fault.OverlayError.TheVariants.{Clash, OutOfMemory}

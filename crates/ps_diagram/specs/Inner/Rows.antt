@@ -14,8 +14,8 @@ pub record AreLeafNodes (t : Table) (leaves : List ℕ) (count : ℕ) (nodes : L
   pub one_each : length nodes ≡ count
   pub each : (i : ℕ) → i < count → HasLeaf t (slice_index nodes i) (slice_get leaves i)
 
--- the nodes of a row depend only on propositions from `level` on; an index past the row's end gives the node `none`,
--- which has no leaf
+-- the nodes of a row depend only on propositions from `level` on; past the end of the row, an index gives the node
+-- `none`, which has no leaf
 pub record IsRow (t : Table) (level none : ℕ) (nodes : List ℕ) : Type 0 where
   pub nothing : HasLeaf t none None
   pub held : (i : ℕ) → IsNode t (slice_index_or nodes i none)
