@@ -26,9 +26,9 @@ use ps_hoa::HoaFile;
 use std::alloc::{AllocError, Global};
 use std::marker::Model;
 
-/// A total, deterministic automaton with a priority on each edge. If the text has no edge, a step leads to the sink,
-/// whose number is the count of states. Each leaf of its diagrams names a pair of a state and a priority, and no two
-/// leaves name the same one.
+/// A total, deterministic automaton with a priority on each edge. At a letter at which no edge of the text is taken,
+/// the step leads to the sink, whose number is the count of states. Each leaf of the diagrams names a pair of a state
+/// and a priority; no two leaves name the same pair.
 #[derive(Drop)]
 pub struct Automaton {
     alloc: Global,
@@ -70,12 +70,12 @@ impl Model for Automaton {
 }
 
 impl Automaton {
-    /// The automaton of a file. Letters are numbers less than 2 to the number of propositions: bit p is proposition p.
+    /// The automaton of a file. A letter is a number whose bit p is the truth value of proposition p.
     ///
     /// # Errors
     ///
-    /// Fails if the condition has a complemented set; else if it is not a chain; else if two edges of a state share a
-    /// letter and differ, at the first such pair; or if out of memory.
+    /// Fails if the acceptance condition contains a complemented set; else if it is not a chain; else with the first
+    /// two edges of a state that are taken at a common letter and differ; or if memory runs out.
     pub fn build(alloc: Global, file: &HoaFile) -> Result<Automaton, AutomatonFault>
         ensures built { IfOk result (λ automaton. (chain : Chain) × IsBuiltFrom file.now chain automaton) }
         ensures admitted { OnOk result (IsAdmitted file.now) }
@@ -85,7 +85,7 @@ impl Automaton {
         Ok(Automaton::from_draft(alloc, file, draft)?)
     }
 
-    /// The automaton of a file whose diagrams are made.
+    /// The automaton of a file, made from the diagrams of its steps.
     fn from_draft(alloc: Global, file: &HoaFile, draft: Draft) -> Result<Automaton, AllocError>
         requires { (chain : Chain) × (chain_of file.now.condition ≡ Some chain) ×
             IsDraft file.now chain draft.pairs.steps.keys draft.pairs.store draft.nodes.items }
@@ -108,7 +108,7 @@ impl Automaton {
         })
     }
 
-    /// The names of the propositions, at most 64. They differ, are not empty and have no control byte.
+    /// The names of the propositions, at most 64. They differ, and each is a non-empty text without control bytes.
     pub fn names(&self) -> &[Vec<u8>]
         ensures names { map bytes_of result.now ≡ self.now.names }
         ensures few { length self.now.names ≤ 64 }
@@ -117,7 +117,7 @@ impl Automaton {
         self.names.as_slice()
     }
 
-    /// The propositions that are controllable, each once.
+    /// The controllable propositions, each once.
     pub fn controllable(&self) -> &[u32]
         ensures controllable { result.now ≡ self.now.controllable }
         ensures well_formed { AreBelow (length self.now.names) self.now.controllable }
@@ -150,7 +150,7 @@ impl Automaton {
         &self.store
     }
 
-    /// The diagram of a state, or of the sink: its leaf at a letter names the step, by `pair`.
+    /// The diagram of a state, or of the sink. Its leaf at a letter names the step (`pair`).
     pub fn node(&self, state: u32) -> Node
         requires { state ≤ self.now.states }
         ensures node { result ≡ node_of self.now state }
@@ -168,7 +168,7 @@ impl Automaton {
         self.steps.as_slice()[leaf as usize]
     }
 
-    /// The step from a state, or from the sink, by a letter.
+    /// The step from a state, or from the sink, at a letter.
     pub fn step(&self, state: u32, letter: u64) -> Step
         requires { state ≤ self.now.states }
         ensures step { result ≡ step_of self.now state letter }
@@ -180,7 +180,7 @@ impl Automaton {
         }
     }
 
-    /// Whether the word of a stem and a repeated lap is accepted. Fails if out of memory.
+    /// Whether the word is accepted that consists of a stem and a lap that repeats for ever. Fails if memory runs out.
     pub fn accepts(&self, stem: &[u64], lap: &[u64]) -> Result<bool, AllocError>
         requires some { 0 < length lap.now }
         requires stem { All (λ letter. letter < 2 ^ length self.now.names) stem.now }
@@ -193,7 +193,7 @@ impl Automaton {
         Ok(self.greatest_of_laps(orbit.state, lap, orbit.laps) % 2 == 0)
     }
 
-    /// The state after letters, and the greatest priority along them.
+    /// The state after the letters have been read, and the greatest priority of the edges taken.
     fn read(&self, state: u32, letters: &[u64]) -> Step
         requires { state ≤ self.now.states }
         ensures state { result.state ≡ state_behind (auto_of self.now) state letters.now }
@@ -213,7 +213,8 @@ impl Automaton {
         }
     }
 
-    /// Some state to which laps lead from a state, and how many more laps lead back to it.
+    /// A state that some laps reach from the given state, and the number of further laps that lead from it back to
+    /// itself.
     fn returning(&self, first: u32, lap: &[u64]) -> Result<Orbit, AllocError>
         requires { first ≤ self.now.states }
         ensures returns { IfOk result (λ orbit. Returns (auto_of self.now) first lap.now orbit.state orbit.laps) }
@@ -233,7 +234,7 @@ impl Automaton {
         })
     }
 
-    /// The greatest priority along `laps` laps.
+    /// The greatest priority of the edges taken during `laps` laps.
     fn greatest_of_laps(&self, state: u32, lap: &[u64], laps: usize) -> u64
         requires { state ≤ self.now.states }
         ensures { result ≡ greatest_of_laps (auto_of self.now) state lap.now laps }
@@ -249,7 +250,7 @@ impl Automaton {
     }
 }
 
-/// The diagrams of a file whose condition is a chain without complements.
+/// The diagrams of a file whose acceptance condition is a chain without complemented sets.
 fn draft_of(alloc: Global, file: &HoaFile) -> Result<Draft, AutomatonFault>
     ensures draft { IfOk result (λ draft. (chain : Chain) × (chain_of file.now.condition ≡ Some chain) ×
         IsDraft file.now chain draft.pairs.steps.keys draft.pairs.store draft.nodes.items) }
@@ -266,7 +267,7 @@ fn draft_of(alloc: Global, file: &HoaFile) -> Result<Draft, AutomatonFault>
     drafted(alloc, file, &Levels { chain, numbers })
 }
 
-/// A copy of names.
+/// A copy of the names.
 fn copied(alloc: Global, names: &[Vec<u8>]) -> Result<Vec<Vec<u8>>, AllocError>
     ensures { IfOk result (λ copy. map bytes_of copy.items ≡ map bytes_of names.now) }
 {
@@ -277,7 +278,7 @@ fn copied(alloc: Global, names: &[Vec<u8>]) -> Result<Vec<Vec<u8>>, AllocError>
     Ok(copy)
 }
 
-/// A state, and how many laps lead back to it.
+/// A state, and the number of laps that lead back to it.
 #[derive(Clone, Copy)]
 struct Orbit {
     state: u32,

@@ -1,4 +1,4 @@
-//! The chain of a condition, and the numbers that it gives to edges.
+//! The chain of an acceptance condition, and the numbers that the chain gives to edges.
 
 ghost use Rattle.std.specs.Prelude.{◌≡◌, IfOk, Some, map, not, option_map};
 ghost use Rattle.ps_hoa.specs.Values.{condition_of};
@@ -10,25 +10,26 @@ ghost use Rattle.ps_automaton.specs.Inner.Views.{chain_data, link_data};
 use ps_hoa::Cond;
 use std::alloc::{AllocError, Global};
 
-/// A set, and whether meeting it accepts.
+/// A set of edges, and whether a part of a run in which the set is met is accepted.
 #[derive(Clone, Copy)]
 pub(crate) struct Link {
     /// The number of the set.
     pub set: u32,
-    /// Whether meeting it accepts.
+    /// Whether a part in which the set is met is accepted.
     pub accepts: bool,
 }
 
-/// The first link whose set is met decides; if none is met, the base does.
+/// The first link whose set is met decides whether a part of a run is accepted. If no such set is met, the base
+/// decides.
 #[derive(Drop)]
 pub(crate) struct Chain {
-    /// The links, from the first on.
+    /// The links, in order.
     pub links: Vec<Link>,
-    /// What holds if no set of a link is met.
+    /// Whether a part is accepted in which no link's set is met.
     pub base: bool,
 }
 
-/// Whether a condition contains a complemented set.
+/// Whether an acceptance condition contains a complemented set.
 pub(crate) fn is_complemented(condition: &Cond) -> bool
     ensures { result ≡ has_complement (condition_of condition.now) }
 {
@@ -56,7 +57,7 @@ pub(crate) fn is_complemented(condition: &Cond) -> bool
     }
 }
 
-/// The chain of a condition, if it is a chain.
+/// The chain of an acceptance condition, if the condition is a chain.
 pub(crate) fn chain_of(alloc: Global, condition: &Cond) -> Result<Option<Chain>, AllocError>
     ensures { IfOk result (λ chain. option_map chain_data chain ≡ chains.chain_of (condition_of condition.now)) }
 {
@@ -65,7 +66,7 @@ pub(crate) fn chain_of(alloc: Global, condition: &Cond) -> Result<Option<Chain>,
     Ok(base.map(|base| Chain { links, base }))
 }
 
-/// Appends the links of a condition to others, and returns its base, if it is a chain.
+/// Appends the links of a condition to `links` and returns its base, if the condition is a chain.
 fn base_behind(condition: &Cond, links: &mut Vec<Link>) -> Result<Option<bool>, AllocError>
     ensures { IfOk result (λ base. with_base links.new.items base ≡ in_front (Some (map link_data links.old.items))
         (chains.chain_of (condition_of condition.now))) }
@@ -88,18 +89,18 @@ fn base_behind(condition: &Cond, links: &mut Vec<Link>) -> Result<Option<bool>, 
     }
 }
 
-/// Which operands of a disjunction (or of a conjunction) are links.
+/// Which operands of a disjunction or a conjunction are links.
 #[derive(Clone, Copy)]
 enum Gathered {
-    /// All.
+    /// All operands.
     All,
-    /// All but the one at that place.
+    /// All operands but the one at this index.
     AllBut(usize),
     /// At least two are not links.
     TooFew,
 }
 
-/// Appends the links of the operands of a disjunction (or of a conjunction) to others.
+/// Appends the links of the operands of a disjunction or a conjunction to `links`.
 fn gather(operands: &[Cond], accepts: bool, links: &mut Vec<Link>) -> Result<Gathered, AllocError>
     ensures { IfOk result (λ gathered. IsGathered accepts operands.now links.old.items links.new.items gathered) }
 {
@@ -117,7 +118,7 @@ fn gather(operands: &[Cond], accepts: bool, links: &mut Vec<Link>) -> Result<Gat
     })
 }
 
-/// The link of an operand of a disjunction (or of a conjunction).
+/// The link of an operand of a disjunction or a conjunction, if the operand is a link.
 fn link_of(operand: &Cond, accepts: bool) -> Option<Link>
     ensures { option_map link_data result ≡ chains.link_of accepts (condition_of operand.now) }
 {
@@ -128,7 +129,7 @@ fn link_of(operand: &Cond, accepts: bool) -> Option<Link>
     }
 }
 
-/// Appends the link to a set to others, and returns the base after it.
+/// Appends the link of a single set to `links`, and returns the base.
 fn one_link(
     set: u32,
     complemented: bool,

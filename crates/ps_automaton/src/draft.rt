@@ -28,12 +28,12 @@ use ps_diagram::{Node, Store};
 use ps_hoa::{Guard, HoaFile, Row};
 use std::alloc::{AllocError, Global};
 
-/// The diagrams of the states, and after them that of the sink.
+/// The diagrams of the states, followed by the diagram of the sink.
 #[derive(Drop)]
 pub(crate) struct Draft {
     /// The store and the steps.
     pub pairs: Pairs,
-    /// A diagram for each state, and the sink's.
+    /// A diagram for each state, and then one for the sink.
     pub nodes: Vec<Node>,
 }
 
@@ -53,7 +53,7 @@ pub(crate) fn drafted(
     Ok(Draft { pairs, nodes })
 }
 
-/// No diagrams yet, and the step that leads to the sink.
+/// A draft without diagrams, in which the first step is the one to the sink.
 fn opened(alloc: Global, file: &HoaFile) -> Result<Pairs, AllocError>
     ensures letters { IfOk result (λ pairs. pairs.store.propositions ≡ length file.now.names) }
     ensures steps { IfOk result (λ pairs. AreSteps file.now.states pairs.steps.keys) }
@@ -70,7 +70,7 @@ fn opened(alloc: Global, file: &HoaFile) -> Result<Pairs, AllocError>
     })
 }
 
-/// The diagrams of the steps of all states, and that of the sink.
+/// The diagrams of the steps of all states, followed by the diagram of the sink.
 fn nodes_of(pairs: &mut Pairs, file: &HoaFile, levels: &Levels) -> Result<Vec<Node>, AutomatonFault>
     requires levels { AreLevels levels.now }
     requires letters { pairs.old.store.propositions ≡ length file.now.names }
@@ -167,7 +167,7 @@ fn row_node(pairs: &mut Pairs, levels: &Levels, guards: &Guards) -> Result<Node,
     }
 }
 
-/// Whether each edge of a row is taken at a letter of its own.
+/// Whether each edge of a row is taken at a single letter, whose number is the index of the edge.
 fn is_by_letters(row: &Row) -> bool
     ensures { IsTrue result → (file : FileData) → IsSoundRow file (row_data row.now) →
         IsByLetters file (row_data row.now) }
@@ -178,7 +178,7 @@ fn is_by_letters(row: &Row) -> bool
     }
 }
 
-/// The diagram of the steps of a row whose edges are taken at a letter each.
+/// The diagram of the steps of a row each of whose edges is taken at a single letter.
 fn node_by_letters(pairs: &mut Pairs, levels: &Levels, guards: &Guards) -> Result<Node, AllocError>
     requires levels { AreLevels levels.now }
     requires ready { IsReady pairs.old.store guards.now }
@@ -194,7 +194,7 @@ fn node_by_letters(pairs: &mut Pairs, levels: &Levels, guards: &Guards) -> Resul
     Ok(node)
 }
 
-/// The targets of a row's edges, in their order.
+/// The targets of a row's edges, in the order of the edges.
 fn targets_of(alloc: Global, guards: &Guards) -> Result<Vec<Target>, AllocError>
     requires file { IsSoundFile guards.now.file.now }
     requires row { IsSoundRow guards.now.file.now (row_data guards.now.row.now) }
@@ -207,7 +207,7 @@ fn targets_of(alloc: Global, guards: &Guards) -> Result<Vec<Target>, AllocError>
     Ok(targets)
 }
 
-/// The diagram of the steps of a row whose edges are taken where labels are true.
+/// The diagram of the steps of a row whose edges have labels.
 fn node_by_labels(
     pairs: &mut Pairs,
     levels: &Levels,
@@ -225,7 +225,8 @@ fn node_by_labels(
     Ok(node_of_union(pairs, levels, &union)?)
 }
 
-/// The diagram of the steps to the targets of joined edges, and of the step to the sink where no edge is taken.
+/// The diagram of the steps to the targets of joined edges. At a letter at which no edge is taken, the step leads to
+/// the sink.
 fn node_of_union(pairs: &mut Pairs, levels: &Levels, union: &Union) -> Result<Node, AllocError>
     requires levels { AreLevels levels.now }
     requires held { IsNode pairs.old.store union.now.node }
@@ -247,7 +248,7 @@ fn node_of_union(pairs: &mut Pairs, levels: &Levels, union: &Union) -> Result<No
     Ok(named)
 }
 
-/// The places of the steps to targets.
+/// The indices of the steps to the given targets.
 fn places_of(
     alloc: Global,
     steps: &mut IndexSet<Step>,

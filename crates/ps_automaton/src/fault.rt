@@ -10,20 +10,21 @@ use thiserror::Error;
 /// Why a file has no automaton.
 #[derive(Debug, Clone, Copy, PartialEq, Eq, Error)]
 pub enum AutomatonFault {
-    /// The condition has a complemented set.
+    /// The acceptance condition contains a complemented set.
     #[error("the condition has a complemented set")]
     ComplementedSet,
-    /// The condition is not a chain.
+    /// The acceptance condition is not a chain.
     #[error("the condition is no chain")]
     NonParity,
-    /// Two edges of a state, counted from 0, share a letter and differ in target or in sets.
+    /// Two edges of a state are taken at a common letter, but differ in their targets or their sets. (States are
+    /// counted from 0.)
     #[error("state {state} has edges {first} and {second} that share a letter")]
     Nondeterministic {
-        /// The state, by its number in the text.
+        /// The number that the state has in the text.
         state: u32,
-        /// The place of the earlier edge in the state's row, from 0.
+        /// The index of the earlier edge in the state's row, counted from 0.
         first: usize,
-        /// The place of the later one.
+        /// The index of the later edge.
         second: usize,
     },
     /// Memory ran out.

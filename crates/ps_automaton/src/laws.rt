@@ -1,4 +1,4 @@
-//! Laws on the definitions.
+//! Laws about the definitions.
 
 ghost use Rattle.std.specs.Prelude.{◌≡◌, ◌≢◌, ◌⊎◌, ℕ, ◌<◌, Bool, List, Some, length};
 ghost use Rattle.ps_hoa.specs.Conditions.{Condition};
@@ -10,20 +10,20 @@ ghost use Rattle.ps_automaton.specs.Chains.{Chain, chain_of, greatest_level, hol
 ghost use Rattle.ps_automaton.specs.declared.fault.AutomatonFault.{AutomatonFault};
 ghost use Rattle.ps_automaton.specs.declared.fault.AutomatonFault.TheVariants.{OutOfMemory};
 
-/// The greatest number of one or more edges that a part of a run takes is even exactly if the condition is true of the
-/// sets that are met.
+/// A chain gives each edge a number. In a part of a run with at least one edge, the greatest of these numbers is even
+/// exactly if the acceptance condition is true for the sets that the part meets.
 pub fn greatest_level_decides()
     ensures { (condition : Condition) (chain : Chain) (edges : List (ℕ → Bool)) → chain_of condition ≡ Some chain →
         0 < length edges → is_even (greatest_level chain edges) ≡ holds (is_met edges) condition }
 {}
 
-/// A file that was read and is admitted has an automaton: a step for each state and letter.
+/// A file that was read and is admitted has an automaton, with a step for each state and letter.
 pub fn automaton_is_there()
     ensures { (file : FileData) → IsSoundFile file → IsAdmitted file →
         (chain : Chain) × (auto : Auto) × (chain_of file.condition ≡ Some chain) × IsAutoOf file chain auto }
 {}
 
-/// A file has one answer: it is admitted, or refused for one cause. Memory may run out for any file.
+/// A file is either admitted, or refused for exactly one cause. Memory may run out for any file.
 pub fn refusal_is_one()
     ensures some { (file : FileData) → IsAdmitted file ⊎ ((fault : AutomatonFault) × (fault ≢ OutOfMemory) ×
         IsRefused file fault) }

@@ -7,12 +7,12 @@ use crate::numbers::Numbers;
 use crate::step::Step;
 use crate::targets::Target;
 
-/// A chain, and the table of its numbers.
+/// A chain and the table of its numbers.
 #[derive(Drop)]
 pub(crate) struct Levels {
     /// The chain.
     pub chain: Chain,
-    /// Its numbers.
+    /// The numbers that the chain gives to edges.
     pub numbers: Numbers,
 }
 

@@ -1,29 +1,29 @@
 //! Parity automata: when a lasso is accepted, and total, deterministic automata with a priority on each edge.
 //!
-//! A word is a stem and then a lap, which is repeated for ever. An automaton accepts it if some run reads the stem and
-//! some laps to a state, and some more laps back to it, with the condition true of the sets that are met in that last
-//! part (`IsAccepted`, which only uses the data of a file: HOA v1, acceptance). A condition that is a chain gives each
-//! edge a number. Along a part of a run the greatest number is even exactly if the condition is true of the sets met:
-//! that is `greatest_level_decides`. An `Automaton` has its steps in decision diagrams, with a sink where the text has
-//! no edge.
+//! A word is a stem followed by a lap that repeats for ever. An automaton accepts the word if some run reads the stem
+//! and some laps to a state, and then at least one more lap back to this state, and the acceptance condition is true
+//! for the sets met in that last part. (This is `IsAccepted`, which only uses the data of a file: HOA v1, acceptance.)
+//! A condition that is a chain gives each edge a number. In a part of a run, the greatest number is even exactly if the
+//! condition is true for the sets that are met (`greatest_level_decides`). The steps of an `Automaton` are stored in
+//! decision diagrams; at a letter at which no edge of the text is taken, the step leads to a sink.
 //!
 //! | Call | What it gives |
 //! |---|---|
-//! | `Automaton::build(file)` | the automaton of a file, or the first `AutomatonFault` for which there is none |
+//! | `Automaton::build(file)` | the automaton of a file, or the first `AutomatonFault` of a file that has none |
 //! | `Automaton::names`, `controllable`, `states`, `start` | what the file's header says |
 //! | `Automaton::step(state, letter)` | the next state, and the priority of the edge that leads there; no memory |
 //! | `Automaton::store`, `node(state)`, `pair(leaf)` | the diagram of a state's steps; the step that a leaf names |
-//! | `Automaton::accepts(stem, lap)` | exactly whether the file accepts the word of a stem and a lap |
-//! | `AutomatonFault::number`, `name` | a fault in psyn's list of faults |
+//! | `Automaton::accepts(stem, lap)` | whether the file accepts the word that consists of a stem and a repeated lap |
+//! | `AutomatonFault::number`, `name` | the fault's number and name in psyn's list of faults |
 //!
 //! | Law | What it says |
 //! |---|---|
-//! | `automaton_is_there` | a file that was read and is admitted has an automaton: a step for each state and letter |
-//! | `refusal_is_one` | each file is either admitted or refused, and for one cause |
-//! | `greatest_level_decides` | a run's greatest number is even exactly if the condition is true of its sets |
+//! | `automaton_is_there` | a file that was read and is admitted has an automaton, with a step for each state and letter |
+//! | `refusal_is_one` | each file is either admitted, or refused for exactly one cause |
+//! | `greatest_level_decides` | the greatest number in a part of a run is even exactly if the condition is true for the part's sets |
 //!
-//! `build` joins the edges of a state one after another, as diagrams. So a label that uses a few of many propositions
-//! does not need all letters. `accepts` reads the lap at most twice for each state and the sink.
+//! `build` joins the edges of a state one after another, as diagrams. So `build` does not visit every letter if a label
+//! uses only a few of many propositions. `accepts` reads the lap at most twice for each state and for the sink.
 #![tactic(auto)]
 
 mod automaton;

@@ -9,17 +9,17 @@ ghost use Rattle.ps_automaton.specs.Inner.Views.{chain_data};
 
 use crate::chain::Chain;
 
-/// How many sets there may be.
+/// The largest number of sets.
 const SETS: usize = 64;
 
-/// The number of an edge that has none of a chain's sets, and that of an edge with a single set.
+/// The number of an edge without sets, and for each set the number of an edge that has only this set.
 #[derive(Clone, Copy)]
 pub(crate) struct Numbers {
     base: u64,
     by_set: [u64; SETS],
 }
 
-/// The numbers of a chain, from its end forwards.
+/// The numbers of a chain, computed from its end.
 pub(crate) fn table_of(chain: &Chain) -> Numbers
     requires { AreSetsBelow 64 (chain_data chain.now).links }
     ensures { IsTable (chain_data chain.now) result.base result.by_set }
@@ -52,7 +52,7 @@ fn is_in(set: usize, sets: u64) -> bool
     sets >> set & 1 == 1
 }
 
-/// The number of a link in front of one with that number.
+/// The number of a link, given the number of the next link.
 fn raised_number(accepts: bool, next: u64) -> u64
     requires { next < 2 ^ 63 }
     ensures { result ≡ raised accepts next }
@@ -65,7 +65,7 @@ fn raised_number(accepts: bool, next: u64) -> u64
 }
 
 impl Numbers {
-    /// The number of an edge with the sets of a mask.
+    /// The number of an edge that has the sets in the mask.
     pub(crate) fn level(&self, sets: u64) -> u64
         ensures { (chain : chains.Chain) → AreSetsBelow 64 chain.links → IsTable chain self.now.base self.now.by_set →
             result ≡ level chain (λ set. labels.is_in set sets) }

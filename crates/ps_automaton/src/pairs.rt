@@ -1,4 +1,4 @@
-//! The diagrams of states in the making, and the steps that their leaves name.
+//! The diagrams of states while they are made, and the steps that their leaves name.
 
 use crate::levels::Levels;
 use crate::step::Step;
@@ -7,23 +7,23 @@ use ps_diagram::{Node, Store};
 use ps_hoa::HoaFile;
 use std::alloc::Global;
 
-/// Diagrams whose leaves are the places of steps. The first step leads to the sink.
+/// Diagrams whose leaves are indices of steps. The first step leads to the sink.
 #[derive(Drop)]
 pub(crate) struct Pairs {
     /// The allocator.
     pub alloc: Global,
     /// The store of the diagrams.
     pub store: Store,
-    /// The steps, each at the place that its leaves have.
+    /// The steps; a leaf is the index of its step.
     pub steps: IndexSet<Step>,
 }
 
-/// What the steps of a state are made from.
+/// What the steps of a state are made of.
 #[derive(Clone, Copy)]
 pub(crate) struct Source<'a> {
     /// The file.
     pub file: &'a HoaFile,
-    /// The numbers of its edges.
+    /// The numbers of the file's edges.
     pub levels: &'a Levels,
     /// A diagram for each alias.
     pub aliases: &'a [Node],

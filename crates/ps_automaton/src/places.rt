@@ -1,4 +1,4 @@
-//! Different targets, and the place of each.
+//! A list of different targets, with their indices.
 
 ghost use Rattle.std.specs.Prelude.{◌≡◌, List, [], IfOk, OnOk};
 ghost use Rattle.std.specs.BTreeMap.{get};
@@ -10,7 +10,8 @@ use std::alloc::{AllocError, Global};
 use std::collections::BTreeMap;
 use std::marker::Model;
 
-/// Different targets in order. Their places are in a tree, so that no choice of targets makes a search long.
+/// A list of different targets. Their indices are in a tree, so that a search takes logarithmic time whatever the
+/// targets are.
 #[derive(Drop)]
 pub(crate) struct Places {
     list: Vec<Target>,
@@ -26,7 +27,7 @@ impl Model for Places {
 }
 
 impl Places {
-    /// No targets.
+    /// An empty list.
     pub(crate) fn new(alloc: Global) -> Self
         ensures { result ≡ [] }
     {
@@ -36,14 +37,14 @@ impl Places {
         }
     }
 
-    /// The targets, in order.
+    /// The targets, in the order in which they were added.
     pub(crate) fn list(&self) -> &[Target]
         ensures { result.now ≡ self.now }
     {
         self.list.as_slice()
     }
 
-    /// The place of a target. A new one is appended to the others.
+    /// The index of a target, which is appended if it is not in the list.
     pub(crate) fn place_of(&mut self, target: Target) -> Result<usize, AllocError>
         ensures placed { IfOk result (IsPlaced self.old self.new target) }
         ensures distinct { OnOk result (AreDistinct self.new) }

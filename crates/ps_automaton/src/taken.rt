@@ -1,4 +1,4 @@
-//! At which letters an edge is taken, as a diagram.
+//! The letters at which an edge is taken, as a diagram.
 
 ghost use Rattle.std.specs.Prelude.{◌≡◌, ◌↔◌, ℕ, ◌+◌, ◌<◌, ◌≤◌, IfOk, IsTrue, OnOk, Some, length, slice_get};
 ghost use Rattle.ps_diagram.specs.Table.{IsNode, Keeps};
@@ -13,7 +13,7 @@ use ps_diagram::{Node, OverlayError, Store};
 use ps_hoa::{Edge, Guard};
 use std::alloc::AllocError;
 
-/// The diagram with the leaf 1 at the letters at which an edge of the row is taken.
+/// The diagram that has the leaf 1 at the letters at which an edge of the row is taken, and no leaf elsewhere.
 pub(crate) fn taken(store: &mut Store, guards: &Guards, edge: &Edge) -> Result<Node, AllocError>
     requires ready { IsReady store.old guards.now }
     requires fit { IsFit guards.now.file.now (edge_data edge.now).guard }
@@ -32,7 +32,7 @@ pub(crate) fn taken(store: &mut Store, guards: &Guards, edge: &Edge) -> Result<N
     }
 }
 
-/// The diagram with that leaf at the letters at which an edge of the row is taken.
+/// The diagram that has the leaf `value` at the letters at which an edge of the row is taken, and no leaf elsewhere.
 pub(crate) fn marked(
     store: &mut Store,
     guards: &Guards,
@@ -55,7 +55,7 @@ pub(crate) fn marked(
     }
 }
 
-/// Whether some letter has a leaf in both diagrams.
+/// Whether there is a letter at which both diagrams have a leaf.
 fn meet(store: &mut Store, one: Node, other: Node) -> Result<bool, AllocError>
     requires one { IsNode store.old one }
     requires other { IsNode store.old other }
@@ -71,7 +71,7 @@ fn meet(store: &mut Store, one: Node, other: Node) -> Result<bool, AllocError>
     }
 }
 
-/// The first edge of the row with which a later one clashes.
+/// The first edge of the row that clashes with the given later edge.
 pub(crate) fn first_clash(
     store: &mut Store,
     guards: &Guards,
@@ -94,7 +94,7 @@ pub(crate) fn first_clash(
     unreachable!()
 }
 
-/// Whether two edges of the row clash, where the letters of the later one are given.
+/// Whether two edges of the row clash; `letters` is the diagram of the letters of the later one.
 fn clashes(
     store: &mut Store,
     guards: &Guards,

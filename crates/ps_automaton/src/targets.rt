@@ -1,4 +1,4 @@
-//! What an edge leads to.
+//! The target of an edge.
 
 ghost use Rattle.std.specs.Prelude.{◌≡◌, ℕ, ◌<◌, ◌||◌, All};
 ghost use Rattle.ps_label.specs.Truth.{is_in};
@@ -8,16 +8,16 @@ ghost use Rattle.ps_automaton.specs.Inner.Targets.{IsTargetOf};
 
 use ps_hoa::{Edge, Row};
 
-/// A state, and the sets of the edge that leads to it and of the edge's state, as a mask.
+/// A state, and the sets of the edge that leads to it together with the sets of the edge's own state.
 #[derive(Clone, Copy, PartialEq, Eq)]
 pub(crate) struct Target {
     /// The state.
     pub state: u32,
-    /// The sets: bit k is set k.
+    /// The sets as a mask: bit k is set k.
     pub sets: u64,
 }
 
-/// What an edge of a row leads to.
+/// The target of an edge of a row.
 pub(crate) fn target_of(row: &Row, edge: &Edge) -> Target
     requires row { All (λ set. set < 64) row.now.marks.items }
     requires edge { All (λ set. set < 64) edge.now.marks.items }
@@ -29,7 +29,7 @@ pub(crate) fn target_of(row: &Row, edge: &Edge) -> Target
     }
 }
 
-/// Sets as a mask: each is a bit.
+/// A list of sets as a mask, in which bit k is set k.
 fn mask_of(sets: &[u32]) -> u64
     requires { All (λ set. set < 64) sets.now }
     ensures { (set : ℕ) → set < 64 → is_in set result ≡ is_among set sets.now }

@@ -1,4 +1,4 @@
-//! The edges of a row, joined.
+//! Joins the edges of a row into one diagram.
 
 ghost use Rattle.std.specs.Prelude.{◌≡◌, ◌+◌, ◌<◌, IfErr, IfOk, OnOk, length};
 ghost use Rattle.ps_diagram.specs.Table.{IsNode, Keeps};
@@ -13,16 +13,16 @@ use crate::targets::target_of;
 use ps_diagram::{Node, OverlayError, Store};
 use std::alloc::Global;
 
-/// Edges joined: the leaf at a letter is the place of the target of the edge that is taken there.
+/// The joined edges: the leaf at a letter is the index of the target of the edge that is taken at this letter.
 #[derive(Drop)]
 pub(crate) struct Union {
     /// The diagram.
     pub node: Node,
-    /// The targets, each at the place that its leaves have.
+    /// The targets; a leaf is the index of its target.
     pub targets: Places,
 }
 
-/// The edges of a row, joined.
+/// Joins the edges of a row.
 pub(crate) fn joined(
     alloc: Global,
     store: &mut Store,
@@ -58,7 +58,7 @@ fn add_all(store: &mut Store, guards: &Guards, union: &mut Union) -> Result<(), 
     Ok(())
 }
 
-/// Joins the edge at that place to those before it.
+/// Joins the edge at the index `place` to those before it.
 fn add(
     store: &mut Store,
     guards: &Guards,
