@@ -1,4 +1,4 @@
--- How many places are not known, and how far up a place lies.
+-- The number of places whose truth is not known, and the rank of a place.
 use Rattle.std.proofs.Common.{◌≡◌, ℕ, zero, suc, ◌+◌, ◌-◌, ◌<◌, ◌≤◌, inl, inr, List, [], ◌∷◌, length, get_or, set}
 use Rattle.std.proofs.Common.{Option, None, Some, refl, ap, ◌∙◌, arith, nat_eq, not}
 use Rattle.std.specs.Prelude.{nat_lt, if◌then◌else◌, slice_get}
@@ -24,12 +24,12 @@ unknown-set (Some other ∷ xs) zero truth lt e = cc
 unknown-set (None ∷ xs) (suc p) truth lt e = ap suc (unknown-set xs p truth (omega arith) e)
 unknown-set (Some other ∷ xs) (suc p) truth lt e = unknown-set xs p truth (omega arith) e
 
--- 0 in front, and else one more than the place of the gate in the order
+-- the rank of a gate's place is one more than the gate's index in the order; the rank of every other place is 0
 abbrev pub rank : CircuitData → List ℕ → ℕ → ℕ
 rank c order place =
     if nat_lt place (front_of c) then 0 else suc (position_or_len (λ i. nat_eq i (place - front_of c)) order)
 
--- a number stands in the order where it is found
+-- in an order, each number is found at its own index
 position_at : {R : ℕ → ℕ → Type 0} {n : ℕ} {order : List ℕ} → IsOrder R n order → (k i : ℕ) →
     slice_get order k ≡ Some i → position_or_len (λ j. nat_eq j i) order ≡ k
 position_at {order = order} is k i at =
@@ -40,7 +40,7 @@ position_at {order = order} is k i at =
     ∙ ap (λ x. Some x) e in
     omega (arith, less, is.once j k i there at))) (λ _. eq-eqb _ _ here)
 
--- what a gate reads lies lower
+-- the places that a gate reads have a lower rank than the gate's place
 pub rank_falls : {c : CircuitData} {order : List ℕ} → IsOrder (ReadsGate c.gates) (length c.gates) order →
     (place lower : ℕ) → IsBelow c place lower → rank c order lower < rank c order place
 rank_falls {c} {order} is place lower b = elim b.below [

@@ -1,4 +1,4 @@
--- A circuit whose literals are found by places: what stands at each place.
+-- A circuit whose literals refer to variables by their places: the variable at each place.
 use Rattle.std.proofs.Common.{◌≡◌, ℕ, suc, ◌+◌, ◌-◌, ◌<◌, ◌⊎◌, inl, inr, Bool, false, List}
 use Rattle.std.proofs.Common.{length, get_or, refl, ap, sym, ◌∙◌, arith}
 use Rattle.std.proofs.lemmas.Bool.{cases_lt}
@@ -25,13 +25,13 @@ module _ {c : CircuitData} (is : IsCircuit c) where
       read_at c values (wire_of c literal) ≡ bit_of values literal
   read_is values literal known = rw (place_known is literal known).1 refl
 
-  -- the value at the place of what is defined at k
+  -- the value at the place of the k-th definition is the value of its literal
   value_defined : (values : List Bool) (k : ℕ) {literal : ℕ} → k < length (definitions c) →
       get_or (definitions c) k 0 ≡ literal → value_at c values (suc k) ≡ bit_of values literal
   value_defined values k {literal} lt e =
       ap (value_of values) (variables_at is k 0 lt ∙ ap variable e) ∙ sym (bit_of-definition is values k lt e)
 
-  -- ## Places in front of the gates'
+  -- ## Places before those of the gates
 
   pub constant_at : (inputs latches values : List Bool) → AreValues c inputs latches values →
       value_at c values 0 ≡ false
@@ -65,7 +65,7 @@ module _ {c : CircuitData} (is : IsCircuit c) where
       ∙ variables_at is (length c.inputs + length c.latches + i) 0 (omega (arith, length-definitions c))
       ∙ ap variable (definitions_gate c i lt)
 
-  -- what a gate reads lies lower
+  -- the places that a gate reads are below the gate's place
   lies_below : (i place literal : ℕ) → place ≡ front_of c + i → i < length c.gates → IsKnown (definitions c) literal →
       (variable (gate i).first ≡ variable literal) ⊎ (variable (gate i).second ≡ variable literal) →
       IsBelow c place (place_of c (variable literal))
@@ -111,7 +111,7 @@ module _ {c : CircuitData} (is : IsCircuit c) where
             ∙ cc (read_is values g.first known.0, read_is values g.second known.1);
       }
 
--- the sides of a gate in either order
+-- the two literals of a gate may be exchanged
 pub either_order : (c : CircuitData) (place : ℕ) (first second : Wire) →
     IsGateAt c place (record { first = first; second = second }) →
     IsGateAt c place (record { first = second; second = first })

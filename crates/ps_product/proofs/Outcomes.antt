@@ -20,7 +20,7 @@ use Rattle.ps_simulate.specs.Plans.{variables, wire_of}
 use Rattle.ps_simulate.proofs.PlacesLemmas.{next_known, place_known}
 use Rattle.ps_simulate.proofs.RowLemmas.{no_latch}
 
--- the truth at a place, along a wire
+-- the truth of the literal that a wire reads, given the truth at its place
 pub truth_along : (s : Site) {t u : Table} (w : Wire) (truth made : Truth) → Keeps t u → IsTruthAt s t w.place truth →
     IsTruth u made →
     ((letter : ℕ) → letter < 2 ^ t.propositions → truth_at u made letter ≡ wired w (truth_at t truth letter)) →
@@ -46,7 +46,7 @@ along_kept s {t} ws ms k h = record {
       };
 }
 
--- one more
+-- the truths of one more wire
 pub along_more : (s : Site) {t : Table} (ws : List Wire) (ms : List Truth) {ws' : List Wire} {ms' : List Truth}
     (w : Wire) (m : Truth) → AreTruthsAlong s t ws ms → IsTruthAlong s t w m → ws' ≡ ws ++ w ∷ [] →
     ms' ≡ ms ++ m ∷ [] → AreTruthsAlong s t ws' ms'
@@ -64,14 +64,14 @@ along_more s {t} ws ms w m h last ew em = rw (ew, em) (record {
   ];
 })
 
--- wires of literals lead to places
+-- the wires of known literals refer to places of the circuit
 pub wires_within : {c : CircuitData} → IsCircuit c → (literals : List ℕ) → All (IsKnown (definitions c)) literals →
     All (λ w. w.place < length (variables c)) (map (wire_of c) literals)
 wires_within {c} is literals known k d lt =
     let within : k < length literals = omega (arith, lt, length-map literals (wire_of c)) in
     rw (get_or-map (wire_of c) literals k 0 d within) (place_known is _ (known k 0 within)).0
 
--- so the truths are those of the literals
+-- the truths along the wires are the truths of the literals
 pub truths_of_literals : (s : Site) {t : Table} → IsCircuit s.net.now → (literals : List ℕ) (truths : List Truth) →
     All (IsKnown (definitions s.net.now)) literals → AreTruthsAlong s t (map (wire_of s.net.now) literals) truths →
     AreTruthsOf s.net.now s.propositions.now s.latches.now t truths literals

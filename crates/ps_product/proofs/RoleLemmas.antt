@@ -38,7 +38,7 @@ not_among_at p (q ∷ list) e (suc j) lt is = elim (cases_eq p q) [
 ]
 
 module _ (names : List (List ℕ)) (controllable : List ℕ) (wanted : Bool) (symbols : List (Option (List ℕ))) where
-  -- one more symbol
+  -- the list of propositions, with one symbol more
   pub listing_push : {k : ℕ} (p : ℕ) {name : List ℕ} {list more : List ℕ} →
       IsListing names controllable wanted symbols k list → get_or symbols k None ≡ Some name → p < length names →
       get_or names p [] ≡ name → is_among p controllable ≡ wanted → is_among p list ≡ false →
@@ -65,7 +65,7 @@ module _ (names : List (List ℕ)) (controllable : List ℕ) (wanted : Bool) (sy
         differ = λ i j lt less is. differ i (omega (arith, lt, size)) j (omega (arith, less, size)) is;
       }
 
-  -- a symbol that names what an earlier one names
+  -- a symbol names the same proposition as an earlier one
   pub twice : {k : ℕ} (p : ℕ) {name : List ℕ} {list : List ℕ} → IsListing names controllable wanted symbols k list →
       get_or symbols k None ≡ Some name → p < length names → get_or names p [] ≡ name → is_among p list ≡ true →
       ¬ AreNamesOnce names controllable wanted symbols
@@ -79,7 +79,7 @@ module _ (names : List (List ℕ)) (controllable : List ℕ) (wanted : Bool) (sy
 
   module _ (differ : AreNames names) {list : List ℕ}
       (h : IsListing names controllable wanted symbols (length symbols) list) where
-    -- what a symbol names is the proposition that is listed
+    -- the proposition that a symbol names is at the symbol's index in the list
     pub listed_at : (k p : ℕ) → IsSymbol names symbols k p → (k < length list) × (get_or list k 0 ≡ p)
     listed_at k p s =
         let lt : k < length list = omega (arith, h.one_each, within symbols k (get_or names p []) s.is) in
@@ -111,7 +111,7 @@ module _ (names : List (List ℕ)) (controllable : List ℕ) (wanted : Bool) (sy
           h.differ j k x.0 y.0 (x.1 ∙ sym y.1);
     }
 
--- what is among a list is one of it
+-- if the test finds a number in a list, the list contains it
 pub contained : (p : ℕ) (list : List ℕ) → is_among p list ≡ true → Contains list p
 contained p list e =
     let at = among_at p list e in

@@ -1,4 +1,4 @@
--- The stack of places that wait for their truth: each lies lower than those before it.
+-- The stack of places whose truths are still needed. Each place has a lower rank than those before it.
 use Rattle.std.proofs.Common.{◌≡◌, ℕ, suc, ◌+◌, ◌-◌, ◌*◌, ◌<◌, inl, inr, List, [], ◌∷◌, ◌++◌, length, get_or, set}
 use Rattle.std.proofs.Common.{All, AllPairs, Option, None, Some, refl, take, ap, sym, ◌∙◌, arith}
 use Rattle.std.proofs.Common.{get_or-set_same, get_or-set_other, length-append}
@@ -18,11 +18,11 @@ use Rattle.ps_product.specs.declared.truth.Truth.{Truth}
 use Rattle.ps_product.proofs.Counting.{rank, rank_bound, rank_falls, unknown, unknown-set}
 use Rattle.ps_simulate.specs.Plans.{variables}
 
--- a place of which nothing is known
+-- a place whose truth is not known
 abbrev IsOpen : CircuitData → List (Option Truth) → ℕ → Type 0
 IsOpen c known p = (get_or known p None ≡ None) × (p < length (variables c))
 
--- the first is the place that is asked for, which is known in the end
+-- The first entry of the stack is the place whose truth was asked for. If the stack is empty, that truth is known.
 pub record Waits (c : CircuitData) (order : List ℕ) (known : List (Option Truth)) (place : ℕ) (stack : List ℕ) : Type 0
   where
     pub falls : AllPairs (λ x y. rank c order y < rank c order x) stack
@@ -30,7 +30,7 @@ pub record Waits (c : CircuitData) (order : List ℕ) (known : List (Option Trut
     pub root : (d : ℕ) → 0 < length stack → get_or stack 0 d ≡ place
     pub done : stack ≡ [] → IsSome (get_or known place None)
 
--- how far up the last of them lies, and how much is left to do
+-- the rank of the last place of the stack; `left` is a measure that falls with each step
 abbrev pub top_rank : CircuitData → List ℕ → List ℕ → ℕ
 top_rank c order [] = 0
 top_rank c order (x ∷ xs) = rank c order (get_or (x ∷ xs) (length xs) 0)
@@ -61,12 +61,12 @@ module _ (c : CircuitData) (order : List ℕ) where
 
   module _ {known : List (Option Truth)} {place : ℕ} (top : ℕ) (stack : List ℕ)
       (w : Waits c order known place (stack ++ top ∷ [])) where
-    -- the last lies lowest
+    -- the last place has the lowest rank
     top_below : (k d : ℕ) → k < length stack → rank c order top < rank c order (get_or stack k d)
     top_below k d lt = rw (get_or_append_left stack (top ∷ []) d k lt, get_or_push stack top d (length stack) refl) at
         (w.falls k (length stack) d lt (omega (arith, many stack top)))
 
-    -- the last one needs a lower one
+    -- the last place needs a lower one, which is pushed
     pub waits_more : {more : List ℕ} {lower : ℕ} → IsOrder (ReadsGate c.gates) (length c.gates) order →
         IsBelow c top lower → get_or known lower None ≡ None → more ≡ (stack ++ top ∷ []) ++ lower ∷ [] →
         Waits c order known place more
@@ -94,7 +94,7 @@ module _ (c : CircuitData) (order : List ℕ) where
     left_more {lower = lower} is below e = rw (e, top_rank_push (stack ++ top ∷ []) lower, top_rank_push stack top)
         (omega (arith, rank_falls is top lower below))
 
-    -- it is known now
+    -- the truth at the last place becomes known
     module _ {new : List (Option Truth)} (truth : Truth) (size : length known ≡ length (variables c))
         (e : new ≡ set known top (Some truth)) where
       top_open : IsOpen c known top
@@ -141,7 +141,7 @@ split_last (x ∷ y ∷ ys) d some =
     let same : length (x ∷ y ∷ ys) - 1 ≡ suc (length (y ∷ ys) - 1) = omega arith in
     rw same (ap (λ (zs : List ℕ). x ∷ zs) (split_last (y ∷ ys) d (omega arith)))
 
--- a list ends with its last element
+-- a list that has a last entry consists of the entries before it, and of this entry
 pub ends_with : (xs : List ℕ) (x : ℕ) → slice_get xs (length xs - 1) ≡ Some x →
     xs ≡ take (length xs - 1) xs ++ x ∷ []
 ends_with xs x at =
@@ -149,7 +149,7 @@ ends_with xs x at =
     let last : get_or xs (length xs - 1) x ≡ x = get_or_from_slice_get xs (length xs - 1) x x at in
     split_last xs x (omega (arith, lt)) ∙ ap (λ y. take (length xs - 1) xs ++ y ∷ []) last
 
--- and that is what is popped
+-- what is popped from a list is its last entry
 pub popped : (xs rest : List ℕ) (o : Option ℕ) (x n : ℕ) → slice_get xs (length xs - 1) ≡ Some x → n ≡ length xs →
     ((d : ℕ) → 0 < n → o ≡ Some (get_or xs (n - 1) d)) → xs ≡ rest ++ option_to_list o → xs ≡ rest ++ x ∷ []
 popped xs rest o x n at many value split =

@@ -1,4 +1,4 @@
--- Entries that don't have the stamp are none.
+-- Entries with an old stamp are not valid.
 use Rattle.std.proofs.Common.{◌≡◌, ℕ, zero, suc, ◌<◌, List, [], ◌∷◌, All, map, get_or, set, Option, None}
 use Rattle.std.proofs.Common.{Some}
 use Rattle.std.proofs.Common.{refl, ap, arith}
@@ -25,7 +25,7 @@ put_in stamp (e ∷ es) zero truth = rw (eq-eqb stamp stamp refl) refl
 put_in stamp (e ∷ es) (suc place) truth =
     ap (λ (xs : List (Option Truth)). truth_in stamp e ∷ xs) (put_in stamp es place truth)
 
--- so are copies of one without the stamp
+-- copies of an entry with an old stamp are not valid
 pub forgotten_copies : (stamp n : ℕ) (e : Entry) → e.stamp < stamp → (place : ℕ) →
     get_or (map (truth_in stamp) (replicate n e)) place None ≡ None
 forgotten_copies stamp zero e low place = refl

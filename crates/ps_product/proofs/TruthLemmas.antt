@@ -1,4 +1,4 @@
--- Truths as their table grows, and those of diagrams.
+-- Truths while their table grows, and the truths of diagrams.
 use Rattle.std.proofs.Common.{◌≡◌, ℕ, ◌<◌, ◌^◌, Bool, true, false, Option, Some, None, refl, ap, sym, ◌∙◌}
 use Rattle.std.proofs.Common.{List, cond, length, set, length-set, get_or-set_same, get_or-set_other, inl, inr}
 use Rattle.std.specs.Prelude.{is_some}
@@ -51,7 +51,7 @@ chosen_leaf (Some k) y z hy hz = hy
 pub negated_leaf : (x : Option ℕ) → IsOneOrNone x → IsOneOrNone (opposite x)
 negated_leaf x h = (cond h.0 false true, ap opposite h.1 ∙ opposite_of h.0)
 
--- a truth is right at a place where both are one function of the letter
+-- a truth is right at a place if both have the same value at each letter
 pub placed : (s : Site) {t u : Table} (f : ℕ → Bool) (place : ℕ) (truth : Truth) → Keeps t u → IsTruth u truth →
     ((letter : ℕ) → letter < 2 ^ t.propositions → truth_at u truth letter ≡ f letter) →
     ((letter : ℕ) (values : List Bool) → letter < 2 ^ t.propositions →
@@ -64,7 +64,7 @@ placed s {t} {u} f place truth k is truths values = record {
       truths letter low ∙ sym (values letter vs low are);
 }
 
--- what is known stays right as the truths' table grows
+-- the truths that are known stay right when the table grows
 pub known_kept : (s : Site) {t u : Table} (known : List (Option Truth)) → Keeps t u → Knows s t known → Knows s u known
 known_kept s {t} {u} known k h = record {
   size = h.size;
@@ -75,7 +75,7 @@ known_kept s {t} {u} known k h = record {
       (λ letter values lt are. sym (at.holds letter values lt are));
 }
 
--- one more place is known
+-- one truth more becomes known
 pub known_more : (s : Site) {t : Table} (known : List (Option Truth)) {more : List (Option Truth)} (place : ℕ)
     (truth : Truth) → Knows s t known → place < length known → IsTruthAt s t place truth →
     more ≡ set known place (Some truth) → Knows s t more

@@ -1,6 +1,7 @@
 -- Why there is no product.
---     IsProductRefusal order role a c fault      what the fault says: of symbols, then of the order of moves
---     asked_of role      the player who is asked about, 0 for a controller; the other one owns all vertices
+--     IsProductRefusal order role a c fault      the fault is the first that applies: wrong symbols come before the
+--               order of moves
+--     asked_of role      the circuit's player, 0 for a controller; the opponent owns all vertices
 use Rattle.std.specs.Prelude.{ℕ, ⊤, IsTrue}
 use Rattle.ps_automaton.specs.Automata.{AutomatonData}
 use Rattle.ps_circuit.specs.Circuits.{CircuitData}
@@ -12,7 +13,8 @@ use Rattle.ps_traces.specs.Shapes.{SeesNoInputWhereReached, moves_first}
 use Rattle.ps_product.specs.declared.fault.ProductFault.{ProductFault}
 use Rattle.ps_product.specs.declared.fault.ProductFault.TheVariants.{Symbols, Timing, OutOfMemory}
 
--- the player moves first, and sees the other player's letter of the same moment at latches that are reached
+-- the circuit's player moves first, but at latches that some trace reaches, the outputs depend on the other player's
+-- letter of the same step
 pub record IsTooEarly (order : Order) (role : Role) (c : CircuitData) : Type 0 where
   pub first : IsTrue (moves_first order role)
   pub sees : ¬ SeesNoInputWhereReached c

@@ -1,10 +1,10 @@
--- Truths over letters, in a store of diagrams.
---     truth_at t truth letter      whether the truth holds at the letter
---     IsTruth t truth      it is never, always, or a node that is neither
+-- Truths, which are Boolean functions of letters, in a store of diagrams.
+--     truth_at t truth letter      whether the truth is true at the letter
+--     IsTruth t truth      the truth is `Never`, `Always`, or a node that is true at some but not all letters
 --     bits_at propositions letter      the bits of these propositions at a letter
 --     IsTruthOf c propositions latches t truth literal      at each letter of these propositions, which the circuit
 --               reads as its inputs, the truth is the bit of the literal at these latches
---     AreTruthsOf, IsOutcome      the same of lists; of the outputs and of the next latches
+--     AreTruthsOf, IsOutcome      as `IsTruthOf`, for lists; for the outputs and the next latches
 use Rattle.std.specs.Prelude.{◌≡◌, ℕ, ◌^◌, ◌<◌, Bool, true, false, not, is_some, if◌then◌else◌, List, length, map}
 use Rattle.std.specs.Prelude.{slice_get, Some}
 use Rattle.ps_label.specs.Truth.{is_in}
@@ -21,7 +21,7 @@ truth_at t Never letter = false
 truth_at t Always letter = true
 truth_at t (Sometimes node) letter = is_some (leaf_of t node letter)
 
--- each leaf is 1, and there is one at some letter, and none at another
+-- each leaf is 1; some letter has a leaf, and some letter has none
 pub record IsVarying (t : Table) (node : ℕ) : Type 0 where
   pub held : IsNode t node
   pub leaves : (letter : ℕ) → IsOneOrNone (leaf_of t node letter)
@@ -32,7 +32,7 @@ IsTruth t Never = Unit {0}
 IsTruth t Always = Unit {0}
 IsTruth t (Sometimes node) = IsVarying t node
 
--- the bit of a wire, from the bit at its place
+-- the bit that a wire reads, given the bit at its place
 abbrev pub wired : Wire → Bool → Bool
 wired w b = if w.is_negated then not b else b
 

@@ -1,4 +1,4 @@
-//! Outputs and next latches as truths.
+//! Computes outputs and next latches as truths.
 
 ghost use Rattle.std.specs.Prelude.{◌≡◌, ◌<◌, length, map, All, IfOk};
 ghost use Rattle.ps_diagram.specs.Table.{Keeps};
@@ -15,7 +15,7 @@ use ps_simulate::Wire;
 use std::alloc::{AllocError, Global};
 use std::marker::Model;
 
-/// What a circuit does at given latches.
+/// The outputs and the next latches of a circuit whose latches have given values.
 #[derive(Drop)]
 pub struct Outcome {
     /// The truth of each output.
@@ -24,7 +24,7 @@ pub struct Outcome {
     pub nexts: Vec<Truth>,
 }
 
-/// Computes what a circuit does at given latches, at all letters at once.
+/// Computes the outputs and the next latches of a circuit at given latches, for all letters at the same time.
 #[derive(Drop)]
 pub struct Evaluator<'a> {
     alloc: Global,
@@ -46,7 +46,7 @@ impl<'a> Model for Evaluator<'a> {
 }
 
 impl<'a> Evaluator<'a> {
-    /// An evaluator of a circuit. Fails if memory runs out.
+    /// An evaluator for the circuit. Fails if memory runs out.
     pub fn new(alloc: Global, circuit: &'a Circuit) -> Result<Self, AllocError>
         ensures { IfOk result (λ evaluator. evaluator ≡ circuit.now) }
     {
@@ -60,8 +60,8 @@ impl<'a> Evaluator<'a> {
         })
     }
 
-    /// The truths of the outputs and of the next latches, at given latches, over the letters of the propositions of the
-    /// inputs. Fails if memory runs out.
+    /// The truths of the outputs and of the next latches, if the latches have the given values. The letters are over
+    /// the propositions of the inputs. Fails if memory runs out.
     pub fn at(
         &mut self,
         propositions: &[u32],
@@ -89,7 +89,7 @@ impl<'a> Evaluator<'a> {
     }
 }
 
-/// The truths of literals, from their wires.
+/// The truths of literals, computed from their wires.
 fn truths_of(
     alloc: Global,
     site: Site,

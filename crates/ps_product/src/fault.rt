@@ -10,10 +10,10 @@ use thiserror::Error;
 /// Why there is no product.
 #[derive(Clone, Copy, Debug, PartialEq, Eq, Error)]
 pub enum ProductFault {
-    /// The symbols of the inputs and the outputs are not the names of the role, each once.
+    /// The symbols of the inputs and outputs are not the names that the circuit's role needs, each once.
     #[error("the symbols are not the names of the propositions")]
     Symbols,
-    /// The circuit's player moves first, and at some latches that are reached its outputs depend on its inputs.
+    /// The circuit's player moves first, but at some latches that a trace reaches, the outputs depend on the inputs.
     #[error("an output depends on inputs that come later")]
     Timing,
     /// Memory ran out.

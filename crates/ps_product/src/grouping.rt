@@ -1,4 +1,4 @@
-//! Diagrams whose leaves tell the bits of truths apart.
+//! Refines a diagram so that its leaves also distinguish the bits of truths.
 
 ghost use Rattle.std.specs.Prelude.{◌≡◌, All, IfOk, [], ◌∷◌};
 ghost use Rattle.ps_diagram.specs.Table.{IsNode, Keeps};
@@ -10,7 +10,8 @@ use indexmap::IndexSet;
 use ps_diagram::{Node, Store};
 use std::alloc::{AllocError, Global};
 
-/// A node with one leaf for all letters at which a node has one leaf, and truths have the same bits.
+/// A node that has the same leaf at two letters exactly if the given node has the same leaf at both, and each truth has
+/// the same bit at both.
 pub(crate) fn grouped(
     alloc: Global,
     store: &mut Store,
@@ -31,7 +32,7 @@ pub(crate) fn grouped(
     Ok(made)
 }
 
-/// The same by one truth.
+/// As `grouped`, for a single truth.
 fn split_by(alloc: Global, store: &mut Store, node: Node, truth: Truth) -> Result<Node, AllocError>
     requires held { IsNode store.old node }
     requires total { IsTotal store.old node }

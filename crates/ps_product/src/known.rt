@@ -1,4 +1,4 @@
-//! The known truths, by place.
+//! The truths that are known, by the places of their variables.
 
 ghost use Rattle.std.specs.Prelude.{◌≡◌, ℕ, ◌<◌, length, slice_index_or, slice_set, IfOk, None, Some};
 ghost use Rattle.ps_product.specs.Inner.Knowing.{IsForgotten};
@@ -7,7 +7,7 @@ use crate::truth::Truth;
 use std::alloc::{AllocError, Global};
 use std::marker::Model;
 
-/// A truth, which is valid while the table has that stamp.
+/// A truth with a stamp. The truth is valid if the table has the same stamp.
 #[derive(Clone, Copy)]
 struct Entry {
     stamp: u64,
@@ -20,7 +20,7 @@ const FORGOTTEN: Entry = Entry {
     truth: Truth::Never,
 };
 
-/// For each place the truth that is known of it, or none. Forgetting all of them takes constant time.
+/// For each place the truth of its variable, if it is known. All truths are forgotten in constant time, by a new stamp.
 #[derive(Drop)]
 pub(crate) struct Known {
     entries: Vec<Entry>,
@@ -40,7 +40,7 @@ impl Model for Known {
 }
 
 impl Known {
-    /// A table of `places` places, of which nothing is known.
+    /// A table of `places` places, at which no truth is known.
     pub fn new(alloc: Global, places: usize) -> Result<Self, AllocError>
         ensures size { IfOk result (λ known. length known ≡ places) }
         ensures none { IfOk result IsForgotten }
@@ -49,7 +49,7 @@ impl Known {
         Ok(Known { entries, stamp: 1 })
     }
 
-    /// What is known of a place.
+    /// The truth at a place, if it is known.
     pub fn get(&self, place: u32) -> Option<Truth>
         requires { place < length self.now }
         ensures { result ≡ slice_index_or self.now place None }
@@ -62,7 +62,7 @@ impl Known {
         }
     }
 
-    /// Sets what is known of a place.
+    /// Records the truth at a place.
     pub fn put(&mut self, place: u32, truth: Truth)
         requires { place < length self.old }
         ensures { self.new ≡ slice_set self.old place (Some truth) }
@@ -71,7 +71,7 @@ impl Known {
         self.entries[place as usize] = Entry { stamp, truth };
     }
 
-    /// Forgets all.
+    /// Forgets all truths.
     pub fn forget(&mut self)
         ensures size { length self.new ≡ length self.old }
         ensures none { IsForgotten self.new }

@@ -9,7 +9,7 @@ ghost use Rattle.ps_product.specs.declared.truth.Truth.{Truth};
 
 use ps_simulate::circuit_has_one_values;
 
-/// The truths of outputs and next latches are, at each letter, the only step of the circuit.
+/// At each letter, the truths of outputs and next latches give the bits of the circuit's only step.
 pub fn outcome_is_the_step()
     ensures there { (c : CircuitData) (propositions : List ℕ) (latches : List Bool) (t : Table)
         (outputs nexts : List Truth) (letter : ℕ) → IsCircuit c → length propositions ≡ length c.inputs →

@@ -1,21 +1,22 @@
-//! The product of a circuit and an automaton: what the two do together, as a game in which only one player moves.
+//! The product of a circuit and an automaton: the two run together, as a game in which only one player moves.
 //!
-//! A vertex of the product is a value of the latches, a state, and the priority of the edge by which it was entered
-//! (`IsProductOf`). Its edges are found from truths over the letters that the circuit reads.
+//! A vertex of the product consists of values of the latches, a state, and the priority of the edge that led to it
+//! (`IsProductOf`). A truth is a Boolean function of the letters that the circuit reads. The edges of a vertex are
+//! computed from the truths of the outputs and of the next latches.
 //!
 //! | Call | What it gives |
 //! |---|---|
 //! | `Product::build(circuit, automaton, order, role)` | the product, or the first `ProductFault` |
-//! | `Product::game`, `inputs(vertex, number)` | its game; what a step to a successor reads |
-//! | `ProductFault::number`, `name` | a fault in psyn's list of faults |
-//! | `Truths::new(propositions)`, `proposition`, `both`, `negated` | truths over letters, in a store of their own |
-//! | `Evaluator::new(circuit)`, `at(propositions, latches, truths)` | the truths of outputs and next latches |
+//! | `Product::game`, `inputs(vertex, number)` | the product's game; the inputs that a step to a successor reads |
+//! | `ProductFault::number`, `name` | the fault's number and name in psyn's list of faults |
+//! | `Truths::new(propositions)`, `proposition`, `both`, `negated` | makes truths, in a store of their own |
+//! | `Evaluator::new(circuit)`, `at(propositions, latches, truths)` | the truths of the outputs and of the next latches |
 //!
-//! The law `outcome_is_the_step` says that these truths at a letter are the step of the circuit.
+//! The law `outcome_is_the_step` says that at each letter these truths give the bits of the circuit's step.
 //!
-//! A truth that never holds, or always holds, has no diagram and costs no call of the store; almost all gates have such
-//! a truth. At given latches a gate is computed once, and only if its truth is needed. Its lower side is computed
-//! first; if that never holds, the other side is not computed.
+//! A truth that is true at no letter, or at every letter, has no diagram and needs no call of the store; almost all
+//! gates have such a truth. At given latches, each gate is computed at most once, and only if its truth is needed. The
+//! literal with the lower place is computed first; if it is never true, the gate's other literal is not computed.
 #![tactic(auto)]
 
 mod edges;

@@ -1,4 +1,4 @@
-//! A circuit whose literals are found by place.
+//! A circuit whose literals refer to variables by their places.
 
 ghost use Rattle.std.specs.Prelude.{◌≡◌, ℕ, ◌<◌, length, map, IfOk, IsTrue, MatchOption};
 ghost use Rattle.ps_circuit.specs.Circuits.{CircuitData, IsCircuit};
@@ -13,14 +13,14 @@ use std::marker::Model;
 /// The two literals that a gate reads.
 #[derive(Clone, Copy)]
 pub(crate) struct Sides {
-    /// The first.
+    /// The first literal.
     pub first: Wire,
-    /// The second.
+    /// The second literal.
     pub second: Wire,
 }
 
 impl Sides {
-    /// The same two, with the lower one first.
+    /// The two literals in the order of their places.
     pub fn lower_first(self) -> Self
         ensures { (c : CircuitData) (place : ℕ) → IsGateAt c place self → IsGateAt c place result }
     {
@@ -34,8 +34,8 @@ impl Sides {
     }
 }
 
-/// A circuit, and the literals that it reads, by the places of their variables: the constant has place 0, and then come
-/// the inputs, the latches and the gates.
+/// A circuit in which each literal refers to the place of its variable. The constant has the place 0, and then come the
+/// inputs, the latches and the gates.
 #[derive(Drop)]
 pub(crate) struct Net<'a> {
     circuit: &'a Circuit,
@@ -65,7 +65,7 @@ impl<'a> Net<'a> {
         Net::by_places(alloc, circuit, &places)
     }
 
-    /// The net of a circuit whose variables have these places.
+    /// The net of a circuit, given the places of its variables.
     fn by_places(alloc: Global, circuit: &'a Circuit, places: &Places) -> Result<Self, AllocError>
         requires { places.now ≡ circuit.now }
         ensures { IfOk result (λ net. net ≡ circuit.now) }
@@ -97,7 +97,7 @@ impl<'a> Net<'a> {
         self.front + self.gates.len()
     }
 
-    /// What the gate at a place reads, if it is a gate's.
+    /// The literals that the gate at a place reads, if the place is a gate's.
     pub fn gate(&self, place: u32) -> Option<Sides>
         requires { place < length (variables self.now) }
         ensures { MatchOption result (place < front_of self.now) (λ sides. IsGateAt self.now place sides) }
@@ -125,7 +125,7 @@ impl<'a> Net<'a> {
     }
 }
 
-/// What each gate reads.
+/// The literals that each gate reads.
 fn gate_sides(alloc: Global, circuit: &Circuit, places: &Places) -> Result<Vec<Sides>, AllocError>
     requires { places.now ≡ circuit.now }
     ensures { IfOk result (λ sides. sides.items ≡ map (sides_of circuit.now) circuit.now.gates) }

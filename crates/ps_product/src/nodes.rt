@@ -1,4 +1,4 @@
-//! The nodes of truths, and what they say at a letter.
+//! The nodes of truths, and the bits of truths at a letter.
 
 ghost use Rattle.std.specs.Prelude.{◌≡◌, ◌≢◌, ◌+◌, ◌^◌, ◌<◌, ◌≤◌, ℕ, All, IfNone, IfOk, IfSome, is_some, length};
 ghost use Rattle.std.specs.Prelude.{slice_index};
@@ -12,7 +12,7 @@ use crate::truth::Truth;
 use ps_diagram::{Node, Store};
 use std::alloc::{AllocError, Global};
 
-/// The node of a truth, which has a leaf where the truth holds.
+/// The node of a truth, which has a leaf at the letters at which the truth is true.
 fn node_of(store: &mut Store, truth: Truth) -> Result<Node, AllocError>
     requires { IsTruth store.old truth }
     ensures keeps { Keeps store.old store.new }
@@ -27,7 +27,8 @@ fn node_of(store: &mut Store, truth: Truth) -> Result<Node, AllocError>
     }
 }
 
-/// For each proposition the node of its truth: that of the output whose proposition it is, or else its own.
+/// A node for each proposition. For the proposition of an output, it is the node of the output's truth; for any other,
+/// it is the node of the proposition itself.
 pub(crate) fn nodes_of(
     alloc: Global,
     store: &mut Store,
@@ -52,7 +53,7 @@ pub(crate) fn nodes_of(
     Ok(nodes)
 }
 
-/// The first place of a proposition in a list.
+/// The index of a proposition in a list, if the list contains it.
 fn place_in(list: &[u32], p: u32) -> Option<usize>
     ensures some { IfSome result (λ k. (k < length list.now) × (slice_index list.now k ≡ p)) }
     ensures none { IfNone result ((k : ℕ) → k < length list.now → slice_index list.now k ≢ p) }
@@ -65,7 +66,7 @@ fn place_in(list: &[u32], p: u32) -> Option<usize>
     None
 }
 
-/// The letter of the truths at a letter: proposition p is true where the node with that number has a leaf.
+/// The letter in which proposition p is true if the node at the index p has a leaf at the given letter.
 pub(crate) fn letter_at(store: &Store, nodes: &[Node], letter: u64) -> u64
     requires few { length nodes.now ≤ 64 }
     requires held { All (IsNode store.now) nodes.now }
@@ -79,7 +80,7 @@ pub(crate) fn letter_at(store: &Store, nodes: &[Node], letter: u64) -> u64
     whole
 }
 
-/// A letter of the first p propositions with the bit of one more.
+/// A letter over the first p propositions, with the bit of one more proposition.
 fn with_bit(letter: u64, p: usize, bit: bool) -> u64
     requires named { p < 64 }
     requires few { letter < 2 ^ p }
@@ -107,7 +108,7 @@ pub(crate) fn bits_of(
     Ok(bits)
 }
 
-/// Whether a truth holds at a letter.
+/// Whether a truth is true at a letter.
 fn holds(store: &Store, truth: Truth, letter: u64) -> bool
     requires { IsTruth store.now truth }
     ensures { result ≡ truth_at store.now truth letter }

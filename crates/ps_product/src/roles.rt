@@ -1,4 +1,4 @@
-//! Which proposition of an automaton is which input or output of a circuit.
+//! Assigns propositions of an automaton to the inputs and outputs of a circuit.
 
 ghost use Rattle.std.specs.Prelude.{◌≡◌, ◌<◌, ◌≤◌, ℕ, false, true, IfNone, IfOk, IfSome, length, map};
 ghost use Rattle.std.specs.Option.{option_copied};
@@ -24,7 +24,8 @@ pub(crate) struct Roles {
     pub outputs: Vec<u32>,
 }
 
-/// The propositions of a circuit of that role, if its symbols are the role's. Fails if memory runs out.
+/// The propositions of a circuit's inputs and outputs, if the circuit's symbols are those that the role needs. Fails if
+/// memory runs out.
 pub(crate) fn roles_of(
     alloc: Global,
     circuit: &Circuit,
@@ -95,7 +96,7 @@ fn is_in_list(list: &[u32], proposition: usize) -> bool
     false
 }
 
-/// The proposition that a symbol names, if it is a controllable one (or one that is not controllable).
+/// The proposition that a symbol names, if it is controllable (or, if `wanted` is false, not controllable).
 fn proposition_of(
     names: &[Vec<u8>],
     controllable: &[u32],
@@ -112,8 +113,8 @@ fn proposition_of(
     None
 }
 
-/// The proposition of each symbol, if the symbols name the propositions that are controllable (or those that are not),
-/// each once.
+/// The proposition of each symbol, if the symbols name exactly the controllable propositions (or, if `wanted` is false,
+/// exactly the others), each once.
 fn propositions_of(
     alloc: Global,
     names: &[Vec<u8>],
@@ -137,7 +138,7 @@ fn propositions_of(
     }
 }
 
-/// The proposition of each symbol, if each names one on that side, and no two the same.
+/// The proposition of each symbol, if each names a proposition on the wanted side, and no two the same.
 fn listed(
     alloc: Global,
     names: &[Vec<u8>],
@@ -165,7 +166,7 @@ fn listed(
     Ok(Some(list))
 }
 
-/// Whether each of the first propositions that is controllable (or that is not) is in a list.
+/// Whether the list has every controllable proposition (or, if `wanted` is false, every other proposition).
 fn is_full(count: usize, controllable: &[u32], wanted: bool, list: &[u32]) -> bool
     ensures full { result ≡ true → (p : ℕ) → p < count → is_among p controllable.now ≡ wanted →
         is_among p list.now ≡ true }

@@ -1,4 +1,4 @@
-//! A circuit at given latches, gate by gate.
+//! Evaluates a circuit at given latches, gate by gate.
 
 ghost use Rattle.std.specs.Prelude.{◌≡◌, ℕ, ◌^◌, ◌<◌, ◌&&◌, length, slice_index_or, IfOk, IsSome, IsTrue, None, not};
 ghost use Rattle.std.specs.Prelude.{if◌then◌else◌, OnOk};
@@ -15,7 +15,7 @@ use crate::truth::{Truth, Truths};
 use ps_simulate::Wire;
 use std::alloc::AllocError;
 
-/// A circuit at given latches, whose inputs are propositions.
+/// A circuit with given latches, and a proposition for each input.
 #[derive(Clone, Copy)]
 pub(crate) struct Site<'s, 'c> {
     /// The circuit.
@@ -27,7 +27,7 @@ pub(crate) struct Site<'s, 'c> {
 }
 
 impl<'s, 'c> Site<'s, 'c> {
-    /// Makes the truth at a place known, and what it needs of the truths below.
+    /// Makes the truth at a place known, and before that the truths at lower places that it needs.
     pub fn settle(
         self,
         known: &mut Known,
@@ -49,7 +49,7 @@ impl<'s, 'c> Site<'s, 'c> {
         stack.clear();
         stack.push(place)?;
         while let Some(&top) = stack.last() {
-            // a gate comes after what it reads in that order, so the loop ends
+            // in `order`, a gate comes after the gates that it reads, so the loop ends
             let _ = order;
             let Some(lower) = self.step(known, truths, top)? else {
                 let _ = stack.pop();
@@ -60,8 +60,8 @@ impl<'s, 'c> Site<'s, 'c> {
         Ok(())
     }
 
-    /// One step for a place of which nothing is known. Either the place becomes known, or the result is a lower place
-    /// that has to be known before.
+    /// One step for a place whose truth is not known. Either the truth becomes known, or the result is a lower place
+    /// whose truth must be known first.
     fn step(
         self,
         known: &mut Known,
@@ -97,7 +97,7 @@ impl<'s, 'c> Site<'s, 'c> {
         Ok(None)
     }
 
-    /// The truth at a place that is not a gate's: the constant, an input or a latch.
+    /// The truth at a place that belongs to no gate: that of the constant, an input or a latch.
     fn given(self, truths: &mut Truths, place: u32) -> Result<Truth, AllocError>
         requires site { IsSite self truths.old }
         requires front { place < front_of self.net.now }
@@ -117,7 +117,7 @@ impl<'s, 'c> Site<'s, 'c> {
     }
 }
 
-/// Whether it is known that the truth, negated or not, never holds.
+/// Whether the truth, negated if the flag is set, is known to be false at every letter.
 fn is_never(truth: &Truth, is_negated: bool) -> bool
     ensures { IsTrue result → (table : Table) (letter : ℕ) →
         (if is_negated then not (truth_at table truth.now letter) else truth_at table truth.now letter) ≡ false }
@@ -129,7 +129,7 @@ fn is_never(truth: &Truth, is_negated: bool) -> bool
     }
 }
 
-/// The truth of a gate that reads these two, from the truths at their places.
+/// The truth of a gate that reads these two literals, given the truths at their places.
 fn conjunction(
     truths: &mut Truths,
     sides: Sides,

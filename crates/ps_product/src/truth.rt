@@ -1,4 +1,4 @@
-//! Truths over letters.
+//! Truths, which are Boolean functions of letters.
 
 ghost use Rattle.std.specs.Prelude.{◌≡◌, ℕ, ◌^◌, ◌<◌, ◌≤◌, ◌&&◌, not, is_some, IfOk};
 ghost use Rattle.ps_label.specs.Truth.{is_in};
@@ -11,19 +11,19 @@ use ps_simulate::Wire;
 use std::alloc::{AllocError, Global};
 use std::marker::Model;
 
-/// A truth over letters.
+/// A truth: a Boolean function of letters.
 #[derive(Debug, Clone, Copy)]
 pub enum Truth {
-    /// It holds at no letter.
+    /// True at no letter.
     Never,
-    /// It holds at every letter.
+    /// True at every letter.
     Always,
-    /// It holds at some letters, at which the node has a leaf, and not at others.
+    /// True exactly at the letters at which the node has a leaf: at some, but not at all letters.
     Sometimes(Node),
 }
 
 impl Truth {
-    /// The truth that has that bit at every letter.
+    /// The truth that has the given bit at every letter.
     pub fn constant(bit: bool) -> Self
         ensures truth { (table : Table) (letter : ℕ) → truth_at table result letter ≡ bit }
         ensures is_truth { (table : Table) → IsTruth table result }
@@ -32,8 +32,8 @@ impl Truth {
     }
 }
 
-/// Truths over the letters of a number of propositions, in a store of their own. Calls that make truths fail if memory
-/// runs out.
+/// Makes truths over the letters of a number of propositions, in a store of its own. Calls that make truths fail if
+/// memory runs out.
 #[derive(Drop)]
 pub struct Truths {
     store: Store,
@@ -53,7 +53,7 @@ impl Model for Truths {
 }
 
 impl Truths {
-    /// No truths yet.
+    /// A maker of truths with an empty store.
     pub fn new(alloc: Global, propositions: u32) -> Result<Self, AllocError>
         requires few { propositions ≤ 64 }
         ensures { IfOk result (λ truths. truths.propositions ≡ propositions) }
@@ -64,14 +64,14 @@ impl Truths {
         Ok(Truths { store, none, one })
     }
 
-    /// The store of the nodes of truths.
+    /// The store of the truths' nodes.
     pub fn store(&self) -> &Store
         ensures { result.now ≡ self.now }
     {
         &self.store
     }
 
-    /// The store alone.
+    /// The store, without the rest.
     pub(crate) fn into_store(self) -> Store
         ensures { result ≡ self }
     {
@@ -90,7 +90,7 @@ impl Truths {
         Ok(self.truth_of(node))
     }
 
-    /// The truth that holds where both do.
+    /// The conjunction of two truths.
     pub fn both(&mut self, first: Truth, second: Truth) -> Result<Truth, AllocError>
         requires first { IsTruth self.old first }
         requires second { IsTruth self.old second }
@@ -113,7 +113,7 @@ impl Truths {
         Ok(self.truth_of(node))
     }
 
-    /// The truth that holds where this one does not.
+    /// The negation of a truth.
     pub fn negated(&mut self, truth: Truth) -> Result<Truth, AllocError>
         requires held { IsTruth self.old truth }
         ensures keeps { Keeps self.old self.new }
@@ -131,7 +131,7 @@ impl Truths {
         }
     }
 
-    /// The truth, negated if the wire is.
+    /// The truth of a wire's literal: the given truth, negated if the wire is negated.
     pub(crate) fn along(&mut self, truth: Truth, wire: Wire) -> Result<Truth, AllocError>
         requires held { IsTruth self.old truth }
         ensures keeps { Keeps self.old self.new }
@@ -145,7 +145,7 @@ impl Truths {
         Ok(truth)
     }
 
-    /// The truth of a diagram whose leaves are 1.
+    /// The truth of a diagram each of whose leaves is 1.
     fn truth_of(&self, node: Node) -> Truth
         requires held { IsNode self.now node }
         requires leaves { (letter : ℕ) → IsOneOrNone (leaf_of self.now node letter) }

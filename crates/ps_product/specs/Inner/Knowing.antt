@@ -1,4 +1,4 @@
--- What is known of the places of a circuit at given latches.
+-- The truths that are known at the places of a circuit, if its latches have given values.
 use Rattle.std.specs.Prelude.{◌≡◌, ℕ, ◌^◌, ◌<◌, Bool, List, length, Option, None, Some, All, slice_get}
 use Rattle.std.specs.Prelude.{slice_index_or, slice_set}
 use Rattle.ps_circuit.specs.Circuits.{CircuitData, IsCircuit}
@@ -11,36 +11,36 @@ use Rattle.ps_product.specs.declared.truth.Truth.{Truth}
 use Rattle.ps_simulate.specs.declared.plan.Wire.{Wire}
 use Rattle.ps_simulate.specs.Plans.{variables}
 
--- nothing is known
+-- no truth is known
 abbrev pub IsForgotten : List (Option Truth) → Type 0
 IsForgotten known = (place : ℕ) → slice_index_or known place None ≡ None
 
--- a proposition for each input, and a bit for each latch
+-- there is a proposition for each input, and a bit for each latch
 pub record IsSite (s : Site) (t : Table) : Type 0 where
   pub is_circuit : IsCircuit s.net.now
   pub inputs : length s.propositions.now ≡ length s.net.now.inputs
   pub named : All (λ p. p < t.propositions) s.propositions.now
   pub latches : length s.latches.now ≡ length s.net.now.latches
 
--- the truth is that of the value at the place
+-- the truth is the value of the variable at the place
 pub record IsTruthAt (s : Site) (t : Table) (place : ℕ) (truth : Truth) : Type 0 where
   pub is_truth : IsTruth t truth
   pub holds : (letter : ℕ) (values : List Bool) → letter < 2 ^ t.propositions →
       AreValues s.net.now (bits_at s.propositions.now letter) s.latches.now values → truth_at t truth letter ≡ value_at
       s.net.now values place
 
--- a place for each variable; each truth that is known is right
+-- the table has an entry for each place, and each truth that is known is right
 pub record Knows (s : Site) (t : Table) (known : List (Option Truth)) : Type 0 where
   pub size : length known ≡ length (variables s.net.now)
   pub each : (place : ℕ) (truth : Truth) → slice_index_or known place None ≡ Some truth → IsTruthAt s t place truth
 
--- the place is known now; or nothing changed, and the place needs a lower one that is not known
+-- the truth at the place becomes known, or nothing changes and the place needs a lower place whose truth is not known
 abbrev pub IsStep : CircuitData → ℕ → List (Option Truth) → List (Option Truth) → Option ℕ → Type 0
 IsStep c place old new None = (truth : Truth) × (new ≡ slice_set old place (Some truth))
 IsStep c place old new (Some lower) =
     (new ≡ old) × IsBelow c place lower × (slice_index_or old lower None ≡ None)
 
--- the truth is that of the literal that the wire reads
+-- the truth is the value of the literal that the wire reads
 pub record IsTruthAlong (s : Site) (t : Table) (w : Wire) (truth : Truth) : Type 0 where
   pub is_truth : IsTruth t truth
   pub holds : (letter : ℕ) (values : List Bool) → letter < 2 ^ t.propositions →

@@ -8,7 +8,7 @@ use Rattle.ps_product.specs.Truths.{wired}
 use Rattle.ps_simulate.specs.declared.plan.Wire.{Wire}
 use Rattle.ps_simulate.specs.Plans.{variables, wire_of}
 
--- the first place of a gate
+-- the place of the first gate
 abbrev pub front_of : CircuitData → ℕ
 front_of c = 1 + length c.inputs + length c.latches
 
@@ -22,21 +22,21 @@ pub record IsNet (c : CircuitData) (front : ℕ) (gates : List Sides) (outputs n
   pub outputs_are : outputs ≡ map (wire_of c) c.outputs
   pub nexts_are : nexts ≡ map (λ l. wire_of c l.next) c.latches
 
--- the value at a place, and the bit that a wire reads there
+-- the value of the variable at a place, and the bit that a wire reads there
 abbrev pub value_at : CircuitData → List Bool → ℕ → Bool
 value_at c values place = value_of values (slice_index_or (variables c) place 0)
 
 abbrev pub read_at : CircuitData → List Bool → Wire → Bool
 read_at c values w = wired w (value_at c values w.place)
 
--- the place is a gate's, and the other one is before the gates' places, or is that of a gate which it reads
+-- the place belongs to a gate; the lower place belongs to no gate, or to a gate that this gate reads
 pub record IsBelow (c : CircuitData) (place lower : ℕ) : Type 0 where
   pub behind : front_of c ≤ place
   pub within : lower < length (variables c)
   pub below : (lower < front_of c) ⊎ ((front_of c ≤ lower) × ReadsGate c.gates (place - front_of c)
       (lower - front_of c))
 
--- the place is a gate's, which reads these two
+-- the place belongs to a gate, which reads these two literals
 pub record IsGateAt (c : CircuitData) (place : ℕ) (s : Sides) : Type 0 where
   pub first_below : IsBelow c place s.first.place
   pub second_below : IsBelow c place s.second.place

@@ -1,4 +1,4 @@
--- Which proposition is which input or output of a circuit.
+-- The propositions that belong to the inputs and outputs of a circuit.
 use Rattle.std.specs.Prelude.{◌≡◌, ◌⊎◌, ℕ, ◌<◌, ◌≤◌, Bool, List, Option, length, slice_index}
 use Rattle.std.specs.List.{Contains}
 use Rattle.ps_circuit.specs.Circuits.{CircuitData}
@@ -6,7 +6,7 @@ use Rattle.ps_hoa.specs.Files.{is_among}
 use Rattle.ps_product.specs.declared.roles.Roles.{Roles}
 use Rattle.ps_simulate.specs.Symbols.{IsSymbol}
 
--- the proposition of each of the first symbols, all of them on one side
+-- the propositions of the first `count` symbols, which are different and all on the wanted side: controllable or not
 pub record IsListing (names : List (List ℕ)) (controllable : List ℕ) (wanted : Bool)
     (symbols : List (Option (List ℕ))) (count : ℕ) (list : List ℕ) : Type 0 where
   pub one_each : length list ≡ count
@@ -14,12 +14,12 @@ pub record IsListing (names : List (List ℕ)) (controllable : List ℕ) (wanted
   pub side : (k : ℕ) → k < length list → is_among (slice_index list k) controllable ≡ wanted
   pub differ : (j k : ℕ) → j < length list → k < length list → slice_index list j ≡ slice_index list k → j ≡ k
 
--- each proposition on that side is in the list
+-- every proposition on the wanted side is in the list
 abbrev pub IsFull : List (List ℕ) → List ℕ → Bool → List ℕ → Type 0
 IsFull names controllable wanted list =
     (p : ℕ) → p < length names → is_among p controllable ≡ wanted → Contains list p
 
--- the propositions of the inputs and those of the outputs: each is one of these, and once
+-- the propositions of the inputs and of the outputs; each proposition occurs exactly once
 pub record AreRoles (names : List (List ℕ)) (c : CircuitData) (roles : Roles) : Type 0 where
   pub few : length names ≤ 64
   pub inputs_each : length roles.inputs.items ≡ length c.input_names

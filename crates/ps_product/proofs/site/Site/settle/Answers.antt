@@ -6,7 +6,7 @@ use Rattle.ps_product.proofs.Settling.{ends_with, less_left, less_waits, more_le
 use Rattle.ps_product.proofs.site.Site.settle.Goals as goal
 use Rattle.ps_product.proofs.site.Site.settle.Goals.{After-pop, In_ok-push-2}
 
--- the place that the step was asked for is the last of the stack
+-- the place for which the step was made is the last of the stack
 split : (c : In_ok-push-2) → c.loop-top.stack.items ≡ take (length c.loop-top.stack.items - 1)
     c.loop-top.stack.items ++ c.in-Some.field-0.now ∷ []
 split c =
@@ -30,7 +30,7 @@ loop-top-preserved c = record {
       (split c) (order c) (rw c.in-Some-2.is at c.in_ok-lower.ensures.step) c.in_ok-push-2.ensures.items;
 }
 
--- what is left of the stack stands in front of that place
+-- the stack without its last place
 rest : (c : After-pop) → c.loop-top.stack.items ≡ c.pop.new.self.items ++ c.in-Some.field-0.now ∷ []
 rest c =
     let xs = c.loop-top.stack.items in
