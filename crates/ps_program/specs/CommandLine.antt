@@ -1,4 +1,4 @@
--- What the input's first line asks for.
+-- What the first line of the input asks for.
 use Rattle.std.specs.Prelude.{◌≡◌, ◌≢◌, ◌<◌, ◌⊎◌, ◌==◌, ℕ, Bool, true, false, List, [], length, slice_index, Option}
 use Rattle.std.specs.Prelude.{None, Some, All, codes, filter, find, not, IsUtf8, if◌then◌else◌, ◌∷◌, ◌++◌, map}
 use Rattle.std.specs.Prelude.{flat_map}
@@ -28,8 +28,9 @@ use Rattle.ps_program.specs.declared.commands.TextKind.TheVariants as kind
 
 -- ---- the commands
 
--- a command: its name, its flags, each of which follows `--`, the kinds of its texts in their order, flags that add a
--- text of some kind behind these, the line that it is with the flags that are given, and what `help` says of it
+-- A command: its name, its flags, each of which is written after `--`, and the kinds of its texts in their order. Then
+-- come the flags that add a text, with its kind, the line that the command with given flags is, and what `help` says
+-- about it.
 pub record Usage : Type 0 where
   pub name : Text
   pub flags : List Text
@@ -61,7 +62,7 @@ role_given given = if given env_flag then Environment else Controller
 abbrev pub order_given : (Text → Bool) → Order
 order_given given = if given moore_flag then Moore else Mealy
 
--- how a circuit is asked for
+-- which circuit is asked for, and what is printed with it
 abbrev pub synth_given : (Text → Bool) → SynthLine
 synth_given given = record {
   full = given full_flag;
@@ -145,35 +146,35 @@ commands =
     } ∷ record { name = codes "help"; flags = []; texts = []; added = []; line = λ given. Help; says = ON_HELP.now } ∷
     []
 
--- the line of the command of a name
+-- the line of the command with this name
 abbrev pub line_named : Text → (Text → Bool) → Line
 line_named name given =
     option_map_or (λ usage. usage.line given) (find (λ usage. bytes_eq usage.name name) commands) Refused
 
--- ---- what the words say
+-- ---- the meaning of the words
 
--- the words between runs of spaces
+-- the words of a line, which are separated by spaces
 abbrev pub words_of : List ℕ → List Text
 words_of line = filter (λ word. not (length word == 0)) (slice_split (λ byte. byte == 32) line)
 
--- a flag by its name
+-- the flag with this name
 abbrev pub flag : Text → Rule
 flag name = record (new_rule name) { long = Some name; action = Some SetTrue }
 
--- a command with its flags
+-- the command with this name and these flags
 abbrev pub command_with : Text → List Text → Shape
 command_with name flags = record (new_shape name) { rules = map flag flags }
 
--- the command has these flags, and only flags of its own
+-- the command has exactly these flags, and none that applies to other commands too
 pub record HasFlags (name : Text) (flags : List Text) (command : Command) : Type 0 where
   pub shape : (app_of command).top ≡ command_with name flags
   pub local : (out-Command command).has_globals ≡ false
 
--- the words of a line are a command and its flags, without the name of a program before them
+-- the program without commands; the words of a line don't begin with the program's name
 abbrev pub program : App
 program = on_top (λ top. record top { no_binary_name = true; disable_help_subcommand = true }) (new_app (codes "psyn"))
 
--- each command after those before it
+-- the program with all these commands, added one after the other
 abbrev pub with_commands : App → List Usage → App
 with_commands app [] = app
 with_commands app (usage ∷ more) = with_commands (with_subcommand app (command_with usage.name usage.flags)) more
@@ -185,43 +186,43 @@ table = with_commands program commands
 abbrev pub is_given : Text → List Row → Bool
 is_given name rows = option_map_or (λ text. bytes_eq text (codes "true")) (first_of name rows) false
 
--- the line of the command that the words name, if they name one
+-- the line that the command of the parsed words is, if they contain a command
 abbrev pub line_said : Option (Text × List Row) → Line
 line_said (Some command) = line_named command.0 (λ name. is_given name command.1)
 line_said None = Refused
 
--- the answer to words that are not a line of the table: `--help` and `-h` ask for help
+-- the line for words that the parser refuses: `--help` and `-h` ask for help, and all other lines are refused
 abbrev pub line_refused : ErrorKind → Line
 line_refused DisplayHelp = Help
 line_refused _ = Refused
 
--- the words say the line
+-- the words mean this line
 abbrev pub Says : List Text → Line → Type 0
 Says words line = ((fault_of table words ≡ []) × (line ≡ line_said (subcommand_of table words)))
     ⊎ ((kind : ErrorKind) × IsAmong kind (fault_of table words) × (line ≡ line_refused kind))
 
--- the word is longer than each command, and does not begin with a hyphen (45)
+-- the word is longer than the name of every command, and does not begin with a hyphen (45)
 abbrev pub NamesNothing : Text → Type 0
 NamesNothing word = All (λ usage. length usage.name < length word) commands × (slice_index word 0 ≢ 45)
 
--- the input's first line says the line
+-- the first line of the input means this line
 abbrev pub IsLine : List ℕ → Line → Type 0
 IsLine first_line line = (IsUtf8 first_line × Says (words_of first_line) line)
     ⊎ (¬ (IsUtf8 first_line) × (line ≡ Refused))
 
 -- ---- the lines that are read
 
--- the flag is among these
+-- the flag is in the list
 abbrev pub is_among : List Text → Text → Bool
 is_among [] name = false
 is_among (flag ∷ flags) name = if bytes_eq name flag then true else is_among flags name
 
--- a word put at each place of a list
+-- all lists that result if the word is inserted somewhere in the list
 abbrev pub insertions : Text → List Text → List (List Text)
 insertions word [] = (word ∷ []) ∷ []
 insertions word (x ∷ xs) = (word ∷ (x ∷ xs)) ∷ map (λ rest. x ∷ rest) (insertions word xs)
 
--- different words of a list, each choice in each order
+-- all lists of different words of the given list, in any order
 abbrev pub arrangements : List Text → List (List Text)
 arrangements [] = [] ∷ []
 arrangements (x ∷ xs) = arrangements xs ++ flat_map (insertions x) (arrangements xs)
@@ -230,11 +231,11 @@ arrangements (x ∷ xs) = arrangements xs ++ flat_map (insertions x) (arrangemen
 abbrev pub words_with : Text → List Text → List Text
 words_with name flags = name ∷ map (λ flag. codes "--" ++ flag) flags
 
--- the words are taken, and say the line
+-- the parser accepts the words, and they mean this line
 abbrev pub AreRead : List Text → Line → Type 0
 AreRead words line = (fault_of table words ≡ []) × (line_said (subcommand_of table words) ≡ line)
 
--- a command with different flags of its own, in any order, is read as that command
+-- a command with different flags of its own, in any order, is read as this command
 abbrev pub LinesAreRead : Type 0
 LinesAreRead =
     AllByRecursion (λ usage. AllByRecursion (λ flags. AreRead (words_with usage.name flags)

@@ -1,4 +1,4 @@
--- What `help` answers.
+-- The text that `help` prints.
 use Rattle.std.specs.Prelude.{◌++◌, ◌-◌, ℕ, List, [], ◌∷◌, codes, flat_map, length, replicate}
 use Rattle.ps_program.specs.CommandLine.{Usage, commands}
 use Rattle.ps_program.specs.declared.commands.TextKind.{TextKind}
@@ -14,7 +14,7 @@ kind_text Solution = codes "a solution"
 kind_text Circuit = codes "a circuit"
 kind_text Stimulus = codes "a stimulus"
 
--- each behind a comma
+-- further kinds of texts, each after a comma
 abbrev pub further_kinds : List TextKind → List ℕ
 further_kinds kinds = flat_map (λ kind. codes ", " ++ kind_text kind) kinds
 
@@ -23,11 +23,11 @@ abbrev pub kinds_text : List TextKind → List ℕ
 kinds_text [] = []
 kinds_text (kind ∷ kinds) = kind_text kind ++ further_kinds kinds
 
--- the command's name in a column of nine bytes, the kinds of its texts, and what it says
+-- the command's name in a column of nine bytes, the kinds of its texts, and what `help` says about the command
 abbrev pub usage_text : Usage → List ℕ
 usage_text usage =
     usage.name ++ replicate (9 - length usage.name) 32 ++ kinds_text usage.texts ++ usage.says ++ codes "\n"
 
--- the commands, between what stands above them and below
+-- the lines of the commands, between the text above them and the text below
 unfoldable pub help_text : List ℕ
 help_text = ABOUT.now ++ flat_map usage_text commands ++ FORMATS.now

@@ -8,7 +8,7 @@ use Rattle.ps_program.specs.declared.answer.Refusal.TheVariants as refusal
 use Rattle.ps_program.specs.Faults.{fault_text, text_line}
 use Rattle.ps_program.specs.Replies.{Reply, reply_of, fault_reply}
 
--- a step, and then the next step, which takes its value; a fault of the first step is the fault of both
+-- one step after another, which takes the value of the first; a fault of the first step is the fault of both
 abbrev pub Then : {V W : Type 0} → (Result V (List ℕ) → Type 0) → (V → Result W (List ℕ) → Type 0) →
     Result W (List ℕ) → Type 0
 Then {V} {W} step next outcome = ((line : List ℕ) × step (Err line) × (outcome ≡ Err line))
@@ -32,7 +32,7 @@ Gives view step (Ok value) = step (Ok (view value))
 Gives view step (Err (refusal.Fault fault)) = step (Err (fault_text fault))
 Gives view step (Err refusal.OutOfMemory) = ⊤
 
--- the answer is the one that is printed for a command's result
+-- the answer is what is printed for the result of a command
 abbrev pub Settles : Result Answer Refusal → Answer → Type 0
 Settles (Ok given) answer = reply_of answer ≡ reply_of given
 Settles (Err (refusal.Fault fault)) answer = reply_of answer ≡ fault_reply (fault_text fault)

@@ -3,7 +3,7 @@ use Rattle.std.specs.Prelude.{◌≡◌, ◌⊎◌, ◌==◌, ◌&&◌, ℕ, Boo
 use Rattle.std.specs.Io.{StartsWith}
 use Rattle.std.specs.Io.KnownBytes.{Appends}
 
--- the write was given some bytes, and reported that it took none
+-- the write was given some bytes, and accepted none of them
 abbrev pub stalls : {E : Type 0} → Result ℕ E → List ℕ → Bool
 stalls (Ok n) bytes = n == 0 && nat_lt 0 (length bytes)
 stalls (Err e) bytes = false
@@ -12,7 +12,7 @@ stalls (Err e) bytes = false
 abbrev pub AppendsSome : Option (List ℕ) → Option (List ℕ) → List ℕ → Type 0
 AppendsSome before after text = (sent : List ℕ) × StartsWith text sent × Appends before after sent
 
--- A call failed, or a write took no bytes, but not both, because nothing is written after either.
+-- A call failed, or a write accepted no bytes. Both can't be true, because nothing is written after either.
 abbrev pub Breaks : (has_failed has_stalled : Bool) → Type 0
 Breaks has_failed has_stalled =
     ((has_failed ≡ true) × (has_stalled ≡ false)) ⊎ ((has_failed ≡ false) × (has_stalled ≡ true))

@@ -20,7 +20,7 @@ use Rattle.ps_program.specs.Cut.{AreTexts, HasFewerMarks}
 use Rattle.ps_program.specs.Faults.{spaced, choice_text, line_text}
 use Rattle.ps_program.specs.Outcomes.{Then, Reading}
 
--- ---- the cut
+-- ---- the texts of an input
 
 abbrev pub missing_text : List ℕ
 missing_text = line_text 27 (codes "MissingText") []

@@ -1,4 +1,5 @@
--- The command that asks whether an automaton accepts each lasso trace of a circuit, or none.
+-- The command that asks whether an automaton accepts each lasso trace of a circuit (a controller), or none (an
+-- environment).
 use Rattle.std.specs.Prelude.{◌≡◌, ◌⊎◌, ℕ, Bool, List, [], ◌++◌, flat_map, codes, Result, Ok, Err}
 use Rattle.ps_circuit.specs.Circuits.{CircuitData, IsCircuit}
 use Rattle.ps_hoa.specs.Files.{FileData}
@@ -22,7 +23,7 @@ use Rattle.ps_program.specs.Texts.{CutsInTwo, ReadsCircuitText}
 abbrev pub letter_lines : List (List Bool) → List ℕ
 letter_lines letters = flat_map (λ letter. digits_of letter ++ codes "\n") letters
 
--- the stimulus on which a circuit loses, as it is read again
+-- the word `loses`, and the stimulus on which the circuit loses, in the form that `lasso` reads
 abbrev pub losing_text : StimulusData → List ℕ
 losing_text s = codes "loses\n" ++ letter_lines s.stem ++ codes "-\n" ++ letter_lines s.lap
 
@@ -32,33 +33,33 @@ wins_reply = line_reply (codes "wins")
 abbrev pub loses_reply : StimulusData → Reply
 loses_reply s = text_reply (losing_text s)
 
--- the line of what is wrong with the symbols or the order of moves
+-- the line of a fault of the symbols or of the order of moves
 abbrev pub product_line : ProductFault → List ℕ
 product_line fault = line_text (fault_number fault) (fault_name fault) []
 
--- what is wrong with the symbols, else with the order of moves
+-- wrong symbols are reported before a wrong order of moves
 abbrev pub IsProductLine : Order → Role → FileData → CircuitData → List ℕ → Type 0
 IsProductLine order role file c line =
     (¬ HasSymbols role file.names file.controllable c × (line ≡ product_line Symbols))
     ⊎ (HasSymbols role file.names file.controllable c × IsTooEarly order role c × (line ≡ product_line Timing))
 
--- that the circuit wins, or a stimulus on which it does not; else the first of these faults
+-- the answer that the circuit wins, or a stimulus on which it loses; otherwise the line of the first fault
 abbrev pub TellsJudgement : Order → Role → FileData → CircuitData → Result Reply (List ℕ) → Type 0
 TellsJudgement order role file c (Ok reply) = IsCircuit c
     × ((IsWinning order role file c × (reply ≡ wins_reply))
     ⊎ ((s : StimulusData) × IsLosing order role file c s × (reply ≡ loses_reply s)))
 TellsJudgement order role file c (Err line) = IsProductLine order role file c line
 
--- the circuit of a text in that role
+-- the judgement on the circuit of a text
 abbrev pub VerifiesText : Order → Role → FileData → List ℕ → Result Reply (List ℕ) → Type 0
 VerifiesText order role file text = Then (ReadsCircuitText text) (TellsJudgement order role file)
 
--- `verify` of an automaton and a circuit of that role
+-- the answer to `verify`, for an automaton and a circuit with this role
 abbrev pub AnswersVerify : Order → Role → List ℕ → Result Reply (List ℕ) → Type 0
 AnswersVerify order role texts =
     Then (CutsInTwo texts) (λ parts. Then (ReadsAutomaton parts.0) (λ file. VerifiesText order role file parts.1))
 
--- the file and the circuit of these texts
+-- the file and the circuit that the two texts of the input contain
 abbrev pub ReadsVerified : List ℕ → FileData → CircuitData → Type 0
 ReadsVerified texts file c = (parts : List ℕ × List ℕ) × CutsInTwo texts (Ok parts) × ReadsAutomaton parts.0 (Ok file)
     × ReadsCircuitText parts.1 (Ok c)

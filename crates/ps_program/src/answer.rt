@@ -1,4 +1,4 @@
-//! What the program answers.
+//! The program's answers.
 
 ghost use Rattle.std.specs.Prelude.{◌≡◌, IfOk};
 ghost use Rattle.ps_program.specs.Outcomes.{Settles};
@@ -8,36 +8,36 @@ use crate::help::help_text;
 use ps_text::faults::{Cause, Fault};
 use std::alloc::{AllocError, Global};
 
-/// The status of an answer.
+/// The exit status of an answer that is neither a circuit nor a fault.
 const DONE: u8 = 0;
 
-/// The status of a fault.
+/// The exit status of a fault.
 pub const FAULT: u8 = 1;
 
-/// The status of a controller's circuit.
+/// The exit status if the circuit is a controller.
 pub const REALIZABLE: u8 = 10;
 
-/// The status of an environment's circuit.
+/// The exit status if the circuit is an environment.
 pub const UNREALIZABLE: u8 = 20;
 
-/// The status of a command line that is refused.
+/// The exit status of a rejected command line.
 const REFUSED: u8 = 2;
 
-/// The line of a command line that is refused.
+/// The answer to a rejected command line.
 const USAGE: &str = "fault usage\n";
 
-/// The line of an input that can't be read.
+/// The answer to an input that can't be read.
 pub const READ_FAULT: &[u8] = b"fault 25 ReadFault\n";
 
-/// The line for out of memory.
+/// The answer if memory runs out.
 pub const OUT_OF_MEMORY: &[u8] = b"fault 24 OutOfMemory\n";
 
-/// What the program writes, and its exit status. The calls that make an answer of a line fail if memory runs out.
+/// What the program writes, and its exit status. The constructors that build a line fail if memory runs out.
 #[derive(Drop)]
 pub struct Answer {
-    /// The bytes.
+    /// The bytes that are written.
     pub text: Vec<u8>,
-    /// The status.
+    /// The exit status.
     pub status: u8,
 }
 
@@ -46,7 +46,7 @@ impl Answer {
     ghost use Rattle.ps_program.specs.Replies.{reply_of, fault_reply, line_reply};
     ghost use Rattle.ps_program.specs.Replies as reply;
 
-    /// An answer of that text.
+    /// An answer that consists of the given text.
     pub fn text(text: Vec<u8>) -> Answer
         ensures { reply_of result ≡ reply.text_reply text.items }
     {
@@ -61,7 +61,7 @@ impl Answer {
         Ok(Answer { text, status: DONE })
     }
 
-    /// The line of a fault.
+    /// The answer that reports a fault.
     pub fn fault(alloc: Global, fault: &FaultLine) -> Result<Answer, AllocError>
         ensures { IfOk result (λ answer. reply_of answer ≡ fault_reply (fault_text fault.now)) }
     {
@@ -72,7 +72,7 @@ impl Answer {
         })
     }
 
-    /// The answer to a command line that is refused.
+    /// The answer to a rejected command line.
     pub fn usage(alloc: Global) -> Result<Answer, AllocError>
         ensures { IfOk result (λ answer. reply_of answer ≡ reply.usage) }
     {
@@ -83,7 +83,7 @@ impl Answer {
         })
     }
 
-    /// What psyn can do.
+    /// The answer to a request for help.
     pub fn help(alloc: Global) -> Result<Answer, AllocError>
         ensures { IfOk result (λ answer. reply_of answer ≡ reply.help) }
     {
@@ -95,7 +95,7 @@ impl Answer {
 /// Why a command has no answer.
 #[derive(Drop)]
 pub enum Refusal {
-    /// A fault; its line is the answer.
+    /// A fault, whose line is the answer.
     Fault(FaultLine),
     /// Memory ran out.
     OutOfMemory,
@@ -111,7 +111,7 @@ impl From<AllocError> for Refusal {
     }
 }
 
-/// The answer to a text's fault is the number and the name of its cause.
+/// A fault of a parser becomes a line with the number and the name of its cause.
 impl<C: Cause> From<Fault<C>> for Refusal {
     ghost use Rattle.ps_program.specs.Refusals.{IsRefusalOf};
 
@@ -129,7 +129,7 @@ impl<C: Cause> From<Fault<C>> for Refusal {
     }
 }
 
-/// A command's answer, or the line of its fault. Fails if memory runs out.
+/// The answer of a command, or the line of its fault. Fails if memory runs out.
 pub fn settle(alloc: Global, outcome: Result<Answer, Refusal>) -> Result<Answer, AllocError>
     ensures { IfOk result (Settles outcome) }
 {

@@ -1,4 +1,4 @@
-//! The automaton of an HOA text, for the commands whose first text is one.
+//! The automaton of an HOA text, for the commands whose first text is an HOA text.
 
 ghost use Rattle.ps_program.specs.Automata.{GivesAutomaton};
 
@@ -10,7 +10,7 @@ use std::alloc::Global;
 ///
 /// # Errors
 ///
-/// Fails with the first cause for which the text is refused; else if its file has no automaton; or if memory runs out.
+/// Fails with the first error of the text; else if the file has no automaton; or if memory runs out.
 pub fn read_automaton(alloc: Global, text: &[u8]) -> Result<Automaton, Refusal>
     ensures { GivesAutomaton text.now result }
 {

@@ -1,4 +1,4 @@
-//! The command line: the input's first line.
+//! The command line, which is the first line of the input.
 
 ghost use Rattle.std.specs.Prelude.{◌≡◌, ◌↔◌, ◌<◌, false, length, All, List, IfOk, IsTrue, find, map};
 ghost use Rattle.std.specs.Option.{option_copied};
@@ -26,14 +26,14 @@ pub fn read_line(alloc: Global, line: &[u8]) -> Result<Line, AllocError>
     }
 }
 
-/// A law: a command with different flags of its own, in any order, is read as that command, and `--help` and `-h` ask
-/// for help.
+/// A law. A command with different flags of its own, in any order, is read as this command. `--help` and `-h` ask for
+/// help.
 pub fn lines_are_read()
     ensures lines { LinesAreRead }
     ensures help { AskForHelp }
 {}
 
-/// The words between runs of spaces.
+/// The words of a line, which are separated by spaces.
 fn split_words(alloc: Global, text: &str) -> Result<Vec<&str>, AllocError>
     ensures { IfOk result (λ words. map (λ word. word.now) words.items ≡ words_of text.now) }
 {
@@ -42,7 +42,7 @@ fn split_words(alloc: Global, text: &str) -> Result<Vec<&str>, AllocError>
         .collect(alloc)
 }
 
-/// Whether a first word is too long for a command, and is not a flag.
+/// Whether the first word is longer than the name of every command, and does not begin with a hyphen.
 fn names_nothing(word: &str) -> bool
     ensures { IsTrue result → words.NamesNothing word.now }
 {
@@ -59,7 +59,8 @@ fn is_longer(usages: &[Usage<'_>], word: &str) -> bool
     usages.iter().all(|usage| usage.name.len() < word.len())
 }
 
-/// Reads the words of a line. A first word that names nothing is not looked up among similar names.
+/// Reads the words of a line. If the first word names nothing (`names_nothing`), the line is refused at once, without a
+/// search for similar names.
 fn read_words(alloc: Global, words: &[&str]) -> Result<Line, AllocError>
     ensures { IfOk result (Says (map (λ word. word.now) words.now)) }
 {
@@ -85,7 +86,7 @@ fn parse_words(alloc: Global, words: &[&str]) -> Result<Line, AllocError>
     }
 }
 
-/// A flag by its name, which follows `--`.
+/// The flag with this name, which is written after `--`.
 fn flag<'a>(alloc: Global, name: &'a str) -> Arg<'a>
     ensures rule { rule_of result ≡ words.flag name.now }
     ensures local { result.global ≡ false }
@@ -93,7 +94,7 @@ fn flag<'a>(alloc: Global, name: &'a str) -> Arg<'a>
     Arg::new(alloc, name).long(name).action(ArgAction::SetTrue)
 }
 
-/// The program with all commands.
+/// The program with all its commands.
 fn table<'a>(alloc: Global) -> Result<Command<'a>, AllocError>
     ensures { IfOk result (λ command. app_of command ≡ words.table) }
 {
@@ -112,7 +113,7 @@ fn with_commands<'a>(alloc: Global, usages: &[Usage<'a>]) -> Result<Command<'a>,
     Ok(psyn)
 }
 
-/// The program with no command. The words of a line don't begin with the name of a program.
+/// The program without commands. The words of a line don't begin with the program's name.
 fn program<'a>(alloc: Global) -> Command<'a>
     ensures { app_of result ≡ words.program }
 {
@@ -121,7 +122,7 @@ fn program<'a>(alloc: Global) -> Command<'a>
         .disable_help_subcommand(true)
 }
 
-/// The commands, and after them one more with flags of its own.
+/// Adds a command with flags of its own to the program.
 fn with_command<'a>(
     alloc: Global,
     psyn: Command<'a>,
@@ -149,7 +150,7 @@ fn command_with<'a>(
     Ok(command)
 }
 
-/// The line that was read.
+/// The line that the parsed words say.
 fn line_of(matches: &ArgMatches) -> Line
     ensures { result ≡ line_said (subcommand_rows_of matches.now) }
 {
@@ -159,7 +160,7 @@ fn line_of(matches: &ArgMatches) -> Line
     }
 }
 
-/// The line of a command with its flags.
+/// The line of the command with this name and the given flags.
 fn line_named(name: &str, flags: &ArgMatches) -> Line
     ensures { result ≡ words.line_named name.now (λ flag. words.is_given flag (rows_of (found_of flags.now))) }
 {
@@ -169,14 +170,14 @@ fn line_named(name: &str, flags: &ArgMatches) -> Line
     }
 }
 
-/// That of these commands which has the name.
+/// The command among these that has the given name.
 fn usage_named<'a>(usages: &'a [Usage<'a>], name: &str) -> Option<&'a Usage<'a>>
     ensures { option_copied result ≡ find (λ usage. bytes_eq usage.name.now name.now) usages.now }
 {
     usages.iter().find(|usage| usage.name == name)
 }
 
-/// The role of a circuit, by its flag.
+/// The role of the circuit: an environment if `--env` is given.
 pub fn role_given(flags: &ArgMatches) -> Role
     ensures { result ≡ words.role_given (λ name. words.is_given name (rows_of (found_of flags.now))) }
 {
@@ -187,7 +188,7 @@ pub fn role_given(flags: &ArgMatches) -> Role
     }
 }
 
-/// Who moves first, by the flag.
+/// The order of moves: outputs first if `--moore` is given.
 pub fn order_given(flags: &ArgMatches) -> Order
     ensures { result ≡ words.order_given (λ name. words.is_given name (rows_of (found_of flags.now))) }
 {

@@ -1,4 +1,4 @@
-//! The commands: how each is called, what it reads, and what answers it.
+//! The commands: how each is called, what it reads, and which function answers it.
 
 ghost use Rattle.std.specs.Prelude.{◌≡◌, map};
 ghost use Rattle.clap.specs.Matches.{found_of};
@@ -27,61 +27,61 @@ use ps_machine::{Order, Solver};
 use ps_simulate::Role;
 use std::alloc::Global;
 
-/// What the first line asks for.
+/// What the first line of the input asks for.
 #[derive(Clone, Copy)]
 pub enum Line {
-    /// It is not a command with flags of its own, each given at most once.
+    /// No command: the line is not a command with flags of its own, each given at most once.
     Refused,
-    /// What psyn can do.
+    /// Asks for the help text.
     Help,
-    /// Whether a certificate's table keeps each region of a game.
+    /// Asks whether each path that follows a certificate's moves stays in its region.
     Closed,
-    /// Whether a certificate of a game is valid.
+    /// Asks whether a certificate of a game is valid.
     Check,
-    /// The certificate of a game by a solution of it.
+    /// Asks for the certificate that a solution of a game gives.
     Judge {
-        /// As a compact text.
+        /// Whether the certificate is printed as a compact text.
         compact: bool,
     },
-    /// What a circuit does, letter by letter.
+    /// Asks for the trace of a circuit at given letters.
     Sim,
-    /// Whether an automaton accepts what a circuit of that role does on a stem and a lap.
+    /// Asks whether an automaton accepts the word that a circuit with this role produces on a stem and a lap.
     Lasso(Role),
-    /// Whether an automaton accepts each lasso trace of a circuit, or none.
+    /// Asks whether an automaton accepts each lasso trace of a circuit (a controller), or none (an environment).
     Verify {
         /// Who moves first.
         order: Order,
-        /// What part the circuit plays.
+        /// The role of the circuit.
         role: Role,
     },
-    /// A certificate of a game.
+    /// Asks for a certificate of a game.
     Solve {
-        /// As a compact text.
+        /// Whether the certificate is printed as a compact text.
         compact: bool,
     },
-    /// The game of an automaton, in that order of moves.
+    /// Asks for the game of an automaton, in this order of moves.
     Game(Order),
-    /// A certificate of that game.
+    /// Asks for a certificate of the game of an automaton.
     Cert {
         /// Who moves first.
         order: Order,
-        /// As a compact text.
+        /// Whether the certificate is printed as a compact text.
         compact: bool,
     },
-    /// A circuit for an automaton.
+    /// Asks for a circuit for an automaton.
     Synth(SynthLine),
 }
 
-/// How a circuit is asked for.
+/// Which circuit is asked for, and what is printed with it.
 #[derive(Clone, Copy)]
 pub struct SynthLine {
-    /// With the game and its certificate.
+    /// Whether the game and its certificate are printed too.
     pub full: bool,
-    /// By the certificate that follows the automaton.
+    /// Whether a certificate of the game follows the automaton, and is used instead of the solver.
     pub cert: bool,
     /// Who moves first.
     pub order: Order,
-    /// With the certificate as a compact text.
+    /// Whether the certificate is printed as a compact text.
     pub compact: bool,
 }
 
@@ -105,81 +105,81 @@ pub enum TextKind {
 /// How a command is used.
 #[derive(Clone, Copy)]
 pub struct Usage<'a> {
-    /// Its name.
+    /// The name of the command.
     pub name: &'a str,
-    /// Its flags, each of which follows `--`.
+    /// The flags of the command, each of which is written after `--`.
     pub flags: &'a [&'a str],
-    /// The kinds of its texts, in their order.
+    /// The kinds of the texts that the command reads, in their order.
     pub texts: &'a [TextKind],
-    /// Flags that add a text behind these, of that kind.
+    /// Flags with which the command reads a further text, and the kind of this text.
     pub added: &'a [(&'a str, TextKind)],
-    /// What it asks for with no flag.
+    /// What the command asks for if no flag is given.
     pub line: Line,
-    /// What `help` says of it, behind the kinds of its texts.
+    /// What `help` says about the command, after the kinds of its texts.
     pub says: &'a str,
 }
 
-/// An environment's circuit.
+/// The flag of a command whose circuit is an environment.
 pub const ENV_FLAG: &str = "env";
 
-/// Outputs move before inputs.
+/// The flag by which outputs come before inputs.
 pub const MOORE_FLAG: &str = "moore";
 
-/// A certificate as a compact text.
+/// The flag by which a certificate is printed as a compact text.
 pub const COMPACT_FLAG: &str = "compact";
 
-/// With the game and its certificate.
+/// The flag by which the game and its certificate are printed too.
 pub const FULL_FLAG: &str = "full";
 
-/// By a certificate that is given.
+/// The flag by which a given certificate is used.
 pub const CERT_FLAG: &str = "cert";
 
-/// What `help` says of `closed`, behind the kinds of its texts.
+/// What `help` says about `closed`, after the kinds of its texts.
 pub const ON_CLOSED: &str = "\
 : `closed` where each path that follows the moves
          stays with its winner, else the first flaw";
 
-/// What `help` says of `check`, behind the kinds of its texts.
+/// What `help` says about `check`, after the kinds of its texts.
 pub const ON_CHECK: &str = "\
 : `valid` where, besides, the counts show that
          the winner wins each loop, else the first flaw";
 
-/// What `help` says of `judge`, behind the kinds of its texts.
+/// What `help` says about `judge`, after the kinds of its texts.
 pub const ON_JUDGE: &str = " of it, as a solver found it: the certificate with
          these winners and moves, if they hold, else a wrong move or edge, or
          a cycle that its player loses; --compact";
 
-/// What `help` says of `sim`, behind the kinds of its texts.
+/// What `help` says about `sim`, after the kinds of its texts.
 pub const ON_SIM: &str = "\
 : a line for each letter, with the latches before
          it, the inputs and the outputs";
 
-/// What `help` says of `lasso`, behind the kinds of its texts.
+/// What `help` says about `lasso`, after the kinds of its texts.
 pub const ON_LASSO: &str = " with a line - between a stem and
          a lap: whether the automaton accepts what the circuit does on the stem
          and then on the lap again and again; the circuit is a controller, or
          with the flag --env an environment";
 
-/// What `help` says of `verify`, behind the kinds of its texts.
+/// What `help` says about `verify`, after the kinds of its texts.
 pub const ON_VERIFY: &str = "\
 : `wins` where the automaton accepts each lasso
          trace of the circuit, or with --env none; else `loses`, and a stimulus
          on which that is not so; --moore";
 
-/// What `help` says of `solve`, behind the kinds of its texts.
+/// What `help` says about `solve`, after the kinds of its texts.
 pub const ON_SOLVE: &str = "\
 : a certificate that says who wins each vertex, by which moves;
          --compact: only the counts that are not 0, each as priority:count";
 
-/// What `help` says of `game`, behind the kinds of its texts.
+/// What `help` says about `game`, after the kinds of its texts.
 pub const ON_GAME: &str = "\
 : the game in which its inputs move before its outputs, or
          with the flag --moore after them";
 
-/// What `help` says of `cert`, behind the kinds of its texts.
+/// What `help` says about `cert`, after the kinds of its texts.
 pub const ON_CERT: &str = ": a certificate of that game; --moore, --compact";
 
-/// What `help` says of `synth`, behind the kinds of its texts.
+/// What `help` says about `synth`, after the kinds of its texts.
 pub const ON_SYNTH: &str = "\
 : REALIZABLE and the circuit of a controller whose traces
          the automaton accepts, or UNREALIZABLE and that of an environment
@@ -188,10 +188,10 @@ pub const ON_SYNTH: &str = "\
          --compact as a compact text;
          --cert: by the certificate of that game that is its second text";
 
-/// What `help` says of `help`, behind the kinds of its texts.
+/// What `help` says about `help`, after the kinds of its texts.
 pub const ON_HELP: &str = "this text";
 
-/// The commands, in the order in which `help` tells them.
+/// The commands, in the order in which `help` lists them.
 const COMMANDS: &[Usage<'static>] = &[
     Usage {
         name: "closed",
@@ -294,7 +294,7 @@ const COMMANDS: &[Usage<'static>] = &[
     },
 ];
 
-/// The commands, in the order in which `help` tells them.
+/// The commands, in the order in which `help` lists them.
 pub(crate) fn usages() -> &'static [Usage<'static>]
     ensures { map usage_of result.now ≡ commands }
 {
@@ -302,7 +302,7 @@ pub(crate) fn usages() -> &'static [Usage<'static>]
 }
 
 impl Line {
-    /// The same with these flags.
+    /// What the command asks for if these flags are given.
     pub(crate) fn with(self, flags: &ArgMatches) -> Line
         ensures { result ≡ with_flags self (λ name. is_given name (rows_of (found_of flags.now))) }
     {
@@ -334,7 +334,7 @@ impl Line {
     }
 }
 
-/// The answer to a line, with what follows it.
+/// The answer to a line, given the texts that follow it.
 ///
 /// # Errors
 ///

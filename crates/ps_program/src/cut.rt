@@ -4,7 +4,7 @@ ghost use Rattle.std.specs.Prelude.{◌≡◌, ◌==◌, ◌≤◌, ◌<◌, len
 ghost use Rattle.std.specs.List.{before_first, after_first, position_or_len};
 ghost use Rattle.ps_program.specs.Cut.{is_mark, ends_line, Cuts, HasNoMark};
 
-/// The first line without its newline, and what follows the newline.
+/// The first line without its newline, and the rest after the newline.
 pub fn first_line(input: &[u8]) -> (&[u8], &[u8])
     ensures line { result.0.now ≡ before_first (λ byte. byte == 10) input.now }
     ensures rest { result.1.now ≡ after_first (λ byte. byte == 10) input.now }
@@ -14,7 +14,7 @@ pub fn first_line(input: &[u8]) -> (&[u8], &[u8])
     (&input[..end], &input[behind..])
 }
 
-/// The number of bytes before the first newline, or of all bytes if there is none.
+/// The number of bytes before the first newline, or of all bytes if there is no newline.
 fn line_length(input: &[u8]) -> usize
     ensures within { result ≤ length input.now }
     ensures length { result ≡ position_or_len (λ byte. byte == 10) input.now }
@@ -27,7 +27,7 @@ fn line_length(input: &[u8]) -> usize
     input.len()
 }
 
-/// What is before the first line `%%`, and what follows it.
+/// The part before the first line `%%`, and the part after it.
 pub fn cut(texts: &[u8]) -> Option<(&[u8], &[u8])>
     ensures found { IfSome result (λ parts. Cuts texts.now parts.0.now parts.1.now) }
     ensures missing { IfNone result (HasNoMark texts.now) }

@@ -1,54 +1,54 @@
-//! The faults that the program answers, each in one line.
+//! The faults that the program reports, each in one line.
 
-/// What the program answers instead of a result: a fault's number and name, as docs/FAULTS.md lists them, and where it
-/// occurs.
+/// What the program answers if there is no result: a fault's number and name, as docs/FAULTS.md lists them, and its
+/// place.
 #[derive(Drop)]
 pub struct FaultLine {
-    /// The number.
+    /// The fault's number.
     pub number: u8,
-    /// The name.
+    /// The fault's name.
     pub name: &'static str,
-    /// Where it occurs.
+    /// Where the fault occurs.
     pub place: Place,
 }
 
 /// Where a fault occurs. Vertices are named by the game's ids.
 #[derive(Drop)]
 pub enum Place {
-    /// In no place.
+    /// No place.
     Nowhere,
-    /// At a byte of a text, counted from 0.
+    /// A byte of a text, counted from 0.
     Byte(usize),
-    /// At two edges of a state.
+    /// Two edges of a state.
     Edges {
-        /// The state, by its number in the text.
+        /// The number that the state has in the text.
         state: usize,
-        /// The place of the earlier edge in the state's row, from 0.
+        /// The index of the earlier edge in the state's row, counted from 0.
         first: usize,
-        /// The place of the later one.
+        /// The index of the later edge.
         second: usize,
     },
-    /// On a cycle of vertices.
+    /// A cycle of vertices.
     Cycle(Vec<u64>),
-    /// At a vertex, with its move.
+    /// A vertex and its move.
     Move {
         /// The vertex.
         vertex: u64,
-        /// Its move, if it has one.
+        /// The successor to which the vertex moves, if it has a move.
         choice: Option<u64>,
     },
-    /// At an edge of a game.
+    /// An edge of a game.
     Edge {
-        /// Where it begins.
+        /// The vertex that the edge leaves.
         vertex: u64,
-        /// Where it leads.
+        /// The vertex to which the edge leads.
         successor: u64,
     },
-    /// At an edge of a game, with the count for a priority.
+    /// An edge of a game, with the priority whose count is wrong.
     Count {
-        /// Where the edge begins.
+        /// The vertex that the edge leaves.
         vertex: u64,
-        /// Where it leads.
+        /// The vertex to which the edge leads.
         successor: u64,
         /// The priority.
         priority: u64,

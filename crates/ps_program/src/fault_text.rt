@@ -6,7 +6,7 @@ ghost use Rattle.ps_program.specs.Faults.{fault_text, ids_text, place_text};
 use crate::fault::{FaultLine, Place};
 use std::fmt;
 
-/// Numbers, each after a space.
+/// Numbers that are written with a space before each.
 #[derive(Clone, Copy)]
 struct Ids<'a>(&'a [u64]);
 
@@ -21,7 +21,7 @@ impl fmt::Display for Ids<'_> {
     }
 }
 
-/// The place, after a space if there is one.
+/// Writes the place, with a space before it if there is one.
 impl fmt::Display for Place {
     ghost output = { λ place. Some (place_text place) };
 
@@ -56,7 +56,7 @@ impl fmt::Display for Place {
     }
 }
 
-/// The line, without the newline that ends it.
+/// Writes the line, without the newline that ends it.
 impl fmt::Display for FaultLine {
     ghost output = { λ line. Some (fault_text line) };
 

@@ -1,4 +1,4 @@
-//! What `help` answers.
+//! The text that `help` prints.
 
 ghost use Rattle.std.specs.Prelude.{◌≡◌, ◌++◌, IfOk, OnOk, flat_map, map, replicate};
 ghost use Rattle.std.specs.String.{string_bytes};
@@ -8,7 +8,7 @@ ghost use Rattle.ps_program.specs.Inner.Usages.{usage_of};
 use crate::commands::{TextKind, Usage, usages};
 use std::alloc::{AllocError, Global};
 
-/// What stands above the commands.
+/// The text above the list of commands.
 pub const ABOUT: &str = "\
 psyn answers one command, which it reads from standard input.
 
@@ -17,7 +17,7 @@ two of them.
 
 ";
 
-/// What stands below the commands.
+/// The text below the list of commands.
 pub const FORMATS: &str = "\n\
 A game has an entry for each vertex: its id, its priority, its owner (0 or 1),
 its successors, a name if it has one, and a semicolon. A certificate lists the
@@ -81,10 +81,10 @@ lists the faults, with an example of each and how to mend it; tools/psyn, which
 takes files by name, explains them.
 ";
 
-/// The column behind the names of commands.
+/// The column after the names of the commands.
 const COLUMN: usize = 9;
 
-/// What psyn can do. Fails if memory runs out.
+/// The whole text. Fails if memory runs out.
 pub(crate) fn help_text(alloc: Global) -> Result<String, AllocError>
     ensures { IfOk result (λ text. string_bytes text ≡ words.help_text) }
 {
@@ -94,7 +94,7 @@ pub(crate) fn help_text(alloc: Global) -> Result<String, AllocError>
     Ok(text)
 }
 
-/// Appends how commands are used. Fails if memory runs out.
+/// Appends the lines of the given commands. Fails if memory runs out.
 fn push_usages(text: &mut String, usages: &[Usage<'_>]) -> Result<(), AllocError>
     ensures { OnOk result (string_bytes text.new ≡ string_bytes text.old ++
         flat_map words.usage_text (map usage_of usages.now)) }
@@ -105,7 +105,7 @@ fn push_usages(text: &mut String, usages: &[Usage<'_>]) -> Result<(), AllocError
     Ok(())
 }
 
-/// Appends how a command is used. Fails if memory runs out.
+/// Appends the lines of a command. Fails if memory runs out.
 fn push_usage(text: &mut String, usage: &Usage<'_>) -> Result<(), AllocError>
     ensures { OnOk result (string_bytes text.new ≡ string_bytes text.old ++
         words.usage_text (usage_of usage.now)) }
@@ -117,7 +117,7 @@ fn push_usage(text: &mut String, usage: &Usage<'_>) -> Result<(), AllocError>
     text.push_str("\n")
 }
 
-/// Appends blanks. Fails if memory runs out.
+/// Appends spaces. Fails if memory runs out.
 fn push_blanks(text: &mut String, count: usize) -> Result<(), AllocError>
     ensures { OnOk result (string_bytes text.new ≡ string_bytes text.old ++ replicate count 32) }
 {
@@ -140,7 +140,7 @@ fn push_kinds(text: &mut String, kinds: &[TextKind]) -> Result<(), AllocError>
     }
 }
 
-/// Appends the kinds of further texts, each behind a comma. Fails if memory runs out.
+/// Appends the kinds of further texts, each after a comma. Fails if memory runs out.
 fn push_further_kinds(text: &mut String, kinds: &[TextKind]) -> Result<(), AllocError>
     ensures { OnOk result (string_bytes text.new ≡ string_bytes text.old ++ words.further_kinds kinds.now) }
 {

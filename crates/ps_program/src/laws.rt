@@ -1,4 +1,4 @@
-//! The laws that the program's answer is determined, except for the choice of a solver.
+//! Laws: the program's answer is determined, except for what a solver may choose.
 
 ghost use Rattle.ps_program.specs.Determined.{HasOneAnswer, HasOneCertified, NeedsItsTexts};
 ghost use Rattle.ps_program.specs.Solvers.{solvers_of};
@@ -6,12 +6,12 @@ ghost use Rattle.ps_program.specs.Solvers.{solvers_of};
 use ps_machine::Solver;
 
 /// An input has at most one answer, whatever the solvers: each program that meets the definitions writes the same bytes
-/// and ends with the same status, or runs out of memory. There are three exceptions. If the line is `judge` and a player
-/// loses a cycle, it is open which such cycle the answer names. If it is `verify` and the circuit loses, it is open on
-/// which stimulus. If the line is `solve`, `cert` or `synth` and its text
-/// is accepted, two answers that are not lines of faults have the same winners: `synth` has the same status, first line
-/// and game, `solve` and `cert` the same regions. With `synth --cert` there is only one answer, to the last byte, if
-/// the second solver answers only what reading the certificate that it was fed answers.
+/// and ends with the same status, or runs out of memory. There are three exceptions. If the line is `judge` and a
+/// player loses a cycle, it is left open which lost cycle the answer names. If the line is `verify` and the circuit
+/// loses, it is left open which losing stimulus the answer shows. If the line is `solve`, `cert` or `synth` and its
+/// text is accepted, any two answers that are not lines of faults agree on the winners. Two answers to `synth` have the
+/// same status, first line and game; two answers to `solve` or `cert` have the same regions. With `synth --cert`, the
+/// whole answer is determined if the second solver only replays the certificate that it was fed.
 pub fn one_answer<S: Solver, T: Solver>(built_in: &S, replay: &T)
     ensures answer { HasOneAnswer (solvers_of (S.known built_in.now) (T.known replay.now)) }
     ensures certified { HasOneCertified (solvers_of (S.known built_in.now) (T.known replay.now)) }
@@ -34,7 +34,7 @@ pub fn one_answer<S: Solver, T: Solver>(built_in: &S, replay: &T)
     ps_verify::judgement_is_one();
 }
 
-/// A command reads a text of each kind that the table gives it. If one is missing, the answer is that.
+/// A command reads as many texts as the table says. If a text is missing, the answer reports that.
 pub fn missing_text_is_told<S: Solver, T: Solver>(built_in: &S, replay: &T)
     ensures { NeedsItsTexts (solvers_of (S.known built_in.now) (T.known replay.now)) }
 {}

@@ -1,18 +1,18 @@
-//! The program: what it reads, what it answers by the solvers that it is given, and what it writes.
+//! The program: what it reads, what it answers with the solvers that it is given, and what it writes.
 //!
 //! | Call | What it gives |
 //! |---|---|
-//! | `read_input(source)` | the whole input, at most `INPUT_LIMIT` bytes, or the `InputFault` for which there is none |
+//! | `read_input(source)` | the whole input, of at most `INPUT_LIMIT` bytes, or the reason why there is none |
 //! | `send(sink, text)` | writes a text and flushes, or a `WriteFault`, after which nothing is written |
-//! | `Watched::new` | a [`Source`] or a [`Sink`] of a reader or a writer of std |
-//! | `first_line`, `read_line` | the first line of an input and the rest; the [`Line`] that is asked for |
+//! | `Watched::new` | a [`Source`] or a [`Sink`] made from a reader or a writer of std |
+//! | `first_line`, `read_line` | the first line of an input, and the rest; the [`Line`] that the first line says |
 //! | `answer_to(input, built_in, replay)` | the [`Answer`] to an input: what is written, with its exit status |
-//! | `closed`, `check`, `judge`, `sim`, `lasso`, `verify`, `game` | that of a command that asks no solver, to its texts |
-//! | `solve`, `cert`, `synth` | that of a command that asks a solver |
+//! | `closed`, `check`, `judge`, `sim`, `lasso`, `verify`, `game` | the answer of a command that uses no solver, to its texts |
+//! | `solve`, `cert`, `synth` | the answer of a command that uses a solver |
 //! | `lines_are_read`, `missing_text_is_told` | laws: how command lines are read; a command needs each of its texts |
-//! | `one_answer` | a law: one answer, except for a solver's choice |
+//! | `one_answer` | a law: an input has one answer, except for what a solver may choose |
 //!
-//! The specs define the answer to an input, for all commands: `Program` has one case for each.
+//! The file `specs/Program.antt` defines the answer to an input, with one case for each command.
 #![tactic(auto)]
 
 mod answer;

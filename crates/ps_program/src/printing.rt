@@ -1,4 +1,4 @@
-//! What is printed of a report.
+//! The text of a report.
 
 ghost use Rattle.std.specs.Prelude.{◌≡◌, ◌++◌, IfOk};
 ghost use Rattle.ps_program.specs.Replies.{reply_of};
@@ -11,7 +11,7 @@ use std::alloc::{AllocError, Global};
 /// The line between the parts of an answer.
 const DIVIDER: &[u8] = b"%%\n";
 
-/// What is printed of a report. Fails if memory runs out.
+/// The text that is printed for a report. Fails if memory runs out.
 pub fn print(alloc: Global, report: &Report, full: bool) -> Result<Answer, AllocError>
     ensures { IfOk result (λ answer. reply_of answer ≡ report_reply full report.now) }
 {
@@ -24,7 +24,7 @@ pub fn print(alloc: Global, report: &Report, full: bool) -> Result<Answer, Alloc
     Ok(Answer { text, status })
 }
 
-/// The line that says who wins, and the exit status.
+/// The line that states the winner, and the exit status.
 fn verdict(realizable: bool) -> (&'static str, u8)
     ensures word { result.0.now ≡ verdict_line realizable }
     ensures status { result.1 ≡ verdict_status realizable }
@@ -36,7 +36,7 @@ fn verdict(realizable: bool) -> (&'static str, u8)
     }
 }
 
-/// The game and its certificate, each after a line `%%`.
+/// Appends the game and its certificate, each after a line `%%`.
 fn add_proof(text: &mut Vec<u8>, report: &Report) -> Result<(), AllocError>
     ensures { IfOk result (λ _. text.new.items ≡ text.old.items ++ proof_text report.now) }
 {

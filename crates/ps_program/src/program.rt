@@ -12,8 +12,8 @@ use crate::cut::first_line;
 use ps_machine::Solver;
 use std::alloc::{AllocError, Global};
 
-/// The answer to an input: to its first line, and to the texts that follow. The second solver is for certificates that
-/// the input holds.
+/// The answer to an input, which consists of a command line and texts. The second solver is used if the input contains
+/// a certificate.
 ///
 /// # Errors
 ///

@@ -7,10 +7,10 @@ ghost use Rattle.ps_program.specs.Input.{ConsumesAtMost, ReadsInput, input_limit
 use crate::stream::Source;
 use std::alloc::{AllocError, Global};
 
-/// The greatest number of bytes that an input may have.
+/// The largest number of bytes that an input may have.
 pub const INPUT_LIMIT: usize = 67_108_864;
 
-/// How many bytes a read asks for.
+/// The number of bytes that each read asks for.
 const CHUNK: usize = 8192;
 
 /// Why there is no input.
@@ -34,11 +34,12 @@ impl From<AllocError> for InputFault {
     }
 }
 
-/// Reads to the end, and stops at the first read that fails and at the byte past the limit.
+/// Reads the whole input.
 ///
 /// # Errors
 ///
-/// [`InputFault::Unreadable`] at the first read that fails and at the byte past the limit; else out of memory.
+/// Stops with [`InputFault::Unreadable`] at the first read that fails, or at the first byte past the limit. Fails if
+/// memory runs out.
 pub fn read_input<R: Source>(alloc: Global, reader: &mut R) -> Result<Vec<u8>, InputFault>
     requires { R.has_failed reader.old ≡ false }
     ensures read { ReadsInput (R.remaining reader.old) (R.has_failed reader.new) result }

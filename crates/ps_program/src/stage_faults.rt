@@ -5,7 +5,7 @@ use crate::fault::{FaultLine, Place};
 use ps_automaton::AutomatonFault;
 use ps_synthesis::SynthFault;
 
-/// Why a file has no automaton.
+/// How the program reports that a file has no automaton.
 impl From<AutomatonFault> for Refusal {
     ghost use Rattle.ps_program.specs.StageFaults.{IsAutomatonTold};
 
@@ -33,7 +33,7 @@ impl From<AutomatonFault> for Refusal {
     }
 }
 
-/// Why there is no certificate, no circuit or no report.
+/// How the program reports that there is no certificate, no circuit or no report.
 impl From<SynthFault> for Refusal {
     ghost use Rattle.ps_program.specs.StageFaults.{IsTold};
 

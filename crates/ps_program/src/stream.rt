@@ -1,5 +1,5 @@
-//! What the program reads from and writes to, and what each of the two reports about its faults. Nothing is read or
-//! written after a fault, nor written after a write that took no bytes.
+//! The program's input and output, and what they report about their faults. Nothing is read or written after a fault,
+//! and nothing is written after a write that accepted no bytes.
 
 ghost use Rattle.std.specs.Prelude.{◌≡◌, ℕ, Bool, List, Option, true, false, is_err, IsOk, OnOk};
 ghost use Rattle.std.specs.Io.{ReadsAtMost, WritesAtMost};
@@ -10,39 +10,40 @@ use std::io;
 
 /// A reader that reports whether a call has failed.
 pub trait Source {
-    // The bytes that reads will give from here on, if they are known.
+    // The bytes that are still to be read, if they are known.
     ghost remaining: { Self → Option (List ℕ) };
 
-    // Whether a call answered a fault.
+    // Whether a call has failed.
     ghost has_failed: { Self → Bool };
 
-    /// Reads some of what is left into the front of `buf`: none only at the end, or if `buf` has no room.
+    /// Reads some of the remaining bytes into the beginning of `buf`. No bytes are read only at the end, or if `buf` is
+    /// empty.
     fn read(&mut self, buf: &mut [u8]) -> io::Result<usize>
         requires { has_failed self.old ≡ false }
         ensures bound { ReadsAtMost result buf.new }
         ensures bytes { ReadConsumes (remaining self.old) (remaining self.new) result buf.new }
         ensures told { has_failed self.new ≡ is_err result };
 
-    /// Whether a call has answered a fault.
+    /// Whether a call has failed.
     fn failed(&self) -> bool
         ensures { result ≡ has_failed self.now };
 }
 
 /// A writer that reports whether a call has failed.
 pub trait Sink {
-    // The bytes that have gone out, if they are known.
+    // The bytes that were written, if they are known.
     ghost contents: { Self → Option (List ℕ) };
 
-    // Whether a call answered a fault.
+    // Whether a call has failed.
     ghost has_failed: { Self → Bool };
 
-    // Whether a write took none of the bytes that it was given.
+    // Whether a write accepted none of the bytes that it was given.
     ghost has_stalled: { Self → Bool };
 
     // Whether the last call was a flush that succeeded.
     ghost is_flushed: { Self → Bool };
 
-    /// Writes some of `buf`, from its front, and returns how many bytes went out.
+    /// Writes some bytes from the beginning of `buf`, and returns their number.
     fn write(&mut self, buf: &[u8]) -> io::Result<usize>
         requires sound { has_failed self.old ≡ false }
         requires moving { has_stalled self.old ≡ false }
@@ -52,7 +53,7 @@ pub trait Sink {
         ensures stalled { has_stalled self.new ≡ stalls result buf.now }
         ensures unflushed { is_flushed self.new ≡ false };
 
-    /// Sends on what the writer has buffered.
+    /// Sends the bytes that the writer has buffered.
     fn flush(&mut self) -> io::Result<()>
         requires sound { has_failed self.old ≡ false }
         requires moving { has_stalled self.old ≡ false }
@@ -61,7 +62,7 @@ pub trait Sink {
         ensures stalled { has_stalled self.new ≡ false }
         ensures flushed { OnOk result (is_flushed self.new ≡ true) };
 
-    /// Whether a call has answered a fault.
+    /// Whether a call has failed.
     fn failed(&self) -> bool
         ensures { result ≡ has_failed self.now };
 }

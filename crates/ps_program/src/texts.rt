@@ -1,4 +1,4 @@
-//! The texts of the commands, read, and the lines of what is wrong with them.
+//! Reads the texts of the commands, and makes the lines of their faults.
 
 ghost use Rattle.std.specs.Prelude.{◌≡◌, ◌<◌, false, length, All, IfOk};
 ghost use Rattle.ps_circuit.specs.Circuits.{IsCircuit};
@@ -20,7 +20,7 @@ use ps_game::NamedGame;
 use ps_simulate::{Letters, Stimulus};
 use std::alloc::Global;
 
-/// The line of a text that is missing.
+/// The line that reports a missing text.
 fn missing_text() -> FaultLine
     ensures { fault_text result ≡ missing_text }
 {
@@ -31,7 +31,7 @@ fn missing_text() -> FaultLine
     }
 }
 
-/// Two texts. Fails if one is missing.
+/// The two texts of an input. Fails if one is missing.
 pub fn two_texts(texts: &[u8]) -> Result<(&[u8], &[u8]), Refusal>
     ensures { Gives (λ parts. (parts.0.now, parts.1.now)) (CutsInTwo texts.now) result }
 {
@@ -41,7 +41,7 @@ pub fn two_texts(texts: &[u8]) -> Result<(&[u8], &[u8]), Refusal>
     }
 }
 
-/// Three texts. Fails if one is missing, before any text is read.
+/// The three texts of an input. Fails if one is missing, before any of them is read.
 pub fn three_texts(texts: &[u8]) -> Result<(&[u8], &[u8], &[u8]), Refusal>
     ensures { Gives (λ parts. (parts.0.now, parts.1.now, parts.2.now)) (CutsInThree texts.now) result }
 {
@@ -53,7 +53,7 @@ pub fn three_texts(texts: &[u8]) -> Result<(&[u8], &[u8], &[u8]), Refusal>
     Err(Refusal::Fault(missing_text()))
 }
 
-/// A game. Fails with the first cause in the text, or if memory runs out.
+/// The game of a text. Fails with the first error of the text, or if memory runs out.
 pub fn read_game(alloc: Global, text: &[u8]) -> Result<NamedGame, Refusal>
     ensures { Gives (λ game. game) (ReadsGameText text.now) result }
 {
@@ -63,7 +63,7 @@ pub fn read_game(alloc: Global, text: &[u8]) -> Result<NamedGame, Refusal>
     }
 }
 
-/// A certificate of the game.
+/// The certificate of the game that a text contains.
 fn read_certificate(alloc: Global, game: &NamedGame, text: &[u8]) -> Result<Certificate, Refusal>
     ensures read { Gives (λ certificate. certificate) (ReadsCertificateText game.now text.now) result }
     ensures fits { IfOk result (Fits game.now.game) }
@@ -74,11 +74,11 @@ fn read_certificate(alloc: Global, game: &NamedGame, text: &[u8]) -> Result<Cert
     }
 }
 
-/// A game, and a certificate of it.
+/// A game and a certificate of it.
 ///
 /// # Errors
 ///
-/// Fails if a text is missing; else with the first cause in the game, else in the certificate; or if memory runs out.
+/// Fails if a text is missing; else with the first error of the game, else of the certificate; or if memory runs out.
 pub fn read_certified(alloc: Global, texts: &[u8]) -> Result<(NamedGame, Certificate), Refusal>
     ensures read { Gives (λ both. (both.0, both.1)) (ReadsCertified texts.now) result }
     ensures fits { IfOk result (λ both. Fits both.0.game both.1) }
@@ -89,7 +89,7 @@ pub fn read_certified(alloc: Global, texts: &[u8]) -> Result<(NamedGame, Certifi
     Ok((game, certificate))
 }
 
-/// A circuit. Fails with the first cause in the text, or if memory runs out.
+/// The circuit of a text. Fails with the first error of the text, or if memory runs out.
 pub fn read_circuit(alloc: Global, text: &[u8]) -> Result<Circuit, Refusal>
     ensures { Gives (λ circuit. circuit) (ReadsCircuitText text.now) result }
 {
@@ -99,11 +99,11 @@ pub fn read_circuit(alloc: Global, text: &[u8]) -> Result<Circuit, Refusal>
     }
 }
 
-/// A stimulus for that number of inputs, with or without a line `-`.
+/// The stimulus of a text, for the given number of inputs. The flag states whether the text has a line `-`.
 ///
 /// # Errors
 ///
-/// Fails with the first cause in the text, or if memory runs out.
+/// Fails with the first error of the text, or if memory runs out.
 pub fn read_stimulus(
     alloc: Global,
     text: &[u8],
@@ -118,7 +118,7 @@ pub fn read_stimulus(
     }
 }
 
-/// A stimulus for that number of inputs, with only a stem.
+/// The stimulus of a text that has only a stem, for the given number of inputs.
 fn read_letters(alloc: Global, text: &[u8], width: usize) -> Result<Letters, Refusal>
     ensures { Gives stem_of (ReadsStimulusText width false text.now) result }
 {
@@ -128,11 +128,11 @@ fn read_letters(alloc: Global, text: &[u8], width: usize) -> Result<Letters, Ref
     }
 }
 
-/// A circuit, and a stimulus for it.
+/// A circuit and a stimulus for it.
 ///
 /// # Errors
 ///
-/// Fails if a text is missing; else with the first cause in the circuit, else in the stimulus; or if memory runs out.
+/// Fails if a text is missing; else with the first error of the circuit, else of the stimulus; or if memory runs out.
 pub fn read_simulated(alloc: Global, texts: &[u8]) -> Result<(Circuit, Letters), Refusal>
     ensures read { Gives (λ both. (both.0, stem_of both.1)) (ReadsSimulated texts.now) result }
     ensures fits { IfOk result (λ both. All (λ letter. length letter ≡ length both.0.inputs) both.1) }
@@ -145,7 +145,7 @@ pub fn read_simulated(alloc: Global, texts: &[u8]) -> Result<(Circuit, Letters),
     Ok((circuit, letters))
 }
 
-/// The line of a flaw. It names vertices by their ids.
+/// The line of a flaw, in which vertices are named by their ids.
 pub fn flaw_line(game: &NamedGame, flaw: Flaw) -> FaultLine
     requires { NamesVertices (vertex_count game.now.game) flaw }
     ensures { fault_text result ≡ flaw_text game.now flaw }

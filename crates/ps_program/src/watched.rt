@@ -1,4 +1,4 @@
-//! A source or a sink over a reader or a writer of std.
+//! A source or a sink made from a reader or a writer of std.
 
 ghost use Rattle.std.specs.Prelude.{◌≡◌, ⊤, ℕ, List, Option, OnOk, is_err, false, true, Some, min, length, drop};
 ghost use Rattle.std.specs.Io.{ReadsAtMost, WritesAtMost};
@@ -10,40 +10,41 @@ use crate::stream::{Sink, Source};
 use std::io;
 use std::io::{Read, Write};
 
-/// A reader of std, and what its calls may do. Since that may be anything, only the caller of a reader knows what it
-/// did.
+/// A reader of std, and what its calls may do. Nothing is assumed about these calls, so only code that knows the reader
+/// knows what they did.
 pub trait Reader: Read {
-    // Whether a call may return that count and leave that reader and that buffer. A call that fails returns no count.
+    // Whether a call may return this count, and leave the reader and the buffer in this state. A call that fails
+    // returns no count.
     ghost read_gives: { Self → List ℕ → Option ℕ → Self → List ℕ → Type 0 };
 
-    /// Reads once.
+    /// Calls `read` once.
     fn read_once(&mut self, buf: &mut [u8]) -> io::Result<usize>
         ensures bound { ReadsAtMost result buf.new }
         ensures bytes { ReadConsumes (Self.remaining self.old) (Self.remaining self.new) result buf.new }
         ensures call { read_gives self.old buf.old (answered result) self.new buf.new };
 }
 
-/// A writer of std, with what a call of it may do.
+/// A writer of std, and what its calls may do.
 pub trait Writer: Write {
-    // Whether a write may return that count and leave that writer. A write that fails returns no count.
+    // Whether a write may return this count, and leave the writer in this state. A write that fails returns no count.
     ghost write_gives: { Self → List ℕ → Option ℕ → Self → Type 0 };
 
-    // The same for a flush.
+    // Whether a flush may return this result, and leave the writer in this state.
     ghost flush_gives: { Self → Option (Unit {0}) → Self → Type 0 };
 
-    /// Writes once.
+    /// Calls `write` once.
     fn write_once(&mut self, buf: &[u8]) -> io::Result<usize>
         ensures bound { WritesAtMost result buf.now }
         ensures bytes { WriteAppends (Self.contents self.old) (Self.contents self.new) result buf.now }
         ensures call { write_gives self.old buf.now (answered result) self.new };
 
-    /// Flushes once.
+    /// Calls `flush` once.
     fn flush_once(&mut self) -> io::Result<()>
         ensures bytes { Keeps (Self.contents self.old) (Self.contents self.new) }
         ensures call { flush_gives self.old (answered result) self.new };
 }
 
-/// Each reader of std is a `Reader`. `read_gives` says only that a call counts no more bytes than it was lent.
+/// Each reader of std is a `Reader`. `read_gives` says only that the count is at most the length of the buffer.
 impl<R: Read> Reader for R {
     ghost read_gives = { λ _ _ count _ after. CountsWithin after count };
 
@@ -52,7 +53,7 @@ impl<R: Read> Reader for R {
     }
 }
 
-/// Each writer of std is a `Writer`. `write_gives` says only that a write counts no more bytes than it was lent.
+/// Each writer of std is a `Writer`. `write_gives` says only that the count is at most the length of the buffer.
 impl<W: Write> Writer for W {
     ghost write_gives = { λ _ buf count _. CountsWithin buf count };
 
@@ -67,7 +68,7 @@ impl<W: Write> Writer for W {
     }
 }
 
-/// A reader or a writer of std, with what the program has to know about the calls made on it.
+/// A reader or a writer of std, together with what the program must know about the calls that were made.
 #[derive(Drop)]
 pub struct Watched<T> {
     inner: T,
@@ -77,7 +78,7 @@ pub struct Watched<T> {
 }
 
 impl<T> Watched<T> {
-    /// Nothing has failed or stalled yet.
+    /// Watches a reader or a writer, of which no call has failed or stalled yet.
     pub fn new(inner: T) -> Self
         ensures inner { watched_inner result ≡ inner }
         ensures fresh { watched_failed result ≡ false }
@@ -93,7 +94,7 @@ impl<T> Watched<T> {
 }
 
 impl<T> Watched<T> {
-    /// The reader or writer that is watched.
+    /// The watched reader or writer.
     pub fn inner(&self) -> &T
         ensures { result.now ≡ watched_inner self.now }
     {

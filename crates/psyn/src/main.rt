@@ -3,9 +3,9 @@
 //! | Call | What it gives |
 //! |---|---|
 //! | `run::run` | reads the whole input, writes the answer to it, and returns the exit status |
-//! | `run::run_by` | the same by solvers that are known at compile time |
-//! | `memory::run_in_memory` | the same program over bytes |
-//! | `synthesis::synthesise` | the report of an HOA text by a solver that is chosen at run time: the whole promise |
+//! | `run::run_by` | as `run`, with solvers that are known at compile time |
+//! | `memory::run_in_memory` | the same program, with its input and output in memory |
+//! | `synthesis::synthesise` | the report on an HOA text, with a solver that is chosen at run time: the whole promise |
 #![tactic(auto)]
 
 ghost use Rattle.std.specs.Prelude.{◌≡◌, false, []};
@@ -33,7 +33,8 @@ fn main(rt: HostRuntime) -> ExitCode {
     ))
 }
 
-/// Answers the input by psyn's own solver, and by one that answers what it is fed; returns the exit status.
+/// Answers the input with psyn's own solver, and with the solver that replays a given certificate. Returns the exit
+/// status.
 fn answered<R: Source, W: Sink>(alloc: Global, reader: &mut R, writer: &mut W) -> u8
     requires reader { R.has_failed reader.old ≡ false }
     requires writer { W.has_failed writer.old ≡ false }

@@ -1,4 +1,4 @@
-//! The program over an input in memory.
+//! The program, with its input and output in memory.
 
 ghost use Rattle.std.specs.Prelude.{◌≡◌, [], Some, false, IfOk};
 ghost use Rattle.ps_program.specs.Program.{RepliesTo};
@@ -11,7 +11,7 @@ use ps_program::{Answer, Sink, Source};
 use std::alloc::{AllocError, Global};
 use std::io;
 
-/// What the program answers to an input. Fails if memory runs out.
+/// The program's answer to an input. Fails if memory runs out.
 pub fn run_in_memory(
     alloc: Global,
     input: &[u8],
@@ -33,7 +33,7 @@ pub fn run_in_memory(
     })
 }
 
-/// Bytes that are read without a fault.
+/// A source of bytes in memory, whose reads never fail.
 #[derive(Drop)]
 struct Bytes<'a> {
     left: &'a [u8],
@@ -56,7 +56,7 @@ impl Source for Bytes<'_> {
     }
 }
 
-/// What was written. A write fails if it can't grow.
+/// A sink that keeps what is written. A write fails if the memory for it can't be allocated.
 #[derive(Drop)]
 struct Page {
     text: Vec<u8>,
@@ -65,7 +65,7 @@ struct Page {
 }
 
 impl Page {
-    /// Nothing was written yet.
+    /// An empty sink.
     fn new(alloc: Global) -> Self
         ensures empty { result.text.items ≡ [] }
         ensures sound { result.has_failed ≡ false }

@@ -1,4 +1,4 @@
-//! The program, from what it reads to what it writes.
+//! The program, from reading its input to writing its answer.
 
 ghost use Rattle.std.specs.Prelude.{◌≡◌, ◌+◌, false};
 ghost use Rattle.ps_program.specs.Input.{ConsumesAtMost, input_limit};
@@ -15,9 +15,9 @@ use std::alloc::Global;
 
 /// Reads the whole input, writes the answer to it, and returns the exit status.
 ///
-/// It stops reading at the first read that fails and at the byte past `INPUT_LIMIT`. Nothing is written after a write
-/// or a flush that failed, or after a write that took no bytes; the status is then 1, and only the first part of the
-/// answer went out. The first solver solves games; the second is for certificates that the input holds.
+/// Reading stops at the first read that fails, or at the first byte past `INPUT_LIMIT`. Nothing is written after a
+/// write or a flush that failed, or after a write that accepted no bytes. The status is then 1, and only the first part
+/// of the answer was written. The first solver solves games; the second is used if the input contains a certificate.
 pub fn run<R: Source, W: Sink>(
     alloc: Global,
     reader: &mut R,
@@ -39,7 +39,7 @@ pub fn run<R: Source, W: Sink>(
     run_by(alloc, reader, writer, &mut built_in, &mut replay)
 }
 
-/// The same, by any two solvers.
+/// As `run`, with any two solvers.
 pub fn run_by<R: Source, W: Sink, S: Solver, T: Solver>(
     alloc: Global,
     reader: &mut R,

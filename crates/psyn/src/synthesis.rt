@@ -1,4 +1,4 @@
-//! The whole way from a text to a report.
+//! Synthesis, from an HOA text to a report.
 
 ghost use Rattle.std.specs.Prelude.{◌≡◌, true, IfOk, IfErr};
 ghost use Rattle.ps_hoa.specs.Files.{FileData};
@@ -11,13 +11,15 @@ use ps_machine::{Order, Solver};
 use ps_synthesis::{Report, SynthFault, synthesise_by};
 use std::alloc::Global;
 
-/// The report of an HOA text: the game of its automaton in that order of moves, a certificate of the game by the solver
-/// that is given, with all counts or as a compact text, and the circuit of the player who wins the start.
+/// The report on an HOA text. It contains the game of the text's automaton in the given order of moves, a certificate
+/// of the game that the given solver found, and the circuit of the player who wins from the start. The certificate has
+/// all counts, or is a compact text.
 ///
 /// # Errors
 ///
-/// In this order: the first cause for which the text is refused; why it has no automaton; the solver's fault, or that
-/// its certificate does not fit or is not valid; that the circuit is too large. At any time: out of memory.
+/// Fails, in this order, with the first error of the text; with the reason why the text has no automaton; with the
+/// solver's fault, or because its certificate does not fit or is not valid; or because the circuit is too large. Fails
+/// at any time if memory runs out.
 pub fn synthesise(
     alloc: Global,
     text: &[u8],
@@ -25,13 +27,14 @@ pub fn synthesise(
     compact: bool,
     solver: &mut Box<dyn Solver>,
 ) -> Result<Report, SynthFault>
-    // The report is right, whatever the solver; each fault has its cause. Both are about what the solver returned.
+    // The report is right, whatever the solver does, and each fault has its cause. Both clauses depend on what the
+    // solver returned.
     ensures report { IfOk result (IsReport (Answered (known solver.old) (known solver.new)) order compact text.now) }
     ensures refused { IfErr result (IsSynthFault (Answered (known solver.old) (known solver.new)) order text.now) }
-    // With a sure solver, a text that is accepted gets a report, unless memory ran out or the circuit is too large.
+    // If the solver is sure, every accepted text gets a report, unless memory runs out or the circuit is too large.
     ensures sure { (known solver.old).is_sure ≡ true → (file : FileData) → IsAcceptedText text.now file →
         IsOutcome (Answered (known solver.old) (known solver.new)) order compact text.now result }
-    // The solver stays the same.
+    // The solver is the same after the call.
     ensures kept { IsKept (known solver.old) (known solver.new) }
 {
     synthesise_by(alloc, text, order, compact, solver)

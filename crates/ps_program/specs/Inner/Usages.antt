@@ -6,7 +6,7 @@ use Rattle.ps_program.specs.declared.commands.Line.{Line}
 use Rattle.ps_program.specs.declared.commands.Line.TheVariants.{Judge, Lasso, Verify, Solve, Game, Cert, Synth}
 use Rattle.ps_program.specs.declared.commands.Usage.{Usage as Row}
 
--- the same line with the flags that are given
+-- the line that the command is if these flags are given
 abbrev pub with_flags : Line → (Text → Bool) → Line
 with_flags (Judge compact) given = Judge (given compact_flag)
 with_flags (Lasso role) given = Lasso (role_given given)
@@ -17,7 +17,7 @@ with_flags (Cert order compact) given = Cert (order_given given) (given compact_
 with_flags (Synth asked) given = Synth (synth_given given)
 with_flags line given = line
 
--- a row of the table
+-- the command of a row of the table
 abbrev pub usage_of : Row → Usage
 usage_of row = record {
   name = row.name.now;

@@ -10,11 +10,11 @@ use crate::commands::solve::certify;
 use ps_machine::{Order, Solver};
 use std::alloc::Global;
 
-/// The text of a certificate of the game of an automaton, in that order of moves.
+/// The text of a certificate of the game of an automaton, in the given order of moves.
 ///
 /// # Errors
 ///
-/// Fails with the first cause for which the text is refused; else if its file has no automaton; else as `certify`.
+/// Fails with the first error of the text; else if the file has no automaton; else as `certify`.
 pub fn cert<S: Solver>(
     alloc: Global,
     order: Order,

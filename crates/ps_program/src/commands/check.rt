@@ -17,8 +17,8 @@ use std::alloc::Global;
 ///
 /// # Errors
 ///
-/// Fails if a text is missing; else with the first cause in the game, else in the certificate; else with its first
-/// flaw; or if memory runs out.
+/// Fails if a text is missing; else with the first error of the game, else of the certificate; else with the
+/// certificate's first flaw; or if memory runs out.
 pub fn closed(alloc: Global, texts: &[u8]) -> Result<Answer, Refusal>
     ensures { Gives reply_of (AnswersClosed texts.now) result }
 {
@@ -31,7 +31,7 @@ pub fn closed(alloc: Global, texts: &[u8]) -> Result<Answer, Refusal>
 ///
 /// # Errors
 ///
-/// As for `closed`; flaws of counts come last.
+/// As for `closed`; wrong counts are reported last.
 pub fn check(alloc: Global, texts: &[u8]) -> Result<Answer, Refusal>
     ensures { Gives reply_of (AnswersCheck texts.now) result }
 {
@@ -40,7 +40,7 @@ pub fn check(alloc: Global, texts: &[u8]) -> Result<Answer, Refusal>
     tell(alloc, &game, "valid", outcome)
 }
 
-/// A word if a test found nothing wrong, or else the line of the flaw that it found.
+/// The given word if the test found nothing wrong, and otherwise the line of the flaw.
 fn tell(
     alloc: Global,
     game: &NamedGame,

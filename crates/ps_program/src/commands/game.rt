@@ -16,7 +16,7 @@ use ps_game::NamedGame;
 use ps_machine::{Order, game_of};
 use std::alloc::Global;
 
-/// The text of the game of an automaton, in that order of moves.
+/// The text of the game of an automaton, in the given order of moves.
 ///
 /// # Errors
 ///
@@ -32,7 +32,7 @@ pub fn game(alloc: Global, order: Order, text: &[u8]) -> Result<Answer, Refusal>
 ///
 /// # Errors
 ///
-/// Fails with the first cause for which the text is refused; else if its file has no automaton; or if memory runs out.
+/// Fails with the first error of the text; else if the file has no automaton; or if memory runs out.
 pub fn read_game_of(alloc: Global, order: Order, text: &[u8]) -> Result<NamedGame, Refusal>
     ensures game { Gives (λ game. game) (ReadsGameOf order text.now) result }
     ensures some { IfOk result (λ game. 0 < vertex_count game.game) }

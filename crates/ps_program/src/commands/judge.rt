@@ -18,12 +18,12 @@ use ps_solution::Solution;
 use ps_synthesis::{certificate_text, ids_of};
 use std::alloc::Global;
 
-/// The certificate of a game by a solution of it, with the least counts.
+/// The certificate that a solution of a game gives, with the least counts.
 ///
 /// # Errors
 ///
-/// Fails if a text is missing; else with the first cause in the game, else in the solution; else with the first wrong
-/// move or edge, else with a cycle that a player loses; or if memory runs out.
+/// Fails if a text is missing; else with the first error of the game, else of the solution; else with the first wrong
+/// move or edge; else with a cycle that its player loses; or if memory runs out.
 pub fn judge(alloc: Global, compact: bool, texts: &[u8]) -> Result<Answer, Refusal>
     ensures { Gives reply_of (AnswersJudge compact texts.now) result }
 {
@@ -31,7 +31,7 @@ pub fn judge(alloc: Global, compact: bool, texts: &[u8]) -> Result<Answer, Refus
     judged(alloc, compact, &game, &solution)
 }
 
-/// The certificate of a game by a solution, or why there is none.
+/// The certificate that a solution of a game gives, or the reason why it gives none.
 fn judged(
     alloc: Global,
     compact: bool,
@@ -48,11 +48,11 @@ fn judged(
     }
 }
 
-/// A game, and a solution of it.
+/// A game and a solution of it.
 ///
 /// # Errors
 ///
-/// Fails if a text is missing; else with the first cause in the game, else in the solution; or if memory runs out.
+/// Fails if a text is missing; else with the first error of the game, else of the solution; or if memory runs out.
 fn read_solved(alloc: Global, texts: &[u8]) -> Result<(NamedGame, Solution), Refusal>
     ensures read { Gives (λ both. (both.0, both.1)) (ReadsSolved texts.now) result }
     ensures places { IfOk result (λ both. HasPlaces both.0 both.1) }
@@ -63,7 +63,7 @@ fn read_solved(alloc: Global, texts: &[u8]) -> Result<(NamedGame, Solution), Ref
     Ok((game, solution))
 }
 
-/// A solution of the game.
+/// The solution of the game that a text contains.
 fn read_solution(alloc: Global, game: &NamedGame, text: &[u8]) -> Result<Solution, Refusal>
     ensures read { Gives (λ solution. solution) (ReadsSolutionText game.now text.now) result }
     ensures places { IfOk result (HasPlaces game.now) }
@@ -74,7 +74,7 @@ fn read_solution(alloc: Global, game: &NamedGame, text: &[u8]) -> Result<Solutio
     }
 }
 
-/// The line of a fault. It names vertices by their ids.
+/// The line of a fault, in which vertices are named by their ids.
 fn refused(alloc: Global, game: &NamedGame, fault: JudgeFault) -> Refusal
     requires { Names (vertex_count game.now.game) fault }
     ensures { IsTold game.now fault result }

@@ -1,4 +1,5 @@
-//! The command that runs a circuit on a stem and a lap, and asks an automaton about what it does.
+//! The command that runs a circuit on a stem and a repeated lap, and states whether an automaton accepts the resulting
+//! word.
 
 ghost use Rattle.std.specs.Prelude.{◌≡◌, ◌++◌, codes, length, All, IfOk};
 ghost use Rattle.ps_circuit.specs.Circuits.{IsCircuit};
@@ -18,7 +19,7 @@ use ps_circuit::Circuit;
 use ps_simulate::{LassoFault, Role, Stimulus, Verdict};
 use std::alloc::{AllocError, Global};
 
-/// Whether an automaton accepts what a circuit of that role does on a stem and a repeated lap.
+/// Whether an automaton accepts the word that a circuit with the given role produces on a stem and a repeated lap.
 ///
 /// # Errors
 ///
@@ -32,7 +33,7 @@ pub fn lasso(alloc: Global, role: Role, texts: &[u8]) -> Result<Answer, Refusal>
     run_circuit(alloc, role, &automaton, aag, letters)
 }
 
-/// The verdict of an automaton on what the circuit of a text does on the stimulus of another.
+/// The verdict on the circuit of one text that runs on the stimulus of another text.
 fn run_circuit(
     alloc: Global,
     role: Role,
@@ -49,7 +50,7 @@ fn run_circuit(
     tell(alloc, role, automaton, &circuit, &stimulus)
 }
 
-/// The verdict on a stimulus, or what is wrong with the lap or the symbols.
+/// The verdict on a stimulus, or the fault of its lap or of the circuit's symbols.
 fn tell(
     alloc: Global,
     role: Role,

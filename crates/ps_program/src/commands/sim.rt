@@ -12,11 +12,11 @@ use ps_circuit::Circuit;
 use ps_simulate::{Letters, Simulator};
 use std::alloc::{AllocError, Global};
 
-/// What a circuit does, letter by letter.
+/// The trace of a circuit at given letters.
 ///
 /// # Errors
 ///
-/// Fails if a text is missing; else with the first cause in the circuit, else in the stimulus; or if memory runs out.
+/// Fails if a text is missing; else with the first error of the circuit, else of the stimulus; or if memory runs out.
 pub fn sim(alloc: Global, texts: &[u8]) -> Result<Answer, Refusal>
     ensures { Gives reply_of (AnswersSim texts.now) result }
 {
@@ -25,7 +25,7 @@ pub fn sim(alloc: Global, texts: &[u8]) -> Result<Answer, Refusal>
     Ok(Answer::text(text))
 }
 
-/// A line for each letter.
+/// The trace as a text, with a line for each letter.
 fn trace_text(alloc: Global, circuit: &Circuit, letters: &Letters) -> Result<Vec<u8>, AllocError>
     requires { All (λ letter. length letter ≡ length circuit.now.inputs) letters.now }
     ensures { IfOk result (λ text. PrintsTrace circuit.now letters.now text.items) }
@@ -40,7 +40,7 @@ fn trace_text(alloc: Global, circuit: &Circuit, letters: &Letters) -> Result<Vec
     Ok(text)
 }
 
-/// Takes a letter, and writes its line.
+/// Makes the circuit's step at a letter, and appends its line.
 fn write_step(
     text: &mut Vec<u8>,
     simulator: &mut Simulator,
@@ -58,7 +58,7 @@ fn write_step(
     write_bits(text, outputs, b'\n')
 }
 
-/// Writes a digit for each bit, and then the byte `end`.
+/// Appends a digit for each bit, and then the byte `end`.
 pub(crate) fn write_bits(text: &mut Vec<u8>, bits: &[bool], end: u8) -> Result<(), AllocError>
     ensures { OnOk result (text.new.items ≡ text.old.items ++ digits_of bits.now ++ end ∷ []) }
 {

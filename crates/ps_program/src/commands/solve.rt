@@ -11,11 +11,11 @@ use ps_machine::Solver;
 use ps_synthesis::{certificate_text, certified};
 use std::alloc::Global;
 
-/// A certificate of the game of a text: who wins each vertex, by which moves.
+/// A certificate of a game, which states who wins each vertex, and by which moves.
 ///
 /// # Errors
 ///
-/// Fails with the first cause in the text, else as `certify`.
+/// Fails with the first error of the text, else as `certify`.
 pub fn solve<S: Solver>(
     alloc: Global,
     text: &[u8],

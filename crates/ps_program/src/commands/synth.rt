@@ -1,4 +1,4 @@
-//! The command that makes a circuit of an automaton.
+//! The command that makes a circuit for an automaton.
 
 ghost use Rattle.ps_program.specs.Outcomes.{Gives};
 ghost use Rattle.ps_program.specs.Replies.{reply_of};
@@ -13,11 +13,12 @@ use ps_machine::Solver;
 use ps_synthesis::synthesise_by;
 use std::alloc::Global;
 
-/// The circuit of the automaton of a text. The second solver is fed the certificate that follows the text.
+/// The circuit for the automaton of a text. The second solver is fed the certificate that follows the text, if one is
+/// given.
 ///
 /// # Errors
 ///
-/// Fails if a text is missing; else with the fault for which there is no report; or if memory runs out.
+/// Fails if a text is missing; else with the fault of the synthesis; or if memory runs out.
 pub fn synth<S: Solver, T: Solver>(
     alloc: Global,
     asked: SynthLine,
@@ -35,7 +36,8 @@ pub fn synth<S: Solver, T: Solver>(
     }
 }
 
-/// The circuit of the automaton of a text, by that solver, which is fed the certificate that follows the text.
+/// The circuit for the automaton of a text, made with the given solver, which is fed the certificate that follows the
+/// text.
 fn report_by_certificate<S: Solver>(
     alloc: Global,
     asked: SynthLine,
@@ -49,7 +51,7 @@ fn report_by_certificate<S: Solver>(
     report(alloc, asked, text, solver)
 }
 
-/// The circuit of the automaton of a text, by that solver.
+/// The circuit for the automaton of a text, made with the given solver.
 fn report<S: Solver>(
     alloc: Global,
     asked: SynthLine,

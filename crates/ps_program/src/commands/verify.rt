@@ -1,4 +1,5 @@
-//! The command that asks whether an automaton accepts each lasso trace of a circuit, or none.
+//! The command that asks whether an automaton accepts each lasso trace of a circuit (a controller), or none (an
+//! environment).
 
 ghost use Rattle.std.specs.Prelude.{◌≡◌, ◌++◌, IfOk, OnOk};
 ghost use Rattle.ps_automaton.specs.Automata.{IsBuiltFrom};
@@ -23,13 +24,14 @@ use ps_simulate::{Role, Stimulus};
 use ps_verify::{Judgement, verified};
 use std::alloc::{AllocError, Global};
 
-/// Whether an automaton accepts each lasso trace of a controller's circuit, or none of an environment's; if not, a
-/// stimulus that shows it.
+/// Whether an automaton accepts each lasso trace of a controller, or none of an environment; if not, a stimulus that
+/// shows this.
 ///
 /// # Errors
 ///
-/// Fails if a text is missing; else with the first fault of the automaton, else of the circuit, else if the symbols are
-/// not those of the role, else if the role moves first and the circuit is not in time; or if memory runs out.
+/// Fails if a text is missing; else with the first fault of the automaton, else of the circuit; else if the circuit's
+/// symbols are not those of its role; else if the circuit moves first, but its outputs depend on its inputs; or if
+/// memory runs out.
 pub fn verify(alloc: Global, order: Order, role: Role, texts: &[u8]) -> Result<Answer, Refusal>
     ensures { Gives reply_of (AnswersVerify order role texts.now) result }
 {
@@ -38,7 +40,7 @@ pub fn verify(alloc: Global, order: Order, role: Role, texts: &[u8]) -> Result<A
     verify_text(alloc, order, role, &automaton, aag)
 }
 
-/// What is told of the circuit of a text.
+/// The judgement on the circuit of a text.
 fn verify_text(
     alloc: Global,
     order: Order,
@@ -53,7 +55,7 @@ fn verify_text(
     tell(alloc, order, role, automaton, &circuit)
 }
 
-/// What is told of a circuit, or what is wrong with its symbols or the order of moves.
+/// The judgement on a circuit, or the fault of its symbols or of the order of moves.
 fn tell(
     alloc: Global,
     order: Order,
@@ -77,7 +79,7 @@ fn tell(
     }
 }
 
-/// The word, and the stimulus on which a circuit loses.
+/// The word `loses`, and the stimulus on which the circuit loses.
 fn text_of(alloc: Global, stimulus: &Stimulus) -> Result<Vec<u8>, AllocError>
     ensures { IfOk result (λ text. text.items ≡ losing_text stimulus.now) }
 {
