@@ -1,4 +1,4 @@
--- What two reports on one text have in common, and what two certificates of one game.
+-- What two reports on the same text have in common, and what two certificates of the same game have in common.
 use Rattle.std.proofs.Common.{◌≡◌, ◌∙◌, ◌<◌, ◌↔◌, ℕ, Bool, List, Result, Ok, sym, ap, subst, arith, IsTrue}
 use Rattle.std.proofs.lemmas.Option.{slice_get_within}
 use Rattle.ps_text.specs.Answers.{Found}
@@ -22,7 +22,7 @@ use Rattle.ps_synthesis.specs.declared.report.Report.{Report}
 use Rattle.ps_program.specs.Determined.{AgreeInWinners}
 use Rattle.ps_program.specs.Replies.{Reply, text_reply}
 
--- the laws that are taken
+-- the laws that are used
 abbrev pub OneFile : Type 0
 OneFile = (text : List ℕ) (a b : Result FileData (Found HoaCause)) → ReadsFile text a → ReadsFile text b → a ≡ b
 
@@ -64,7 +64,7 @@ first_there order file game is = grind (arith, slice_get_within)
 pub tests_agree : (a b : Bool) (n m : ℕ) → IsTrue a ↔ (n ≡ 0) → IsTrue b ↔ (m ≡ 0) → n ≡ m → a ≡ b
 tests_agree a b n m h k e = grind arith
 
--- what two reports are compared by
+-- the facts about a report by which two reports are compared
 pub record Facts (May : MayAnswer) (order : Order) (compact : Bool) (text : List ℕ) (report : Report) : Type 0 where
   pub file : FileData
   pub reads : ReadsFile text (Ok file)
@@ -98,7 +98,7 @@ module _ (files : OneFile) (file_games : OneFileGame) (winners : OneWinner) wher
     same_game : f.game ≡ g.game
     same_game = file_games order g.file f.game g.game (grind (arith, same_file)) g.is_game
 
-    -- who wins
+    -- both reports have the same winner
     pub reports-winner : a.realizable ≡ b.realizable
     reports-winner =
         let certified : IsCertified f.game g.certificate =
@@ -108,11 +108,11 @@ module _ (files : OneFile) (file_games : OneFileGame) (winners : OneWinner) wher
         f.certified.valid certified.fits certified.valid 0 (first_there order f.file f.game f.is_game) in
         tests_agree a.realizable b.realizable _ _ f.realizable g.realizable same_winner
 
-    -- each prints the game of the automaton
+    -- both reports print the game of the automaton
     pub reports-game : a.game_text.items ≡ b.game_text.items
     reports-game = f.printed ∙ ap game_text same_game ∙ sym g.printed
 
-  -- any two certificates of one game
+  -- any two certificates of the same game agree
   pub certificates_agree : (compact : Bool) (game : NamedGameData) (one other : CertificateData) (a b : Reply) →
       IsCertified game one → IsCertified game other → a ≡ text_reply (text_in compact game one) →
       b ≡ text_reply (text_in compact game other) → AgreeInWinners compact game a b

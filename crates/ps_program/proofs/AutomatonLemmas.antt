@@ -1,4 +1,4 @@
--- Why a text has no automaton, as the program answers it.
+-- The lines that the program prints for texts that have no automaton.
 use Rattle.std.proofs.Common.{rules, arith, ◌≡◌, ℕ, List, Result, Ok, Err, IsErrAnd}
 use Rattle.std.specs.Prelude.{Option, None, Some}
 use Rattle.ps_automaton.specs.Automata.{AutomatonData}
@@ -12,11 +12,11 @@ some_or : List ℕ → Option (List ℕ) → List ℕ
 some_or other None = other
 some_or other (Some line) = line
 
--- want of memory has no line
+-- a lack of memory has no line
 pub no_line : {line : List ℕ} → None ≡ Some line → ⊥
 no_line none = cc
 
--- the line of a text's fault
+-- the line of a fault of the text
 pub text_refused : (text : List ℕ) (fault : SynthFault) (line : List ℕ) → IsTextFault text fault →
     stage_line fault ≡ Some line → ReadsAutomaton text (Err line)
 unfolding some_or

@@ -1,4 +1,4 @@
--- What is told of a certificate that was tested.
+-- The line that is printed for a tested certificate.
 use Rattle.std.proofs.Common.{arith, ◌≡◌, ◌↔◌, ℕ, List, Result, Ok, Err, false, true, ap}
 use Rattle.std.specs.Prelude.{IfErr, IsOk}
 use Rattle.ps_game.specs.Games.{NamedGameData, ParityGame, IsGame, vertex_count}
@@ -43,13 +43,13 @@ no_reply same = cc
 no_fault : {reply : Reply} {line : List ℕ} → Err line ≡ Ok reply → ⊥
 no_fault same = cc
 
--- the flaw speaks of vertices of the game
+-- the flaw names only vertices of the game
 pub outcome_names_vertices : (game : ParityGame) (given : CertificateData) (outcome : Result (Unit {0}) Flaw) →
     IsGame game → Fits game given → IfErr outcome (IsFirstFlaw game given) →
     IfErr outcome (NamesVertices (vertex_count game))
 outcome_names_vertices game given outcome is_game fits first = grind (arith, flaw_names_vertices)
 
--- what is told is the answer of the test
+-- the result is the line for what the test found
 pub tests_told : (IsGood : ParityGame → CertificateData → Type 0) (word : List ℕ) (named : NamedGameData)
     (given : CertificateData) (outcome : Result (Unit {0}) Flaw) (result : Result Answer Refusal) → IsGame named.game
     → (IsOk outcome ↔ IsGood named.game given) → IfErr outcome (IsFirstFlaw named.game given) →

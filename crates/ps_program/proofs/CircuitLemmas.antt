@@ -1,4 +1,4 @@
--- Texts of circuits and of stimuli.
+-- The texts of circuits and stimuli.
 use Rattle.std.proofs.Common.{arith, ℕ, false, Bool, List, length, Ok, Err, refl, inl, inr}
 use Rattle.ps_circuit.specs.Circuits.{CircuitData}
 use Rattle.ps_simulate.specs.Stimuli.{StimulusData, stem_of}
@@ -13,21 +13,21 @@ use Rattle.ps_program.specs.Refusals.{IsRefusalOf}
 use Rattle.ps_program.specs.Texts.{CutsInTwo, ReadsCircuitText, ReadsStimulusText, ReadsSimulated}
 use Rattle.ps_program.proofs.OutcomeLemmas.{gives_fault}
 
--- a circuit with a stimulus for it
+-- a circuit and a stimulus for it
 abbrev pub Run : Type 0
 Run = CircuitData × StimulusData
 
 abbrev pub run_view : CircuitData × List (List Bool) → Run
 run_view both = (both.0, stem_of both.1)
 
--- the fault of a circuit's text is the fault of both texts
+-- a fault of the circuit's text is a fault of the two texts together
 pub simulated_circuit_fault : (texts first second : List ℕ) (fault : Refusal) → CutsInTwo texts (Ok (first, second))
     → Gives {X = CircuitData} (λ given. given) (ReadsCircuitText first) (Err fault) →
     Gives run_view (ReadsSimulated texts) (Err fault)
 simulated_circuit_fault texts first second (refusal.Fault fault) cuts h = inr ((first, second), cuts, grind arith)
 simulated_circuit_fault texts first second refusal.OutOfMemory cuts h = tt
 
--- so is the fault of a stimulus behind the text of a circuit
+-- a fault of the stimulus after a correct circuit is a fault of the two texts together
 pub simulated_stimulus_fault : (texts first second : List ℕ) (c : CircuitData) (fault : Refusal) →
     CutsInTwo texts (Ok (first, second)) → ReadsCircuitText first (Ok c)
     → Gives {X = List (List Bool)} stem_of (ReadsStimulusText (length c.inputs) false second) (Err fault) →
@@ -36,7 +36,7 @@ simulated_stimulus_fault texts first second c (refusal.Fault fault) cuts reads h
     inr ((first, second), cuts, inr (c, reads, inl (fault_text fault, h, refl)))
 simulated_stimulus_fault texts first second c refusal.OutOfMemory cuts reads h = tt
 
--- what is refused of the text of a stem alone is refused of its stimulus
+-- a text that is refused as a list of letters is refused as a stimulus
 pub letters_fault : (text : List ℕ) (width : ℕ) (given : StimulusFault) (refused : Refusal) →
     IsLettersAnswer text width (Err given) → IsRefusalOf cause_number cause_name given refused →
     Gives {X = List (List Bool)} stem_of (ReadsStimulusText width false text) (Err refused)

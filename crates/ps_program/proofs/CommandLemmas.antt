@@ -1,4 +1,4 @@
--- What clap makes of the table of commands.
+-- How clap reads words by the table of commands.
 use Rattle.std.proofs.Common.{rules, arith, ◌≡◌, ◌⊎◌, ◌∙◌, ◌<◌, ◌+◌, ◌++◌, ℕ, List, [], ◌∷◌, ◌||◌, Bool, Bor, length}
 use Rattle.std.proofs.Common.{map, take, true, false, refl, sym, inl, inr, ap, ap₂, subst}
 use Prim.Native.Nat.{suc}
@@ -30,7 +30,7 @@ use Rattle.ps_program.specs.CommandLine.{words_with, AreRead, Says, LinesAreRead
 use Rattle.ps_program.specs.Inner.Usages.{usage_of, with_flags}
 use Rattle.ps_program.specs.declared.commands.Usage.{Usage as Row}
 
--- clap's answers to the table are those of a simple command
+-- clap's answers by the table are those of a simple command
 pub table-simple : is_simple table ≡ true
 unfolding table clap_on_literals
 table-simple = refl
@@ -39,17 +39,17 @@ pub table-free : is_simple_and_free table ≡ true
 unfolding table clap_on_literals
 table-free = refl
 
--- a refusal for another cause than memory says a line
+-- if clap refuses words, and not for lack of memory, the words mean the line of that refusal
 pub says_refusal : (app : App) (words : List Text) (kind : ErrorKind) → app ≡ table → (kind ≡ OutOfMemory → ⊥)
     → (kind ≡ OutOfMemory) ⊎ IsAmong kind (fault_of app words) → Says words (line_refused kind)
 says_refusal app words kind same memory (inl e) = absurd (memory e)
 says_refusal app words kind same memory (inr among) = inr (kind, grind arith, refl)
 
--- but for help, each refusal is a refused line
+-- words that clap refuses are a refused line, unless they ask for help
 pub line_refused-other : (kind : ErrorKind) → (kind ≡ DisplayHelp → ⊥) → line_refused kind ≡ Refused
 line_refused-other kind other = grind arith
 
--- what clap makes of a command and these flags: its faults, and the line
+-- what clap returns for a command and flags: its errors, and the line
 abbrev Heard : Type 0
 Heard = List ErrorKind × Line
 
@@ -64,7 +64,7 @@ abbrev behind_first : {X : Type 0} → List X → List X
 behind_first [] = []
 behind_first (x ∷ xs) = xs
 
--- a command is read with each choice of flags, where it is heard so
+-- a command is read right with each choice of flags if clap returns the right lines for all choices
 choices_read : (name : Text) (line : (Text → Bool) → Line) (choices : List (List Text)) →
     map (heard name) choices ≡ map (λ flags. ([], line (is_among flags))) choices
     → AllByRecursion (λ flags. AreRead (words_with name flags) (line (is_among flags))) choices
@@ -78,7 +78,7 @@ usages_read : (commands : List Usage) → map (λ usage. map (heard usage.name) 
 usages_read [] same = tt
 usages_read (usage ∷ more) same = search (rules, choices_read, usages_read more (ap behind_first same))
 
--- each line of the table is read
+-- each command of the table is read right
 pub lines_read : LinesAreRead
 unfolding table clap_on_literals
 lines_read = usages_read commands refl
@@ -87,22 +87,22 @@ pub help_asked : AskForHelp
 unfolding table clap_on_literals
 help_asked = (refl, refl)
 
--- neither is there, so one of them is not
+-- if two Boolean values are false, so is their disjunction
 pub none_of : {x y z : Bool} → x ≡ (y || z) → y ≡ false → z ≡ false → x ≡ false
 none_of {x} {y} {z} is one other = is ∙ ap₂ (λ (a b : Bool). a || b) one other
 
--- a flag, as the words that a parse found tell it
+-- whether a flag is given, according to the words that the parser found
 pub given_is : (found : Found) (name : Text) (value : Option Text) → value ≡ first_value found name →
     option_map_or (λ text. bytes_eq text (codes "true")) value false ≡ is_given name (rows_of found)
 given_is found name value is = grind (arith, first_value-rows)
 
--- ---- the table as it grows
+-- ---- the table while commands are added
 
--- a command with its flags, by itself
+-- a command with its flags, as a program of its own
 abbrev pub app_with : Text → List Text → App
 app_with name flags = record { top = command_with name flags; subs = [] }
 
--- the flags before a place, and the one at that place
+-- the flags before an index, and the flag at that index
 one_more : (flags : List (Bor Text)) (i : ℕ) (default : Bor Text) → i < length flags
     → map flag (map (λ given. given.now) (take i flags)) ++ flag (get_or flags i default).now ∷ [] ≡ map flag
     (map (λ given. given.now) (take (i + 1) flags))
@@ -126,7 +126,7 @@ pub flags_whole : (command : Command) (name : Text) (flags : List (Bor Text)) (i
     → (out-Command command).has_globals ≡ false → HasFlags name (map (λ given. given.now) flags) command
 flags_whole command name flags i behind is local = grind (arith, take-length)
 
--- a table with one command more
+-- the table with one command more
 abbrev pub more : App → Text → List Text → App
 more app name flags = with_subcommand app (command_with name flags)
 
@@ -142,7 +142,7 @@ with_one_more : (app : App) (usages : List Usage) (usage : Usage) →
 with_one_more app [] usage = refl
 with_one_more app (first ∷ usages) usage = with_one_more (more app first.name first.flags) usages usage
 
--- the table up to a row, and that row
+-- the table up to a row, and then this row
 pub row_added : (old new app : App) (rows : List Row) (i : ℕ) (default : Row) → i < length rows →
     new ≡ more old (get_or rows i default).name.now (map (λ flag. flag.now) (get_or rows i default).flags.now) →
     old ≡ with_commands app (map usage_of (take i rows)) → new ≡ with_commands app (map usage_of (take (i + 1) rows))
@@ -167,7 +167,7 @@ pub all_rows : (app : App) (rows : List Row) (i : ℕ) → i ≡ length rows →
     app ≡ with_commands program (map usage_of (take i rows)) → app ≡ with_commands program (map usage_of rows)
 all_rows app rows i behind is = grind (arith, take-length)
 
--- the line of the row of a name
+-- the line of the row with this name
 found_among : (rows : List Row) (name : Text) (given : Text → Bool) →
     option_map_or (λ row. with_flags row.line given) (find (λ row. bytes_eq row.name.now name) rows) Refused
     ≡ option_map_or (λ usage. usage.line given) (find (λ usage. bytes_eq usage.name name) (map usage_of rows)) Refused
@@ -184,18 +184,18 @@ row_found rows name given row same is =
     ∙ ap (λ (usages : List Usage). option_map_or (λ usage. usage.line given)
     (find (λ usage. bytes_eq usage.name name) usages) Refused) same
 
--- a word that is longer than the names of the rows is longer than those of the commands
+-- a word that is longer than the name of each row is longer than the name of each command
 pub longer_than_each : (rows : List Row) (word : Text) → map usage_of rows ≡ commands →
     All (λ row. length row.name.now < length word) rows → All (λ usage. length usage.name < length word) commands
 longer_than_each rows word same longer =
     let IsLonger : Usage → Type 0 = λ usage. length usage.name < length word in
     subst (All IsLonger) same (All-map IsLonger usage_of rows longer)
 
--- its bytes begin with no hyphen, so the word does not
+-- if the bytes of a word don't begin with a hyphen, the word does not
 pub no_hyphen : (word bytes : Text) → bytes ≡ word → (get_or bytes 0 0 ≡ 45 → ⊥) → slice_index word 0 ≡ 45 → ⊥
 no_hyphen word bytes same plain hyphen = grind arith
 
--- the subcommand of a name and with these rows
+-- the subcommand with a name and rows
 module _ {B : Type 0} (name_in : B → Text) (rows_in : B → List clap.Row) where
   abbrev both_in : B → Text × List clap.Row
   both_in b = (name_in b, rows_in b)

@@ -1,4 +1,4 @@
--- The text of help is that of its parts.
+-- The help text consists of its parts.
 use Rattle.std.proofs.Common.{◌≡◌, ◌++◌, ◌∙◌, ℕ, List, ap, ap₂, map}
 use Rattle.std.specs.Prelude.{flat_map}
 use Rattle.ps_program.specs.CommandLine.{Usage, commands}

@@ -1,4 +1,4 @@
--- What is told of a solution that was judged.
+-- The line that is printed for a judged solution.
 use Rattle.std.proofs.Common.{◌≡◌, ◌⊎◌, ◌∙◌, ◌<◌, ℕ, Bool, List, length, Option, Some, None, Result, Ok, Err, IfSome}
 use Rattle.std.proofs.Common.{refl, sym, ap, subst, inl, inr, arith, rules, zero, suc}
 use Rattle.std.specs.List.{All}
@@ -32,7 +32,7 @@ use Rattle.ps_program.proofs.OneStep.{ok_of, err_of}
 
 -- ---- texts
 
--- a game with a solution of it
+-- a game and a solution of it
 abbrev pub Solved : Type 0
 Solved = NamedGameData × SolutionData
 
@@ -85,7 +85,7 @@ module _ (named : NamedGameData) (given : SolutionData) (is_game : IsGame named.
       λ k d within. subst (λ v. v < count) (get_or_default cycle.items k 0 d within) (refused.lost.vertices k within)
   refusal_names OutOfMemory refused = tt
 
-  -- ---- what is told
+  -- ---- printed lines
 
   pub refusal_told : (compact : Bool) (fault : JudgeFault) (refused : Refusal) →
       IsRefusal named.game given.won given.moves given.moves fault → IsTold named fault refused →
@@ -108,7 +108,7 @@ module _ (named : NamedGameData) (given : SolutionData) (is_game : IsGame named.
 
 -- ---- one answer
 
--- the laws that are taken
+-- the laws that are used
 abbrev pub OneSolution : Type 0
 OneSolution = (ids text : List ℕ) (a b : Result SolutionData (Found CertCause)) → ReadsSolution ids text a →
     ReadsSolution ids text b → a ≡ b
@@ -139,7 +139,7 @@ module _ (flaws : OneFlaw) (certificates : OneJudged) (apart : NoFlawAndCycle) (
   not_refused is_game s (inr (player, cycle, lost, e)) =
       no_cycle named.game given.won given.moves given.moves player cycle s lost
 
-  -- one line, or the player loses a cycle
+  -- a refused solution has only one line, unless a player loses a cycle
   refused_one : {line other : List ℕ} → IsGame named.game → IsRefused named given line → IsRefused named given other →
       (line ≡ other) ⊎ LosesCycle named given
   refused_one is_game (inl (flaw, first, e)) (inl (flaw', first', e')) =

@@ -1,4 +1,4 @@
--- A lasso's outcome, text by text.
+-- The result of `lasso`, text by text.
 use Rattle.std.proofs.Common.{arith, ◌≡◌, ◌<◌, ℕ, Bool, true, List, All, length, Result, Ok, Err, refl, inl}
 use Rattle.std.proofs.Common.{inr, subst, sym}
 use Rattle.ps_circuit.specs.Circuits.{CircuitData, IsCircuit}
@@ -23,13 +23,13 @@ use Rattle.ps_program.specs.Replies.{Reply, line_reply, reply_of}
 use Rattle.ps_program.specs.Texts.{CutsInThree, ReadsCircuitText, ReadsStimulusText}
 
 module _ (role : Role) (texts first second third : List ℕ) (cuts : CutsInThree texts (Ok (first, second, third))) where
-  -- the fault of an automaton
+  -- a fault of the automaton
   pub lasso_automaton_fault : (fault : Refusal) → GivesAutomaton first (Err fault) →
       Gives {X = Answer} reply_of (AnswersLasso role texts) (Err fault)
   lasso_automaton_fault (refusal.Fault fault) h = inr ((first, second, third), cuts, inl (fault_text fault, h, refl))
   lasso_automaton_fault refusal.OutOfMemory h = tt
 
-  -- what the circuit's text and the stimulus give behind it
+  -- the result for the circuit and the stimulus after a correct automaton
   pub lasso_run : (file : FileData) → ReadsAutomaton first (Ok file) → (outcome : Result Answer Refusal) →
       Gives reply_of (RunsCircuit role file second third) outcome → Gives reply_of (AnswersLasso role texts) outcome
   lasso_run file is_file (Ok answer) h = inr ((first, second, third), cuts, inr (file, is_file, h))
@@ -37,10 +37,10 @@ module _ (role : Role) (texts first second third : List ℕ) (cuts : CutsInThree
   lasso_run file is_file (Err refusal.OutOfMemory) h = tt
 
 module _ (role : Role) (file : FileData) (text letters : List ℕ) where
-  -- the fault of a circuit's text
+  -- after a correct circuit
   module _ (c : CircuitData) (is_circuit : ReadsCircuitText text (Ok c)) (width : ℕ)
       (is_width : width ≡ length c.inputs) where
-    -- the fault of a stimulus behind it
+    -- a fault of the stimulus after a correct circuit
     pub run_stimulus_fault : (fault : Refusal) → Gives {X = StimulusData} (λ stimulus. stimulus)
         (ReadsStimulusText width true letters) (Err fault) → Gives {X = Answer} reply_of
         (RunsCircuit role file text letters) (Err fault)
@@ -77,7 +77,7 @@ module _ (role : Role) (file : FileData) (chain : Chain) (a : AutomatonData) (c 
       TellsVerdict role file c s (Ok reply)
   tells verdict reply is_circuit sound is_verdict is = grind (arith, some_of_lap, symbols_of_file)
 
--- each letter of a stimulus has a bit for each input
+-- each letter of a stimulus has a bit for each input of the circuit
 pub is_wide : (role : Role) (a : AutomatonData) (c : CircuitData) (s : StimulusData) (stem lap : List (List Bool)) →
     stem ≡ s.stem → lap ≡ s.lap → All (λ letter. length letter ≡ length c.inputs) s.stem
     → All (λ letter. length letter ≡ length c.inputs) s.lap → Stands role a c stem lap Width → ⊥

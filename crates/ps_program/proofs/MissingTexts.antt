@@ -1,4 +1,4 @@
--- A command to which a text is missing has one answer, that it is missing.
+-- If a text of a command is missing, the command has one answer, which reports this.
 use Rattle.std.proofs.Common.{◌≡◌, ◌∙◌, ◌-◌, ◌+◌, ℕ, Bool, true, false, List, [], ◌∷◌, length, Result, Ok, Err, refl}
 use Rattle.std.proofs.Common.{ap, inl, inr, subst}
 use Rattle.std.specs.Prelude.{codes, filter}
@@ -31,7 +31,7 @@ use Rattle.ps_program.specs.declared.commands.TextKind.TheVariants as kind
 use Rattle.ps_program.proofs.OneCut.{cut_one, cut_three_one}
 use Rattle.ps_program.proofs.OneStep.{err_of, err_or, ok_is_not_err}
 
--- the step has this fault, and no other outcome
+-- the step fails with this line, and has no other result
 abbrev Fails : {V : Type 0} → (Result V (List ℕ) → Type 0) → List ℕ → Type 0
 Fails {V} step line = (outcome : Result V (List ℕ)) → step outcome → outcome ≡ Err line
 
@@ -47,7 +47,7 @@ two_missing texts fewer outcome cuts = cut_one texts outcome (Err missing_text) 
 three_missing : (texts : List ℕ) → HasFewerMarks 2 texts → Fails (CutsInThree texts) missing_text
 three_missing texts fewer outcome cuts = cut_three_one texts outcome (Err missing_text) cuts (fewer, refl)
 
--- the text that `synth` reads, and the certificate where it is given
+-- the number of texts that `synth` reads: with `--cert` the certificate, too
 abbrev synth_count : Bool → ℕ
 synth_count false = 1
 synth_count true = 2
@@ -66,7 +66,7 @@ synth_counted : (cert : Bool) → 1 + length (filter (λ (each : Text × TextKin
 synth_counted false = refl
 synth_counted true = refl
 
--- ---- two texts, and three
+-- ---- two texts, and three texts
 
 certified_missing : (texts : List ℕ) → HasFewerMarks 1 texts → Fails (ReadsCertified texts) missing_text
 certified_missing texts fewer =

@@ -1,4 +1,4 @@
--- Two answers to one input are one.
+-- Any two answers to one input are equal, or agree as far as the definitions say.
 use Rattle.std.proofs.Common.{rules, ◌≡◌, ◌⊎◌, ◌∙◌, ℕ, Bool, true, false, List, length, Result, Ok, Err, refl, sym, ap}
 use Rattle.std.proofs.Common.{inl, inr, arith}
 use Rattle.ps_game.specs.Games.{ParityGame, NamedGameData}
@@ -81,9 +81,9 @@ module _ (games : OneGame) (certificates : OneCertificate) (flaws : OneFlaw) (ci
   game_one : (order : Order) (text : List ℕ) → IsOne (AnswersGameText order text)
   game_one order text = then_one _ _ (game_of_one order text) (λ game. ended_one (Ok (text_reply (game_text game))))
 
-  -- ---- what a solver has a choice in
+  -- ---- what a solver may choose
 
-  -- two outcomes of an open line
+  -- two results of a line whose answer is open
   abbrev Alike : (Reply → Reply → Type 0) → Result Reply (List ℕ) → Result Reply (List ℕ) → Type 0
   Alike agree x y = IsFault (printed x) ⊎ IsFault (printed y) ⊎ agree (printed x) (printed y)
 
@@ -199,7 +199,7 @@ module _ (games : OneGame) (certificates : OneCertificate) (flaws : OneFlaw) (ci
       by (inl (l, reads, e)) (inl (m, reads', e')) =
           grind (arith, automaton_one files refusals outcomes text (Err l) (Err m) reads reads')
 
-  -- two reports on the text that is asked for agree
+  -- two reports on the requested text agree
   abbrev ReportsAgree : (cert : Bool) → SynthLine → List ℕ → Reply → Reply → Type 0
   ReportsAgree cert asked texts a b =
       (text : List ℕ) × AsksFor cert texts text × AgreeAsReports asked.order asked.full text a b
@@ -239,7 +239,7 @@ module _ (games : OneGame) (certificates : OneCertificate) (flaws : OneFlaw) (ci
             (λ a b agree. (parts.0, (parts.1, cuts), agree)) alike,
       )
 
-  -- each line: one outcome, or it is open and they are alike
+  -- each line has one result, or it is open and any two results agree
   line_one : (solvers : Solvers) (l : Line) (texts : List ℕ) (x y : Result Reply (List ℕ)) →
       AnswersLine solvers l texts x → AnswersLine solvers l texts y →
       (x ≡ y) ⊎ (IsOpen l texts × Alike (Agree l texts) x y)

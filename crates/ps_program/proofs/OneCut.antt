@@ -1,4 +1,4 @@
--- A text is cut at its marks in one way.
+-- A text is divided at its lines `%%` in only one way.
 use Rattle.std.proofs.Common.{arith, ◌≡◌, ◌∙◌, ℕ, true, false, List, [], ◌∷◌, Ok, Err, sym, ap, ap₂, subst, inl, inr}
 use Rattle.std.proofs.lemmas.Bool.{cases_order}
 use Rattle.ps_program.specs.Cut.{AreTexts, Cuts, HasFewerMarks, HasNoMark}
@@ -21,7 +21,7 @@ firsts_one input first rest first' rest' a b = grind (arith, marks_one)
 rests_one : (input first rest first' rest' : List ℕ) → Cuts input first rest → Cuts input first' rest' → rest ≡ rest'
 rests_one input first rest first' rest' a b = grind (arith, marks_one)
 
--- two marks, and fewer
+-- a text with two lines `%%` does not have fewer than two
 two_marks : (texts first second third : List ℕ) → AreTexts texts (first ∷ second ∷ third ∷ []) →
     HasFewerMarks 2 texts → ⊥
 two_marks texts first second third (rest, a, (rest', b, last)) (inl none) = no_cut texts first rest none a

@@ -1,4 +1,4 @@
--- What is told of a circuit is one, but for the stimulus on which it loses.
+-- The answer of `verify` is determined, except for the stimulus on which the circuit loses.
 use Rattle.std.proofs.Common.{◌≡◌, ◌⊎◌, ◌∙◌, ℕ, List, length, Result, Ok, Err, refl, sym, ap, inl, inr, arith}
 use Rattle.ps_circuit.specs.Circuits.{CircuitData}
 use Rattle.ps_hoa.specs.Files.{FileData}
@@ -19,7 +19,7 @@ use Rattle.ps_program.specs.Verifying.{loses_reply}
 use Rattle.ps_program.proofs.OneCut.{cut_one}
 use Rattle.ps_program.proofs.OneStep.{IsOne, err_of, ok_of, then_one_or}
 
--- the law that is taken: no circuit wins and loses
+-- the law that is used: no circuit both wins and loses
 abbrev pub NotBoth : Type 0
 NotBoth = (order : Order) (role : Role) (file : FileData) (c : CircuitData) (s : StimulusData) →
     IsWinning order role file c → ¬ IsLosing order role file c s
@@ -28,7 +28,7 @@ module _ (order : Order) (role : Role) (file : FileData) (c : CircuitData) where
   early : IsInTimeWhereReached order role c → IsTooEarly order role c → ⊥
   early in_time too_early = too_early.sees (in_time too_early.first)
 
-  -- a circuit of which something is told has no fault
+  -- a circuit that is judged has no fault
   no_fault : HasSymbols role file.names file.controllable c → IsInTimeWhereReached order role c → (line : List ℕ) →
       IsProductLine order role file c line → ⊥
   no_fault symbols in_time line (inl (none, e)) = none symbols
@@ -60,7 +60,7 @@ module _ (order : Order) (role : Role) (file : FileData) (c : CircuitData) where
   told_one_or apart (Err l) (Ok t) h k = absurd (told_no_fault t l k h)
   told_one_or apart (Err l) (Err m) h k = inl (ap (err_of {V = Reply} {E = List ℕ}) (one_line l m h k))
 
--- the same of texts
+-- the same holds for the texts of an automaton and a circuit
 module _ (automata : (text : List ℕ) → IsOne (ReadsAutomaton text)) (circuits : (text : List ℕ) →
     IsOne (ReadsCircuitText text)) (apart : NotBoth) (order : Order) (role : Role) (x y : Result Reply (List ℕ)) where
   abbrev Alike : FileData → CircuitData → Type 0

@@ -1,4 +1,5 @@
--- An automaton, its game and the verdict of a lasso have one outcome at most, by laws; and which texts are refused.
+-- An automaton, its game and the verdict on a lasso have at most one result, by laws. The file also states which texts
+-- are refused.
 use Rattle.std.proofs.Common.{rules, ◌≡◌, ◌≢◌, ◌⊎◌, ◌∙◌, ◌<◌, ℕ, Bool, List, [], None, Some, length, Result, Ok, Err}
 use Rattle.std.proofs.Common.{sym, ap, inl, inr, arith}
 use Rattle.std.specs.Prelude.{Option}
@@ -38,7 +39,7 @@ use Rattle.ps_program.proofs.Agreeing.{OneFile, OneFileGame}
 use Rattle.ps_program.proofs.AutomatonLemmas.{no_line, text_refused}
 use Rattle.ps_program.proofs.OneStep.{IsOne, ok_of, ok_is_not_err, then_one, reading_one}
 
--- ---- the laws of the readers
+-- ---- the laws of the parsers
 
 abbrev pub OneGame : Type 0
 OneGame = (text : List ℕ) (a b : Result NamedGameData (Found PgCause)) → Answer text a → Answer text b → a ≡ b
@@ -75,7 +76,7 @@ abbrev some_or : {V : Type 0} → V → Option V → V
 some_or other None = other
 some_or other (Some v) = v
 
--- want of memory has no line
+-- a lack of memory has no line
 is_told : (fault : AutomatonFault) (line : List ℕ) → automaton_line fault ≡ Some line → fault ≢ no_memory
 is_told fault line told none = let bad : None ≡ Some line = ap automaton_line (sym none) ∙ told in cc
 
@@ -115,7 +116,7 @@ pub game_accepted : (order : Order) (text : List ℕ) (v : NamedGameData) → Re
     HasAutomaton text
 game_accepted order text v h = grind (arith, ok_is_not_err)
 
--- the text is refused by a line, which is the outcome, or it is accepted
+-- the text is refused with a line, which is the result, or the text is accepted
 abbrev pub RefusedOr : List ℕ → Result Reply (List ℕ) → Type 0
 RefusedOr text outcome = ((line : List ℕ) × ReadsAutomaton text (Err line) × (outcome ≡ Err line)) ⊎ HasAutomaton text
 

@@ -1,4 +1,4 @@
--- A step has one outcome at most, where what it reads has, and what comes next.
+-- A step has at most one result if both of its parts have at most one.
 use Rattle.std.proofs.Common.{arith, ◌≡◌, ◌⊎◌, ◌∙◌, ℕ, Bool, true, false, List, Result, Ok, Err, refl, sym, ap, inl}
 use Rattle.std.proofs.Common.{inr}
 use Rattle.ps_text.specs.Answers.{Found}
@@ -11,7 +11,7 @@ ok_of v = Ok v
 abbrev pub err_of : {V E : Type 0} → E → Result V E
 err_of e = Err e
 
--- at most one value
+-- at most one value has the property
 abbrev pub IsOne : {V : Type 0} → (V → Type 0) → Type 0
 IsOne {V} P = (x y : V) → P x → P y → x ≡ y
 
@@ -39,7 +39,7 @@ then_one step next one more x y (inl (l, s, e)) (inr (v, t, n)) = absurd (ok_is_
 then_one step next one more x y (inr (v, s, n)) (inl (l, t, e)) = absurd (ok_is_not_err v l (one (Ok v) (Err l) s t))
 then_one {V} {W} step next one more x y (inr (v, s, n)) (inr (w, t, m)) = grind arith
 
--- the same, where what comes next may be open
+-- the same for a second part whose result may be open
 pub then_one_or : {V W : Type 0} (step : Result V (List ℕ) → Type 0) (next : V → Result W (List ℕ) → Type 0)
     (Open : V → Type 0) → IsOne step
     → (x y : Result W (List ℕ)) → ((v : V) → next v x → next v y → (x ≡ y) ⊎ Open v)

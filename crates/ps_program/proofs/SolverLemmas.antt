@@ -1,4 +1,4 @@
--- What is told of a solver's fault.
+-- The lines that are printed for a solver's faults.
 use Rattle.std.proofs.Common.{arith, ◌≡◌, Bool, true, false, Err}
 use Rattle.ps_game.specs.Games.{NamedGameData}
 use Rattle.ps_certificate.specs.Certificates.{CertificateData}
@@ -15,7 +15,7 @@ use Rattle.ps_program.proofs.AutomatonLemmas.{no_line}
 pub unsure : (sure : Bool) → (sure ≡ true → ⊥) → sure ≡ false
 unsure sure never = grind arith
 
--- what is answered in the place of a certificate
+-- the result if the solver returns no valid certificate
 pub certifies_refused : (solver : SolverData) (named : NamedGameData) (fault : SynthFault) (refused : Refusal) →
     IsSolverFault (answers_now solver) named fault → (solver.is_sure ≡ true → fault ≡ OutOfMemory)
     → IsTold fault refused → Gives (λ (c : CertificateData). c) (Certifies solver named) (Err refused)

@@ -1,4 +1,4 @@
--- What synthesis answers: where its fault lies, and by what its solver may answer.
+-- The result of synthesis: which faults are the solver's, and which answers of the solver the result depends on.
 use Rattle.std.proofs.Common.{rules, arith, ◌≡◌, ℕ, Bool, true, false, List, Result, Ok, Err, inl, inr, subst}
 use Rattle.std.specs.Prelude.{Option}
 use Rattle.ps_hoa.specs.Files.{FileData}
@@ -21,14 +21,14 @@ use Rattle.ps_program.specs.StageFaults.{IsOfSolver, IsTold}
 use Rattle.ps_program.specs.Synthesis.{AnswersReport, Synthesises}
 use Rattle.ps_program.proofs.SolverLemmas.{unsure}
 
--- a fault that lies with a solver is no sure solver's
+-- a sure solver has no fault of its own
 pub unsure_of : (May : MayAnswer) (order : Order) (compact : Bool) (text : List ℕ) (sure : Bool) (fault : SynthFault) →
     IsSynthFault May order text fault
     → (sure ≡ true → (file : FileData) → IsAcceptedText text file → IsOutcome May order compact text (Err fault)) →
     IsOfSolver fault → sure ≡ false
 unsure_of May order compact text sure fault cause surely lies = grind (arith, unsure, sure_in)
 
--- what is answered where there is no report
+-- the result if there is no report
 pub gives_told : (solver : SolverData) (order : Order) (compact : Bool) (text : List ℕ) (fault : SynthFault)
     (refused : Refusal)
     → IsSynthFault (answers_now solver) order text fault
@@ -37,7 +37,7 @@ pub gives_told : (solver : SolverData) (order : Order) (compact : Bool) (text : 
     → IsTold fault refused → Gives (λ (report : Report). report) (Synthesises solver order compact text) (Err refused)
 gives_told solver order compact text fault refused cause surely told = grind (arith, unsure_of)
 
--- ---- a solver that a call left as it was
+-- ---- a solver that is the same after a call
 
 module _ (old new : SolverData) (kept : IsKept old new) where
   synthesises_kept : (order : Order) (compact : Bool) (text : List ℕ) (outcome : Result Report (List ℕ))
@@ -52,7 +52,7 @@ module _ (old new : SolverData) (kept : IsKept old new) where
   answers_kept asked text outcome (inl (line, h, e)) = inl (line, search (rules, synthesises_kept), e)
   answers_kept asked text outcome (inr (report, h, e)) = inr (report, search (rules, synthesises_kept), e)
 
-  -- what is given by the solver as it is now might be given by the one that it was
+  -- what the solver may return after the call, it could have returned before the call
   pub gives_kept : (asked : SynthLine) (text : List ℕ) (result : Result Answer Refusal)
       → Gives reply_of (AnswersReport new asked text) result → Gives reply_of (AnswersReport old asked text) result
   gives_kept asked text (Ok answer) h = answers_kept asked text (Ok (reply_of answer)) h

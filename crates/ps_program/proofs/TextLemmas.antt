@@ -1,4 +1,4 @@
--- Faults of texts, and the vertices of flaws.
+-- The faults of texts, and the vertices that flaws name.
 use Rattle.std.proofs.Common.{arith, ◌<◌, ℕ, List, Ok, Err, refl, inl, inr}
 use Rattle.ps_game.specs.Games.{ParityGame, NamedGameData, IsGame, vertex_count}
 use Rattle.ps_certificate.specs.declared.flaw.Flaw.{Flaw}
@@ -10,7 +10,7 @@ use Rattle.ps_program.specs.Faults.{fault_text}
 use Rattle.ps_program.specs.Outcomes.{Gives}
 use Rattle.ps_program.specs.Texts.{CutsInTwo, ReadsGameText, ReadsCertificateText, ReadsCertified, NamesVertices}
 
--- a flaw speaks of vertices of the game
+-- a flaw names only vertices of the game
 remains_within : (game : ParityGame) (given : CertificateData) (v w : ℕ) → IsGame game → Remains game given v w
     → (v < vertex_count game) × (w < vertex_count game)
 remains_within game given v w is_game remains = (remains.edge.0, is_game.within v w remains.edge)
@@ -21,21 +21,21 @@ flaw_names_vertices game given (flaw.Move v choice) is_game fits h = grind arith
 flaw_names_vertices game given (flaw.Escape v w) is_game fits h = remains_within game given v w is_game h.0
 flaw_names_vertices game given (flaw.Rank v w p) is_game fits h = remains_within game given v w is_game h.remains
 
--- a game with a certificate of it
+-- a game and a certificate of it
 abbrev pub Both : Type 0
 Both = NamedGameData × CertificateData
 
 abbrev pub both_view : Both → Both
 both_view both = (both.0, both.1)
 
--- the fault of a game text is the fault of both texts
+-- a fault of the game's text is a fault of the two texts together
 pub certified_game_fault : (texts first second : List ℕ) (fault : Refusal) → CutsInTwo texts (Ok (first, second))
     → Gives {X = NamedGameData} (λ named. named) (ReadsGameText first) (Err fault) →
     Gives both_view (ReadsCertified texts) (Err fault)
 certified_game_fault texts first second (refusal.Fault fault) cuts h = inr ((first, second), cuts, grind arith)
 certified_game_fault texts first second refusal.OutOfMemory cuts h = tt
 
--- so is the fault of a certificate text behind a game text
+-- a fault of the certificate after a correct game is a fault of the two texts together
 pub certified_certificate_fault : (texts first second : List ℕ) (named : NamedGameData) (fault : Refusal) →
     CutsInTwo texts (Ok (first, second))
     → ReadsGameText first (Ok named) → Gives {X = CertificateData} (λ given. given)

@@ -1,4 +1,4 @@
--- The outcome of `verify`, text by text; and how it is one.
+-- The result of `verify`, text by text, and why it is determined.
 use Rattle.std.proofs.Common.{arith, ◌≡◌, ◌≢◌, ◌⊎◌, ◌∙◌, ℕ, Bool, List, [], ◌++◌, Result, Ok, Err, refl, sym, ap, inl, inr}
 use Rattle.std.specs.Prelude.{codes, flat_map}
 use Rattle.ps_automaton.specs.Automata.{AutomatonData, IsBuiltFrom}
@@ -22,13 +22,13 @@ use Rattle.ps_program.specs.declared.answer.Refusal.{Refusal}
 use Rattle.ps_program.specs.declared.answer.Refusal.TheVariants as refusal
 
 module _ (order : Order) (role : Role) (texts first second : List ℕ) (cuts : CutsInTwo texts (Ok (first, second))) where
-  -- the fault of an automaton
+  -- a fault of the automaton
   pub verify_automaton_fault : (fault : Refusal) → GivesAutomaton first (Err fault) →
       Gives {X = Answer} reply_of (AnswersVerify order role texts) (Err fault)
   verify_automaton_fault (refusal.Fault fault) h = inr ((first, second), cuts, inl (fault_text fault, h, refl))
   verify_automaton_fault refusal.OutOfMemory h = tt
 
-  -- what the circuit's text gives behind it
+  -- the result for the circuit after a correct automaton
   pub verify_run : (file : FileData) → ReadsAutomaton first (Ok file) → (outcome : Result Answer Refusal) →
       Gives reply_of (VerifiesText order role file second) outcome → Gives reply_of (AnswersVerify order role texts) outcome
   verify_run file is_file (Ok answer) h = inr ((first, second), cuts, inr (file, is_file, h))
@@ -50,7 +50,7 @@ module _ (role : Role) (file : FileData) (chain : Chain) (a : AutomatonData) (c 
   refusal_told order product.Timing line memory both is = inr (to_file both.0, both.1, is)
   refusal_told order product.OutOfMemory line memory any is = absurd (memory refl)
 
--- what is told of the circuit of a text
+-- the result for the text of a circuit
 module _ (order : Order) (role : Role) (file : FileData) (text : List ℕ) where
   pub text_fault : (fault : Refusal) → Gives {X = CircuitData} (λ circuit. circuit) (ReadsCircuitText text) (Err fault) →
       Gives {X = Answer} reply_of (VerifiesText order role file text) (Err fault)
