@@ -32,7 +32,7 @@ close_all_cases marks (w ∷ vs) k v = elim (close_all_cases (set marks w (Close
     apart : v ≢ w → ((j : ℕ) → slice_get vs j ≢ Some v) → (j : ℕ) → slice_get (w ∷ vs) j ≢ Some v
     apart ne out h3 h = grind arith
 
--- closing an item does not increase the bound on the remaining turns
+-- closing an item does not increase the bound on the remaining steps
 turns-close_one : (g : Digraph) (first : ℕ) (marks : List Mark) (v k : ℕ) →
     turns_from g first (set marks v (Closed k)) ≤ turns_from g first marks
 turns-close_one g first [] v k = omega arith

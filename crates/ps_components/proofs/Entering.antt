@@ -51,7 +51,7 @@ waits-there g p item (suc n) place w lt h = elim (cases_lt place n) [
   ))
 ]
 
--- how the bound on the remaining turns changes when one mark changes
+-- how the bound on the remaining steps changes when one mark changes
 turns_from-set : (g : Digraph) (first : ℕ) (marks : List Mark) (i : ℕ) (old new : Mark) →
     slice_get marks i ≡ Some old → turns_from g first (set marks i new) + turns_of g (first + i) old ≡ turns_from g
     first marks + turns_of g (first + i) new

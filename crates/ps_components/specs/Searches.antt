@@ -17,7 +17,7 @@ IsSound g s = IsSoundSearch g s.marks s.active.items s.bounds.items s.pending.it
 abbrev pub IsSoundButFor : Digraph → ℕ → Search → Type 0
 IsSoundButFor g item s = IsSoundBut g item s.marks s.active.items s.bounds.items s.pending.items s.order.items
 
--- a bound on the number of turns that the search still needs
+-- a bound on the number of steps that the search still needs
 abbrev pub turns_left : Digraph → Search → ℕ
 turns_left g s = turns g s.marks s.bounds.items s.pending.items
 
@@ -49,7 +49,7 @@ pub record Runs (g : Digraph) (old new : Search) : Type 0 where
   pub kept : KeepsMarks old.marks new.marks
   pub reached : ChangesReached g old.active.items old.marks new.marks
 
--- one turn
+-- one step
 pub record Advances (g : Digraph) (old new : Search) : Type 0 where
   pub sound : IsSound g new
   pub fewer : turns_left g new < turns_left g old

@@ -104,7 +104,7 @@ abbrev pub waits : Digraph → ℕ → ℕ → ℕ → List Pending
 waits g p item zero = []
 waits g p item (suc n) = waits g p item n ++ wait_of p (g.target item n)
 
--- a bound on the number of remaining turns of the search
+-- a bound on the number of remaining steps of the search
 abbrev pub turns_of : Digraph → ℕ → Mark → ℕ
 turns_of g item Unseen = g.degree item + 2
 turns_of g item (Active _) = 0

@@ -3,7 +3,7 @@
 use ps_game::Region;
 use std::alloc::{AllocError, Global};
 
-/// The sizes of the tested regions, in vertices.
+/// The numbers of vertices of the regions that the tests use.
 const PLACES: [usize; 8] = [0, 1, 63, 64, 65, 511, 512, 513];
 
 /// Sets of vertices with indices below a given number.

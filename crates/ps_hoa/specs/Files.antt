@@ -1,4 +1,5 @@
--- The meaning of an HOA text: an automaton as it is written, with its names, its aliases and its condition.
+-- The meaning of an HOA text: the automaton as the text states it, with the names of its propositions, its aliases and
+-- its acceptance condition.
 --     FileData      the whole text; a state without a row has no edges
 use Rattle.std.specs.Prelude.{ℕ, ◌+◌, max, List, [], ◌∷◌, ◌++◌, Option, None, Some, if◌then◌else◌, nat_eq, Bool, true}
 use Rattle.std.specs.Prelude.{false}

@@ -1,6 +1,6 @@
 -- The properties of a parsed file. Every number refers to a state, a proposition, a set or an earlier alias. No list
--- has a number twice, no two propositions have the same name, and no two rows have the same state. The edges of a state
--- are labelled in one of three ways, and the limits on texts are kept.
+-- contains a number twice, no two propositions have the same name, and no state has two rows. The edges of a state are
+-- labelled in one of three ways, and the limits on texts are kept.
 --     IsSoundFile file
 use Rattle.std.specs.Prelude.{◌≡◌, ℕ, ◌+◌, ◌^◌, ◌<◌, ◌≤◌, ◌⊎◌, ◌||◌, false, List, [], ◌∷◌, length, All, sum_by, Option}
 use Rattle.std.specs.Prelude.{None, Some, IfSome}

@@ -1,6 +1,6 @@
--- For each priority there are least counts, or there is a lost cycle. Counts are raised along the remaining edges until
--- no count need be raised. Each count is the length of a chain of vertices of the priority. If a vertex occurs twice in
--- a chain, the player loses a cycle.
+-- For each priority there are least counts, or there is a lost cycle. Counts begin at 0, and are raised along the edges
+-- that remain for the player until no edge breaks the rule. Each count is the length of a chain of vertices of the
+-- priority. If a vertex occurs twice in a chain, the player loses a cycle.
 use Rattle.std.proofs.Common.{◌≡◌, ℕ, zero, suc, ◌+◌, ◌-◌, ◌*◌, ◌%◌, ◌<◌, ◌≤◌, ◌⊎◌, ◌∙◌, List, [], ◌∷◌, ◌++◌, length}
 use Rattle.std.proofs.Common.{map, max, get_or, inl, inr, refl, sym, ap, arith, add-one, Option, Bool, true}
 use Rattle.std.proofs.Common.{cond, not, nat_le, nat_eq, ◌&&◌, rules}

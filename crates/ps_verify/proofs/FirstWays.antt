@@ -1,8 +1,8 @@
--- Ways by the first vertex that leads to each.
+-- Ways that are found from the first vertex that has an edge to each vertex.
 --     lowered_none, lowered_more      the successors of a vertex, one by one
 --     firsts_none, firsts_more      the vertices, one by one
---     fall      each place but the first is that of an earlier vertex
---     way_is      so a way by them is a path
+--     fall      the entry of each vertex except 0 is an earlier vertex
+--     way_is      a way by these entries is a path
 use Rattle.std.proofs.Common.{◌≡◌, ℕ, ◌+◌, ◌-◌, ◌<◌, ◌≤◌, ◌⊎◌, inl, inr, List, length, get_or, set, refl, sym}
 use Rattle.std.proofs.Common.{ap, subst, ◌∙◌, arith, length-set, [], ◌∷◌, ◌++◌, reverse, take, drop, append-nil}
 use Rattle.std.specs.List.{range_with_len}
@@ -41,7 +41,7 @@ module _ {game : ParityGame} {v count : ℕ} {old now : List ℕ} (is_game : IsG
   edge : HasEdge game v next
   edge = (within, (count, less, get_or_default (successors_of game v) count next 0 less ∙ sym is))
 
-  -- places that are no higher, the successor's among them, and are the old ones or v
+  -- each entry is the old one or v, none has become larger, and the entry of the next successor is at most v
   lowered_by : (new : List ℕ) → length new ≡ length now → ((w : ℕ) → get_or new w 0 ≤ get_or now w 0) →
       get_or new next 0 ≤ v → ((w : ℕ) → (get_or new w 0 ≡ get_or now w 0) ⊎ ((get_or new w 0 ≡ v) × (w ≡ next))) →
       HasLowered game v (count + 1) old new
@@ -108,7 +108,7 @@ firsts_more {game} {n} {old} {new} so_far lowered = record {
   ];
 }
 
--- a slice that was lent as a whole is what it became
+-- a slice that was borrowed as a whole has its new contents afterwards
 pub firsts_lent : {game : ParityGame} {n : ℕ} (len : ℕ) {old : List ℕ} (new : List ℕ) → len ≡ length old →
     AreFirsts game n old →
     HasLowered game n (length (successors_of game n)) old new →

@@ -1,8 +1,8 @@
 -- A lasso trace closes a loop of the product: some laps lead from a vertex back to it.
---     reached      the vertex behind the stem and some laps
+--     reached      the vertex after the stem and some laps
 --     laps_fall      how far a count falls along laps
---     loop      laps that lead back to their vertex
---     not_lost      their greatest priority is not one for which there are counts
+--     loop      some laps that lead back to their first vertex
+--     not_lost      the greatest priority of these laps is none for which counts exist
 use Rattle.std.proofs.Common.{◌≡◌, ℕ, zero, suc, ◌+◌, ◌-◌, ◌<◌, ◌≤◌, inr, max, Bool, List, length, refl, sym}
 use Rattle.std.proofs.Common.{ap, subst, ◌∙◌, arith, Some, add-zero}
 use Rattle.std.specs.Prelude.{slice_get}
@@ -55,17 +55,17 @@ module _ {owner : ℕ} {names : List (List ℕ)} {auto : Auto} {c : CircuitData}
         state = to.state ∙ ap (λ q. state_behind auto q lap) here.state;
       }
 
-  -- the greatest priority of a number of laps
+  -- the greatest priority of the edges taken in `laps` laps, after `from` earlier laps
   abbrev greatest_behind : ℕ → ℕ → ℕ
   greatest_behind from laps = greatest_of_laps auto (state_after auto start lap from) lap laps
 
-  -- of one more lap
+  -- the greatest priority if one lap more is read
   greatest_more : (from laps : ℕ) → greatest_behind from (suc laps) ≡ max (greatest_behind from laps)
       (greatest_along auto (reached (from + laps)).vertex.state lap)
   greatest_more from laps = ap (λ q. max (greatest_behind from laps) (greatest_along auto q lap))
       (sym (laps_together auto start lap from laps) ∙ sym (reached (from + laps)).state)
 
-  -- laps enter their last vertex
+  -- the priority with which the laps enter their last vertex
   entered : (from laps : ℕ) → (reached (from + suc laps)).vertex.priority ≤ greatest_behind from (suc laps)
   entered from laps = rw add-suc ((lap_from (from + laps) (reached (from + laps))).entered
       (greatest_behind from (suc laps)) (omega (arith, greatest_more from laps)) (inr some))
@@ -105,13 +105,13 @@ module _ {owner : ℕ} {names : List (List ℕ)} {auto : Auto} {c : CircuitData}
           );
         })
 
-  -- a number of laps, and at least one, lead from a vertex back to it
+  -- one or more laps lead from a vertex back to it
   pub record Loop : Type 0 where
     pub before : ℕ
     pub laps : ℕ
     pub some_laps : 0 < laps
     pub returns : state_after auto start lap (before + laps) ≡ state_after auto start lap before
-    -- no counts keep the rule for the greatest priority
+    -- no counts keep the rule for the greatest priority of these laps
     pub none : HasCounts p.game (greatest_of_laps auto (state_after auto start lap before) lap laps) → ⊥
 
   module _ (before more : ℕ) (same : (reached (before + suc more)).place ≡ (reached before).place) where

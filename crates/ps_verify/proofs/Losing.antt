@@ -1,5 +1,5 @@
--- A stimulus that follows a cycle that the player loses has the wrong verdict.
---     losing      a stimulus that follows such a cycle is a counterexample
+-- A stimulus that is read along a cycle that the player loses has the wrong verdict.
+--     losing      a stimulus that is read along such a cycle is a counterexample
 use Rattle.std.proofs.Common.{◌≡◌, ℕ, ◌%◌, ◌<◌, ◌↔◌, max, Bool, IsTrue, List, []}
 use Rattle.std.proofs.Common.{◌∷◌, ◌++◌, length, map, get_or, Some, refl, ap, subst, ◌∙◌}
 use Rattle.std.proofs.Common.{arith}
@@ -48,7 +48,7 @@ greatest_of_round : (f : ℕ → ℕ) (cycle : List ℕ) → 0 < length cycle �
 greatest_of_round f [] some = absurd (omega arith)
 greatest_of_round f (x ∷ xs) some = greatest_turned f x xs
 
--- the player who is asked about loses the priority
+-- if the circuit's player loses by a priority, the priority has the other parity
 wrong : (role : Role) (n : ℕ) → n % 2 ≡ other_player (asked_of role) → IsTrue (is_even n) ↔ (role ≡ Environment)
 wrong Controller n lost = (λ even. absurd (omega (arith, eqb-true (n % 2) 0 even)), λ same. cc)
 wrong Environment n lost = (λ even. refl, λ same. eq-eqb (n % 2) 0 lost)

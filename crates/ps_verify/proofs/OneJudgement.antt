@@ -1,6 +1,6 @@
--- A stimulus that has the wrong verdict is a word of the circuit.
---     parted      a trace, and its letters, before a place and from there on
---     apart      so a circuit does not both win and lose
+-- A stimulus with the wrong verdict gives a lasso word of the circuit with the wrong verdict.
+--     parted      a trace and its letters, divided at an index
+--     apart      a circuit does not both win and lose
 --     wins      a circuit that no stimulus refutes wins
 use Rattle.std.proofs.Common.{◌≡◌, ℕ, zero, suc, ◌≤◌, Bool, List, [], ◌∷◌, length, take, drop}
 use Rattle.std.proofs.Common.{get_or}

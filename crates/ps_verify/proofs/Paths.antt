@@ -1,6 +1,7 @@
--- Inputs that are read along a path of the product make a trace of the circuit, whose letters the automaton reads.
---     Follows      the moments and letters along a path
---     follow      they are there
+-- The inputs that are read along a path of the product belong to a trace of the circuit, whose letters the automaton
+-- reads.
+--     Follows      the moments of the trace and the letters along a path
+--     follow      these moments and letters exist
 use Rattle.std.proofs.Common.{rules, ◌≡◌, ℕ, suc, ◌+◌, ◌<◌, Bool, List, [], ◌∷◌, length, map, get_or, refl}
 use Rattle.std.proofs.Common.{arith, Some}
 use Rattle.std.specs.Prelude.{slice_get}
@@ -27,7 +28,7 @@ module _ {owner : ℕ} {names : List (List ℕ)} {auto : Auto} {c : CircuitData}
     at = slice_get-get_or p.vertices i _ (omega (arith, within, product.one_each));
   }
 
-  -- a path that begins at a vertex and goes on through these
+  -- the moments and letters along a path from the vertex v
   pub record Follows (v : ProductVertex) (path : List ℕ) (end : ℕ) (inputs : List (List Bool)) : Type 0 where
     pub w : ProductVertex
     pub at : slice_get p.vertices end ≡ Some w

@@ -1,6 +1,7 @@
--- A region of all vertices, none of which the player owns: counts are the game's, and a lost cycle is one of the game.
---     wins_loops      counts for each priority by which the player loses
---     lost_round      the cycle, with its first vertex once more, is a path
+-- The region has all vertices, and the player owns none of them. Therefore counts for the region are counts for the
+-- game, and a lost cycle of the region is a lost cycle of the game.
+--     wins_loops      there are counts for each priority by which the player loses
+--     lost_round      the cycle followed by its first vertex is a path
 use Rattle.std.proofs.Common.{◌≡◌, ℕ, ◌+◌, ◌<◌, ◌⊎◌, inl, inr, List, [], ◌∷◌, length, get_or, Option}
 use Rattle.std.proofs.Common.{Bool, true, ◌∙◌, refl, arith, rules}
 use Rattle.std.proofs.lemmas.Bool.{cases_eq, cases_lt}

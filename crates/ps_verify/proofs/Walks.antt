@@ -1,8 +1,8 @@
--- Letters that are read beside a trace of the circuit lead from vertex to vertex of the product.
+-- The letters of a trace of the circuit lead from vertex to vertex of the product.
 --     Counted      counts that keep the rule for a priority
---     left      what is left of a vertex's count: it does not rise along an edge, and falls where an edge of that
---               priority is taken
---     walk      where letters lead, and how far the count falls on the way
+--     left      the count of a vertex, as it is after the vertex was entered: it does not rise along an edge, and it
+--               falls along an edge of the given priority
+--     walk      the vertex to which letters lead, and how the count falls on the way
 use Rattle.std.proofs.Common.{◌≡◌, ℕ, ◌+◌, ◌<◌, ◌≤◌, ◌⊎◌, inl, inr, Bool, List, [], ◌∷◌, length, refl, ◌∙◌}
 use Rattle.std.proofs.Common.{arith, Some}
 use Rattle.std.specs.Prelude.{nat_eq, if◌then◌else◌, slice_get}
@@ -17,11 +17,12 @@ use Rattle.ps_verify.specs.Inner.Rounds.{HasCounts}
 
 module _ {owner : ℕ} {names : List (List ℕ)} {auto : Auto} {c : CircuitData} {p : ProductData}
     (product : IsProductOf owner names auto c p) where
-  -- what is left where a vertex was entered
+  -- the count of a vertex, as it is after the vertex was entered by an edge of its priority
   abbrev pub left : {top : ℕ} → HasCounts p.game top → ℕ → ℕ
   left {top} counts i = if nat_eq (priority_of p.game i) top then counts.count i else counts.count i + 1
 
-  -- the walk from i to j, on which `greatest` is the greatest priority of the edges that are taken
+  -- how the count falls on the walk from i to j, on which `greatest` is the greatest priority of the edges that are
+  -- taken
   pub record Falls {top : ℕ} (counts : HasCounts p.game top) (i j many greatest : ℕ) : Type 0 where
     pub never_rises : left counts j ≤ left counts i
     pub falls : 0 < many → greatest ≡ top → left counts j < left counts i
@@ -47,7 +48,7 @@ module _ {owner : ℕ} {names : List (List ℕ)} {auto : Auto} {c : CircuitData}
   some_along q [] more = absurd (omega arith)
   some_along q (x ∷ xs) more = omega arith
 
-  -- where the letters lead from a vertex
+  -- the vertex to which the letters lead from the vertex v
   pub record Walk (i : ℕ) (v : ProductVertex) (letters : List ℕ) (last : List Bool) : Type 0 where
     pub j : ℕ
     pub w : ProductVertex

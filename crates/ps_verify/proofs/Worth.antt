@@ -1,6 +1,6 @@
--- What a circuit is worth by its words.
---     refuted      a word with the wrong verdict makes a counterexample of what its trace reads
---     winning_by      a circuit wins if all words are accepted, or none
+-- Whether a circuit wins follows from its words.
+--     refuted      if a word has the wrong verdict, the inputs that its trace reads are a counterexample
+--     winning_by      a controller wins if all its words are accepted, an environment if none is
 use Rattle.std.proofs.Common.{◌≡◌, ℕ, zero, suc, ◌+◌, ◌*◌, ◌<◌, ◌↔◌, Bool, IsTrue, List, [], ◌∷◌, ◌++◌, length}
 use Rattle.std.proofs.Common.{get_or}
 use Rattle.std.proofs.Common.{take_at, refl, sym, ap, subst, ◌∙◌, arith}
@@ -28,7 +28,7 @@ use Rattle.ps_verify.specs.Judgements.{IsLosing, IsWinning}
 
 -- ## A word with the wrong verdict
 
--- what a trace reads has a bit for each input
+-- the inputs that a trace reads have a bit for each input of the circuit
 inputs_wide : (c : CircuitData) (from to : List Bool) (ms : List Moment) → GoesOn c from ms to →
     (k : ℕ) (d : List Bool) → k < length (inputs_of ms) → length (get_or (inputs_of ms) k d) ≡ length c.inputs
 inputs_wide c from to [] goes k d within = absurd (omega arith)

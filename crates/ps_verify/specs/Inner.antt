@@ -1,4 +1,4 @@
--- What private functions promise each other; no public clause cites these.
+-- Definitions that only private contracts use; no public clause refers to them.
 
 pub mod Rounds
 pub mod Ways

@@ -1,7 +1,8 @@
--- What it means that an automaton accepts each lasso trace of a circuit, or none; and what shows that it does not.
---     IsWinning order role file c      a controller's lasso traces are all accepted, an environment's none of them
+-- What it means that an automaton accepts each lasso trace of a circuit, or none, and what a counterexample is.
+--     IsWinning order role file c      all lasso traces of a controller are accepted, or none of an environment's
 --     IsLosing order role file c s      the lasso trace of the stimulus has the wrong verdict
---     IsJudgement order role file c judgement      what the judgement says
+--     IsJudgement order role file c judgement      the judgement is right: the circuit wins, or the stimulus is a
+--               counterexample
 use Rattle.std.specs.Prelude.{◌≡◌, ◌<◌, ◌↔◌, IsTrue, List, length}
 use Rattle.ps_hoa.specs.Files.{FileData}
 use Rattle.ps_circuit.specs.Circuits.{CircuitData}
@@ -22,18 +23,19 @@ use Rattle.ps_traces.specs.Traces.{AllAccepted, NoneAccepted}
 use Rattle.ps_verify.specs.declared.judgement.Judgement.{Judgement}
 use Rattle.ps_verify.specs.declared.judgement.Judgement.TheVariants.{Wins, Loses}
 
--- the circuit is worth what a printed one is, except that it need be in time only where traces lead
+-- The circuit has all properties of a printed circuit, except that its outputs need to be in time only at latches that
+-- a trace reaches.
 pub record IsWinning (order : Order) (role : Role) (file : FileData) (c : CircuitData) : Type 0 where
   pub symbols : HasSymbols role file.names file.controllable c
   pub in_time : IsInTimeWhereReached order role c
   pub accepted : role ≡ Controller → AllAccepted file c
   pub rejected : role ≡ Environment → NoneAccepted file c
-  -- none of this is empty
+  -- traces, letters and meetings exist, so the two fields above are not true for lack of any
   pub goes_on : EachInputGoesOn c
   pub letters : (moments : List Moment) → HasLetters file.names c moments
   pub meetings : role ≡ Environment → (k : FiniteController) → IsController order c k → LosesMeeting file c k
 
--- the stimulus is a counterexample: its verdict is the wrong one, and its lap repeats from the first time on
+-- The stimulus is a counterexample: its verdict is wrong. Its lap repeats from its first occurrence on.
 pub record IsLosing (order : Order) (role : Role) (file : FileData) (c : CircuitData) (s : StimulusData) : Type 0 where
   pub symbols : HasSymbols role file.names file.controllable c
   pub in_time : IsInTimeWhereReached order role c

@@ -1,4 +1,4 @@
-//! A cycle that a player loses, in a game in which only the other player moves.
+//! Finds a cycle that a player loses, in a game in which only the other player moves.
 
 ghost use Rattle.std.specs.Prelude.{◌≡◌, ◌<◌, ◌≤◌, ℕ, length, slice_index, IfNone, IfOk, IfSome};
 ghost use Rattle.ps_game.specs.Games.{IsGame, owner_of, vertex_count};
@@ -9,7 +9,7 @@ use ps_game::{Arena, Counts, Game, Region, Strategy};
 use ps_measure::{MeasureFault, ranks};
 use std::alloc::{AllocError, Global};
 
-/// A cycle of edges that the player loses, if there is one, from its vertex of least number on. Fails if memory runs
+/// A cycle of edges that the player loses, if there is one. It begins with its smallest vertex. Fails if memory runs
 /// out.
 pub(crate) fn lost_cycle(
     alloc: Global,
@@ -32,7 +32,7 @@ pub(crate) fn lost_cycle(
     }
 }
 
-/// The same cycle, from its vertex of least number on.
+/// The same cycle, rotated so that it begins with its smallest vertex.
 fn turned(mut cycle: Vec<usize>) -> Vec<usize>
     requires { 0 < length cycle.items }
     ensures { IsTurned cycle.items result.items }
@@ -42,7 +42,7 @@ fn turned(mut cycle: Vec<usize>) -> Vec<usize>
     cycle
 }
 
-/// The place of the least vertex.
+/// The index of the smallest vertex.
 fn place_of_least(vertices: &[usize]) -> usize
     requires { 0 < length vertices.now }
     ensures within { result < length vertices.now }

@@ -1,12 +1,13 @@
-//! What is told about a circuit.
+//! The judgement on a circuit.
 
 use ps_simulate::Stimulus;
 
-/// Whether the automaton accepts each lasso trace of a circuit, or none, as its role demands.
+/// Whether an automaton accepts each lasso trace of a controller, or none of an environment.
 #[derive(Debug, Drop)]
 pub enum Judgement {
-    /// It does.
+    /// The circuit wins: the answer is yes.
     Wins,
-    /// It does not: the verdict on the lasso trace that reads this stem, and then this lap again and again, is wrong.
+    /// The circuit loses: the lasso trace in which it reads this stem, and then this lap for ever, has the wrong
+    /// verdict.
     Loses(Stimulus),
 }

@@ -1,4 +1,4 @@
-//! Laws on the definitions.
+//! Laws about the definitions.
 
 ghost use Rattle.ps_hoa.specs.Files.{FileData};
 ghost use Rattle.ps_hoa.specs.Sound.{IsSoundFile};
@@ -14,9 +14,9 @@ ghost use Rattle.ps_verify.specs.Judgements.{IsLosing, IsWinning};
 use ps_automaton::automaton_is_there;
 use ps_simulate::circuit_has_one_values;
 
-/// A judgement is one, of a file that was read and is admitted, and a circuit with the inputs and outputs of the role,
-/// in time where traces lead. A circuit of which no stimulus shows that it loses wins, and of a circuit that wins none
-/// does.
+/// A circuit either wins or loses, but not both. Let the file be one that was read and is admitted, let the circuit
+/// have the inputs and outputs of its role, and let it be in time wherever traces lead. Then the circuit wins if no
+/// stimulus shows that it loses. If a circuit wins, no stimulus shows that it loses.
 pub fn judgement_is_one()
     ensures wins { (order : Order) (role : Role) (file : FileData) (c : CircuitData) → IsSoundFile file →
         IsAdmitted file → IsCircuit c → HasSymbols role file.names file.controllable c →

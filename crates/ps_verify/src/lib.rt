@@ -1,12 +1,12 @@
-//! Whether an automaton accepts each lasso trace of a circuit, or none, with a counterexample.
+//! Whether an automaton accepts each lasso trace of a controller, or none of an environment; if not, with a
+//! counterexample.
 //!
-//! [`verified`] asks for a controller's circuit whether the automaton accepts all of its lasso traces, and for an
-//! environment's whether it accepts none. It asks no solver: it makes the product of the circuit and the automaton, in
-//! which all vertices belong to the player who is not asked about, and looks for a cycle that the other one loses.
+//! [`verified`] uses no solver. It builds the product of the circuit and the automaton, in which all vertices belong to
+//! the opponent of the circuit's player, and looks for a cycle that the circuit's player loses.
 //!
 //! | Call | What it gives |
 //! |---|---|
-//! | `verified(circuit, automaton, order, role)` | `Judgement`: the circuit wins, or a stimulus on which it does not |
+//! | `verified(circuit, automaton, order, role)` | a `Judgement`: the circuit wins, or a stimulus on which it loses |
 //! | `judgement_is_one` | a law: a circuit wins exactly if no stimulus shows that it loses |
 #![tactic(auto)]
 

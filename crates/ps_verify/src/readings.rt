@@ -1,4 +1,4 @@
-//! What a circuit reads along paths of its product.
+//! The inputs that a circuit reads along paths of its product.
 
 ghost use Rattle.std.specs.Prelude.{◌≡◌, ◌<◌, Some, slice_get, IfOk, slice_index, ℕ};
 ghost use Rattle.ps_game.specs.Games.{HasEdge, successors_of, vertex_count};
@@ -15,7 +15,7 @@ use ps_product::Product;
 use ps_simulate::Stimulus;
 use std::alloc::{AllocError, Global};
 
-/// The number of a successor of a vertex.
+/// The index of the vertex `next` among the successors of a vertex.
 fn number_of(game: &Game, vertex: usize, next: usize) -> usize
     requires { HasEdge game.now vertex next }
     ensures { slice_get (successors_of game.now vertex) result ≡ Some next }
@@ -28,7 +28,7 @@ fn number_of(game: &Game, vertex: usize, next: usize) -> usize
     unreachable!()
 }
 
-/// The inputs of a step along an edge.
+/// The inputs that are read in a step along an edge.
 fn inputs_of(
     alloc: Global,
     product: &Product,
@@ -42,7 +42,7 @@ fn inputs_of(
     product.inputs(alloc, vertex, number)
 }
 
-/// The inputs of each step along a path.
+/// The inputs that are read in each step along a path.
 fn letters_along(
     alloc: Global,
     product: &Product,
@@ -58,7 +58,7 @@ fn letters_along(
     Ok(letters)
 }
 
-/// The way from the first vertex to this one.
+/// The way from the first vertex to the given vertex.
 fn way_in(alloc: Global, game: &Game, vertex: usize) -> Result<Vec<usize>, AllocError>
     requires vertex { vertex < vertex_count game.now }
     requires reached { (w : ℕ) → 0 < w → w < vertex_count game.now → IsLedTo game.now w }
@@ -69,7 +69,7 @@ fn way_in(alloc: Global, game: &Game, vertex: usize) -> Result<Vec<usize>, Alloc
     Ok(way)
 }
 
-/// The inputs that are read on the way to a cycle, and along it.
+/// The inputs that are read on the way to a cycle (the stem), and along the cycle (the lap).
 pub(crate) fn stimulus_of(
     alloc: Global,
     product: &Product,

@@ -1,4 +1,4 @@
-//! The judgement of a circuit.
+//! Judges a circuit.
 
 ghost use Rattle.std.specs.Prelude.{◌≡◌, ◌<◌, ℕ, IfErr, IfOk};
 ghost use Rattle.ps_hoa.specs.Files.{FileData};
@@ -23,14 +23,14 @@ use ps_product::{Product, ProductFault};
 use ps_simulate::{Role, circuit_has_one_values};
 use std::alloc::{AllocError, Global};
 
-/// Whether the automaton accepts each lasso trace of a controller's circuit, or none of an environment's. If not, a
-/// stimulus shows it: its lap repeats from the first time on.
+/// Whether the automaton accepts each lasso trace of a controller, or none of an environment. If not, the result is a
+/// stimulus that shows this, whose lap repeats from its first occurrence on.
 ///
 /// # Errors
 ///
-/// [`ProductFault::Symbols`] if the inputs and outputs are not those of the role, by name; else
-/// [`ProductFault::Timing`] if the role moves first and an output depends on an input where some trace leads; out of
-/// memory.
+/// Fails with [`ProductFault::Symbols`] if the names of the inputs and outputs are not those of the role; else with
+/// [`ProductFault::Timing`] if the circuit moves first, but at some latches that a trace reaches, an output depends on
+/// an input; or if memory runs out.
 pub fn verified(
     alloc: Global,
     circuit: &Circuit,
@@ -49,7 +49,7 @@ pub fn verified(
     Ok(judgement)
 }
 
-/// What holds of every circuit and every automaton.
+/// Properties of every circuit and of every automaton.
 fn sound(circuit: &Circuit, automaton: &Automaton)
     ensures circuit { IsCircuit circuit.now }
     ensures names { AreNames automaton.now.names }
@@ -58,7 +58,7 @@ fn sound(circuit: &Circuit, automaton: &Automaton)
     automaton.names();
 }
 
-/// The player who is asked about.
+/// The circuit's player: 0 for a controller, 1 for an environment.
 fn asked(role: Role) -> u8
     ensures { result ≡ asked_of role }
 {
@@ -68,7 +68,7 @@ fn asked(role: Role) -> u8
     }
 }
 
-/// Whether the player wins all loops of a product in which only the other one moves.
+/// Whether the player wins all loops of a product in which only the other player moves.
 fn told(alloc: Global, product: &Product, player: u8) -> Result<Judgement, AllocError>
     requires player { player < 2 }
     requires owners { (v : ℕ) → v < vertex_count product.now.game →

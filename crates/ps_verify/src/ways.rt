@@ -1,4 +1,4 @@
-//! Ways from the first vertex of a game, if each other vertex has an earlier one that leads to it.
+//! Ways from the first vertex of a game in which each other vertex is a successor of an earlier one.
 
 ghost use Rattle.std.specs.Prelude.{◌≡◌, ◌<◌, length, IfOk};
 ghost use Rattle.std.specs.List.{range_with_len};
@@ -8,7 +8,7 @@ ghost use Rattle.ps_verify.specs.Inner.Ways.{AreFirsts, Fall, HasLowered, IsWayB
 use ps_game::{Arena, Game};
 use std::alloc::{AllocError, Global};
 
-/// For each vertex the first vertex that leads to it, if that comes before it; else the vertex itself.
+/// For each vertex the first vertex that has an edge to it, if this is an earlier vertex; otherwise the vertex itself.
 pub(crate) fn firsts(alloc: Global, game: &Game) -> Result<Vec<usize>, AllocError>
     ensures { IfOk result (λ firsts. AreFirsts game.now (vertex_count game.now) firsts.items) }
 {
@@ -19,14 +19,14 @@ pub(crate) fn firsts(alloc: Global, game: &Game) -> Result<Vec<usize>, AllocErro
     Ok(firsts)
 }
 
-/// The numbers from 0 up to this many.
+/// The numbers from 0 up to, but not including, `count`.
 fn numbers(alloc: Global, count: usize) -> Result<Vec<usize>, AllocError>
     ensures { IfOk result (λ numbers. numbers.items ≡ range_with_len 0 count) }
 {
     (0..count).collect(alloc)
 }
 
-/// Lowers the places of the successors of a vertex to that vertex.
+/// Replaces the entry of each successor of the vertex by the vertex, where the entry is larger.
 fn lower_successors(game: &Game, vertex: usize, firsts: &mut [usize])
     requires is_game { IsGame game.now }
     requires vertex { vertex < vertex_count game.now }
@@ -41,7 +41,7 @@ fn lower_successors(game: &Game, vertex: usize, firsts: &mut [usize])
     }
 }
 
-/// The way from vertex 0 to a vertex on which each vertex follows the one in its place.
+/// The way from vertex 0 to the given vertex. The vertex before each vertex of the way is its entry in `firsts`.
 pub(crate) fn way_to(
     alloc: Global,
     firsts: &[usize],

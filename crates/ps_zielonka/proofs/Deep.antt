@@ -45,7 +45,7 @@ nest_priorities {game} {tables} {winner} {order} {frames} k calls nest =
 
 -- ## The depth so far
 
--- the invariant of the depth holds before the first turn
+-- the depth satisfies its invariant before the first turn
 pub depth_start : (game : ParityGame) (levels : List ℕ) → ((v : ℕ) → v < vertex_count game →
     get_or levels v 0 ≡ UNPLACED) → IsDepthSoFar game levels 0 false 0
 depth_start game levels unplaced = search rules
@@ -85,7 +85,7 @@ pub depth_solved : {game : ParityGame} {levels : List ℕ} {calls : ℕ} {solved
 depth_solved is_solved so_far = depth_known (λ v is_vertex fresh. false≢true (sym fresh.unsolved ∙ is_solved))
     (λ v second. false≢true (sym second.unsolved ∙ is_solved)) so_far
 
--- the invariant of the depth holds after the last pending call is solved or continues
+-- the depth satisfies its invariant after the last pending call is solved or continues
 pub depth_climbs : {game : ParityGame} {levels : List ℕ} (now : List ℕ) {calls : ℕ} (left : ℕ) {solved : Bool}
     (is : Bool) {depth : ℕ} → solved ≡ true → IsDepthSoFar game levels calls solved depth →
     IsDepthSoFar game now left is depth
@@ -98,7 +98,7 @@ pub depth_kept : {game : ParityGame} {levels : List ℕ} (now : List ℕ) {calls
 depth_kept {game} {levels} now {calls} left {solved} is {depth} deep same is_solved so_far =
     rw same (depth_climbs now left is is_solved so_far)
 
--- the invariant of the depth holds when no open vertex remains for the current call
+-- the depth satisfies its invariant when no open vertex remains for the current call
 pub depth_done : {game : ParityGame} {tables : TablesData} {winner order : List ℕ} {frames : List Frame} {cursor : ℕ}
     {solved : Bool} {depth : ℕ} → IsNest game tables winner order frames cursor true →
     IsDepthSoFar game tables.level (length frames) solved depth →
@@ -108,7 +108,7 @@ depth_done {tables = tables} {frames = frames} nest so_far =
     depth_stays tables.level (length frames) true (depth_known
     (λ v is_vertex fresh. placed v (fresh.unplaced v is_vertex)) (λ v second. placed v second.unplaced) so_far)
 
--- the invariant of the depth holds after a turn begins
+-- the depth satisfies its invariant after a turn begins
 pub depth_begun : (b : Begun) {frames : List Frame} {cursor : ℕ} {solved : Bool} {depth : ℕ} (deeper : ℕ) →
     length frames ≡ b.depth + 1 → solved ≡ false → deeper ≡ max depth (length frames) →
     IsNest b.game b.new b.winner_now b.order frames cursor solved →

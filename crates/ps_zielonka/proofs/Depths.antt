@@ -68,8 +68,8 @@ HasPriorities-turned {game} {open_part} {rest} {n} turned has_n =
     let (top, is_top, greatest) = turned.some_top in
     HasPriorities-more open_part top turned.left.within (grind arith) (λ v inside same. grind arith) has_n
 
--- a vertex outside a set that satisfies `IsClosedToTops` is in the rest of a turn whose tops are exactly the vertices
--- of the greatest priority
+-- let the tops of a turn be exactly the vertices of the greatest priority; then the rest of the turn contains each
+-- vertex outside a set that satisfies `IsClosedToTops`
 pub left_out : {game : ParityGame} {whole rest set : ℕ → Bool} {player : ℕ} {win : ℕ → ℕ} {table : ℕ → Option ℕ} (v : ℕ)
     → ((u : ℕ) → u < vertex_count game → IsTrue (whole u)) → ((u : ℕ) → IsTrue (whole u) → u < vertex_count game) →
     (turned : IsTurned game whole rest player win table) → ((u : ℕ) → IsTrue (turned.tops u) →

@@ -1,6 +1,6 @@
 -- Steps of a player who moves first, and the rows that are stored for these steps. The player's move can lead to
--- certain leaves of the automaton's diagram, and `places` has the index of a row for each of these leaves. Therefore
--- the machine's diagram is the automaton's diagram with these indices as leaves. (For private functions.)
+-- certain leaves of the automaton's diagram, and `places` has the index of a row for each of these leaves. The
+-- machine's diagram is the automaton's diagram, in which these indices replace the leaves. (For private functions.)
 --     PlaysClass board keys certificate v q letter      the letter that is output at the vertex v of the state q
 --     IsEntered .. leaf      the machine can take the step that the leaf names
 --     IsPlaced .. letter leaf      the leaf's row is stored

@@ -65,7 +65,8 @@ pub record IsReverse (g r : Digraph) : Type 0 where
   pub there : (v w : ℕ) → Link g v w → Link r w v
   pub back : (v w : ℕ) → Link r w v → Link g v w
 
--- a stored graph, a region of its vertices, a level for each vertex (the vertex's priority), and a priority
+-- a stored graph, a region of its vertices, the level of each vertex (which is its priority), and the priority whose
+-- counts are computed
 pub record LowData : Type 0 where
   pub star : StarData
   pub region : List Bool

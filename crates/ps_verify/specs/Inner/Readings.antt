@@ -1,7 +1,8 @@
 -- The inputs that are read along paths of a product.
 --     ReadsEdge p v w inputs      the inputs are those of a step along the edge
---     ReadsPath p path letters      inputs for each edge of a path
---     IsToldOf player p judgement      the player wins all loops; or a stimulus follows a cycle that the player loses
+--     ReadsPath p path letters      the letters are the inputs of steps along the path, one for each edge
+--     IsToldOf player p judgement      the player wins all loops, or the stimulus is read along a cycle that the player
+--               loses
 use Rattle.std.specs.Prelude.{◌≡◌, ℕ, ◌+◌, ◌<◌, Bool, List, [], length, slice_get, slice_index, slice_index_or, Some}
 use Rattle.ps_game.specs.Games.{successors_of}
 use Rattle.ps_product.specs.Products.{ProductData, inputs_at}
@@ -21,7 +22,7 @@ pub record ReadsPath (p : ProductData) (path : List ℕ) (letters : List (List B
   pub each : (k : ℕ) → k < length letters → ReadsEdge p (slice_index path k) (slice_index path (k + 1))
       (slice_index_or letters k [])
 
--- the stem is read on the way to a cycle that the player loses, and the lap along it
+-- the stem is read on the way to a cycle that the player loses, and the lap is read along the cycle
 pub record ReadsRound (player : ℕ) (p : ProductData) (s : StimulusData) : Type 0 where
   pub cycle : List ℕ
   pub lost : IsLostRound p.game player cycle

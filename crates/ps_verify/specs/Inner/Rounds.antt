@@ -1,7 +1,8 @@
 -- Who wins the loops of a game in which only one player moves.
---     WinsLoops game player      counts keep the rule on each edge, for each priority by which the player loses
+--     WinsLoops game player      for each priority of the other player's parity, there are counts that keep the rule on
+--               each edge
 --     IsLostRound game player cycle      a cycle that the player loses
---     IsTurned old new      the same cycle from its least vertex on
+--     IsTurned old new      the same cycle, rotated so that it begins with its smallest vertex
 use Rattle.std.specs.Prelude.{◌≡◌, ℕ, ◌%◌, ◌<◌, ◌≤◌, List, [], ◌∷◌, ◌++◌, length, map, slice_index, take}
 use Rattle.std.specs.Prelude.{drop}
 use Rattle.ps_game.specs.Games.{ParityGame, HasEdge, priority_of}
@@ -16,7 +17,7 @@ pub record HasCounts (game : ParityGame) (priority : ℕ) : Type 0 where
 abbrev pub WinsLoops : ParityGame → ℕ → Type 0
 WinsLoops game player = (priority : ℕ) → priority % 2 ≡ other_player player → HasCounts game priority
 
--- a cycle, with its first vertex once more
+-- a cycle followed by its first vertex
 abbrev pub round_of : List ℕ → List ℕ
 round_of cycle = cycle ++ slice_index cycle 0 ∷ []
 
@@ -25,7 +26,7 @@ pub record IsLostRound (game : ParityGame) (player : ℕ) (cycle : List ℕ) : T
   pub is_path : IsPath game (round_of cycle)
   pub lost : greatest (map (priority_of game) cycle) % 2 ≡ other_player player
 
--- the cycle from its least vertex on
+-- the same cycle, rotated so that it begins with its smallest vertex
 pub record IsTurned (old new : List ℕ) : Type 0 where
   pub place : ℕ
   pub within : place < length old

@@ -1,8 +1,9 @@
--- Ways to a vertex, by the first vertex that leads to each.
---     HasLowered game v count old new      places were lowered to v, where the first `count` successors of v have them
---     AreFirsts game n firsts      for each vertex the first of the vertices before n that leads to it, if that comes
---               before it; else the vertex
---     IsWayBy firsts way v      each vertex of the way follows the one in its place
+-- Ways to a vertex. The list `firsts` has, for each vertex, the first vertex that has an edge to it.
+--     HasLowered game v count old new      the entries of the first `count` successors of v are replaced by v, where
+--               they are larger
+--     AreFirsts game n firsts      for each vertex the first of the vertices less than n that has an edge to it, if
+--               this is an earlier vertex; otherwise the vertex itself
+--     IsWayBy firsts way v      the vertex before each vertex of the way is its entry in `firsts`
 --     IsWayTo game way v      a path from vertex 0
 use Rattle.std.specs.Prelude.{◌≡◌, ℕ, ◌+◌, ◌<◌, ◌≤◌, ◌⊎◌, List, length, slice_index}
 use Rattle.ps_game.specs.Games.{ParityGame, HasEdge, successors_of, vertex_count}
@@ -21,7 +22,7 @@ pub record AreFirsts (game : ParityGame) (n : ℕ) (firsts : List ℕ) : Type 0 
   pub sound : (w : ℕ) → w < vertex_count game →
       (slice_index firsts w ≡ w) ⊎ HasEdge game (slice_index firsts w) w
 
--- each place but the first is that of an earlier vertex
+-- the entry of each vertex except 0 is an earlier vertex
 abbrev pub Fall : List ℕ → Type 0
 Fall firsts = (w : ℕ) → 0 < w → w < length firsts → slice_index firsts w < w
 
@@ -38,7 +39,7 @@ pub record IsWayTo (game : ParityGame) (way : List ℕ) (v : ℕ) : Type 0 where
   pub from : slice_index way 0 ≡ 0
   pub ends : last_vertex way ≡ v
 
--- the same from the vertex back to the one that was reached
+-- the way in reverse, from the vertex v back to the vertex reached so far
 pub record IsWayBack (firsts : List ℕ) (way : List ℕ) (v first : ℕ) : Type 0 where
   pub begins : 0 < length way
   pub from : slice_index way 0 ≡ v
