@@ -1,5 +1,5 @@
 -- Numbers are lawful. Each condition on a number is decidable, so that a number has an outcome from each list of signs.
---     judged_by, number_by      a number with a condition; a number of which some values are another game's
+--     judged_by, number_by      a number with a condition; a number, some values of which belong to another game
 --     decide_next, judge_priority, judge_zero, judge_missing      the errors of numbers, and of the end of a line
 use Rattle.std.proofs.Common.{◌≡◌, ℕ, ◌^◌, ◌<◌, ◌≤◌, ◌⊎◌, List, [], ◌∷◌, length, drop, refl, inl, inr, arith, rules}
 use Rattle.std.specs.List.{Contains}

@@ -234,7 +234,7 @@ too_large Wrong at [] l h = absurd (omega arith)
 too_large Wrong at (b ∷ bytes) l h = let sign : Seen = record { byte = b; at = at; behind = bytes } in
     is_cause sign refl (refl, wrong_run_is refl l (inl (refl, h))) (λ g c. syntax_least g)
 
--- the verdict rejects a number
+-- the function fails at a number that the verdict rejects
 pub wrong_number : {Wrong : Verdict} → Settled Wrong → (at : ℕ) (bytes : List ℕ) {n : ℕ} {rest : List ℕ}
     {f : CertCause} → 0 < run_length bytes → decimal_value (numeral bytes) ≡ n → n < 2 ^ 64 → drop (run_length bytes)
     bytes ≡ rest → Wrong rest n f → ((g : CertCause) → Wrong rest n g → cause_number f ≤ cause_number g) →

@@ -1,6 +1,6 @@
 -- How the functions of the parser read their parts of a text byte by byte, and how they fail.
---     two_first, two_second, two_fails      one of two bytes
---     zero_passed, digits_passed, none_passed      a number, or none
+--     two_first, two_second, two_fails      the part `take_two` reads the first byte or the second, or fails
+--     zero_passed, digits_passed, none_passed      the function reads a number, or finds none
 --     end_reads, end_missing, end_fails      the end of a line of priorities, when some priorities may be missing
 --     ends_true, ends_false      the test for the end of a field
 use Rattle.std.proofs.Common.{◌≡◌, ℕ, ◌+◌, ◌^◌, ◌<◌, ◌≤◌, ◌⊎◌, Bool, true, false, List, [], ◌∷◌, ◌++◌, length, take}

@@ -1,6 +1,7 @@
--- Certificates that have the same winners and moves, and the one with the least counts among them.
---     SaysTheSame game c d      the same winners and moves
---     DiffersInCounts game c d      the same winners, moves and priorities
+-- Certificates that have both certificates have the same winners and moves, and the one with the least counts among
+-- them.
+--     SaysTheSame game c d      both certificates have the same winners and moves
+--     DiffersInCounts game c d      both certificates have the same winners, moves and priorities
 --     HasLeastCounts game c      no valid certificate with its winners and moves has a smaller count
 use Rattle.std.specs.Prelude.{◌≡◌, ℕ, ◌<◌, ◌≤◌, length, slice_index}
 use Rattle.ps_game.specs.Games.{ParityGame, priority_of, vertex_count}

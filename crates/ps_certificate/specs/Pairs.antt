@@ -1,7 +1,7 @@
 -- The counts that were read so far in a line of a compact text, as pairs of a priority and its count.
 use Rattle.std.specs.Prelude.{ℕ, ◌≤◌, Option, Some, None, IsSomeAnd, ◌==◌, if◌then◌else◌}
 
--- the last priority, and the count for each priority: 0 if none was given
+-- the priority of the last pair, and the count for each priority: 0 if no pair gave one
 pub record Pairs : Type 0 where
   pub last : Option ℕ
   pub count : ℕ → ℕ

@@ -94,7 +94,7 @@ NotNext ps n = slice_get ps 0 ≢ Some n
 abbrev pub priority : List ℕ → Field (List ℕ)
 priority ps = then_by (byte 32) (λ _. mapped (λ _. drop 1 ps) (number (NotNext ps)))
 
--- a newline where a priority of the list is missing
+-- the line ends with a newline before all priorities of the list were given
 abbrev pub IsMissing : List ℕ → Seen → CertCause → Type 0
 IsMissing ps s f = (s.byte ≡ 10) × (0 < length ps) × (f ≡ OtherGame)
 

@@ -1,6 +1,6 @@
 -- The bytes of the texts of a certificate.
---     fields xs      each of the numbers after one space
---     pairs ps cs      each nonzero count, after one space, its priority and a colon
+--     fields xs      the numbers, each after one space
+--     pairs ps cs      the nonzero counts, each after a space, its priority and a colon
 --     entry_line compact odd even ids id entry      the line of the vertex with the given id
 --     IsWritable count odd even entry      the condition under which the line of an entry can be written
 --     IsWord n, HasWords ids c      numbers that fit in 64 bits

@@ -46,7 +46,7 @@ impl Literal {
         }
     }
 
-    /// The literal that always has this value.
+    /// The literal that always has the given value.
     pub fn constant(bit: bool) -> Self
         ensures { result ≡ (if bit then 1 else 0) }
     {

@@ -111,7 +111,7 @@ impl Store {
         Ok(Classes { list, places })
     }
 
-    /// As `rests`, with tables of what was made before: at the letter x, the leaf is a node. At each letter y over the
+    /// As `rests`, with tables of what was made before. The leaf at a letter x is a node. At each letter y over the
     /// other propositions, this node has the leaf that the given node has at the letter made of x and y.
     fn divided(
         &mut self,

@@ -6,7 +6,7 @@
 -- implicit labels: edge k is taken at the letter k, in which proposition i is bit i.
 --     BodyData      the rows so far, and the number of their edges
 --     state h body      one more state, after the states of body
---     body h      all states, and `--END--`
+--     body h      the whole body: all states, and `--END--`
 use Rattle.std.specs.Prelude.{◌≡◌, ◌≢◌, ℕ, ◌+◌, ◌-◌, ◌^◌, ◌<◌, ◌≤◌, ◌⊎◌, Bool, true, false, List, [], ◌∷◌, ◌++◌, length}
 use Rattle.std.specs.Prelude.{codes, if◌then◌else◌, nat_eq, Option, None, Some, IfSome, slice_get}
 use Rattle.ps_label.specs.Expression.{Expression}

@@ -1,7 +1,7 @@
 -- The common grammar of labels and acceptance conditions: single tokens, an operand in parentheses, rows of operands,
 -- and operands that contain other operands.
 --     mark test      a single token whose kind passes the test
---     inner part      the part between parentheses
+--     inner part      the given part between parentheses
 --     row sign join operand      operands with this sign between them: a single operand keeps its value, and several
 --               are joined at once
 --     rows together connective operand      operands with a connective between them, where `&` binds tighter than `|`

@@ -4,11 +4,11 @@
 --     IsBlankRun text      blanks and comments
 --     IsName text      a letter or `_`, followed by letters, digits, `_` and `-`
 --     Stands kind text rest      a token of this kind, followed by rest: the longest token that can begin here
---     IsToken kind text rest      the same, or a token that is never allowed: a comment that is not closed, or a byte
---               that begins no token
+--     IsToken kind text rest      as `Stands`, or a token that is never allowed: a comment that is not closed, or a
+--               byte that begins no token
 --     AreTokens at bytes pieces      the tokens of `bytes`, with blanks between them; `at` is the offset of the bytes
---     marked marks pieces      the same tokens, where the second occurrence of a name that may occur only once, and
---               every token after `--END--`, have kinds of their own
+--     marked marks pieces      the given tokens, with other kinds for the second occurrence of a name that may occur
+--               only once, and for every token after `--END--`
 use Rattle.std.specs.Prelude.{◌≡◌, ℕ, suc, ◌+◌, ◌<◌, ◌⊎◌, ◌≢◌, ◌||◌, Bool, true, false, List, [], ◌∷◌, ◌++◌, length}
 use Rattle.std.specs.Prelude.{codes, if◌then◌else◌, nat_eq, get_or, set, Option, None, Some}
 use Rattle.std.specs.Str.{bytes_eq}

@@ -34,11 +34,11 @@ const STATE_LIMIT: u32 = 65_535;
 /// The ways in which the edges of a state are labelled.
 #[derive(Clone, Copy)]
 pub(crate) enum Labelling {
-    /// By the label of the state.
+    /// All edges are labelled by the label of the state.
     ByState,
-    /// By a label of each edge.
+    /// Each edge is labelled by a label of its own.
     ByEdge,
-    /// By the order of the edges: the edge with index `k` is taken at the letter `k`.
+    /// The order of the edges labels them: the edge with the index `k` is taken at the letter `k`.
     ByPlace,
     /// Not known yet, since the state has no label and no edge.
     NotKnown,

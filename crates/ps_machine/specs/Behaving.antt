@@ -1,6 +1,6 @@
--- When two machines do the same.
---     BehavesAs b c      they have the same propositions and player; from each memory state, for every letter read,
---               they go to the same memory state and output the same letter
+-- When two machines behave in the same way.
+--     BehavesAs b c      the machines have the same propositions and player; from each memory state, for every letter
+--               read, they go to the same memory state and output the same letter
 use Rattle.std.specs.Prelude.{◌≡◌, ℕ, ◌<◌}
 use Rattle.ps_machine.specs.Behaviours.{Behaviour}
 

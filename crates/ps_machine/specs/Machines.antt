@@ -1,7 +1,7 @@
 -- The stored form of a player's finite machine: a decision diagram for each memory state, whose leaves name rows.
 --     MachineData      a machine's propositions, its player, whether that player moves first, its diagrams and its rows
 --     step_of m memory x      the row for a memory state, if x is the other player's letter
---     behaviour m      what the machine does
+--     behaviour m      the behaviour of the machine, without its diagrams
 --     IsWholeMachine m      this is a machine, and its diagrams name a row for each memory state and letter
 use Rattle.std.specs.Prelude.{◌≡◌, ℕ, ◌<◌, Bool, List, length, slice_index, slice_index_or, IsSomeAnd}
 use Rattle.std.specs.Option.{unwrap_or}

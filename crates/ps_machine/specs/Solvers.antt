@@ -14,7 +14,7 @@ abbrev pub MayAnswer : Type 1
 MayAnswer = NamedGameData → Result CertificateData SolveFault → Type 0
 
 pub record SolverData : Type 1 where
-  -- whether the solver's certificates fit the game and are valid, and it fails only if out of memory
+  -- whether the solver is sure: all its certificates fit the game and are valid, and it fails only if memory runs out
   pub is_sure : Bool
   -- the text that the solver was fed last, at first the empty text; None for a solver that ignores every text
   pub fed : Option (List ℕ)

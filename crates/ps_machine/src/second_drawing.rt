@@ -19,7 +19,7 @@ use ps_diagram::{Class, Node};
 use std::alloc::{AllocError, Global};
 
 impl Plan<'_> {
-    /// The step to which the winner's move leads after the least letter of a class, where the winner moves second.
+    /// The step to which the move of the winner, who moves second, leads after the least letter of a class.
     fn reply(&self, state: u32, letter: u64) -> Step
         requires turn { self.now.moves_first ≡ false }
         requires entered { (p : ℕ) × CanEnterBy self.now state p }

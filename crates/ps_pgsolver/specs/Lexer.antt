@@ -55,10 +55,10 @@ lex zero before (b ∷ bs) =
     else ((record { sign = first_sign before (b ∷ bs); start = length before }) ∷ lex (first_size (b ∷ bs) - 1)
     (before ++ b ∷ []) bs)
 
--- the pieces of a whole text
+-- the stream of a whole text: its tokens with their offsets
 abbrev pub stream_of : List ℕ → Stream Sign
 stream_of text = record { pieces = lex 0 [] text; end = length text }
 
--- the pieces from an offset on
+-- the stream of the part of a text from an offset on
 abbrev pub stream_from : List ℕ → ℕ → Stream Sign
 stream_from text at = record { pieces = lex 0 (take at text) (drop at text); end = length text }

@@ -43,7 +43,7 @@ slice_get-letters_in width (suc count) bits zero lt = search rules
 slice_get-letters_in width (suc count) bits (suc i) lt =
     search (rules, drop-drop, slice_get-letters_in width count (drop width bits) i (omega arith))
 
--- the bits of a letter are within the list of all bits
+-- the bits of the letter at the index `place` end within the list of all bits
 pub letter_within : (place count width : ℕ) {size : ℕ} → place < count → size ≡ count * width →
     place * width + width ≤ size
 letter_within place count width lt is = search (rules, mul-le-mul_right)

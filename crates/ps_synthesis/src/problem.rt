@@ -63,7 +63,7 @@ impl Model for Problem {
 }
 
 impl Problem {
-    /// The problem of an HOA text, in a given order of moves.
+    /// The problem that an HOA text states: to win the game of its automaton, in the given order of moves.
     ///
     /// # Errors
     ///

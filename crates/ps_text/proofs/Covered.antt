@@ -20,7 +20,7 @@ Enters {T} {V} {F} P (Some t) = Begins P.IsText (t ∷ []) ⊎ ((f : F) × P.IsC
 pub enters_broken : {T V F : Type 0} (P : Part T V F) (there : Option T) → Enters P there → IsBroken P [] there → ⊥
 enters_broken P there e b = search rules
 
--- if a part that takes a sign was parsed, its first sign enters the part
+-- if a part whose texts are not empty was parsed, the first sign that was parsed begins a text of the part
 pub enters_read : {T V F : Type 0} (P : Part T V F) (all rest : List T) (v : V) → ((w : V) → P.IsText [] w → ⊥) →
     IsRead P all v rest → Enters P (first_of all)
 enters_read {T} P all rest v some p = go p.text p.split p.is_text

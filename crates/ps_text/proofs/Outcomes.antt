@@ -3,7 +3,7 @@
 --     has_give, has_one, has_mapped, has_then, has_either, has_times, has_many, has_barred      one lemma for each
 --               combinator
 --     entered_or_broken      the next sign enters a part that takes a sign, or the part is broken there
---     has_refusal      the outcome where the next sign does not begin the part
+--     has_refusal      the outcome if the next sign does not begin the part
 --     some_answer      each text that is one part has an answer; some_answer_of is the law of ps_text
 use Rattle.std.proofs.Common.{◌≡◌, ℕ, zero, suc, ◌<◌, ◌≤◌, ◌⊎◌, List, [], ◌∷◌, ◌++◌, length, Option, None, Some, Result}
 use Rattle.std.proofs.Common.{Ok, Err, refl, sym, ap, subst, inl, inr, ◌∙◌, arith, rules}
@@ -83,7 +83,7 @@ module _ {T F : Type 0} (causes : Causes T F) where
       ((a : A) → HasOutcomes causes (Q a)) → HasOutcomes causes (then_by P Q)
   has_then j p q = record { outcome = λ all. outcome_then j all (λ mid a r. (q a).outcome mid) (p.outcome all) }
 
-  -- the outcome where the next sign does not begin P
+  -- the outcome if the next sign does not begin P
   pub has_refusal : {V : Type 0} {odd : T → Type 0} {P : Part T V F} {First More : T → Type 0} →
       Laws odd P First More ⊥ → (all : List T) → Avoids First (first_of all) → Outcome causes P all
   has_refusal l all avoided = has_fault _ all (refused l causes all avoided)

@@ -1,7 +1,7 @@
 -- `times` and `many`. Each item takes a sign, and no sign both continues an item and begins an item.
 --     laws_times, laws_many      the laws, with the sets First and More of the items
---     covers_item      where an item begins, `many` is parsed as that item and then `many`
---     read_nothing, read_none      where no item begins, `many` is parsed as the empty list
+--     covers_item      if an item begins here, `many` is parsed as this item followed by `many`
+--     read_nothing, read_none      if no item begins here, `many` is parsed as the empty list
 --     joint_many, joint_times      the joint of an item and the items after it
 --     read_item      `many` is parsed if an item and then `many` are parsed
 -- The laws of `many` are those of `upto n`, up to n items: each text and error of `many` is one of `upto n` for some n.

@@ -1,6 +1,6 @@
 -- `give`, `one` and `mapped`: their laws, and when they are parsed and when they fail. Also the laws of `then_by`.
 --     laws_give, laws_one, laws_mapped, laws_then
---     refused      the fault of a part that is not empty, where the next sign does not begin the part
+--     refused      the fault of a part without an empty text, if the next sign does not begin the part
 --     read_give      no sign is taken
 --     taken_byte      the sign that is taken for a byte is this byte
 --     read_one, bad_one, refused_one      one sign: it is taken; it is bad; it is not allowed, or the text ends

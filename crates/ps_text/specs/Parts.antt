@@ -14,7 +14,7 @@
 --     one take Bad      one sign, whose value `take` gives. Bad states which errors a sign has here, whether `take`
 --               accepts the sign or not
 --     then_by P (λ a. Q a)      P and then Q, which may depend on the value a of P; the value is that of Q
---     either P Q      P or Q
+--     either P Q      a text of P or a text of Q
 --     times n item c, many item c      n items, or any number of items, in a row. `item c` is the item in the context
 --               c. Its value is the context of the next item, and the last context is the value of the whole
 --     mapped h P      P with the value h v in place of v

@@ -14,7 +14,7 @@ use Rattle.std.specs.Prelude.{◌≡◌, List, [], ◌∷◌, ◌++◌, Option, 
 use Rattle.ps_text.specs.Answers.{Piece, Stream, Found, signs, next_of, offset_of}
 use Rattle.ps_text.specs.Parts.{Part, Causes, IsRead, IsFault, refusal_of}
 
--- the pieces without the first one
+-- the stream's pieces without the first one
 abbrev pub tail_of : {T : Type 0} → List (Piece T) → List (Piece T)
 tail_of [] = []
 tail_of (p ∷ ps) = ps

@@ -1,9 +1,9 @@
 -- Parsing the text that was written for a certificate gives that certificate.
 --     writable      the entries of a certificate that fits can be written
 --     IsReadFrom P text v rest      the part P is read from these bytes with the value v, and rest is left
---     then, with_value      one part and then the next one; a function is applied to the value of a part
+--     then, with_value      two parts are read, one after the other; a function is applied to the value of a part
 --     read_byte, read_word, read_number, read_fields, read_version, read_winner, read_choice, read_counts, read_pairs,
---     read_entry, read_entries, read_text      each part of the text
+--     read_entry, read_entries, read_text      these parts of the text are read back
 --     reads_again      the whole text
 use Rattle.std.proofs.Common.{◌≡◌, ◌≢◌, ℕ, zero, suc, ◌+◌, ◌^◌, ◌<◌, ◌⊎◌, Bool, true, false, cond, eqb, List, [], ◌∷◌}
 use Rattle.std.proofs.Common.{◌++◌, length, get_or, drop, Option, Some, None, Ok, refl, sym, ap, subst, inl, inr, ◌∙◌}
@@ -74,7 +74,7 @@ with_value : {A B : Type 0} (h : A → B) {P : Field A} {a : A} {text rest : Lis
     IsReadFrom (mapped h P) text (h a) rest
 with_value h {P} p = record { read = λ at. let r = p.read at in (r.0, read_mapped h P r.1) }
 
--- a part that has several forms, read in one of these forms
+-- a part that has several forms is read in one of these forms
 as_form : {V : Type 0} {P Q : Field V} {v : V} {text rest : List ℕ} →
     ((at : ℕ) → Covers (first_of (seen at text)) P Q) → IsReadFrom P text v rest → IsReadFrom Q text v rest
 as_form {P = P} {Q = Q} covers p = record { read = λ at. let r = p.read at in (r.0, read_as P Q (covers at) r.1) }

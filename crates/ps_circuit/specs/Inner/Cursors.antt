@@ -14,7 +14,7 @@ use Rattle.ps_circuit.specs.declared.fault.AigCause.TheVariants.{Syntax}
 use Rattle.ps_circuit.specs.Causes.{AigFault}
 use Rattle.ps_text.specs.declared.faults.Fault.TheVariants.{Text}
 
--- either the part was parsed, which leads from `old` to `new`, or the result is the first error of the part
+-- either the part was parsed and the stream went from `old` to `new`, or the result is the first error of the part
 abbrev pub Tells : {V X : Type 0} → (X → V) → Field V → Stream Seen → Result X AigFault → Stream Seen → Type 0
 Tells view part old result new = Meets found_of aig_causes view part old result new
 

@@ -1,7 +1,7 @@
 -- The laws of the body's sets, labels and edges, and how their parts are joined. The laws of states are in
 -- proofs/Grammar/StateLaws.
 --     laws_marks, laws_label_in_brackets, laws_state_label, laws_labelled_edge, laws_plain_edge, laws_edge      the
---               laws
+--               laws of these parts
 --     joint_braces, joint_sets      `{`, the numbers and `}`
 --     joint_bracket, joint_label      `[`, a label and `]`
 --     joint_edge_label, joint_edge_target, joint_edge_marks, joint_plain_marks      the parts of an edge, from first to

@@ -4,7 +4,7 @@
 --     laws_both, laws_rows, laws_nested      rows of operands, and rows in parentheses
 --     laws_negation, laws_holding, laws_operand      an operand after `!`, an operand that contains another one, and
 --               any operand
---     joint_bar      a leaf where no deeper nesting is allowed
+--     joint_bar      a leaf, if no deeper nesting is allowed
 use Rattle.std.proofs.Common.{rules, arith, ◌≡◌, ℕ, zero, suc, Bool, true, List, Option, None, Some, refl}
 use Rattle.ps_text.specs.Parts.{Part, then_by}
 use Rattle.ps_text.proofs.Barred.{laws_barred}

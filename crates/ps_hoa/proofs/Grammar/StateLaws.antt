@@ -1,5 +1,5 @@
 -- The laws of states and of the whole body, and how their parts are joined.
---     laws_state, laws_states, laws_ended, laws_body      the laws
+--     laws_state, laws_states, laws_ended, laws_body      the laws of these parts
 --     joint_state, joint_state_label, joint_number, joint_name, joint_marks      the parts of a state, from first to
 --               last
 --     joint_body      the states and `--END--`

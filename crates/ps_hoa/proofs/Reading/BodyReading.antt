@@ -4,7 +4,7 @@
 --     target_reads, target_fails, target_alternates      a target, which `&` must not follow: it is parsed, it has an
 --               error, or `&` follows it
 --     edge_begins, bracket_serves, int_serves      how an edge begins, and the form of edge that follows from this
---     braces_serve, no_braces_serve      the same for marks
+--     braces_serve, no_braces_serve      the row has acceptance sets between braces, or has none
 --     pushed_edge      the edges of a row after an edge is appended
 use Rattle.std.proofs.Common.{◌⊎◌, ◌++◌, map, ◌≡◌, true, inl, ℕ, List, [], ◌∷◌, Option, Some, Ok, Err, refl, sym, inr}
 use Rattle.std.proofs.Common.{ap, ◌∙◌, rules}

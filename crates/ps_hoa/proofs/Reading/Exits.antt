@@ -1,16 +1,16 @@
 -- Lemmas about the ways in which a parsing function can return, for the causes of HOA texts.
 --     Serves old P Q      from `old` on, each result of P is also a result of Q: it is parsed, or it stops at an error
---     serves_as, itself, serves_both      by the next token; a part in place of itself; in two steps
+--     serves_as, itself, serves_both      `Serves` holds because of the next token; for a part and itself; in two steps
 --     serves_meets      a result that meets the contract of P also meets that of Q
 --     Leads P old Q now      if Q, read from `now`, stops at an error, then P, read from `old`, stops at the same error
---     here, first, behind, under, instead      for P itself, for the first of two parts, for a part after one that was
---               parsed, for a part with another view of its value, and for a part in place of another
+--     here, first, behind, under, instead      `Leads` holds for P itself, for the first of two parts, for a part after
+--               one that was parsed, for a part with another view of its value, and for a part that replaces another
 --     exit      at a `?`: the function returns the error that was found
 --     entered      a token that begins the first of two parts begins both
 --     value_is      the parsed part has this value
 --     Loop item      the laws of the items of a loop
---     loop_more, loop_fails, loop_ends, loop_shrinks      after one more item, at an item that fails, at the end, and
---               the decreasing measure of the loop
+--     loop_more, loop_fails, loop_ends, loop_shrinks      the loop after one more item, at an item that fails, and at
+--               its end; and the decreasing measure of the loop
 use Rattle.std.proofs.Common.{arith, ◌≡◌, ◌<◌, length, Option, Result, IsErrAnd}
 use Rattle.ps_text.specs.Answers.{Stream, Found, next_of as there_of}
 use Rattle.ps_text.specs.Parts.{Part, then_by, mapped, many}
@@ -24,7 +24,7 @@ use Rattle.ps_hoa.specs.Tokens.{Sign}
 use Rattle.ps_hoa.specs.declared.fault.HoaCause.{HoaCause}
 use Rattle.ps_hoa.proofs.Grammar.OperandLaws.{Odd}
 
--- ## One part in place of another
+-- ## One part that replaces another
 
 pub record Serves {V : Type 0} (old : Stream Sign) (P Q : Part Sign V HoaCause) : Type 0 where
   pub reads : (v : V) (new : Stream Sign) → Reads P old v new → Reads Q old v new

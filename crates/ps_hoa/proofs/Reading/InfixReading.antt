@@ -40,7 +40,7 @@ use Rattle.ps_hoa.proofs.Reading.MarkReading.{mark_elsewhere, inner_fails, inner
 use Rattle.ps_hoa.proofs.Reading.NextSign.{next_there, next_same}
 use Rattle.ps_hoa.proofs.Reading.RowReading.{Row}
 
--- the tokens that may follow a part between connectives
+-- the tokens that may follow an operand of a connective, without being parsed with it
 abbrev pub Behind : Connective → Sign → Type 0
 Behind connectives.And = Nothing
 Behind connectives.Or = AndMore

@@ -1,6 +1,6 @@
 -- Properties that hold for the value of a part if the part has no error in its text.
 --     Keeps part S      S holds for the value of each text of the part without an error
---     keeps_give, .., keeps_barred      for each combinator, from the same for its parts
+--     keeps_give, .., keeps_barred      `Keeps` holds for each combinator if it holds for the combined parts
 --     keeps_read      S holds for the value of a part that was parsed
 use Rattle.std.proofs.Common.{◌≡◌, ℕ, zero, suc, List, [], ◌∷◌, ◌++◌, Option, Some, refl, sym, subst}
 use Rattle.std.proofs.Common.{inl, inr, append_assoc, arith, length-append}

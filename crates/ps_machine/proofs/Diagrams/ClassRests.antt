@@ -72,7 +72,7 @@ Heeds order a t rest =
     (x y : ℕ) → ((p : ℕ) → p < length a.names → (board_of order a).is_first p ≡ false → is_in p x ≡ is_in p y) →
     leaf_of t rest x ≡ leaf_of t rest y
 
--- a rest for the letter of a class, which depends only on the second player's propositions
+-- the rest for the letter of a class; it depends only on the second player's propositions
 pub record Left (order : Order) (a : AutomatonData) (mask : ℕ) (t : Table) (q letter rest : ℕ) : Type 0 where
   pub fit : IsFit order a mask t
   pub is_rest : IsRest order a mask t q letter rest

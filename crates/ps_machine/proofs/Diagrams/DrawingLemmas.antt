@@ -72,7 +72,7 @@ stands_for {is_first} {keys} {kept} {marks} {memory} v {q} p differ m at is {w} 
 
 -- ## Used vertices
 
--- a path can continue by any edge; where the winner owns the vertex, only by the winner's move
+-- a path can continue by any edge, except that at a vertex of the winner it can continue only by the winner's move
 pub used_more : {game : ParityGame} {certificate : CertificateData} {v : ℕ} {w : ℕ} → IsUsed game certificate v →
     HasEdge game v w → w < vertex_count game → (owner_of game v ≡ winner certificate → choice_of certificate v ≡ Some w)
     → IsUsed game certificate w
@@ -91,7 +91,7 @@ setting {order} plan = search (rules, small_mover)
 
 -- ## Where keys lead
 
--- numbers that stand for the keys of a list of letters
+-- the numbers of the vertices of some keys, each of which belongs to a letter of the list
 module _ (keys : List Key) (key : ℕ → Key) (numbers : List ℕ) {P : ℕ → Type 0} {letters : List ℕ} {next : List Key}
     (listed : AreListed P letters) (are : next ≡ map key letters) (zip : AllZip (StandsAt keys) numbers next) where
   letter_of_number : {w : ℕ} → Contains numbers w → (x : ℕ) × P x × StandsAt keys w (key x)

@@ -38,7 +38,7 @@ pub record Setting (board : Board) (mover : ℕ) (keys : List Key) (game : Parit
   pub fits : Fits game certificate
   pub valid : IsValid game certificate
 
--- two moves in the game; where the winner of vertex 0 moves, these are moves of the certificate
+-- two moves in the game, each of which is the certificate's move if the winner of vertex 0 makes it
 pub record Round (game : ParityGame) (certificate : CertificateData) (v w : ℕ) : Type 0 where
   pub between : ℕ
   pub there : HasEdge game v between
