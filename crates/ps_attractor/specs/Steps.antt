@@ -21,9 +21,8 @@ pub record HasFree (game : ParityGame) (free : ℕ) (tables : TablesData) (v : �
   pub edge : HasEdge game v to
   pub is_free : level_of tables to ≡ free
 
--- the result of examining an edge from v to w, where w is in the set. Nothing changes if v is not free, or if it
--- belongs to the other player and has a free successor. Otherwise v is placed, with the move w if it belongs to the
--- player
+-- The result of examining an edge from v to a vertex w of the set. Nothing changes if v is not free, or if it belongs
+-- to the other player and has a free successor. Otherwise v is placed, with the move w if it belongs to the player
 pub data Look (game : ParityGame) (aim : Aim) (old new : TablesData) (v w : ℕ) : Type 0 where
   NotFree : level_of old v ≢ aim.free → new ≡ old → Look game aim old new v w
   Escapes : owner_of game v ≢ aim.player → HasFree game aim.free old v → new ≡ old → Look game aim old new v w

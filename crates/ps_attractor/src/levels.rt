@@ -24,7 +24,7 @@ impl<W: Width> Model for Levels<W> {
 }
 
 impl<W: Width> Levels<W> {
-    /// The same level for all vertices. Fails if out of memory.
+    /// Levels in which each vertex has the given level. Fails if out of memory.
     pub fn filled(alloc: Global, level: usize, count: usize) -> Result<Levels<W>, AllocError>
         requires { IsLevel W.LIMIT level }
         ensures { IfOk result (λ levels. levels ≡ replicate count level) }

@@ -14,7 +14,8 @@
 -- digit. The first is a number that does not fit in 64 bits, and the second is a count of 0 after its priority. The
 -- third is a count's priority that is not greater than the previous one in the line, if a space, a newline or a colon
 -- follows the priority. A text is rejected with fault 54 (`OtherGame`) at a number that does not fit the game, if a
--- space, a newline or a colon follows the number. The fault is also 54 at a newline where a priority is missing.
+-- space, a newline or a colon follows the number. The fault is also 54 at a newline that comes before all priorities
+-- were given.
 use Rattle.std.specs.Prelude.{◌≡◌, ◌≢◌, ℕ, zero, suc, ◌^◌, ◌<◌, ◌≤◌, ◌⊎◌, List, [], ◌∷◌, ◌++◌, length, map, drop}
 use Rattle.std.specs.Prelude.{Option, Some, None, Result, Bool, true, false, ◌==◌, if◌then◌else◌, slice_get, position}
 use Rattle.std.specs.List.{Contains}

@@ -78,7 +78,7 @@ module _ (most : ℕ) where
 
 -- ## The offsets of the gates' lines
 
--- each further item adds k line offsets, where k is 1 for gates and otherwise 0
+-- each further item adds k line offsets; k is 1 for gates, and otherwise 0
 abbrev Keeps : {A : Type 0} → ℕ → (Lines A → Field (Lines A)) → Type 0
 Keeps {A} k item = (c d : Lines A) (text : List Seen) → (item c).IsText text d →
     length d.starts + k * length c.items ≡ length c.starts + k * length d.items

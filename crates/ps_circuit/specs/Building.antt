@@ -1,7 +1,7 @@
 -- A circuit of gates under construction.
 --     Drafted      the number of given variables, and the two literals of each gate; the gates have the next variables,
 --               in order
---     bit v literal      the value of a literal, where v gives a value to each variable
+--     bit v literal      the value of a literal, if each variable has the value that v gives
 --     Meets d v      variable 0 is false, and each gate is the conjunction of its two literals
 --     Extends old new      the existing gates remain, with the same variables
 --     IsSoundDraft d      the invariant of the gates of a builder
@@ -67,7 +67,7 @@ pub record NeedsGate (d : Drafted) (x y : ℕ) : Type 0 where
   pub is_new : IsNew d x y
   pub is_new_too : IsNew d y x
 
--- the disjunction of x and y is the choice between `high` and `low`: `high` where s is true, and `low` where s is false
+-- the disjunction of x and y is a choice: it has the value of `high` if s is true, and that of `low` if s is false
 abbrev pub IsChoice : Drafted → (s high low x y : ℕ) → Type 0
 IsChoice d s high low x y =
     (v : ℕ → Bool) → Meets d v → (bit v x || bit v y) ≡ (if bit v s then bit v high else bit v low)

@@ -60,7 +60,7 @@ All-successors P (v ∷ game) all = All-append P v.successors (all_successors ga
 
 -- ---- the content of the arrays
 
--- the entries of the arrays for the vertex v
+-- the arrays have the right entries for the vertex v
 pub record StandsAt (game : ParityGame) (offsets successors owners priorities : List ℕ) (v : ℕ) : Type 0 where
   pub owned : v < length owners
   pub ranked : v < length priorities

@@ -87,7 +87,7 @@ summed f g same [] a = refl
 summed f g same (x ∷ xs) a =
     ap (λ n. fold_l (λ s x. s + x) (a + n) (map g (map f xs))) (same x) ∙ summed f g same xs (a + f x)
 
--- the sum over the words before a group and over the lanes of the group, where the cast g changes no lane
+-- the sum over the words before a group, plus the sum over the lanes of the group; the cast g changes no lane
 pub group_summed : (f g : ℕ → ℕ) (words : List ℕ) (group count : ℕ) → ((x : ℕ) → g (f x) ≡ f x) →
     count ≡ sum_by f (take (group * 8) words)
     → count + fold_l (λ s x. s + x) 0 (map g (map f (chunk (group * 8) 8 words))) ≡ sum_by f

@@ -36,8 +36,8 @@ impl<W: Width> Model for FlatGame<W> {
 }
 
 impl<W: Width> FlatGame<W> {
-    /// The same game with numbers of width `W`, in time proportional to the numbers of vertices and edges. Fails if out
-    /// of memory.
+    /// The game, stored with numbers of width `W`. Takes time proportional to the numbers of vertices and edges. Fails
+    /// if out of memory.
     pub fn of(alloc: Global, game: &Game) -> Result<FlatGame<W>, AllocError>
         requires { FitsWithin game.now W.LIMIT }
         ensures { IfOk result (λ flat. flat ≡ game.now) }
@@ -52,7 +52,7 @@ impl<W: Width> FlatGame<W> {
         self.successors.len()
     }
 
-    /// The same game with numbers of width `V`. Fails if out of memory.
+    /// The game, stored with numbers of width `V`. Fails if out of memory.
     fn in_width<V: Width>(&self, alloc: Global) -> Result<FlatGame<V>, AllocError>
         requires { FitsWithin self.now V.LIMIT }
         ensures { IfOk result (λ flat. flat ≡ self.now) }

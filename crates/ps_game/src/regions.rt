@@ -12,8 +12,8 @@ use std::marker::Model;
 /// The number of vertices in a word.
 const WORD: usize = 64;
 
-/// A set of vertices less than a given number `places`. Vertex 64·w + b is bit b of word w; the bits of numbers not
-/// less than `places` are 0.
+/// A set of vertices, which are numbers less than `places`. Vertex 64·w + b is bit b of word w; all bits of larger
+/// numbers are 0.
 #[derive(Drop)]
 pub struct Region {
     places: usize,

@@ -171,7 +171,7 @@ impl Vertices {
         true
     }
 
-    /// The same vertices, each with its own list of successors. Fails if out of memory.
+    /// The vertices, each with its own list of successors. Fails if out of memory.
     fn listed(&self, alloc: Global) -> Result<Vec<Vertex>, AllocError>
         ensures { IfOk result (λ vertices. vertices.items ≡ self.now) }
     {

@@ -1,7 +1,7 @@
 -- The properties of the arguments of each header item. There is a section for each item, and a row in `form`.
---     IsForm h part      the properties of a part that follows an item's name, where the earlier items give h: its
---               laws, of which only the tokens that continue it matter; an outcome for each list of tokens; and the
---               invariant of the items so far
+--     IsForm h part      the properties of a part that follows an item's name, if the earlier items gave h: its laws,
+--               of which only the tokens that continue it matter; an outcome for each list of tokens; and the invariant
+--               of the items so far
 --     form h item      the arguments of this item have these properties; judge_item: the errors at its name
 --     joint_.., .._loop, .._begins, .._serves      lemmas about the parts of the arguments, for the functions that
 --               parse them

@@ -4,7 +4,7 @@
 --     inner part      the given part between parentheses
 --     row sign join operand      operands with this sign between them: a single operand keeps its value, and several
 --               are joined at once
---     rows together connective operand      operands with a connective between them, where `&` binds tighter than `|`
+--     rows together connective operand      operands with connectives between them; `&` binds tighter than `|`
 --     operand g room      an operand of this grammar, in which `!` and `(` may be nested to the depth `room`
 use Rattle.std.specs.Prelude.{ℕ, ◌≡◌, zero, suc, Bool, true, false, List, [], ◌∷◌, ◌++◌, if◌then◌else◌, Option, None}
 use Rattle.std.specs.Prelude.{Some, is_some}

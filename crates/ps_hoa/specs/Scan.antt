@@ -133,7 +133,7 @@ IsNoBlank (Found kind n) = Unit {0}
 abbrev pub fresh : Marks
 fresh = record { stood = no_marks; ended = false }
 
--- the remaining tokens, where the first `skip` bytes belong to the token or blank before them
+-- the tokens after the first `skip` bytes, which belong to the token or blank before them
 unfoldable pub lex_behind : List ℕ → ℕ → ℕ → List (Piece Sign)
 lex_behind [] skip at = []
 lex_behind (b ∷ bs) (suc skip) at = lex_behind bs skip (at + 1)

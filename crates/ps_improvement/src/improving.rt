@@ -1,4 +1,4 @@
-//! Improves the plan where a choice is worth more than stopping or than the present move.
+//! Improves the plan: a choice is changed if another choice is worth more.
 
 ghost use Rattle.std.specs.Prelude.{◌≡◌, ◌<◌, All, length};
 ghost use Rattle.ps_game.specs.Games.{vertex_count};

@@ -9,7 +9,7 @@ use Rattle.ps_label.specs.Expression.{more, expression}
 abbrev pub is_in : ℕ → ℕ → Bool
 is_in p letter = nat_eq (letter / 2 ^ p % 2) 1
 
--- the truth of an expression, where `known` has the truth of each alias
+-- the truth of an expression, given the truth of each alias in the list `known`
 abbrev mutual
   pub truth : List Bool → ℕ → Expression → Bool
   truth known letter (constant b) = b
@@ -38,7 +38,7 @@ abbrev pub truths_behind : List Bool → ℕ → List Expression → List Bool
 truths_behind known letter [] = known
 truths_behind known letter (e ∷ es) = truths_behind (known ++ truth known letter e ∷ []) letter es
 
--- The truth of a label at a letter, where alias k is the expression with index k in `aliases`. If each alias uses only
+-- The truth of a label at a letter; alias k is the expression with the index k in `aliases`. If each alias uses only
 -- earlier aliases, exactly one table has their truths, and the label's truth is computed with it.
 unfoldable pub alias_truths : List Expression → ℕ → List Bool
 alias_truths aliases letter = truths_behind [] letter aliases

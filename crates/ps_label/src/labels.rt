@@ -86,7 +86,7 @@ pub fn one_table_of_truths()
         AreTruths aliases letter known → label_truth aliases letter e ≡ truth known letter e }
 {}
 
-/// The truth of a label at a letter, where `known` has the truth of each alias.
+/// The truth of a label at a letter, given the truth of each alias in the list `known`.
 fn truth_by(label: &Label, letter: u64, known: &[bool]) -> bool
     requires { IsOver (length known.now) 64 (expression label.now) }
     ensures { result ≡ truth known.now letter (expression label.now) }

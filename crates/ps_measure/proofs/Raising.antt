@@ -268,7 +268,7 @@ module _ (game : ParityGame) (player : ℕ) (set : ℕ → Bool) (table : ℕ �
     | inr none ↦ search (rules, cases_lt, past)
   ]
 
-  -- no count need be raised
+  -- no count has to be raised any more
   record IsSettled (k : ℕ) : Type 0 where
     bounded : (v : ℕ) → counts k v ≤ count_with game set p
     settled : (v : ℕ) → v < vertex_count game → counts (suc k) v ≤ counts k v
@@ -300,7 +300,7 @@ module _ (game : ParityGame) (player : ℕ) (set : ℕ → Bool) (table : ℕ �
     | inr (inr more) ↦ settle fuel (suc k) (omega (arith, enough, more.1))
   ]
 
-  -- every count that keeps the rule is at least the count defined here
+  -- every count that keeps the rule is at least the count that `counts` gives
   least : (other : ℕ → ℕ) → KeepRuleWithin game player set table p other → (k v : ℕ) → counts k v ≤ other v
   unfolding counts weight
   least other keep zero v = omega arith

@@ -17,7 +17,7 @@ use crate::table::CountTable;
 use ps_components::{Components, Graph};
 use std::alloc::{AllocError, Global};
 
-/// A count for each component of the vertices that a search reached. The same column is used for one priority after
+/// A count for each component of the vertices that a search reached. One column is used for all priorities, one after
 /// another.
 #[derive(Drop)]
 pub(crate) struct Column {

@@ -54,8 +54,8 @@ BadSuccessor known (Number n) cause =
     (cause ≡ causes.UnknownSuccessor))
 BadSuccessor known _ cause = ⊥
 
--- an error where the first successor is expected: a semicolon, a name (with or without its closing quote), or a wrong
--- successor
+-- an error at the sign that should be the first successor: a semicolon, a name (with or without its closing quote), or
+-- a wrong successor
 abbrev pub BadFirst : Option (List ℕ) → Sign → PgCause → Type 0
 BadFirst known Semicolon cause = cause ≡ causes.NoSuccessor
 BadFirst known (Name inner) cause = cause ≡ causes.NoSuccessor

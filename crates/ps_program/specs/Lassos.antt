@@ -26,8 +26,8 @@ verdict_text v =
 abbrev pub lasso_line : LassoFault → List ℕ
 lasso_line fault = line_text (fault_number fault) (fault_name fault) []
 
--- The verdict, if the lap is not empty and the circuit has the symbols of the role. Otherwise the line of the fault,
--- where an empty lap is reported before wrong symbols.
+-- The verdict, if the lap is not empty and the circuit has the symbols of the role. Otherwise the line of the fault; an
+-- empty lap is reported before wrong symbols.
 abbrev pub TellsVerdict : Role → FileData → CircuitData → StimulusData → Result Reply (List ℕ) → Type 0
 TellsVerdict role file c s (Ok reply) =
     IsCircuit c × (0 < length s.lap) × HasSymbols role file.names file.controllable c

@@ -52,7 +52,7 @@ AnswersWhole solvers input reply = ((input_limit < length input) × (reply ≡ r
 abbrev pub RepliesTo : Solvers → List ℕ → Reply → Type 0
 RepliesTo solvers input reply = (reply ≡ out_of_memory) ⊎ AnswersWhole solvers input reply
 
--- the answer to an input that is read from a source, where a read may fail, or the reply `out_of_memory`
+-- the answer to an input that is read from a source, of which a read may fail; or the reply `out_of_memory`
 abbrev pub Replies : Solvers → Option (List ℕ) → Bool → Reply → Type 0
 Replies solvers known true reply = reply ≡ read_fault
 Replies solvers known false reply = (reply ≡ out_of_memory)

@@ -5,7 +5,7 @@
 --     laws_option      a part that no sign continues, or nothing
 --     laws_all, laws_times_all      any number of items, or a given number of items, that no sign continues
 --     laws_last      a part that no sign continues, after a part that may be empty
---     joint_tight      the joint of two parts, where no sign continues the first part
+--     joint_tight      the joint of two parts, if no sign continues the first part
 use Rattle.std.proofs.Common.{◌≡◌, ℕ, Option, Some, inl, inr, rules}
 use Rattle.ps_text.specs.Parts.{Part, give, one, then_by, either, times, many}
 use Rattle.ps_text.proofs.Laws.{Laws, Joint, Nothing, Or, Within, Apart, weaker}

@@ -59,7 +59,8 @@ on_nest {game} {old} {mid} {new} {winner} {winner_now} {order} frames {frame} {c
       done = λ solved_now. absurd (false≢true solved_now);
     }
 
--- the tables after vertices are taken back and the opponent attracts, where a mark gives the level of decided vertices
+-- the tables after vertices are taken back and the opponent has attracted others; a mark gives the level of decided
+-- vertices
 pub record Reached (game : ParityGame) (level : ℕ) (aim : Aim) (frame : Frame) (old mid new : TablesData)
     (winner winner_now : List ℕ) : Type 0 where
   pub reopened : IsReopened winner frame.player level frame.turn (StandsFrom old frame.turn) old mid

@@ -1,5 +1,5 @@
--- An `INT` that can be wrong in two ways, where no error of the second kind has a smaller number than an error of the
--- first kind.
+-- An `INT` that can be wrong in two ways. No error of the second kind has a smaller number than an error of the first
+-- kind.
 --     takes_err      the `INT` is wrong in the first way
 --     takes_further      the `INT` is wrong in the second way only
 --     takes_both      the `INT` is wrong in neither way

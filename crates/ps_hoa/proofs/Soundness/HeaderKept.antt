@@ -44,7 +44,7 @@ keeps_int limit =
 
 -- ## The invariant of the items so far
 
--- each expression uses only earlier aliases, where the first expression belongs to the alias with the number k
+-- each expression uses only earlier aliases; the first expression belongs to the alias with the number k
 abbrev pub NamesRise : ℕ → List Expression → Type 0
 NamesRise k [] = Unit {0}
 NamesRise k (e ∷ es) = NamesBelow k e × NamesRise (k + 1) es

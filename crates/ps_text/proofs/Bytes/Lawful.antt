@@ -2,10 +2,11 @@
 --     Lawful number syntax part First More Null      the laws of the part with these sets of signs, and its outcome for
 --               each list of signs
 --     Chain number syntax P Q First More Null      P and then Q: their joint, and that the two are lawful as one part
---     larger      the same part with larger sets
+--     larger      the part is also lawful with larger sets
 --     chained, next, tight      a chain of any two parts; neither part is empty; no sign continues the first part
---     given, mapped_by, either_of, or_nothing, many_by, many_of, one_sign, run_by      for the other combinators
---     byte_of, word_of, word_from, chain_word      bytes and words
+--     given, mapped_by, either_of, or_nothing, many_by, many_of, one_sign, run_by      the laws of the other
+--               combinators
+--     byte_of, word_of, word_from, chain_word      the laws of bytes and words
 use Rattle.std.proofs.Common.{◌≡◌, ◌⊎◌, ℕ, Bool, true, List, [], ◌∷◌, Option, Some, rules}
 use Rattle.ps_text.specs.Parts.{Part, give, one, then_by, either, many, mapped}
 use Rattle.ps_text.specs.Outcomes.{HasOutcomes}

@@ -2,7 +2,7 @@
 --     Left number syntax whole start left now      a result of `left` from `now` is a result of `whole` from `start`
 --     unread, past      before the first part, and after the next part was parsed
 --     stops_at, exits_at      the next part fails; its error is returned
---     stops_last, exits_last, reads_last      the same at the last part, with a function applied to its value
+--     stops_last, exits_last, reads_last      the exits at the last part, to whose value a function is applied
 --     branch      one of several forms follows
 --     word_left, word_read      a word, byte by byte
 use Rattle.std.proofs.Common.{◌≡◌, ℕ, ◌+◌, ◌<◌, ◌≤◌, List, ◌∷◌, length, get_or, drop, Option, Result, Ok, Err, IsErrAnd}

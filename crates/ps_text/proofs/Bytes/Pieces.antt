@@ -1,6 +1,6 @@
 -- The pieces of a list of bytes: one sign for each byte, with its offset.
 --     bytes_append, bytes_at, length_pieces      the bytes of signs, and the number of pieces
---     pieces_with at bytes rest      the pieces of `bytes`, where `rest` follows these bytes
+--     pieces_with at bytes rest      the pieces of `bytes`, if `rest` follows these bytes
 --     pieces_split      the pieces of two lists of bytes in a row
 --     next_at, first_sees      the next byte, and the bytes that the first sign carries
 use Rattle.std.proofs.Common.{◌≡◌, ℕ, suc, ◌+◌, ◌<◌, List, [], ◌∷◌, ◌++◌, length, refl, ap, ◌∙◌, arith, rules}
