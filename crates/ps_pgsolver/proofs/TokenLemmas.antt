@@ -137,7 +137,7 @@ reads text at start size kind begins within ended some sized =
     (some some_left) sized) (λ (none_left : length (drop start text) ≤ 0). let empty : drop start text ≡ [] =
     search (rules, nil_of) in reads_end within empty (ended empty) sized) (cases_lt 0 (length (drop start text))))
 
--- a token is the next one of the stream, for a text that was split where the token begins
+-- if a text was split at the start of a token, this token is the next one of the stream
 pub reads_split : {text before rest : List ℕ} (at : ℕ) {start size : ℕ} {kind : Kind} {stream : Stream Sign} →
     start ≡ at + prefix_len is_blank (drop at text) → start ≤ length text → before ≡ take start text → rest ≡ drop
     start text → (rest ≡ [] → sign_of kind ≡ None) → (0 < length rest → sign_of kind ≡ Some (first_sign before rest)) →
@@ -147,7 +147,7 @@ reads_split {text} {rest} at {start} {size} {kind} begins within front back ende
     subst P is (reads text at start size kind begins within (λ empty. ended (back ∙ empty))
     (λ left. grind arith) (sized ∙ ap first_size back))
 
--- the offset of the next sign is where the next token begins
+-- the offset of the next sign is the offset at which the next token begins
 pub offset_ahead : (text : List ℕ) (at : ℕ) {start : ℕ} → start ≡ at + prefix_len is_blank (drop at text) →
     start ≤ length text → start ≡ offset_of (stream_from text at).pieces (length text)
 offset_ahead text at {start} begins within = let e : stream_from text at ≡ stream_from text start =

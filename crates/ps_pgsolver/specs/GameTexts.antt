@@ -121,7 +121,7 @@ node known ids =
     mapped (λ _. record { id = id; priority = priority; owner = owner'; successors = list; name = name' })
     semicolon)))))
 
--- one more node after those that were read
+-- the nodes that were read, and one more node
 unfoldable pub entry : Option (List ℕ) → List NodeData → Part Sign (List NodeData) PgCause
 entry known nodes = mapped (λ n. nodes ++ n ∷ []) (node known (ids_of nodes))
 

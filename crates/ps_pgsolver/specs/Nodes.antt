@@ -39,7 +39,8 @@ pub record IsNewNode (ids : List ℕ) (node : NodeData) : Type 0 where
   pub new : ¬ Contains ids node.id
   pub is_node : IsNode node
 
--- each item of a list is one of the given ids; the same for the successors of a node, and for those of all nodes
+-- Each item of a list is one of the given ids. The next two definitions state this property of the successors of one
+-- node, and of the successors of all nodes.
 abbrev pub KnowsEach : List ℕ → List ℕ → Type 0
 KnowsEach ids list = All (λ id. Contains ids id) list
 

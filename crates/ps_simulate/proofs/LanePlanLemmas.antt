@@ -86,7 +86,7 @@ module _ {c : CircuitData} (is : IsCircuit c) where
       pub AreMoved-rows : AreMoved (length (variables c)) front places
       AreMoved-rows = record { each = each; within = within_table; once = one_each; kept = kept }
 
-    -- the same facts, for values that are equal to those of the circuit
+    -- these facts about the rows of a circuit, for values that are equal to the circuit's
     pub gate_rows_at : {size f : ℕ} {given : List Row} → size ≡ length (variables c) → f ≡ front → given ≡ rows →
         All (IsGateRow f size) given
     gate_rows_at size_is front_is e k d lt = search (rules, gate_rows)

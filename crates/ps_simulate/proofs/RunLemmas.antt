@@ -1,4 +1,4 @@
--- The lanes of a run do the same as plain runs.
+-- Each lane of a run behaves like a plain run.
 use Rattle.std.proofs.Common.{arith, ℕ, ◌<◌, Bool, List, [], ◌∷◌, map, ap}
 use Rattle.std.proofs.lemmas.Simd.{map-map}
 use Rattle.ps_circuit.specs.Circuits.{CircuitData, IsCircuit}

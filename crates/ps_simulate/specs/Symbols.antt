@@ -1,4 +1,4 @@
--- The inputs and outputs of a circuit that stand for the propositions of an automaton, by name.
+-- The inputs and outputs of a circuit that carry the names of an automaton's propositions.
 --     IsSymbol names symbols k p      symbol k is the name of proposition p
 --     AreNamesOnce names controllable wanted symbols      the symbols are the names of the controllable propositions
 --               (or of the others, if wanted is false), each exactly once, in any order

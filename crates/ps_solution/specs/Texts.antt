@@ -75,7 +75,7 @@ keyword word = one (keyword_in word) NoBad
 unfoldable pub choice : List ℕ → Field (Option ℕ)
 choice ids = either (mapped (λ v. Some v) (successor ids)) (give None)
 
--- one more entry after those that were read
+-- the entries that were read, and one more entry
 unfoldable pub entry : List ℕ → SolvedData → Field SolvedData
 entry ids s =
     then_by (vertex ids s) (λ v.

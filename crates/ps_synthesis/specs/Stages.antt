@@ -2,7 +2,7 @@
 --     IsAutomatonOf text a      the automaton of the file of an accepted text
 --     IsTextFault text fault      why a text has no automaton
 --     IsSolverFault May game fault      why a solver's answer is not a valid certificate
---     IsRefusedAs game given fault      the fault for a solver's fault, or out of memory while vertices are named
+--     IsRefusedAs game given fault      the fault of synthesis that a solver's fault becomes, or out of memory
 --     IsCircuitOf order a game certificate circuit      the circuit of the machine of the certificate
 --     HasNoCircuit order a game certificate      the circuit of the certificate's machine needs more variables than
 --               there are literals

@@ -10,8 +10,8 @@
 //! circuit is an environment. The automaton then accepts none of the environment's ultimately periodic traces, and
 //! rejects every trace of a finite-state controller against that environment.
 //!
-//! [`synthesise_by`] does the whole synthesis with a given solver. [`Problem`] does the same in steps, for callers with
-//! another kind of solver: it is made from a text, gives its game, and takes a certificate of that game.
+//! [`synthesise_by`] does the whole synthesis with a given solver. [`Problem`] takes the same steps one by one, for
+//! callers with another kind of solver: it is made from a text, gives its game, and takes a certificate of that game.
 //!
 //! | Call | What it gives |
 //! |---|---|

@@ -1,10 +1,10 @@
 -- What a parsing function states about the part that it parses: the part was parsed, or its first fault was found.
 -- `old` and `new` are the unread pieces when the function begins and when it returns: the Model of the code's tokens.
---     Meets found causes view part old result new      the function's contract. `view` maps its value to the value of
---               the grammar. `found` maps an error to the error of the text, or to None if the program is out of
---               memory. For Ok x the contract is `Reads part old (view x) new`, for Err e it is `Stops causes part old
---               (found e)`
---     Goes causes part old result new      the same contract, if the values and errors are those of the grammar
+--     Meets found causes view part old result new      the contract of a parsing function. `view` maps the function's
+--               value to the value of the grammar. `found` maps an error to the error of the text, or to None if the
+--               program is out of memory. For Ok x the contract is `Reads part old (view x) new`, for Err e it is
+--               `Stops causes part old (found e)`
+--     Goes causes part old result new      the contract `Meets`, if the values and errors are those of the grammar
 --     Carries causes whole start rest now      the invariant of a loop: the result of parsing `rest` from `now` is also
 --               the result of parsing `whole` from `start`
 --     tail stream      the stream without its next piece

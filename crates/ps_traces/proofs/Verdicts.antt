@@ -1,5 +1,6 @@
 -- An automaton, and a circuit with the symbols of its role, have a verdict on each stem and lap. Laps are read until
--- the latches recur. When the letters of the laps between both occurrences are repeated, the automaton's states recur.
+-- the latches recur. When the letters between the two occurrences of these latches are repeated, the automaton's states
+-- recur.
 use Rattle.std.proofs.Common.{◌≡◌, ◌∙◌, ℕ, zero, suc, ◌+◌, ◌-◌, ◌*◌, ◌^◌, ◌<◌, ◌≤◌, ◌⊎◌, ◌↔◌, inl, inr, Bool, List, []}
 use Rattle.std.proofs.Common.{◌∷◌, ◌++◌, length, get_or, take, drop, IsTrue, Some, refl, sym, ap, arith, length-drop}
 use Rattle.std.proofs.Common.{rules, ◌≢◌}

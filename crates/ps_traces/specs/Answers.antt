@@ -2,8 +2,8 @@
 -- otherwise an environment.
 --     role_of player      player 0 is the controller
 --     IsWitness order file player c      the circuit has the shape of its role; all of its words are accepted, or none;
---               each input extends to such a word; and the meeting of an environment with every finite-state controller
---               extends to such a word, which is rejected
+--               each input extends to a lasso word; and the meeting of an environment with every finite-state
+--               controller extends to a lasso word, which is rejected
 use Rattle.std.specs.Prelude.{◌≡◌, ◌≢◌, ℕ, List, if◌then◌else◌, nat_eq}
 use Rattle.ps_hoa.specs.Files.{FileData}
 use Rattle.ps_circuit.specs.Circuits.{CircuitData, IsCircuit}

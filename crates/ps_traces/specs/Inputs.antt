@@ -2,7 +2,8 @@
 --     inputs_of moments      the inputs of each step
 --     GoesOnInLasso c stem lap      some lasso trace reads the stem and one or more laps, and then repeats one or more
 --               laps
---     EachInputGoesOn c      GoesOnInLasso for each stem and each non-empty lap of letters of the circuit's width
+--     EachInputGoesOn c      `GoesOnInLasso` holds for each stem and each non-empty lap of letters of the circuit's
+--               width
 use Rattle.std.specs.Prelude.{◌≡◌, ℕ, ◌<◌, Bool, List, ◌++◌, length, map, All}
 use Rattle.ps_circuit.specs.Circuits.{CircuitData}
 use Rattle.ps_circuit.specs.Values.{Moment}

@@ -7,7 +7,7 @@
 --               the controller outputs depends only on the memory state
 --     GoesJointly c k latches memory moments to last      the joint trace from these latches and this memory state
 --     MeetsInLasso c k      the joint trace extends to a lasso trace, which also returns to the same memory state
---     IsRejected file c k      the automaton does not accept the word of this lasso trace
+--     IsRejected file c k      the automaton does not accept the word of the meeting's lasso trace
 use Rattle.std.specs.Prelude.{◌≡◌, ℕ, ◌<◌, Bool, List, [], ◌∷◌, length}
 use Rattle.ps_hoa.specs.Files.{FileData}
 use Rattle.ps_automaton.specs.Acceptance.{IsAccepted}

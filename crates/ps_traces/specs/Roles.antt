@@ -1,6 +1,6 @@
 -- The machines of a player.
---     IsMachineFor order role file m      the machine has the file's names, reads the propositions that the role
---               reads, and moves in the role's turn
+--     IsMachineFor order role file m      the machine has the file's names, reads the propositions that the role reads,
+--               and moves first exactly if the role does
 use Rattle.std.specs.Prelude.{◌≡◌, ℕ, ◌<◌, Bool, not, List, length}
 use Rattle.ps_hoa.specs.Files.{FileData, is_among}
 use Rattle.ps_machine.specs.Behaviours.{Behaviour}

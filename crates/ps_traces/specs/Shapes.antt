@@ -1,7 +1,7 @@
 -- The shape of the circuit of a player.
 --     HasShape order role file c      the inputs and outputs are those of the role, by name; and if that player moves
 --               first, the outputs are equal for all inputs whenever the latches are equal
---     SeesNoInputWhereReached c      these outputs are equal at all latches that some trace reaches
+--     SeesNoInputWhereReached c      at latches that some trace reaches, the outputs do not depend on the inputs
 use Rattle.std.specs.Prelude.{◌≡◌, Bool, true, false, IsTrue, List}
 use Rattle.ps_hoa.specs.Files.{FileData}
 use Rattle.ps_circuit.specs.Circuits.{CircuitData}

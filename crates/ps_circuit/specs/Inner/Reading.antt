@@ -74,7 +74,7 @@ abbrev pub lines_of : {A : Type 0} → List A → Noted → Lines A
 lines_of items noted =
     record { items = items; defined = noted.variables; readings = noted.readings.items; starts = noted.starts.items }
 
--- one more line of each kind; the variable that a line defines is new
+-- a further line of each kind was read; the variable that a line defines is new
 pub record AddsInput (most : ℕ) (c d : Lines ℕ) : Type 0 where
   pub literal : Number
   pub is : d ≡ add_input c literal

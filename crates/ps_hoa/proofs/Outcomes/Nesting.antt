@@ -1,7 +1,6 @@
 -- The grammars of labels and conditions with a limit on the nesting of `!` and `(` equal the grammar without a limit,
 -- up to that nesting.
---     to_operand, of_operand      for a grammar whose operands with more room are the operands with less room, in one
---               more form
+--     to_operand, of_operand      for a grammar in which one more level of nesting adds one form to the operands
 use Rattle.std.proofs.Common.{◌≡◌, ◌↔◌, ◌⊎◌, ℕ, zero, suc, ◌≤◌, max, true, List, [], ◌∷◌, ◌++◌, refl, sym, ap, subst}
 use Rattle.std.proofs.Common.{inl, inr, ◌∙◌, arith}
 use Rattle.ps_label.specs.Expression.{Expression}

@@ -33,7 +33,7 @@ module _ (text : List ℕ) where
     blanks : AreBlanks text from at
     end : IsNoBlank (step_of (drop at text))
 
-  -- by recursion on the number of remaining bytes
+  -- the offset after all blanks, by recursion on the number of remaining bytes
   past_blanks : (fuel from at : ℕ) → length text ≤ at + fuel → AreBlanks text from at → PastBlanks from
   past_blanks zero from at left before = grind (arith, skip_sound, length-drop)
   past_blanks (suc fuel) from at left before =
@@ -48,7 +48,7 @@ module _ (text : List ℕ) where
   blanks_from from = past_blanks (length text) from from (omega arith) (no_blanks text from)
 
   module _ (short : length text ≤ text_limit) where
-    -- the answer, by the version and what follows it
+    -- the answer to the text, depending on the version and what follows it
     by_version : (first second : ℕ) (o : Opens text first second) (same : Bool) →
         bytes_eq (take (prefix_len is_version_byte (drop second text)) (drop second text)) (codes "v1") ≡ same →
         SomeAnswer text

@@ -149,7 +149,7 @@ module _ (text : List ℕ) (width : ℕ) (split : Bool) where
     by_line false true e x (inr other) = as_letter (grind (arith, at_line h next ends)) (line_answer line start width)
     by_line false true e x (inl is) = later true s (HasRead-divider (rw e at h) next ends is x)
 
-  -- by recursion on the number of remaining bytes
+  -- the answer for the remaining lines, by recursion on the number of remaining bytes
   from_line : (n : ℕ) {in_lap : Bool} {start : ℕ} {s : StimulusData} → HasRead text width split in_lap start s →
       length text ≤ start + n → Answer
   from_line zero {in_lap} {start} {s} h left = at_end in_lap split start s h (omega (arith, left)) refl

@@ -20,7 +20,7 @@ use Rattle.ps_simulate.specs.Inner.StimulusReading.{HasRead, ReadsLine}
 use Rattle.ps_simulate.proofs.Stimuli.LineLemmas.{start_of-later, in_line_from, in_line_within}
 use Rattle.ps_simulate.proofs.Stimuli.StimulusLemmas.{slice_get-right, no_divider, divides_at, no_cause}
 
--- one more letter, of the stem or of the lap
+-- the stimulus with one more letter, either in the stem or in the lap
 abbrev pub with_letter : Bool → StimulusData → List Bool → StimulusData
 with_letter false s letter = record { stem = s.stem ++ letter ∷ []; lap = s.lap }
 with_letter true s letter = record { stem = s.stem; lap = s.lap ++ letter ∷ [] }
