@@ -10,7 +10,7 @@ use std::alloc::{AllocError, Global};
 use std::marker::Model;
 
 /// The components of the visited vertices of a graph. The number of a component is the index at which the component
-/// begins in the order. The same value can be used for several graphs in turn, and keeps its allocated memory.
+/// begins in the order. One `Components` can be used for several graphs in turn, and keeps its allocated memory.
 #[derive(Drop)]
 pub struct Components {
     search: Search,

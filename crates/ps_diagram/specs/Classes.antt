@@ -12,8 +12,8 @@ LeadAlike t node mask x y =
     (u v : ℕ) → AgreeOn mask x u → AgreeOn mask y v → AgreeOff mask u v → leaf_of t node u ≡ leaf_of t node v
 
 -- The class at the index k. The letter of the class is its least letter, and has only propositions of the mask. The
--- diagram of the class depends only on the other propositions. At each letter of the class, this diagram has the leaf
--- of the first table's node.
+-- diagram of the class depends only on the other propositions, and has the leaf of the first table's node at each
+-- letter of the class.
 pub record IsClass (s t : Table) (node mask places k : ℕ) (c : Class) : Type 0 where
   pub least : IsLeast (LeadsTo t places k) c.letter
   pub masked : (p : ℕ) → is_in p mask ≡ false → is_in p c.letter ≡ false

@@ -190,7 +190,7 @@ fn first_unknown(vertices: &[Vertex]) -> Option<(usize, usize)>
     None
 }
 
-/// The first successor of a vertex that is not less than the number of vertices.
+/// The first successor of the vertex, among those that are not less than the number of vertices.
 fn unknown_successor(vertex: &Vertex, count: usize) -> Option<usize>
     ensures { result ≡ find (λ successor. nat_le count successor) vertex.now.successors }
 {

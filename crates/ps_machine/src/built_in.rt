@@ -182,8 +182,9 @@ fn attempted<A: Arena>(
     }
 }
 
-/// The certificate for a region and two tables of moves, which may be wrong. The result is None exactly if some player
-/// who moves by that player's table does not win all vertices that the region gives to the player.
+/// The certificate that a region and two tables of moves give. The region and the tables may be wrong: the result is
+/// None exactly if some player who moves by that player's table does not win all vertices that the region gives to the
+/// player.
 fn tried<A: Arena>(
     alloc: Global,
     arena: &A,
