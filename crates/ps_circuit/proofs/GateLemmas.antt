@@ -14,7 +14,7 @@ use Rattle.ps_circuit.specs.declared.builder.Sides.{Sides}
 use Rattle.ps_circuit.specs.contracts.builder.SidesPartialEq.TheImpl as sides_eq
 use Rattle.ps_circuit.specs.Literals.{variable, negated}
 use Rattle.ps_circuit.specs.Building.{Drafted, AreSides, Extends, IsChoice, IsFull, IsHeld, IsNew, IsSoundDraft, Meets}
-use Rattle.ps_circuit.specs.Building.{NeedsGate}
+use Rattle.ps_circuit.specs.Building.{NeedsChoice, NeedsGate, for_either}
 use Rattle.ps_circuit.specs.Building.{bit, variables_of}
 
 pub bool_cases : (b : Bool) → (b ≡ true) ⊎ (b ≡ false)
@@ -165,12 +165,20 @@ chosen_bits v s h l high low result e eh el er = er ∙ chosen_either v s h l hi
 bit_one : {d : Drafted} (v : ℕ → Bool) → Meets d v → bit v 1 ≡ true
 bit_one v m = ap not m.constant
 
-pub either_high : (d : Drafted) (s high low : ℕ) → high ≡ 1 → IsChoice d s high low s low
+either_high : (d : Drafted) (s high low : ℕ) → high ≡ 1 → IsChoice d s high low s low
 either_high d s high low e v m = grind (arith, bit_one {d = d} v m)
 
-pub either_low : (d : Drafted) (s high low not_s : ℕ) → not_s ≡ negated s → low ≡ 1 →
+pub needs-high : {d : Drafted} {s high low : ℕ} → high ≡ 1 → NeedsGate d (negated s) (negated low) →
+    NeedsChoice d s high low
+needs-high {d} {s} {high} {low} e n = for_either s low (either_high d s high low e) n
+
+either_low : (d : Drafted) (s high low not_s : ℕ) → not_s ≡ negated s → low ≡ 1 →
     IsChoice d s high low not_s high
 either_low d s high low not_s n e v m = grind (arith, bit-negated, bit_one {d = d} v m)
+
+pub needs-low : {d : Drafted} {s high low not_s : ℕ} → not_s ≡ negated s → low ≡ 1 →
+    NeedsGate d (negated not_s) (negated high) → NeedsChoice d s high low
+needs-low {d} {s} {high} {low} {not_s} n e g = for_either not_s high (either_low d s high low not_s n e) g
 
 -- a fault that is returned unchanged
 pub passed : {X : Type 0} (result : Result X EncodeFault) (fault other : EncodeFault) →

@@ -4,9 +4,12 @@
 --     and_of d x y, or_of d x y, mux_of d s high low      the literals of a conjunction, of a disjunction, and of a
 --               choice by s
 use Rattle.std.specs.Prelude.{ℕ, ◌+◌, ◌*◌, ◌==◌, ◌&&◌, ◌||◌, nat_lt, Bool, if◌then◌else◌, [], ◌∷◌, ◌++◌}
+use Rattle.std.specs.Prelude.{◌≡◌, ◌<◌, Err, IfOk, Result}
 use Rattle.std.specs.List.{list_any, position_or_len}
 use Rattle.ps_circuit.specs.declared.builder.Sides.{Sides}
-use Rattle.ps_circuit.specs.Building.{Drafted}
+use Rattle.ps_circuit.specs.declared.encode_fault.EncodeFault.{EncodeFault}
+use Rattle.ps_circuit.specs.declared.encode_fault.EncodeFault.TheVariants.{CircuitTooLarge}
+use Rattle.ps_circuit.specs.Building.{Drafted, Extends, IsFull, IsHeld, Meets, bit, variables_of}
 use Rattle.ps_circuit.specs.Literals.{negated}
 
 pub record Made : Type 0 where
@@ -54,3 +57,17 @@ mux_of d s high low =
     else if low == 0 then and_of d s high
     else if low == 1 then or_of d (negated s) high
     else chosen_of d s high low
+
+-- What a call gives that makes these gates. Its literal is that of `all`, and has the value `value v` where v meets the
+-- gates.
+pub record MakesGates (old new : Drafted) (result : Result ℕ EncodeFault) (all : Made) (value : (ℕ → Bool) → Bool)
+    (Needs : Type 0) : Type 0 where
+  -- the existing gates remain, also if the call fails
+  pub extends : Extends old new
+  pub held : IfOk result (IsHeld new)
+  pub bit : IfOk result (λ literal. (v : ℕ → Bool) → Meets new v → bit v literal ≡ value v)
+  pub made : IfOk result (λ literal. all ≡ record { draft = new; literal = literal })
+  -- if it fails for want of a variable, then all variables exist, a further one is needed, and the gates need too many
+  pub too_large : result ≡ Err CircuitTooLarge → IsFull new
+  pub needed : result ≡ Err CircuitTooLarge → Needs
+  pub above : result ≡ Err CircuitTooLarge → 2147483647 < variables_of all.draft

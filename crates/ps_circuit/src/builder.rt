@@ -5,7 +5,7 @@ ghost use Rattle.std.specs.Prelude.{slice_get, Some, IfOk};
 ghost use Rattle.ps_circuit.specs.Building.{Drafted, AreSides, Extends, IsFull, IsHeld, IsNew, IsSoundDraft, Meets};
 ghost use Rattle.ps_circuit.specs.Building.{NeedsChoice, NeedsGate, bit, variables_of};
 ghost use Rattle.ps_circuit.specs.Literals.{negated};
-ghost use Rattle.ps_circuit.specs.Gates.{and_of, chosen_of, gate_of, mux_of, or_of};
+ghost use Rattle.ps_circuit.specs.Gates.{MakesGates, and_of, chosen_of, gate_of, mux_of, or_of};
 
 use crate::encode_fault::EncodeFault;
 use crate::literal::Literal;
@@ -85,15 +85,8 @@ impl Builder {
     pub fn and(&mut self, x: Literal, y: Literal) -> Result<Literal, EncodeFault>
         requires first { IsHeld self.old x }
         requires second { IsHeld self.old y }
-        ensures extends { Extends self.old self.new }
-        ensures held { IfOk result (λ literal. IsHeld self.new literal) }
-        ensures bit { IfOk result (λ literal. (v : ℕ → Bool) → Meets self.new v →
-            bit v literal ≡ (bit v x && bit v y)) }
-        ensures too_large { result ≡ Err EncodeFault.CircuitTooLarge → IsFull self.new }
-        ensures needed { result ≡ Err EncodeFault.CircuitTooLarge → NeedsGate self.new x y }
-        ensures made { IfOk result (λ literal. and_of self.old x y ≡ record { draft = self.new; literal = literal }) }
-        ensures above { result ≡ Err EncodeFault.CircuitTooLarge →
-            2147483647 < variables_of (and_of self.old x y).draft }
+        ensures { MakesGates self.old self.new result (and_of self.old x y)
+            (λ v. bit v x && bit v y) (NeedsGate self.new x y) }
     {
         if x == Literal::FALSE || y == Literal::FALSE || x == y.negated() {
             return Ok(Literal::FALSE);
@@ -122,15 +115,8 @@ impl Builder {
     pub fn or(&mut self, x: Literal, y: Literal) -> Result<Literal, EncodeFault>
         requires first { IsHeld self.old x }
         requires second { IsHeld self.old y }
-        ensures extends { Extends self.old self.new }
-        ensures held { IfOk result (λ literal. IsHeld self.new literal) }
-        ensures bit { IfOk result (λ literal. (v : ℕ → Bool) → Meets self.new v →
-            bit v literal ≡ (bit v x || bit v y)) }
-        ensures too_large { result ≡ Err EncodeFault.CircuitTooLarge → IsFull self.new }
-        ensures needed { result ≡ Err EncodeFault.CircuitTooLarge → NeedsGate self.new (negated x) (negated y) }
-        ensures made { IfOk result (λ literal. or_of self.old x y ≡ record { draft = self.new; literal = literal }) }
-        ensures above { result ≡ Err EncodeFault.CircuitTooLarge →
-            2147483647 < variables_of (or_of self.old x y).draft }
+        ensures { MakesGates self.old self.new result (or_of self.old x y)
+            (λ v. bit v x || bit v y) (NeedsGate self.new (negated x) (negated y)) }
     {
         let neither = self.and(x.negated(), y.negated())?;
         Ok(neither.negated())
@@ -142,16 +128,8 @@ impl Builder {
         requires chooses { IsHeld self.old s }
         requires high { IsHeld self.old high }
         requires low { IsHeld self.old low }
-        ensures extends { Extends self.old self.new }
-        ensures held { IfOk result (λ literal. IsHeld self.new literal) }
-        ensures bit { IfOk result (λ literal. (v : ℕ → Bool) → Meets self.new v →
-            bit v literal ≡ cond (bit v s) (bit v high) (bit v low)) }
-        ensures too_large { result ≡ Err EncodeFault.CircuitTooLarge → IsFull self.new }
-        ensures needed { result ≡ Err EncodeFault.CircuitTooLarge → NeedsChoice self.new s high low }
-        ensures made { IfOk result (λ literal. mux_of self.old s high low ≡ record
-            { draft = self.new; literal = literal }) }
-        ensures above { result ≡ Err EncodeFault.CircuitTooLarge →
-            2147483647 < variables_of (mux_of self.old s high low).draft }
+        ensures { MakesGates self.old self.new result (mux_of self.old s high low)
+            (λ v. cond (bit v s) (bit v high) (bit v low)) (NeedsChoice self.new s high low) }
     {
         if high == low {
             return Ok(high);
@@ -183,16 +161,8 @@ impl Builder {
         requires chooses { IsHeld self.old s }
         requires high { IsHeld self.old high }
         requires low { IsHeld self.old low }
-        ensures extends { Extends self.old self.new }
-        ensures held { IfOk result (λ literal. IsHeld self.new literal) }
-        ensures bit { IfOk result (λ literal. (v : ℕ → Bool) → Meets self.new v →
-            bit v literal ≡ cond (bit v s) (bit v high) (bit v low)) }
-        ensures too_large { result ≡ Err EncodeFault.CircuitTooLarge → IsFull self.new }
-        ensures needed { result ≡ Err EncodeFault.CircuitTooLarge → NeedsChoice self.new s high low }
-        ensures made { IfOk result (λ literal. chosen_of self.old s high low ≡ record
-            { draft = self.new; literal = literal }) }
-        ensures above { result ≡ Err EncodeFault.CircuitTooLarge →
-            2147483647 < variables_of (chosen_of self.old s high low).draft }
+        ensures { MakesGates self.old self.new result (chosen_of self.old s high low)
+            (λ v. cond (bit v s) (bit v high) (bit v low)) (NeedsChoice self.new s high low) }
     {
         let where_true = self.and(s, high)?;
         let where_false = self.and(s.negated(), low)?;
@@ -202,16 +172,8 @@ impl Builder {
     /// The literal of the gate that reads these two literals. A missing gate is made.
     fn gate(&mut self, sides: Sides) -> Result<Literal, EncodeFault>
         requires { AreSides (variables_of self.old + 1) sides }
-        ensures extends { Extends self.old self.new }
-        ensures held { IfOk result (λ literal. IsHeld self.new literal) }
-        ensures bit { IfOk result (λ literal. (v : ℕ → Bool) → Meets self.new v →
-            bit v literal ≡ (bit v sides.first && bit v sides.second)) }
-        ensures too_large { result ≡ Err EncodeFault.CircuitTooLarge → IsFull self.new }
-        ensures needed { result ≡ Err EncodeFault.CircuitTooLarge → NeedsGate self.new sides.first sides.second }
-        ensures made { IfOk result (λ literal. gate_of self.old sides ≡ record
-            { draft = self.new; literal = literal }) }
-        ensures above { result ≡ Err EncodeFault.CircuitTooLarge →
-            2147483647 < variables_of (gate_of self.old sides).draft }
+        ensures { MakesGates self.old self.new result (gate_of self.old sides)
+            (λ v. bit v sides.first && bit v sides.second) (NeedsGate self.new sides.first sides.second) }
     {
         let variables = self.given + self.gates.len() as u32;
         if variables == MOST_VARIABLES && !self.gates.contains(&sides) {

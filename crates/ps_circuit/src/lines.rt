@@ -1,6 +1,6 @@
 //! The parser of the number lines in the text of a circuit.
 
-ghost use Rattle.std.specs.Prelude.{◌≡◌, ℕ, ◌<◌, ◌≤◌, ◌+◌, ◌*◌, ◌^◌, [], ◌∷◌, ◌++◌, length, IfOk, IfErr, OnOk, IsTrue};
+ghost use Rattle.std.specs.Prelude.{◌≡◌, ℕ, ◌<◌, ◌≤◌, ◌+◌, ◌*◌, ◌^◌, [], ◌∷◌, ◌++◌, length, IfOk, OnOk, IsTrue};
 ghost use Rattle.std.specs.Prelude.{◌↔◌, false, Contains};
 ghost use Rattle.std.specs.Bool.{OnTrue};
 ghost use Rattle.ps_text.specs.Parts.{times};
@@ -10,7 +10,6 @@ ghost use Rattle.ps_circuit.specs.Inner.Reading.{AddsVariable, Defines, lines_of
 ghost use Rattle.ps_circuit.specs.Inner.Reading.{AddsGate};
 ghost use Rattle.ps_circuit.specs.Inner.Reading.{Grown, IsRow};
 ghost use Rattle.ps_circuit.specs.Signs as signs;
-ghost use Rattle.ps_text.specs.declared.faults.Fault.TheVariants.{OutOfMemory};
 ghost use Rattle.ps_circuit.specs.Texts as parts;
 ghost use Rattle.ps_circuit.specs.Texts.{Lines, WrongDefinition, WrongLiteral, no_lines};
 ghost use Rattle.ps_circuit.specs.Signs.{Field};
@@ -23,7 +22,7 @@ use crate::number::Number;
 use crate::parts::{Gate, Latch};
 use ps_ids::Ids;
 use ps_text::cursor::Cursor;
-use std::alloc::Global;
+use std::alloc::{AllocError, Global};
 
 /// What the parser records while it reads the lines: the defined variables, the literals that use a variable, and the
 /// offset of each gate's line.
@@ -109,10 +108,9 @@ fn can_define(literal: u64, most: u32) -> bool
 }
 
 /// Records that a variable is defined, and returns whether the variable is new.
-fn adds(variables: &mut Ids, variable: u64) -> Result<bool, AigFault>
+fn adds(variables: &mut Ids, variable: u64) -> Result<bool, AllocError>
     ensures new { IfOk result (λ new. OnTrue new (AddsVariable variables.old variable variables.new)) }
     ensures twice { result ≡ Ok false → Contains variables.old variable }
-    ensures memory { IfErr result (λ e. e ≡ OutOfMemory) }
 {
     if variables.has(variable) {
         return Ok(false);

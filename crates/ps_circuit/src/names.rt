@@ -1,7 +1,7 @@
 //! The parser of the names in the text of a circuit, and of the comment that ends the text.
 
 ghost use Rattle.std.specs.Prelude.{◌≡◌, ◌≢◌, ℕ, ◌<◌, ◌^◌, Some, None, false, [], map, length, replicate, slice_get};
-ghost use Rattle.std.specs.Prelude.{vec_len, IfOk, IfErr, OnOk, IsTrue, All};
+ghost use Rattle.std.specs.Prelude.{vec_len, IfOk, OnOk, IsTrue, All};
 ghost use Rattle.ps_text.specs.Answers.{next_of};
 ghost use Rattle.ps_text.specs.Parts.{many};
 ghost use Rattle.ps_circuit.specs.Circuits.{IsName};
@@ -9,14 +9,13 @@ ghost use Rattle.ps_circuit.specs.Inner.Cursors.{Tells};
 ghost use Rattle.ps_circuit.specs.Drafts.{name_bytes};
 ghost use Rattle.ps_circuit.specs.Inner.Names.{AreNames, AreNone, TellsComment, is_kind, names_data};
 ghost use Rattle.ps_text.specs.Bytes.{Seen};
-ghost use Rattle.ps_text.specs.declared.faults.Fault.TheVariants.{OutOfMemory};
 ghost use Rattle.ps_circuit.specs.Texts as parts;
 ghost use Rattle.ps_circuit.specs.Texts.{Kind, NamesData, names_of, put_names, take_kind};
 
 use crate::fault::{AigCause, AigFault};
 use crate::fields::{newline, number, rest_of_line};
 use ps_text::cursor::Cursor;
-use std::alloc::Global;
+use std::alloc::{AllocError, Global};
 
 /// The names of the inputs, latches and outputs.
 #[derive(Drop)]
@@ -36,10 +35,9 @@ impl Names {
         inputs: usize,
         latches: usize,
         outputs: usize,
-    ) -> Result<Self, AigFault>
+    ) -> Result<Self, AllocError>
         ensures names { IfOk result (λ n. AreNames n inputs latches outputs) }
         ensures none { IfOk result (λ n. AreNone (names_data n) inputs latches outputs) }
-        ensures memory { IfErr result (λ e. e ≡ OutOfMemory) }
     {
         Ok(Names {
             inputs: no_names(alloc, inputs)?,
@@ -50,10 +48,9 @@ impl Names {
 }
 
 /// A list of length `count` without names.
-fn no_names(alloc: Global, count: usize) -> Result<Vec<Option<Vec<u8>>>, AigFault>
+fn no_names(alloc: Global, count: usize) -> Result<Vec<Option<Vec<u8>>>, AllocError>
     ensures each { IfOk result (λ names. vec_len names ≡ count) }
     ensures none { IfOk result (λ names. map name_bytes names.items ≡ replicate count None) }
-    ensures memory { IfErr result (λ e. e ≡ OutOfMemory) }
 {
     let mut names = Vec::new(alloc);
     for _ in 0..count {

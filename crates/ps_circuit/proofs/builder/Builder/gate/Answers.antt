@@ -1,4 +1,4 @@
-use Rattle.std.proofs.Common.{arith, ◌≡◌, ◌+◌, ◌<◌, sym, subst, refl, false}
+use Rattle.std.proofs.Common.{arith, rules, ◌≡◌, ◌+◌, ◌<◌, sym, subst, refl, false}
 use Rattle.std.specs.List.{list_any}
 use Rattle.ps_circuit.specs.contracts.builder.SidesPartialEq.TheImpl as sides_eq
 use Rattle.ps_circuit.specs.Building.{Drafted, AreSides, IsFull, variables_of}
@@ -16,8 +16,18 @@ before c = record { given = c.self.inside.given; gates = c.self.inside.gates.key
 abbrev after : In_ok-place → Drafted
 after c = record { given = c.self.inside.given; gates = c.insert_full.new.self.keys }
 
-pub returns-then-not-contains-clause-needed : goal.returns-then-not-contains-clause-needed
-returns-then-not-contains-clause-needed c e = grind (arith, needs, new-absent)
+pub returns-then-not-contains : goal.returns-then-not-contains
+returns-then-not-contains c = record {
+  extends = search rules;
+  held = search rules;
+  bit = search rules;
+  made = search rules;
+  too_large = search rules;
+  needed = λ e. grind (arith, needs, new-absent);
+  above = λ e.
+      let d : Drafted = record { given = c.self.inside.given; gates = c.self.inside.gates.keys } in
+      subst (λ t. 2147483647 < variables_of (gate_of t c.args.sides).draft) c.self.view_is (grind (arith, above-new));
+}
 
 room : (c : In_ok-place) → list_any ((sides_eq.eq-value).it c.args.sides) c.self.inside.gates.keys ≡ false →
     IsFull (before c) → ⊥
@@ -37,20 +47,15 @@ done c =
 pub invariant_of-self-2 : goal.invariant_of-self-2
 invariant_of-self-2 c = (done (goal.at.invariant_of-self-2 c).In_ok-place).sound
 
-pub returns-clause-extends : goal.returns-clause-extends
-returns-clause-extends c = grind (arith, done)
-
-pub returns-clause-bit : goal.returns-clause-bit
-returns-clause-bit c =
-    let at = (goal.at.returns-clause-bit c).In_ok-place in
-    rw c.positive.ensures (placed-bit (after at) c.args.sides c.in_ok-place.place (done at).at)
-
-pub returns-then-not-contains-clause-above : goal.returns-then-not-contains-clause-above
-returns-then-not-contains-clause-above c e =
-    let d : Drafted = record { given = c.self.inside.given; gates = c.self.inside.gates.keys } in
-    subst (λ t. 2147483647 < variables_of (gate_of t c.args.sides).draft) c.self.view_is (grind (arith, above-new))
-
-pub returns-clause-made : goal.returns-clause-made
-returns-clause-made c =
-    let at = (goal.at.returns-clause-made c).In_ok-place in
-    grind (arith, made-placed (done at) refl c.in_ok-place.ensures.keys)
+pub returns : goal.returns
+returns c =
+    let at = (goal.at.returns c).In_ok-place in
+    record {
+      extends = grind (arith, done);
+      held = search rules;
+      bit = rw c.positive.ensures (placed-bit (after at) c.args.sides c.in_ok-place.place (done at).at);
+      made = grind (arith, made-placed (done at) refl c.in_ok-place.ensures.keys);
+      too_large = search rules;
+      needed = search rules;
+      above = search rules;
+    }
