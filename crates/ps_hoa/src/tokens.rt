@@ -225,10 +225,7 @@ fn byte_at(bytes: &[u8], at: usize) -> u8
 }
 
 fn number_step(first: u8, bytes: &[u8]) -> Step
-    ensures value { result ≡ number_step first bytes.now }
-    ensures within { step_len result ≤ 1 + length bytes.now }
-    ensures some { 0 < step_len result }
-    ensures token { IsTokenStep result }
+    ensures { result ≡ number_step first bytes.now }
 {
     let count = digits_at(bytes);
     if first == b'0' && count > 0 {
@@ -239,10 +236,7 @@ fn number_step(first: u8, bytes: &[u8]) -> Step
 }
 
 fn name_step(bytes: &[u8]) -> Step
-    ensures value { result ≡ name_step bytes.now }
-    ensures within { step_len result ≤ 1 + length bytes.now }
-    ensures some { 0 < step_len result }
-    ensures token { IsTokenStep result }
+    ensures { result ≡ name_step bytes.now }
 {
     let count = name_at(bytes);
     if byte_at(bytes, count) == b':' {
@@ -253,10 +247,7 @@ fn name_step(bytes: &[u8]) -> Step
 }
 
 fn alias_step(bytes: &[u8]) -> Step
-    ensures value { result ≡ alias_step bytes.now }
-    ensures within { step_len result ≤ 1 + length bytes.now }
-    ensures some { 0 < step_len result }
-    ensures token { IsTokenStep result }
+    ensures { result ≡ alias_step bytes.now }
 {
     match name_at(bytes) {
         0 => Step::Found(Kind::Odd, 1),
@@ -265,10 +256,7 @@ fn alias_step(bytes: &[u8]) -> Step
 }
 
 fn text_step(bytes: &[u8]) -> Step
-    ensures value { result ≡ text_step bytes.now }
-    ensures within { step_len result ≤ 1 + length bytes.now }
-    ensures some { 0 < step_len result }
-    ensures token { IsTokenStep result }
+    ensures { result ≡ text_step bytes.now }
 {
     match quoted_at(bytes) {
         None => Step::Found(Kind::Odd, 1),
@@ -285,10 +273,7 @@ pub(crate) fn begins_with(bytes: &[u8], word: &[u8]) -> bool
 }
 
 fn mark_step(bytes: &[u8]) -> Step
-    ensures value { result ≡ mark_step bytes.now }
-    ensures within { step_len result ≤ 1 + length bytes.now }
-    ensures some { 0 < step_len result }
-    ensures token { IsTokenStep result }
+    ensures { result ≡ mark_step bytes.now }
 {
     if begins_with(bytes, b"-BODY--") {
         Step::Found(Kind::Body, 8)
@@ -302,10 +287,7 @@ fn mark_step(bytes: &[u8]) -> Step
 }
 
 fn comment_step(bytes: &[u8]) -> Step
-    ensures value { result ≡ comment_step bytes.now }
-    ensures within { step_len result ≤ 1 + length bytes.now }
-    ensures some { 0 < step_len result }
-    ensures token { IsTokenStep result }
+    ensures { result ≡ comment_step bytes.now }
 {
     if byte_at(bytes, 0) != b'*' {
         return Step::Found(Kind::Odd, 1);
@@ -319,11 +301,7 @@ fn comment_step(bytes: &[u8]) -> Step
 /// The blank, the comment or the token that begins with the first byte.
 #[tactic(auto, unfolding(crate::specs::Scan::step_of))]
 fn step_at(bytes: &[u8]) -> Step
-    ensures value { result ≡ step_of bytes.now }
-    ensures within { step_len result ≤ length bytes.now }
-    ensures some { 0 < length bytes.now → 0 < step_len result }
-    ensures skips { SkipsSome result }
-    ensures token { 0 < length bytes.now → IsTokenStep result }
+    ensures { result ≡ step_of bytes.now }
 {
     let Some((first, rest)) = bytes.split_first() else {
         return Step::Found(Kind::Finish, 0);

@@ -1,6 +1,7 @@
 -- Each step over the bytes is sound: a blank part begins there, or the longest possible token.
 --     sound      the step at any bytes is sound
 --     begins_is      the bytes begin with a given word
+--     skip_within, found_within      a step stays within the bytes, and moves on while there are some
 use Rattle.std.proofs.Common.{◌≡◌, ℕ, suc, zero, ◌+◌, ◌<◌, ◌≤◌, ◌&&◌, Bool, true, false, cond, List, [], ◌∷◌, ◌++◌}
 use Rattle.std.proofs.Common.{length, take, drop, subst, length-take, refl, ap, sym, ◌∙◌, arith, inl, inr, rules}
 use Rattle.std.specs.Prelude.{Option, None, Some, codes, nat_eq}
@@ -12,10 +13,11 @@ use Rattle.ps_hoa.specs.Bytes.{class_of, is_digit, is_name_byte}
 use Rattle.ps_hoa.specs.Tokens.{IsBlankPart, lengthens, StopsBefore, IsToken}
 use Rattle.ps_hoa.specs.Scan.{comment_len, quoted_len, head_or_zero, step_of, class_step, name_step, text_by}
 use Rattle.ps_hoa.specs.Scan.{comment_by, mark_step, begins_with, comment_step, alias_step, text_step}
+use Rattle.ps_hoa.specs.Scan.{is_finish}
 use Rattle.ps_hoa.specs.declared.tokens.Kind.{Kind}
 use Rattle.ps_hoa.specs.declared.tokens.Kind.TheVariants.{Header, Word, Not, And, Or, LeftParen, RightParen}
 use Rattle.ps_hoa.specs.declared.tokens.Kind.TheVariants.{LeftBracket, RightBracket, LeftBrace, RightBrace, Body, End}
-use Rattle.ps_hoa.specs.declared.tokens.Kind.TheVariants.{Abort, Odd}
+use Rattle.ps_hoa.specs.declared.tokens.Kind.TheVariants.{Abort, Odd, Finish}
 use Rattle.ps_hoa.specs.declared.tokens.Class.{Class}
 use Rattle.ps_hoa.specs.declared.tokens.Class.TheVariants.{Blank, Digit, Letter, At, Quote, Dash, Slash, Sign as SignOf}
 use Rattle.ps_hoa.specs.declared.tokens.Class.TheVariants.{Other}
@@ -194,3 +196,23 @@ sound b bs = subst (λ (s : Step). Sound (b ∷ bs) s) (sym (step_is b bs)) (go 
     go Slash e = slash_sound b bs e
     go (SignOf kind) e = sign_sound kind b bs e (tells_of b (SignOf kind) e)
     go Other e = other_sound b bs e
+
+-- ## How far a step goes
+
+pub skip_within : (bytes : List ℕ) {n : ℕ} → Skip n ≡ step_of bytes → (n ≤ length bytes) × (0 < n)
+unfolding step_of
+skip_within [] e = absurd (let no : Skip _ ≡ Found Finish 0 = e in cc)
+skip_within (b ∷ bs) e = let s = subst (λ (x : Step). Sound (b ∷ bs) x) (sym e) (sound b bs) in (s.1, s.2)
+
+no_finish : (kind : Kind) (text rest : List ℕ) → IsToken kind text rest → is_finish kind ≡ false
+no_finish kind text rest t = search rules
+
+pub found_within : (bytes : List ℕ) {kind : Kind} {n : ℕ} → Found kind n ≡ step_of bytes → (n ≤ length bytes) ×
+    (0 < length bytes → (0 < n) × (is_finish kind ≡ false))
+unfolding step_of
+found_within [] {kind} {n} e =
+    let none : n ≡ 0 = let is : Found kind n ≡ Found Finish 0 = e in cc in
+    (omega arith, λ lt. absurd (omega arith))
+found_within (b ∷ bs) {kind} {n} e =
+    let s = subst (λ (x : Step). Sound (b ∷ bs) x) (sym e) (sound b bs) in
+    (s.1, λ lt. (s.2, no_finish kind _ _ s.0))
