@@ -5,6 +5,7 @@ pub mod FirstFlaws
 pub mod Fitting
 pub mod Holding
 pub mod Keeping
+pub mod SomeFlaw
 pub mod SparseRows
 pub mod Lists
 pub mod Loops

@@ -1,10 +1,11 @@
 //! Laws about certificates. Each law is the contract of a function with an empty body.
 
-ghost use Rattle.std.specs.Prelude.{◌≡◌, ◌<◌, ℕ};
-ghost use Rattle.ps_game.specs.Games.{ParityGame, IsGame, owner_of, vertex_count};
+ghost use Rattle.std.specs.Prelude.{◌≡◌, ◌<◌, ◌⊎◌, ℕ, List, Ok, length};
+ghost use Rattle.ps_game.specs.Games.{NamedGameData, ParityGame, IsGame, owner_of, vertex_count};
 ghost use Rattle.ps_certificate.specs.Certificates.{CertificateData, Fits, IsClosed, IsValid, IsFirstFlaw, winner_of};
 ghost use Rattle.ps_certificate.specs.declared.flaw.Flaw.{Flaw};
 ghost use Rattle.ps_certificate.specs.Regions.{BothKeep, BothHold, NoneWinsOutside};
+ghost use Rattle.ps_certificate.specs.Texts.{ReadsCertificate};
 
 /// Paths that follow the moves of a closed certificate stay in the region in which they begin.
 pub fn closed_regions_are_kept()
@@ -36,4 +37,20 @@ pub fn winners_are_one()
 pub fn first_flaw_is_one()
     ensures { (game : ParityGame) (certificate : CertificateData) (flaw other : Flaw) → IsGame game →
         IsFirstFlaw game certificate flaw → IsFirstFlaw game certificate other → flaw ≡ other }
+{}
+
+/// A certificate is closed, or has a first flaw. A certificate that fits is valid, or has a first flaw.
+pub fn first_flaw_is_there()
+    ensures closed { (game : ParityGame) (certificate : CertificateData) → IsClosed game certificate ⊎
+        (¬ IsClosed game certificate × ((flaw : Flaw) × IsFirstFlaw game certificate flaw)) }
+    ensures valid { (game : ParityGame) (certificate : CertificateData) → Fits game certificate →
+        IsValid game certificate ⊎
+        (¬ IsValid game certificate × ((flaw : Flaw) × IsFirstFlaw game certificate flaw)) }
+{}
+
+/// The certificate that a text describes fits the game.
+pub fn read_certificate_fits()
+    ensures { (named : NamedGameData) (text : List ℕ) (certificate : CertificateData) →
+        length named.ids ≡ vertex_count named.game → ReadsCertificate named text (Ok certificate) →
+        Fits named.game certificate }
 {}

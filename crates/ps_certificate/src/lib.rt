@@ -29,7 +29,9 @@
 //! | `no_strategy_wins_outside` | no strategy of finite memory and no history table wins outside its player's region |
 //! | `winners_are_one` | valid certificates of one game have the same winner at each vertex |
 //! | `first_flaw_is_one` | a certificate has at most one first flaw |
+//! | `first_flaw_is_there` | a certificate has a first flaw, unless it is closed, or fits and is valid |
 //! | `certificate_text_has_one_answer`, `certificate_text_has_some_answer` | a text has exactly one answer for a game |
+//! | `read_certificate_fits` | the certificate that a text describes fits the game |
 #![tactic(auto)]
 
 mod certificate;
@@ -56,8 +58,8 @@ pub use fault::{CertCause, CertFault};
 pub use fitted::fits;
 pub use flaw::Flaw;
 pub use laws::{
-    closed_regions_are_kept, first_flaw_is_one, no_strategy_wins_outside, valid_regions_are_held,
-    winners_are_one,
+    closed_regions_are_kept, first_flaw_is_one, first_flaw_is_there, no_strategy_wins_outside,
+    read_certificate_fits, valid_regions_are_held, winners_are_one,
 };
 pub use row::Row;
 pub use text::{certificate_text_has_one_answer, certificate_text_has_some_answer, ids_of, read};

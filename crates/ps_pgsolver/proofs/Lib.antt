@@ -15,6 +15,7 @@ pub mod Exits
 pub mod Choices
 pub mod Wholes
 pub mod Sound
+pub mod SoundGames
 pub mod Answering
 pub mod OneReading
 pub mod SomeReading

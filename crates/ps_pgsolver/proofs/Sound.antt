@@ -28,14 +28,14 @@ pub record Sound {V : Type 0} (part : Part Sign V PgCause) (Good : V → Type 0)
 abbrev Always : {V : Type 0} → V → Type 0
 Always _ = Unit {0}
 
-sound_any : {V : Type 0} {part : Part Sign V PgCause} → Sound part (λ _. Unit {0})
+pub sound_any : {V : Type 0} {part : Part Sign V PgCause} → Sound part (λ _. Unit {0})
 sound_any = record { good = λ text v h q. tt }
 
-sound_one : {V : Type 0} (take : Sign → Option V) (Bad : Sign → PgCause → Type 0) {Good : V → Type 0} →
+pub sound_one : {V : Type 0} (take : Sign → Option V) (Bad : Sign → PgCause → Type 0) {Good : V → Type 0} →
     ((t : Sign) (v : V) → take t ≡ Some v → ((f : PgCause) → Bad t f → ⊥) → Good v) → Sound (one take Bad) Good
 sound_one take Bad g = record { good = λ text v h q. g h.0 v h.2 (λ f b. q [] [] h.0 f h.1 (refl, b)) }
 
-sound_then : {A B : Type 0} {P : Part Sign A PgCause} (Q : A → Part Sign B PgCause) {G : A → Type 0} {H : B → Type 0} →
+pub sound_then : {A B : Type 0} {P : Part Sign A PgCause} (Q : A → Part Sign B PgCause) {G : A → Type 0} {H : B → Type 0} →
     Sound P G → ((a : A) → G a → Sound (Q a) H) → Sound (then_by P Q) H
 sound_then {P} Q l r = record {
   good = λ text v h q. let left_quiet : Quiet P h.left = grind (arith, append_assoc) in
@@ -44,7 +44,7 @@ sound_then {P} Q l r = record {
       (r h.value (l.good h.left h.value h.is_left left_quiet)).good h.right v h.is_right right_quiet;
 }
 
-sound_mapped : {A B : Type 0} (h : A → B) {P : Part Sign A PgCause} {G : A → Type 0} {H : B → Type 0} →
+pub sound_mapped : {A B : Type 0} (h : A → B) {P : Part Sign A PgCause} {G : A → Type 0} {H : B → Type 0} →
     ((a : A) → G a → H (h a)) → Sound P G → Sound (mapped h P) H
 sound_mapped h {H} on s = record { good = λ text v i q. subst H (sym i.2) (on i.0 (s.good text i.0 i.1 q)) }
 
@@ -53,7 +53,7 @@ sound_times : {C : Type 0} (item : C → Part Sign C PgCause) {G : C → Type 0}
 sound_times item {G} s zero c g = record { good = λ text v h q. subst G (sym h.1) g }
 sound_times item {G} s (suc n) c g = sound_then (λ d. times n item d) (s c g) (λ d h. sound_times item s n d h)
 
-sound_many : {C : Type 0} (item : C → Part Sign C PgCause) {G : C → Type 0} → ((c : C) → G c → Sound (item c) G) →
+pub sound_many : {C : Type 0} (item : C → Part Sign C PgCause) {G : C → Type 0} → ((c : C) → G c → Sound (item c) G) →
     (c : C) → G c → Sound (many item c) G
 sound_many item s c g = record {
   good = λ text v h q. (sound_times item s h.0 c g).good text v h.1

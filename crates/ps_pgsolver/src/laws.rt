@@ -1,8 +1,8 @@
-//! The laws that a game text has exactly one list of tokens, and exactly one answer.
+//! The laws that a game text has exactly one list of tokens, and exactly one answer, which is a game or an error.
 
-ghost use Rattle.std.specs.Prelude.{◌≡◌, ℕ, List, Result};
+ghost use Rattle.std.specs.Prelude.{◌≡◌, ℕ, List, Result, Ok, length};
 ghost use Rattle.ps_text.specs.Answers.{Stream, Found};
-ghost use Rattle.ps_game.specs.Games.{NamedGameData};
+ghost use Rattle.ps_game.specs.Games.{NamedGameData, IsGame, vertex_count};
 ghost use Rattle.ps_pgsolver.specs.Reading.{Answer};
 ghost use Rattle.ps_pgsolver.specs.declared.fault.PgCause.{PgCause};
 ghost use Rattle.ps_pgsolver.specs.GameTokens.{AreGameTokens};
@@ -22,4 +22,10 @@ pub fn one_answer()
 /// A text has an answer. This law concerns texts and not calls, so out of memory is not one of the answers.
 pub fn some_answer()
     ensures { (text : List ℕ) → (answer : Result NamedGameData (Found PgCause)) × Answer text answer }
+{}
+
+/// What a text describes is a game, with an id for each vertex.
+pub fn read_game_is_game()
+    ensures { (text : List ℕ) (named : NamedGameData) → Answer text (Ok named) →
+        IsGame named.game × (length named.ids ≡ vertex_count named.game) }
 {}

@@ -11,6 +11,7 @@
 //! | `PgCause::number`, `name` | the number and name of an error in psyn's list of faults |
 //! | `one_list_of_tokens` | a law: a text has exactly one list of tokens |
 //! | `one_answer`, `some_answer` | laws: a text has exactly one answer, its game or its first error |
+//! | `read_game_is_game` | law: what a text describes is a game, with an id for each vertex |
 //!
 //! Vertices are in the order of the text, and keep their ids and names. Parsing takes time proportional to the length
 //! of the text, except that each id that is not the next one in order is looked up in a tree. If a successor is not the
@@ -26,7 +27,7 @@ mod token;
 mod writer;
 
 pub use fault::{PgCause, PgFault};
-pub use laws::{one_answer, one_list_of_tokens, some_answer};
+pub use laws::{one_answer, one_list_of_tokens, read_game_is_game, some_answer};
 pub use reader::read;
 pub use token::{Kind, Token, Tokens};
 pub use writer::write;
