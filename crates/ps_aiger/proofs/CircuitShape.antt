@@ -12,7 +12,7 @@ use Rattle.ps_circuit.specs.declared.builder.Sides.{Sides}
 use Rattle.ps_circuit.specs.declared.parts.Gate.{Gate}
 use Rattle.ps_circuit.specs.declared.parts.Latch.{Latch}
 use Rattle.ps_machine.specs.Behaviours.{Behaviour}
-use Rattle.ps_circuit.specs.Circuits.{CircuitData, IsDraft, IsDefinition, IsKnown, IsName, ReadsGate, definitions}
+use Rattle.ps_circuit.specs.Circuits.{CircuitData, IsDraft, IsDefinition, IsKnown, IsSymbolName, ReadsGate, definitions}
 use Rattle.ps_circuit.specs.Literals.{variable}
 use Rattle.ps_circuit.specs.Building.{Drafted, AreSides, IsSoundDraft}
 use Rattle.ps_aiger.specs.Inner.Built.{IsBuilt}
@@ -150,7 +150,7 @@ module _ (m : Behaviour) (d : Drafted) (sound : IsSoundDraft d) (latches : ℕ) 
         subst (λ (g : Gate). IsKnown (definitions c) g.first × IsKnown (definitions c) g.second)
         (sym (gate_is k e within)) (known_of _ b.0, known_of _ b.1)))
 
-    pub is_draft : All IsName (symbols_of m.names m.inputs) → All IsName (symbols_of m.names m.outputs) →
+    pub is_draft : All IsSymbolName (symbols_of m.names m.inputs) → All IsSymbolName (symbols_of m.names m.outputs) →
         length m.outputs ≡ length outputs → IsDraft c
     is_draft named_in named_out many_outputs = record {
       limit = subst (λ n. n < 2147483648) (sym built.most) sound.room;
@@ -161,9 +161,9 @@ module _ (m : Behaviour) (d : Drafted) (sound : IsSoundDraft d) (latches : ℕ) 
       inputs_named = search (rules, length-map, length-even);
       latches_named = ap length built.latch_names ∙ length-replicate (length next) None ∙ sym built.latches.many;
       outputs_named = search (rules, length-map);
-      input_names = subst (λ xs. All IsName xs) (sym built.input_names) named_in;
+      input_names = subst (λ xs. All IsSymbolName xs) (sym built.input_names) named_in;
       latch_names = search (rules, none_at, length-replicate);
-      output_names = subst (λ xs. All IsName xs) (sym built.output_names) named_out;
+      output_names = subst (λ xs. All IsSymbolName xs) (sym built.output_names) named_out;
     }
 
   pub ordered : (i j : ℕ) → ReadsGate c.gates i j → j < i

@@ -9,11 +9,11 @@ use Rattle.std.proofs.lemmas.Option.{slice_get_within, get_or_from_slice_get}
 use Rattle.ps_circuit.specs.declared.parts.Gate.{Gate}
 use Rattle.ps_circuit.specs.declared.parts.Latch.{Latch}
 use Rattle.ps_machine.specs.Behaviours.{Behaviour, IsMachine}
-use Rattle.ps_circuit.specs.Building.{Drafted, Meets, bit}
+use Rattle.ps_circuit.specs.Building.{Drafted, MeetsEquations, bit}
 use Rattle.ps_circuit.specs.Circuits.{CircuitData, IsCircuit}
 use Rattle.ps_circuit.specs.Values.{MeetsGate, Steps, bit_of, value_of, resets}
 use Rattle.ps_aiger.specs.Inner.Built.{IsBuilt}
-use Rattle.ps_aiger.specs.Encoded.{Encodes, number_of, memory_at, memory_of, letter_over, bits_over}
+use Rattle.ps_aiger.specs.Encoded.{Encodes, number_of_bits, memory_of_code, memory_of, letter_over, bits_over}
 use Rattle.ps_aiger.specs.Timing.{SeesNoInput}
 use Rattle.ps_aiger.specs.Wires.{StepBit, next_bit, output_bit}
 use Rattle.ps_circuit.proofs.GateLemmas.{bit-plain}
@@ -62,7 +62,7 @@ module _ (m : Behaviour) (machine : IsMachine m) (d : Drafted) (latches : ℕ) (
           ∙ ap (λ (l : Latch). bit_of s.values l.literal) (latch_is k lt)
           ∙ bit-plain (value_of s.values) (length m.inputs + 1 + k)
 
-      meets : Meets d v
+      meets : MeetsEquations d v
       unfolding v
       meets = record {
         constant = s.are_values.constant;
@@ -79,7 +79,7 @@ module _ (m : Behaviour) (machine : IsMachine m) (d : Drafted) (latches : ℕ) (
           get_or-map-range_with_len v 1 (length m.inputs) k (1 + k) e within refl ∙ sym (input_bit k within)
           ∙ get_or_default inputs k false e (subst (λ n. k < n) (sym many_inputs) within))))
 
-      memory : memory_at m (0 + code_read m latches v) ≡ memory_of m states
+      memory : memory_of_code m (0 + code_read m latches v) ≡ memory_of m states
       memory = grind (arith, v, number_of_letter, state_bit, many_states)
 
       literal_bit : (f : StepBit) (literal : ℕ) → IsBit m latches f d literal →
@@ -98,11 +98,11 @@ module _ (m : Behaviour) (machine : IsMachine m) (d : Drafted) (latches : ℕ) (
       many_behind : length behind ≡ latches
       many_behind = ap length s.next_are ∙ length-map c.latches (λ l. bit_of s.values l.next) ∙ many_latches
 
-      behind_is : number_of behind ≡ m.next (memory_of m states) (letter_over m.inputs inputs)
+      behind_is : number_of_bits behind ≡ m.next (memory_of m states) (letter_over m.inputs inputs)
       unfolding v
       behind_is =
           let below = machine.next_within (memory_of m states) (letter_over m.inputs inputs)
-          (memory_within m (number_of states) machine.some) in
+          (memory_within m (number_of_bits states) machine.some) in
           number_is behind _ (grind (arith, many_behind))
           (λ j lt. (let within : j < latches = subst (λ n. j < n) many_behind lt in
           ap (λ bits. get_or bits j false) s.next_are ∙ get_or-map (λ (l : Latch). bit_of s.values l.next) c.latches j
@@ -129,5 +129,5 @@ module _ (m : Behaviour) (machine : IsMachine m) (d : Drafted) (latches : ℕ) (
 pub sees : (m : Behaviour) (c : CircuitData) → IsMachine m → Encodes m c → IsTrue m.is_first → SeesNoInput c
 sees m c machine encodes first states inputs others played other_played behind other_behind s t = (encodes.steps states
     inputs played behind s).outputs_are ∙ ap (λ y. bits_over m.outputs y) (machine.blind first (memory_of m states)
-    (letter_over m.inputs inputs) (letter_over m.inputs others) (memory_within m (number_of states) machine.some))
+    (letter_over m.inputs inputs) (letter_over m.inputs others) (memory_within m (number_of_bits states) machine.some))
     ∙ sym (encodes.steps states others other_played other_behind t).outputs_are

@@ -17,7 +17,7 @@ use Rattle.ps_hoa.specs.Memory.{bytes_of}
 use Rattle.ps_hoa.specs.Sound.{AreNames}
 use Rattle.ps_machine.specs.Behaviours.{Behaviour, IsMachine}
 use Rattle.ps_machine.specs.Machines.{MachineData}
-use Rattle.ps_circuit.specs.Circuits.{IsName}
+use Rattle.ps_circuit.specs.Circuits.{IsSymbolName}
 use Rattle.ps_circuit.specs.Drafts.{name_bytes}
 use Rattle.ps_aiger.specs.Encoded.{symbols_of}
 use Rattle.ps_aiger.specs.Inner.Functions.{wanted_place}
@@ -32,11 +32,11 @@ no_newline [] h k e lt = absurd (omega arith)
 no_newline (b ∷ bs) h zero e lt = grind (arith, true_is_not_false, no_control)
 no_newline (b ∷ bs) h (suc k) e lt = no_newline bs (no_control b (has_control bs) h).1 k e (omega arith)
 
-name_is : (name : List ℕ) → (is_empty name || has_control name) ≡ false → IsName (Some name)
+name_is : (name : List ℕ) → (is_empty name || has_control name) ≡ false → IsSymbolName (Some name)
 name_is name h = grind (arith, true_is_not_false, no_newline)
 
 name_ok : (names : List (List ℕ)) → AreNames names → (p : ℕ) → p < length names →
-    IsName (Some (slice_index_or names p []))
+    IsSymbolName (Some (slice_index_or names p []))
 name_ok [] are p lt = absurd (omega arith)
 name_ok (name ∷ names) are zero lt = name_is name are.0
 name_ok (name ∷ names) are (suc p) lt = name_ok names are.2 p (omega arith)
@@ -59,7 +59,7 @@ few_inputs m machine =
     omega arith
 
 pub named : (m : Behaviour) → IsMachine m → (ps : List ℕ) → All (λ p. p < length m.names) ps →
-    All IsName (symbols_of m.names ps)
+    All IsSymbolName (symbols_of m.names ps)
 named m machine ps below = search (rules, All-map, name_ok)
 
 pub next_bits_within : (latches : ℕ) (bits : List Wanted) → latches ≤ 64 → length bits ≡ latches →

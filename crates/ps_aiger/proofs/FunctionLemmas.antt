@@ -10,7 +10,7 @@ use Rattle.std.proofs.Math.Nat.{pow-suc}
 use Rattle.std.proofs.lemmas.Nat.Bits.{bit_at_above}
 use Rattle.ps_label.specs.Truth.{is_in}
 use Rattle.ps_hoa.specs.Files.{is_among}
-use Rattle.ps_machine.specs.Machines.{MachineData, row_of}
+use Rattle.ps_machine.specs.Machines.{MachineData, row_at_leaf}
 use Rattle.ps_aiger.specs.declared.functions.Wanted.{Wanted}
 use Rattle.ps_circuit.specs.Building.{Drafted, IsHeld, bit}
 use Rattle.ps_aiger.specs.Inner.Functions.{wanted_bit}
@@ -29,7 +29,7 @@ not_among q (p ∷ ps) h = elim (cases_eq q p) [
 no_bits : (p : ℕ) → is_in p 0 ≡ false
 no_bits p = ap (λ n. nat_eq n 1) (bit_at_above 0 0 p (omega arith) (omega arith))
 
-pub no_row : (m : MachineData) → row_of m (length m.rows) ≡ record { memory = 0; letter = 0 }
+pub no_row : (m : MachineData) → row_at_leaf m (length m.rows) ≡ record { memory = 0; letter = 0 }
 no_row m = get_or_past m.rows (length m.rows) _ (omega arith)
 
 pub nothing_wanted : (w : Wanted) → wanted_bit w (record { memory = 0; letter = 0 }) ≡ false

@@ -11,7 +11,7 @@ use Rattle.ps_label.specs.Truth.{is_in}
 use Rattle.ps_hoa.specs.Files.{is_among}
 use Rattle.ps_diagram.specs.Letters.{letter_of}
 use Rattle.ps_diagram.proofs.Letters.{letter_lt, letter_is, top_bit, lower_bit}
-use Rattle.ps_aiger.specs.Encoded.{letter_over, number_of}
+use Rattle.ps_aiger.specs.Encoded.{letter_over, number_of_bits}
 use Rattle.std.proofs.lemmas.Option.{slice_get_within, get_or_from_slice_get}
 use Rattle.ps_circuit.proofs.GateLemmas.{bool_cases, true_is_not_false}
 
@@ -164,15 +164,15 @@ later_bit j n = grind (arith, bit_at_cat_high (n / 2) 1 (n % 2) (suc j) (omega a
 
 -- a number is determined by its bits
 pub number_is : (bits : List Bool) (n : ℕ) → n < 2 ^ length bits →
-    ((j : ℕ) → j < length bits → get_or bits j false ≡ is_in j n) → number_of bits ≡ n
+    ((j : ℕ) → j < length bits → get_or bits j false ≡ is_in j n) → number_of_bits bits ≡ n
 number_is [] n lt h = omega arith
 number_is (b ∷ bits) n lt h =
     let here : cond b 1 0 ≡ n % 2 = ap (λ t. cond t 1 0) (h 0 (omega arith)) ∙ first_bit n in
     let small : n / 2 < 2 ^ length bits = omega (arith, pow-suc 2 (length bits)) in
-    let rest : number_of bits ≡ n / 2 = number_is bits (n / 2) small (λ j within. grind (arith, later_bit j n)) in
+    let rest : number_of_bits bits ≡ n / 2 = number_is bits (n / 2) small (λ j within. grind (arith, later_bit j n)) in
     omega arith
 
 -- the number with a given list of bits is the letter with these bits
 pub number_of_letter : (bits : List Bool) (f : ℕ → Bool) → ((j : ℕ) → j < length bits → get_or bits j false ≡ f j) →
-    number_of bits ≡ letter_of (length bits) f
+    number_of_bits bits ≡ letter_of (length bits) f
 number_of_letter bits f h = search (rules, number_is, letter_lt, letter_is)

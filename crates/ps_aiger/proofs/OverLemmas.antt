@@ -12,7 +12,7 @@ use Rattle.ps_hoa.specs.Files.{is_among}
 use Rattle.ps_diagram.specs.Table.{leaf_of}
 use Rattle.ps_diagram.specs.Views.{SeesTest, HeedsBehind}
 use Rattle.ps_machine.specs.Behaviours.{IsMachine}
-use Rattle.ps_machine.specs.Machines.{MachineData, behaviour, row_of}
+use Rattle.ps_machine.specs.Machines.{MachineData, behaviour, row_at_leaf}
 use Rattle.ps_aiger.specs.declared.functions.Wanted.{Wanted}
 use Rattle.ps_circuit.specs.Building.{Drafted, Extends}
 use Rattle.ps_aiger.specs.Encoded.{letter_over}
@@ -150,7 +150,7 @@ inputs-again m w node d e x = over-again (range_with_len 1 (length m.inputs)) _ 
 
 -- the wanted bit of the row to which a leaf leads
 abbrev bit_at : MachineData → Wanted → Option ℕ → Bool
-bit_at m w leaf = wanted_bit w (row_of m (unwrap_or leaf (length m.rows)))
+bit_at m w leaf = wanted_bit w (row_at_leaf m (unwrap_or leaf (length m.rows)))
 
 pub made-nothing : (m : MachineData) (w : Wanted) (node : ℕ) (d : Drafted) →
     ((letter : ℕ) → leaf_of m.store node letter ≡ None) → node_made m w node d ≡ record { draft = d; literal = 0 }
@@ -159,7 +159,8 @@ made-nothing m w node d h = over-constant false (range_with_len 1 (length m.inpu
     (λ bits e. ap (bit_at m w) (h (letter_over m.inputs bits)) ∙ ap (wanted_bit w) (no_row m) ∙ nothing_wanted w)
 
 pub made-leaf : (m : MachineData) (w : Wanted) (node leaf literal : ℕ) (d : Drafted) →
-    ((letter : ℕ) → leaf_of m.store node letter ≡ Some leaf) → literal ≡ (if wanted_bit w (row_of m leaf) then 1 else 0)
+    ((letter : ℕ) → leaf_of m.store node letter ≡ Some leaf) →
+    literal ≡ (if wanted_bit w (row_at_leaf m leaf) then 1 else 0)
     → node_made m w node d ≡ record { draft = d; literal = literal }
 unfolding node_made
 made-leaf m w node leaf literal d h e = grind (arith, over-constant)

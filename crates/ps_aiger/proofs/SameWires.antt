@@ -5,12 +5,12 @@ use Rattle.ps_machine.specs.Behaviours.{Behaviour}
 use Rattle.ps_machine.specs.Behaving.{BehavesAs}
 use Rattle.ps_circuit.specs.Building.{Drafted}
 use Rattle.ps_circuit.proofs.GateLemmas.{bool_cases}
-use Rattle.ps_aiger.specs.Encoded.{letter_over, memory_at}
+use Rattle.ps_aiger.specs.Encoded.{letter_over, memory_of_code}
 use Rattle.ps_aiger.specs.Wires.{StepBit, code_made, next_wires, output_wires, wired}
 use Rattle.ps_aiger.proofs.OverLemmas.{over-same}
 
 -- each code stands for a memory state
-pub memory_within : (b : Behaviour) (code : ℕ) → 0 < b.memories → memory_at b code < b.memories
+pub memory_within : (b : Behaviour) (code : ℕ) → 0 < b.memories → memory_of_code b code < b.memories
 memory_within b code some = grind (arith, bool_cases, ltb-true)
 
 module _ (b o : Behaviour) (some : 0 < b.memories) (same : BehavesAs b o) where
@@ -18,7 +18,7 @@ module _ (b o : Behaviour) (some : 0 < b.memories) (same : BehavesAs b o) where
   AgreeAt f g = (memory x : ℕ) → memory < b.memories → f memory x ≡ g memory x
 
   step_same : (f g : StepBit) (code : ℕ) (bits : List Bool) → AgreeAt f g →
-      f (memory_at b code) (letter_over b.inputs bits) ≡ g (memory_at o code) (letter_over o.inputs bits)
+      f (memory_of_code b code) (letter_over b.inputs bits) ≡ g (memory_of_code o code) (letter_over o.inputs bits)
   unfolding AgreeAt
   step_same f g code bits agree = grind (arith, memory_within)
 

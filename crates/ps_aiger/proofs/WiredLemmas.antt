@@ -17,7 +17,7 @@ use Rattle.ps_circuit.specs.declared.parts.Latch.{Latch}
 use Rattle.ps_circuit.specs.Building.{Drafted, Extends, IsHeld, variables_of}
 use Rattle.ps_aiger.specs.Inner.Built.{IsBuilt}
 use Rattle.ps_circuit.specs.Circuits.{CircuitData}
-use Rattle.ps_aiger.specs.Encoded.{memory_at}
+use Rattle.ps_aiger.specs.Encoded.{memory_of_code}
 use Rattle.ps_aiger.specs.Inner.Functions.{KnowsMade, bits_wired, code_wanted, node_made}
 use Rattle.ps_circuit.specs.Gates.{Made, mux_of}
 use Rattle.ps_aiger.specs.Wires.{AreGates, IsOutOfLiterals, IsWired, IsWiredBy, Wired, code_made, next_wires}
@@ -67,7 +67,8 @@ made-more m w d e known new key value update h held made node literal is = elim 
 -- ## Latches
 
 pub code-zero : (m : MachineData) (w : Wanted) (latches code node : ℕ) (d : Drafted) → latches ≡ 0 →
-    node ≡ slice_index m.nodes (memory_at (behaviour m) code) → code_wanted m w latches code d ≡ node_made m w node d
+    node ≡ slice_index m.nodes (memory_of_code (behaviour m) code) →
+    code_wanted m w latches code d ≡ node_made m w node d
 unfolding code_made node_made
 code-zero m w latches code node d none is = grind arith
 

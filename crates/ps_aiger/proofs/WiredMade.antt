@@ -12,7 +12,7 @@ use Rattle.ps_circuit.specs.Gates.{Made}
 use Rattle.ps_circuit.proofs.GateLemmas.{bit-plain, held-extends, meets-extends}
 use Rattle.ps_circuit.proofs.MadeLemmas.{mux-extends}
 use Rattle.ps_circuit.proofs.MadeSound.{HasRoom, IsMade, made-as, made-later, mux-made, room-before}
-use Rattle.ps_aiger.specs.Encoded.{letter_over, memory_at}
+use Rattle.ps_aiger.specs.Encoded.{letter_over, memory_of_code}
 use Rattle.ps_aiger.specs.Wires.{StepBit, code_made, next_bit, next_wires, output_bit, output_wires, over_variables}
 use Rattle.ps_aiger.specs.Wires.{wired}
 use Rattle.ps_aiger.proofs.FunctionLemmas.{constant_bit, constant_held}
@@ -75,12 +75,12 @@ abbrev pub code_read : Behaviour → ℕ → (ℕ → Bool) → ℕ
 code_read b latches v = letter_of latches (λ j. v (length b.inputs + 1 + j))
 
 abbrev bit_read : Behaviour → StepBit → ℕ → ℕ → (ℕ → Bool) → Bool
-bit_read b f latches code v = f (memory_at b (code + code_read b latches v)) (letter_read b v)
+bit_read b f latches code v = f (memory_of_code b (code + code_read b latches v)) (letter_read b v)
 
 -- the literal has a bit of the step, for the memory state whose code the latches hold
 abbrev pub IsBit : Behaviour → ℕ → StepBit → Drafted → ℕ → Type 0
 IsBit b latches f d literal =
-    IsMade (record { draft = d; literal = literal }) (λ v. f (memory_at b (0 + code_read b latches v))
+    IsMade (record { draft = d; literal = literal }) (λ v. f (memory_of_code b (0 + code_read b latches v))
     (letter_read b v))
 
 by_bit : (g : ℕ → Bool) (code power n : ℕ) (b : Bool) →
@@ -93,9 +93,9 @@ code-made : (b : Behaviour) (f : StepBit) (latches code : ℕ) (d : Drafted) →
 unfolding code_made
 code-made b f zero code d sound given room =
     let vs = range_with_len 1 (length b.inputs) in
-    made-as _ (λ v. f (memory_at b code) (letter_read b v)) (bit_read b f 0 code)
-    (λ v zero. ap (λ n. f (memory_at b n) (letter_read b v)) (let e : code ≡ code + 0 = omega arith in e))
-    (over-made vs (λ bits. f (memory_at b code) (letter_over b.inputs bits)) d sound
+    made-as _ (λ v. f (memory_of_code b code) (letter_read b v)) (bit_read b f 0 code)
+    (λ v zero. ap (λ n. f (memory_of_code b n) (letter_read b v)) (let e : code ≡ code + 0 = omega arith in e))
+    (over-made vs (λ bits. f (memory_of_code b code) (letter_over b.inputs bits)) d sound
     (λ k e lt. (let many = length-range_with_len 1 (length b.inputs) in
     let is = get_or-range_with_len 1 (length b.inputs) k e (omega (arith, lt, many)) in
     omega (arith, lt, many, is, given))) room)
@@ -111,7 +111,7 @@ code-made b f (suc latch) code d sound given room =
     let h = code-made b f latch upper d sound (omega (arith, given)) (room-before high.draft low.draft xl room_l) in
     let l = code-made b f latch code high.draft h.sound (let a = xh.given in omega (arith, given, a)) room_l in
     made-as (choose (2 * s) high low) (λ v. cond (v s) (bit_read b f latch upper v) (bit_read b f latch code v))
-    (bit_read b f (suc latch) code) (λ v zero. by_bit (λ n. f (memory_at b n) (letter_read b v)) code (2 ^ latch)
+    (bit_read b f (suc latch) code) (λ v zero. by_bit (λ n. f (memory_of_code b n) (letter_read b v)) code (2 ^ latch)
     (code_read b latch v) (v s)) (choose_made d high low s (bit_read b f latch upper) (bit_read b f latch code)
     (omega (arith, given)) xh xl h l room)
 

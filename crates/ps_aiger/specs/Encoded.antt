@@ -1,6 +1,6 @@
 -- The circuit of a machine.
---     number_of bits      the first bit counts 1, the next one 2, then 4, and so on
---     memory_at b code      the memory state with a code; memory state 0 for a code that belongs to none
+--     number_of_bits bits      the first bit counts 1, the next one 2, then 4, and so on
+--     memory_of_code b code      the memory state with a code; memory state 0 for a code that belongs to none
 --     memory_of b latches      the memory state whose code the latches hold
 --     Encodes b c      the circuit begins in memory state 0, and each of its steps is the machine's
 --     IsTidy c      how the circuit's variables are numbered, and which gates it has
@@ -14,16 +14,16 @@ use Rattle.ps_circuit.specs.Literals.{variable}
 use Rattle.ps_circuit.specs.Values.{Steps, resets}
 use Rattle.ps_machine.specs.Behaviours.{Behaviour}
 
-abbrev pub number_of : List Bool → ℕ
-number_of [] = 0
-number_of (bit ∷ bits) = cond bit 1 0 + 2 * number_of bits
+abbrev pub number_of_bits : List Bool → ℕ
+number_of_bits [] = 0
+number_of_bits (bit ∷ bits) = cond bit 1 0 + 2 * number_of_bits bits
 
 -- a code that belongs to no memory state stands for memory state 0
-abbrev pub memory_at : Behaviour → ℕ → ℕ
-memory_at b code = if nat_lt code b.memories then code else 0
+abbrev pub memory_of_code : Behaviour → ℕ → ℕ
+memory_of_code b code = if nat_lt code b.memories then code else 0
 
 abbrev pub memory_of : Behaviour → List Bool → ℕ
-memory_of b latches = memory_at b (number_of latches)
+memory_of b latches = memory_of_code b (number_of_bits latches)
 
 -- the letter with the given bits at the given propositions, and with no other bit
 abbrev pub letter_over : List ℕ → List Bool → ℕ
@@ -42,7 +42,7 @@ symbols_of names ps = map (λ p. Some (slice_index_or names p [])) ps
 -- for these latches and inputs, the outputs and the next values of the latches are those of the machine's step
 pub record StepsAs (b : Behaviour) (latches inputs outputs next : List Bool) : Type 0 where
   pub outputs_are : outputs ≡ bits_over b.outputs (b.plays (memory_of b latches) (letter_over b.inputs inputs))
-  pub next_is : number_of next ≡ b.next (memory_of b latches) (letter_over b.inputs inputs)
+  pub next_is : number_of_bits next ≡ b.next (memory_of b latches) (letter_over b.inputs inputs)
 
 pub record Encodes (b : Behaviour) (c : CircuitData) : Type 0 where
   pub is_circuit : IsCircuit c

@@ -16,7 +16,7 @@ use Rattle.ps_circuit.specs.Building.{Drafted, variables_of}
 use Rattle.ps_circuit.specs.Circuits.{CircuitData}
 use Rattle.ps_circuit.specs.Gates.{Made, mux_of}
 use Rattle.ps_machine.specs.Behaviours.{Behaviour}
-use Rattle.ps_aiger.specs.Encoded.{letter_over, memory_at}
+use Rattle.ps_aiger.specs.Encoded.{letter_over, memory_of_code}
 
 -- ## Functions
 
@@ -47,7 +47,8 @@ output_bit b p memory x = is_in p (b.plays memory x)
 -- choice is by the highest of these latches. For one memory state, the bit is a function of the inputs.
 unfoldable pub code_made : Behaviour → StepBit → ℕ → ℕ → Drafted → Made
 code_made b f zero code d =
-    over_variables (range_with_len 1 (length b.inputs)) (λ bits. f (memory_at b code) (letter_over b.inputs bits)) d
+    over_variables (range_with_len 1 (length b.inputs)) (λ bits. f (memory_of_code b code) (letter_over b.inputs bits))
+    d
 code_made b f (suc latch) code d =
     let high = code_made b f latch (code + 2 ^ latch) d in
     let low = code_made b f latch code high.draft in

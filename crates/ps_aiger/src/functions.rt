@@ -5,9 +5,9 @@ ghost use Rattle.std.specs.Prelude.{slice_index, if◌then◌else◌};
 ghost use Rattle.ps_hoa.specs.Files.{is_among};
 ghost use Rattle.indexmap.specs.IndexMap.{get};
 ghost use Rattle.ps_diagram.specs.Table.{IsNode};
-ghost use Rattle.ps_machine.specs.Machines.{behaviour, row_of};
+ghost use Rattle.ps_machine.specs.Machines.{behaviour, row_at_leaf};
 ghost use Rattle.ps_circuit.specs.Building.{Extends, IsHeld, variables_of};
-ghost use Rattle.ps_aiger.specs.Encoded.{memory_at};
+ghost use Rattle.ps_aiger.specs.Encoded.{memory_of_code};
 ghost use Rattle.ps_aiger.specs.Inner.Functions.{KnowsMade, code_wanted, node_made};
 ghost use Rattle.ps_aiger.specs.Inner.Functions.{wanted_bit, wanted_place};
 
@@ -85,7 +85,7 @@ fn over_latches(
 
 /// The diagram of the memory state with a given code; a code that belongs to no memory state stands for memory state 0.
 fn node_at(machine: &Machine, code: usize) -> Node
-    ensures node { result ≡ slice_index machine.now.nodes (memory_at (behaviour machine.now) code) }
+    ensures node { result ≡ slice_index machine.now.nodes (memory_of_code (behaviour machine.now) code) }
     ensures held { IsNode machine.now.store result }
 {
     if code < machine.memories() {
@@ -144,7 +144,7 @@ fn over_inputs(
 /// The constant literal of the bit `wanted` of the row to which a leaf refers.
 fn constant(machine: &Machine, wanted: Wanted, leaf: u64) -> Literal
     requires { wanted_place wanted < 64 }
-    ensures { result ≡ (if wanted_bit wanted (row_of machine.now leaf) then 1 else 0) }
+    ensures { result ≡ (if wanted_bit wanted (row_at_leaf machine.now leaf) then 1 else 0) }
 {
     match machine.rows().get(leaf as usize) {
         Some(row) => Literal::constant(bit_of_row(wanted, *row)),

@@ -5,11 +5,11 @@ use Rattle.std.proofs.lemmas.Bool.{cases_eq, cases_lt}
 use Rattle.std.proofs.lemmas.List.{get_or-drop, length-drop}
 use Rattle.ps_game.specs.Games.{ParityGame, IsGame, vertex_count, owner_of, HasEdge}
 use Rattle.ps_game.specs.Subgames.{IsWithin}
-use Rattle.ps_game.specs.Attractors.{IsClosed, LeadsDown, Falls}
+use Rattle.ps_game.specs.Attractors.{IsClosedUnderAttraction, LeadsDown, Falls}
 use Rattle.ps_attractor.specs.declared.aim.Aim.{Aim}
 use Rattle.ps_attractor.specs.Tables.{TablesData, level_of, moves_of, place_in}
-use Rattle.ps_attractor.specs.Aims.{StandsFrom, IsPosed, IsTaken, StaysOut, IsAttracted, rank_of}
-use Rattle.ps_attractor.specs.Steps.{StandsBefore, LeadsBack, Reaching, From}
+use Rattle.ps_attractor.specs.Aims.{StandsFrom, IsPosed, IsSetOfPlaced, StaysOut, IsAttracted, rank_of}
+use Rattle.ps_attractor.specs.Steps.{IsInTrailBefore, LeadsBack, Reaching, From}
 use Rattle.ps_attractor.proofs.PlaceIn.{place_in-le, place_in-at}
 use Rattle.ps_attractor.proofs.Reaching.{stands_now}
 use Rattle.ps_attractor.proofs.Least.{falls_least}
@@ -17,10 +17,10 @@ use Rattle.ps_attractor.proofs.Least.{falls_least}
 -- the walk has reached the end of the trail
 pub record Ended (game : ParityGame) (aim : Aim) (old new : TablesData) (subgame target set : ℕ → Bool) : Type 0 where
   pub is_game : IsGame game
-  pub marks : aim.mark ≢ aim.free
+  pub marks : aim.level ≢ aim.free
   pub begins : aim.begin ≤ length old.trail
   pub posed : IsPosed game aim old subgame target
-  pub taken : IsTaken aim new subgame set
+  pub taken : IsSetOfPlaced aim new subgame set
   pub reached : Reaching game aim old new (From (length new.trail))
 
 -- a vertex of the subgame was free or in the trail
@@ -32,7 +32,7 @@ was_there w posed inside = elim (posed.split w inside) [
 ]
 
 -- the rank of a vertex that is in the trail before an index is less than this index
-rank_before : (aim : Aim) (new : TablesData) (end w : ℕ) → end ≤ length new.trail → StandsBefore aim new end w →
+rank_before : (aim : Aim) (new : TablesData) (end w : ℕ) → end ≤ length new.trail → IsInTrailBefore aim new end w →
     aim.begin + rank_of aim new w < end
 rank_before aim new end w within stands =
     let before : stands.place < end = stands.before in
@@ -98,7 +98,7 @@ module _ {game : ParityGame} {aim : Aim} {old new : TablesData} {subgame target 
         | inr there ↦ absurd (omega arith)
       ]
 
-  closed_set : IsClosed game subgame aim.player target set
+  closed_set : IsClosedUnderAttraction game subgame aim.player target set
   closed_set = record {
     holds = target_in;
     own = λ v w inside owns leads in_set. ended.taken.all v inside (own_in v w owns leads.edge in_set);
@@ -134,7 +134,7 @@ module _ {game : ParityGame} {aim : Aim} {old new : TablesData} {subgame target 
 
   -- an edge to a vertex before the index of v leads to a smaller rank
   leads_down : (v w : ℕ) → aim.begin + rank_of aim new v < length new.trail → HasEdge game v w →
-      StandsBefore aim new (aim.begin + rank_of aim new v) w → LeadsDown game subgame set (rank_of aim new) v w
+      IsInTrailBefore aim new (aim.begin + rank_of aim new v) w → LeadsDown game subgame set (rank_of aim new) v w
   leads_down v w within edge stands = grind (
     arith,
     trail_in (ended.is_game.within v w edge)

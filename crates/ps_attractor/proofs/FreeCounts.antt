@@ -19,16 +19,16 @@ pub record Keeps (aim : Aim) (old new : TablesData) : Type 0 where
 abbrev weight : ℕ → ℕ → ℕ
 weight free level = cond (eqb level free) 1 0
 
-keeps_placed : (aim : Aim) (old : TablesData) (moves : List ℕ) (u : ℕ) → aim.mark ≢ aim.free → u < length old.level →
+keeps_placed : (aim : Aim) (old : TablesData) (moves : List ℕ) (u : ℕ) → aim.level ≢ aim.free → u < length old.level →
     level_of old u ≡ aim.free → Keeps aim old (record {
-      level = slice_set old.level u aim.mark;
+      level = slice_set old.level u aim.level;
       moves = moves;
       trail = old.trail ++ u ∷ [];
     })
 keeps_placed aim old moves u marks within is_free =
     search (rules, eq-eqb, ne_eqb, sum_by-set, length_push, get_or_append_left)
 
-pub keeps_look : {game : ParityGame} {aim : Aim} {old new : TablesData} {u w : ℕ} → aim.mark ≢ aim.free →
+pub keeps_look : {game : ParityGame} {aim : Aim} {old new : TablesData} {u w : ℕ} → aim.level ≢ aim.free →
     u < length old.level → Look game aim old new u w → Keeps aim old new
 keeps_look marks within (NotFree not_free same) = rw same (grind arith)
 keeps_look marks within (Escapes others has_free same) = rw same (grind arith)

@@ -13,7 +13,7 @@ use Rattle.ps_game.specs.Attractors.{LeadsDown, Falls}
 use Rattle.ps_game.specs.Regions.{has, move_at}
 use Rattle.ps_attractor.specs.declared.attractor.TheConstants.{OUTSIDE, PLACED, FREE}
 use Rattle.ps_attractor.specs.Tables.{TablesData, level_of, moves_of, place_in}
-use Rattle.ps_attractor.specs.Aims.{StandsFrom, IsPosed, IsTaken, IsAttracted, rank_of}
+use Rattle.ps_attractor.specs.Aims.{StandsFrom, IsPosed, IsSetOfPlaced, IsAttracted, rank_of}
 use Rattle.ps_attractor.specs.Steps.{with_placed}
 use Rattle.ps_attractor.specs.declared.attractor.Attracted.{Attracted}
 use Rattle.ps_attractor.specs.Results.{AreLaidOut, AreAttracted, IsAttractor, IsReadOff, IsRegionTo, AreMovesTo, aim_of}
@@ -129,7 +129,7 @@ module _ {game : ParityGame} {player : ℕ} {subgame target : List Bool} {new : 
         | inr placed ↦ (grind (arith, stands_after), free_inside game v made.laid is_vertex placed.was_free)
       ]
 
-  taken : IsTaken (aim_of player) new (has subgame) (has region)
+  taken : IsSetOfPlaced (aim_of player) new (has subgame) (has region)
   taken = search (rules, stands_inside, region_vertex, in_or_not)
 
   region_within : IsWithin (has region) (has subgame)

@@ -3,7 +3,7 @@ use Rattle.std.proofs.Common.{◌≡◌, ℕ, zero, suc, ◌<◌, Bool, Option, 
 use Rattle.std.proofs.lemmas.Bool.{cases_eq, false≢true}
 use Rattle.ps_game.specs.Games.{ParityGame}
 use Rattle.ps_game.specs.Subgames.{IsWithin}
-use Rattle.ps_game.specs.Attractors.{IsClosed, LeadsDown, Falls, IsLeast}
+use Rattle.ps_game.specs.Attractors.{IsClosedUnderAttraction, LeadsDown, Falls, IsLeastClosed}
 
 -- if a move exists and has a property, some vertex has this property
 some_move : (P : ℕ → Type 0) (o : Option ℕ) → IsSomeAnd o P → (w : ℕ) × P w
@@ -11,7 +11,8 @@ some_move P o h = search rules
 
 below : {game : ParityGame} {subgame : ℕ → Bool} {player : ℕ} {target set : ℕ → Bool} {table : ℕ → Option ℕ}
     {rank : ℕ → ℕ} → IsWithin set subgame → Falls game subgame player target set table rank → {closed : ℕ → Bool} →
-    IsClosed game subgame player target closed → (n v : ℕ) → rank v < n → IsTrue (set v) → IsTrue (closed v)
+    IsClosedUnderAttraction game subgame player target closed → (n v : ℕ) → rank v < n → IsTrue (set v) →
+    IsTrue (closed v)
 below within falls is_closed zero v low inside = absurd (omega arith)
 below {game} {subgame} {player} {target} {set} {table} {rank} within falls {closed} is_closed (suc n) v low inside =
     by_target (λ w leads. below within falls is_closed n w (omega (arith, leads.falls)) leads.inside) (target v) refl
@@ -22,6 +23,6 @@ below {game} {subgame} {player} {target} {set} {table} {rank} within falls {clos
 
 pub falls_least : {game : ParityGame} {subgame : ℕ → Bool} {player : ℕ} {target set : ℕ → Bool} {table : ℕ → Option ℕ}
     {rank : ℕ → ℕ} → IsWithin set subgame → Falls game subgame player target set table rank →
-    IsLeast game subgame player target set
+    IsLeastClosed game subgame player target set
 falls_least {game} {subgame} {player} {target} {set} {table} {rank} within falls closed is_closed v inside =
     below within falls is_closed (suc (rank v)) v (omega arith) inside

@@ -7,12 +7,12 @@ use Rattle.ps_game.specs.Games.{ParityGame}
 use Rattle.ps_attractor.specs.declared.aim.Aim.{Aim}
 use Rattle.ps_attractor.specs.Tables.{TablesData, level_of}
 use Rattle.ps_attractor.specs.Aims.{StandsFrom, IsPlaced, IsGrown}
-use Rattle.ps_attractor.specs.Steps.{StandsBefore, LeadsBack}
+use Rattle.ps_attractor.specs.Steps.{IsInTrailBefore, LeadsBack}
 
 -- the vertex u is placed
 pub record Places (aim : Aim) (mid new : TablesData) (u : ℕ) : Type 0 where
   pub was_free : level_of mid u ≡ aim.free
-  pub level : level_of new u ≡ aim.mark
+  pub level : level_of new u ≡ aim.level
   pub levels : (v : ℕ) → v ≢ u → level_of new v ≡ level_of mid v
   pub moves : (v : ℕ) → v ≢ u → get_or new.moves v 0 ≡ get_or mid.moves v 0
   pub trail : new.trail ≡ mid.trail ++ u ∷ []
@@ -42,10 +42,10 @@ module _ {aim : Aim} {mid new : TablesData} {u : ℕ} (places : Places aim mid n
   not_it v not_free same = not_free (ap (λ x. level_of mid x) same ∙ places.was_free)
 
   -- a vertex that is free afterwards is different from the vertex that is placed
-  pub still_free : (v : ℕ) → aim.mark ≢ aim.free → level_of new v ≡ aim.free → v ≢ u
+  pub still_free : (v : ℕ) → aim.level ≢ aim.free → level_of new v ≡ aim.free → v ≢ u
   still_free v marks is_free same = marks (sym places.level ∙ ap (λ x. level_of new x) (sym same) ∙ is_free)
 
-  pub grown_on : {old : TablesData} → aim.mark ≢ aim.free → IsGrown aim old mid → IsGrown aim old new
+  pub grown_on : {old : TablesData} → aim.level ≢ aim.free → IsGrown aim old mid → IsGrown aim old new
   grown_on {old = old} marks grown =
       search (rules, trail_length, trail_before, cases_eq, placed_new, placed_on, cases_lt, trail_last)
     where
@@ -59,7 +59,7 @@ module _ {aim : Aim} {mid new : TablesData} {u : ℕ} (places : Places aim mid n
       placed_new : IsPlaced aim old new u
       placed_new = search (rules, trail_length, trail_last)
 
-  stands_before_on : (j w : ℕ) → j ≤ length mid.trail → StandsBefore aim mid j w → StandsBefore aim new j w
+  stands_before_on : (j w : ℕ) → j ≤ length mid.trail → IsInTrailBefore aim mid j w → IsInTrailBefore aim new j w
   stands_before_on j w within stands = search (rules, trail_before)
 
   pub leads_back_on : {game : ParityGame} {old : TablesData} {j v : ℕ} → v ≢ u → j ≤ length mid.trail →

@@ -87,7 +87,7 @@ module _ {game : ParityGame} {aim : Aim} {old mid : TablesData} (list : List ℕ
   }
 
   -- examining an edge may place the vertex, which then leads to earlier vertices of the trail
-  look_places : {new : TablesData} → aim.mark ≢ aim.free → aim.begin ≤ length mid.trail → k < length mid.trail →
+  look_places : {new : TablesData} → aim.level ≢ aim.free → aim.begin ≤ length mid.trail → k < length mid.trail →
       Places aim mid new u → LeadsBack game aim old new (length mid.trail) u →
       Reaching game aim old new (FromSource k list (n + 1))
   look_places {new = new} marks begins here places back =
@@ -149,18 +149,18 @@ stands_now w begins grown not_free there = elim there [
 
 -- the invariant still holds after one edge is examined, in every case
 pub reaching_look : {game : ParityGame} {aim : Aim} {old mid : TablesData} (new : TablesData) (list : List ℕ)
-    (k n u : ℕ) → aim.mark ≢ aim.free → get_or list n 0 ≡ u → aim.begin ≤ length old.trail → aim.begin ≤ k →
+    (k n u : ℕ) → aim.level ≢ aim.free → get_or list n 0 ≡ u → aim.begin ≤ length old.trail → aim.begin ≤ k →
     k < length mid.trail → u < length mid.level → u < length mid.moves → HasEdge game u (get_or mid.trail k 0) →
     Look game aim mid new u (get_or mid.trail k 0) → Reaching game aim old mid (FromSource k list n) →
     Reaching game aim old new (FromSource k list (n + 1))
 reaching_look {game = game} {aim = aim} {old = old} {mid = mid} new list k n u marks at begins after here levels choices
     edge look so_far = by_look look
   where
-    levels_kept : (v : ℕ) → v ≢ u → get_or (slice_set mid.level u aim.mark) v 0 ≡ level_of mid v
-    levels_kept v differ = get_or-set_other mid.level u v aim.mark 0 differ
+    levels_kept : (v : ℕ) → v ≢ u → get_or (slice_set mid.level u aim.level) v 0 ≡ level_of mid v
+    levels_kept v differ = get_or-set_other mid.level u v aim.level 0 differ
 
     placed : (moves : List ℕ) → level_of mid u ≡ aim.free → ((v : ℕ) → v ≢ u → get_or moves v 0 ≡ get_or mid.moves v 0)
-        → Places aim mid (with_placed (record { level = mid.level; moves = moves; trail = mid.trail }) u aim.mark) u
+        → Places aim mid (with_placed (record { level = mid.level; moves = moves; trail = mid.trail }) u aim.level) u
     placed moves is_free kept = search (rules, get_or-set_same)
 
     by_look : Look game aim mid new u (get_or mid.trail k 0) → Reaching game aim old new (FromSource k list (n + 1))

@@ -24,7 +24,7 @@ enter place reached is_sources is so_far = rw is at (reaching_enter place is_sou
 
 pub look_on : {game : ParityGame} {aim : Aim} {start mid : TablesData} (new : TablesData) {sources : List (List ℕ)}
     (list : List ℕ) (place reached n source : ℕ) → IsSourcesOf game sources → list ≡ sources_of sources reached →
-    n < length list → get_or list n 0 ≡ source → aim.mark ≢ aim.free → aim.begin ≤ length start.trail →
+    n < length list → get_or list n 0 ≡ source → aim.level ≢ aim.free → aim.begin ≤ length start.trail →
     aim.begin ≤ place → place < length mid.trail → FitsGame game mid → get_or mid.trail place 0 ≡ reached →
     Look game aim mid new source reached → Reaching game aim start mid (FromSource place (sources_of sources reached) n)
     → Reaching game aim start new (FromSource place (sources_of sources reached) (n + 1))

@@ -3,7 +3,7 @@
 use Rattle.std.specs.Prelude.{◌≡◌, ◌≢◌, ℕ, ◌<◌, ◌≤◌, ◌⊎◌, length, drop, Option, Bool, IsTrue, slice_index}
 use Rattle.ps_game.specs.Games.{ParityGame, vertex_count}
 use Rattle.ps_game.specs.Subgames.{IsWithin, LeadsInto, IsSubgame}
-use Rattle.ps_game.specs.Attractors.{IsClosed, Falls, IsLeast}
+use Rattle.ps_game.specs.Attractors.{IsClosedUnderAttraction, Falls, IsLeastClosed}
 use Rattle.ps_attractor.specs.declared.aim.Aim.{Aim}
 use Rattle.ps_attractor.specs.Tables.{TablesData, level_of, place_in}
 
@@ -26,7 +26,7 @@ pub record IsPosed (game : ParityGame) (aim : Aim) (tables : TablesData) (subgam
   pub only_target : (j : ℕ) → aim.begin ≤ j → j < length tables.trail → IsTrue (target (slice_index tables.trail j))
 
 -- the set consists of the vertices of the subgame that are not free
-pub record IsTaken (aim : Aim) (tables : TablesData) (subgame set : ℕ → Bool) : Type 0 where
+pub record IsSetOfPlaced (aim : Aim) (tables : TablesData) (subgame set : ℕ → Bool) : Type 0 where
   pub within : IsWithin set subgame
   pub placed : (v : ℕ) → IsTrue (set v) → level_of tables v ≢ aim.free
   pub all : (v : ℕ) → IsTrue (subgame v) → level_of tables v ≢ aim.free → IsTrue (set v)
@@ -41,9 +41,9 @@ pub record StaysOut (game : ParityGame) (subgame set : ℕ → Bool) (v : ℕ) :
 -- set; the rest of the subgame is a subgame
 pub record IsAttracted (game : ParityGame) (subgame : ℕ → Bool) (player : ℕ) (target set : ℕ → Bool)
     (table : ℕ → Option ℕ) (rank : ℕ → ℕ) : Type 0 where
-  pub closed : IsClosed game subgame player target set
+  pub closed : IsClosedUnderAttraction game subgame player target set
   pub falls : Falls game subgame player target set table rank
-  pub least : IsLeast game subgame player target set
+  pub least : IsLeastClosed game subgame player target set
   pub goes_on : (v : ℕ) → IsTrue (subgame v) → ¬ IsTrue (set v) → StaysOut game subgame set v
 
 -- the level and the move of v are unchanged
@@ -51,10 +51,10 @@ pub record IsSameAt (old new : TablesData) (v : ℕ) : Type 0 where
   pub level : level_of new v ≡ level_of old v
   pub move : slice_index new.moves v ≡ slice_index old.moves v
 
--- v was free, now has the level `aim.mark`, and was appended to the trail
+-- v was free, now has the level `aim.level`, and was appended to the trail
 pub record IsPlaced (aim : Aim) (old new : TablesData) (v : ℕ) : Type 0 where
   pub was_free : level_of old v ≡ aim.free
-  pub level : level_of new v ≡ aim.mark
+  pub level : level_of new v ≡ aim.level
   pub stands : StandsFrom new (length old.trail) v
 
 -- each vertex is unchanged or was placed, and only placed vertices were appended to the trail

@@ -3,13 +3,13 @@ use Rattle.std.specs.Prelude.{◌≡◌, ℕ, ◌<◌, ◌≤◌, List, length, 
 use Rattle.std.specs.Prelude.{slice_index}
 use Rattle.ps_game.specs.Games.{ParityGame, owner_of, vertex_count}
 use Rattle.ps_game.specs.Subgames.{IsWithin}
-use Rattle.ps_game.specs.Attractors.{IsClosed, Falls, IsLeast}
+use Rattle.ps_game.specs.Attractors.{IsClosedUnderAttraction, Falls, IsLeastClosed}
 use Rattle.ps_game.specs.Regions.{has, move_at}
 use Rattle.ps_attractor.specs.declared.attractor.TheConstants.{OUTSIDE, PLACED, FREE}
 use Rattle.ps_attractor.specs.declared.aim.Aim.{Aim}
 use Rattle.ps_attractor.specs.declared.attractor.Attracted.{Attracted}
 use Rattle.ps_attractor.specs.Tables.{TablesData, level_of, moves_of, place_in}
-use Rattle.ps_attractor.specs.Aims.{IsAttracted, IsGrown, IsTaken, StandsFrom, rank_of}
+use Rattle.ps_attractor.specs.Aims.{IsAttracted, IsGrown, IsSetOfPlaced, StandsFrom, rank_of}
 
 -- each vertex less than n has its level, and the trail has exactly those of these vertices that are in the target
 pub record AreLaidOut (subgame target : List Bool) (n : ℕ) (tables : TablesData) : Type 0 where
@@ -23,7 +23,7 @@ pub record AreLaidOut (subgame target : List Bool) (n : ℕ) (tables : TablesDat
 
 -- the player's target begins at the front of the trail
 abbrev pub aim_of : ℕ → Aim
-aim_of player = record { player = player; begin = 0; mark = PLACED; free = FREE }
+aim_of player = record { player = player; begin = 0; level = PLACED; free = FREE }
 
 -- at first only the target was placed in the tables, and they were extended until they had the whole attractor
 pub record AreAttracted (game : ParityGame) (player : ℕ) (subgame target : List Bool) (tables : TablesData) : Type 0
@@ -31,7 +31,7 @@ pub record AreAttracted (game : ParityGame) (player : ℕ) (subgame target : Lis
     pub old : TablesData
     pub laid : AreLaidOut subgame target (vertex_count game) old
     pub grown : IsGrown (aim_of player) old tables
-    pub attracted : (set : ℕ → Bool) → IsTaken (aim_of player) tables (has subgame) set
+    pub attracted : (set : ℕ → Bool) → IsSetOfPlaced (aim_of player) tables (has subgame) set
         → IsAttracted game (has subgame) player (has target) set (moves_of tables) (rank_of (aim_of player) tables)
 
 -- of the vertices less than n, the region has exactly those that were placed
@@ -74,8 +74,8 @@ pub record IsAttractor (game : ParityGame) (player : ℕ) (subgame target : List
   pub move_places : length a.moves ≡ vertex_count game
   pub rank_places : length a.rank.items ≡ vertex_count game
   pub within : IsWithin (has a.region) (has subgame)
-  pub closed : IsClosed game (has subgame) player (has target) (has a.region)
-  pub least : IsLeast game (has subgame) player (has target) (has a.region)
+  pub closed : IsClosedUnderAttraction game (has subgame) player (has target) (has a.region)
+  pub least : IsLeastClosed game (has subgame) player (has target) (has a.region)
   pub moves : (v : ℕ) → IsSome (move_at a.moves v) →
       IsTrue (has a.region v) × (owner_of game v ≡ player) × (has target v ≡ false)
   pub falls : Falls game (has subgame) player (has target) (has a.region) (move_at a.moves) (rank_at a.rank.items)

@@ -26,20 +26,20 @@ pub record HasFree (game : ParityGame) (free : ℕ) (tables : TablesData) (v : �
 pub data Look (game : ParityGame) (aim : Aim) (old new : TablesData) (v w : ℕ) : Type 0 where
   NotFree : level_of old v ≢ aim.free → new ≡ old → Look game aim old new v w
   Escapes : owner_of game v ≢ aim.player → HasFree game aim.free old v → new ≡ old → Look game aim old new v w
-  Own : level_of old v ≡ aim.free → owner_of game v ≡ aim.player → new ≡ with_placed (with_move old v w) v aim.mark →
+  Own : level_of old v ≡ aim.free → owner_of game v ≡ aim.player → new ≡ with_placed (with_move old v w) v aim.level →
       Look game aim old new v w
   Others : level_of old v ≡ aim.free → owner_of game v ≢ aim.player →
-      ((x : ℕ) → HasEdge game v x → level_of old x ≢ aim.free) → new ≡ with_placed old v aim.mark →
+      ((x : ℕ) → HasEdge game v x → level_of old x ≢ aim.free) → new ≡ with_placed old v aim.level →
       Look game aim old new v w
 
 -- v has a successor that is free, or that is in the trail from index `aim.begin` on
-pub record GoesOn (game : ParityGame) (aim : Aim) (tables : TablesData) (v : ℕ) : Type 0 where
+pub record HasOpenSuccessor (game : ParityGame) (aim : Aim) (tables : TablesData) (v : ℕ) : Type 0 where
   pub to : ℕ
   pub edge : HasEdge game v to
   pub there : (level_of tables to ≡ aim.free) ⊎ StandsFrom tables aim.begin to
 
 -- w is in the trail, and the edge from v to w is still to be examined, as P states for the index of w
-pub record IsPending (aim : Aim) (tables : TablesData) (P : ℕ → ℕ → Type 0) (v w : ℕ) : Type 0 where
+pub record IsUnexamined (aim : Aim) (tables : TablesData) (P : ℕ → ℕ → Type 0) (v w : ℕ) : Type 0 where
   pub place : ℕ
   pub after : aim.begin ≤ place
   pub within : place < length tables.trail
@@ -50,10 +50,10 @@ pub record IsPending (aim : Aim) (tables : TablesData) (P : ℕ → ℕ → Type
 pub record CanGoOn (game : ParityGame) (aim : Aim) (tables : TablesData) (P : ℕ → ℕ → Type 0) (v : ℕ) : Type 0 where
   pub to : ℕ
   pub edge : HasEdge game v to
-  pub there : (level_of tables to ≡ aim.free) ⊎ IsPending aim tables P v to
+  pub there : (level_of tables to ≡ aim.free) ⊎ IsUnexamined aim tables P v to
 
 -- v is in the trail, from index `aim.begin` on and before index `end`
-pub record StandsBefore (aim : Aim) (tables : TablesData) (end v : ℕ) : Type 0 where
+pub record IsInTrailBefore (aim : Aim) (tables : TablesData) (end v : ℕ) : Type 0 where
   pub place : ℕ
   pub after : aim.begin ≤ place
   pub before : place < end
@@ -63,9 +63,9 @@ pub record StandsBefore (aim : Aim) (tables : TablesData) (end v : ℕ) : Type 0
 -- each edge to a vertex that was free or in the trail
 pub record LeadsBack (game : ParityGame) (aim : Aim) (old new : TablesData) (place v : ℕ) : Type 0 where
   pub own : owner_of game v ≡ aim.player → HasEdge game v (slice_index new.moves v) ×
-      StandsBefore aim new place (slice_index new.moves v)
+      IsInTrailBefore aim new place (slice_index new.moves v)
   pub other : owner_of game v ≢ aim.player → (w : ℕ) → HasEdge game v w →
-      (level_of old w ≡ aim.free) ⊎ StandsFrom old aim.begin w → StandsBefore aim new place w
+      (level_of old w ≡ aim.free) ⊎ StandsFrom old aim.begin w → IsInTrailBefore aim new place w
 
 -- the invariant of the walk: P v j states that the edge from v to the vertex at index j of the trail may still have to
 -- be examined
@@ -73,7 +73,7 @@ pub record Reaching (game : ParityGame) (aim : Aim) (old new : TablesData) (P : 
   pub grown : IsGrown aim old new
   pub own : (v j : ℕ) → level_of new v ≡ aim.free → owner_of game v ≡ aim.player → aim.begin ≤ j →
       j < length new.trail → HasEdge game v (slice_index new.trail j) → P v j
-  pub other : (v : ℕ) → level_of new v ≡ aim.free → owner_of game v ≢ aim.player → GoesOn game aim old v →
+  pub other : (v : ℕ) → level_of new v ≡ aim.free → owner_of game v ≢ aim.player → HasOpenSuccessor game aim old v →
       CanGoOn game aim new P v
   pub back : (j : ℕ) → length old.trail ≤ j → j < length new.trail →
       LeadsBack game aim old new j (slice_index new.trail j)

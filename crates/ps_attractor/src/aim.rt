@@ -8,7 +8,7 @@ pub struct Aim {
     /// The index of the trail at which the target begins.
     pub begin: usize,
     /// The level of a vertex after it is placed.
-    pub mark: usize,
+    pub level: usize,
     /// The level of the free vertices, which are in the subgame and not yet in the set.
     pub free: usize,
 }

@@ -4,7 +4,7 @@ ghost use Rattle.std.specs.Prelude.{◌≡◌, ◌≢◌, ◌+◌, ◌<◌, ◌�
 ghost use Rattle.std.specs.Prelude.{length, slice_index};
 ghost use Rattle.ps_game.specs.Games.{IsGame, vertex_count, owner_of};
 ghost use Rattle.ps_game.specs.Subgames.{IsWithin, IsSubgame};
-ghost use Rattle.ps_game.specs.Attractors.{IsClosed, Falls, IsLeast};
+ghost use Rattle.ps_game.specs.Attractors.{IsClosedUnderAttraction, Falls, IsLeastClosed};
 ghost use Rattle.ps_game.specs.Regions.{has, move_at};
 ghost use Rattle.ps_attractor.specs.Tables.{FitsGame, level_of, place_in};
 ghost use Rattle.ps_attractor.specs.Aims.{StandsFrom};
@@ -62,9 +62,9 @@ pub fn attract<A: Arena>(
     ensures rank_places { IfOk result (λ attracted. length attracted.rank.items ≡ vertex_count (A.game arena.now)) }
     ensures within { IfOk result (λ attracted. IsWithin (has attracted.region) (has subgame.now)) }
     ensures closed { IfOk result (λ attracted.
-        IsClosed (A.game arena.now) (has subgame.now) player (has target.now) (has attracted.region)) }
+        IsClosedUnderAttraction (A.game arena.now) (has subgame.now) player (has target.now) (has attracted.region)) }
     ensures least { IfOk result (λ attracted.
-        IsLeast (A.game arena.now) (has subgame.now) player (has target.now) (has attracted.region)) }
+        IsLeastClosed (A.game arena.now) (has subgame.now) player (has target.now) (has attracted.region)) }
     ensures moves { IfOk result (λ attracted. (v : ℕ) → IsSome (move_at attracted.moves v) →
         IsTrue (has attracted.region v) × (owner_of (A.game arena.now) v ≡ player) × (has target.now v ≡ false)) }
     ensures falls { IfOk result (λ attracted. Falls (A.game arena.now) (has subgame.now) player (has target.now)
@@ -141,7 +141,7 @@ fn attracted_tables<A: Arena, W: Width>(
     let aim = Aim {
         player,
         begin: 0,
-        mark: PLACED,
+        level: PLACED,
         free: FREE,
     };
     tables.attract(arena, &sources, aim)?;

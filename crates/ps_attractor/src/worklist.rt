@@ -6,7 +6,7 @@ ghost use Rattle.ps_game.specs.Games.{IsGame, HasEdge, vertex_count, successors_
 ghost use Rattle.ps_attractor.specs.Sources.{IsSourcesOf};
 ghost use Rattle.ps_attractor.specs.Tables.{TablesData, FitsGame, level_of, moves_of};
 ghost use Rattle.ps_attractor.specs.Levels.{IsLevel};
-ghost use Rattle.ps_attractor.specs.Aims.{IsPosed, IsTaken, IsAttracted, IsGrown, rank_of};
+ghost use Rattle.ps_attractor.specs.Aims.{IsPosed, IsSetOfPlaced, IsAttracted, IsGrown, rank_of};
 ghost use Rattle.ps_attractor.specs.Steps.{HasFree, Look, Reaching, From, free_count};
 
 use crate::aim::Aim;
@@ -31,13 +31,13 @@ impl<W: Width> Tables<W> {
         requires game { IsGame (A.game arena.now) }
         requires sources { IsSourcesOf (A.game arena.now) sources.now }
         requires fits { FitsGame (A.game arena.now) self.old }
-        requires differ { aim.mark ≢ aim.free }
-        requires fits_width { IsLevel W.LIMIT aim.mark }
+        requires differ { aim.level ≢ aim.free }
+        requires fits_width { IsLevel W.LIMIT aim.level }
         requires begin { aim.begin ≤ length self.old.trail }
         ensures fits { FitsGame (A.game arena.now) self.new }
         ensures grown { OnOk result (IsGrown aim self.old self.new) }
         ensures attracted { OnOk result ((subgame target set : ℕ → Bool) →
-            IsPosed (A.game arena.now) aim self.old subgame target → IsTaken aim self.new subgame set →
+            IsPosed (A.game arena.now) aim self.old subgame target → IsSetOfPlaced aim self.new subgame set →
             IsAttracted (A.game arena.now) subgame aim.player target set (moves_of self.new) (rank_of aim self.new)) }
     {
         let mut place = aim.begin;
@@ -59,8 +59,8 @@ impl<W: Width> Tables<W> {
         requires game { IsGame (A.game arena.now) }
         requires sources { IsSourcesOf (A.game arena.now) sources.now }
         requires fits { FitsGame (A.game arena.now) self.old }
-        requires differ { aim.mark ≢ aim.free }
-        requires fits_width { IsLevel W.LIMIT aim.mark }
+        requires differ { aim.level ≢ aim.free }
+        requires fits_width { IsLevel W.LIMIT aim.level }
         requires after { aim.begin ≤ place }
         requires within { place < length self.old.trail }
         ensures fits { FitsGame (A.game arena.now) self.new }
@@ -88,7 +88,7 @@ impl<W: Width> Tables<W> {
     ) -> Result<(), AllocError>
         requires game { IsGame (A.game arena.now) }
         requires fits { FitsGame (A.game arena.now) self.old }
-        requires fits_width { IsLevel W.LIMIT aim.mark }
+        requires fits_width { IsLevel W.LIMIT aim.level }
         requires vertex { source < vertex_count (A.game arena.now) }
         requires reached { reached < vertex_count (A.game arena.now) }
         ensures fits { FitsGame (A.game arena.now) self.new }
@@ -102,7 +102,7 @@ impl<W: Width> Tables<W> {
         } else if self.has_free(arena, source, aim.free) {
             return Ok(());
         }
-        self.place(source, aim.mark)
+        self.place(source, aim.level)
     }
 
     /// Whether a vertex has a free successor. The search starts where the previous search from this vertex ended.

@@ -8,7 +8,7 @@ use Rattle.std.proofs.lemmas.Bool.{cases_lt}
 use Rattle.ps_hoa.specs.Files.{FileData}
 use Rattle.ps_hoa.specs.Edges.{Goes}
 use Rattle.ps_automaton.specs.Chains.{Chain, chain_of, level, holds, is_met, is_even, greatest_level}
-use Rattle.ps_automaton.specs.Words.{word}
+use Rattle.ps_automaton.specs.Words.{lasso_word}
 use Rattle.ps_automaton.specs.Autos.{Auto, TakesEdge, IsAutoOf, state_at, priority_at, greatest_from, state_behind}
 use Rattle.ps_automaton.specs.Autos.{state_after, greatest_of_laps}
 use Rattle.ps_automaton.specs.Acceptance.{IsRun, IsAccepted, part}
@@ -111,7 +111,7 @@ module _ (file : FileData) (chain : Chain) (a : Auto) (is_chain : chain_of file.
     (is_auto : IsAutoOf file chain a) (stem lap : List ℕ) (some : 0 < length lap)
     (in_stem : All (λ letter. letter < 2 ^ length file.names) stem)
     (in_lap : All (λ letter. letter < 2 ^ length file.names) lap) where
-  letters_are : (t : ℕ) → word stem lap t < 2 ^ length file.names
+  letters_are : (t : ℕ) → lasso_word stem lap t < 2 ^ length file.names
   letters_are t = search (rules, cases_lt, word_within, word_behind, mod-lt)
 
   some_letters : (laps : ℕ) → 0 < laps → 0 < laps * length lap
@@ -121,34 +121,36 @@ module _ (file : FileData) (chain : Chain) (a : Auto) (is_chain : chain_of file.
       (before + laps) * length lap
   end_is before laps = omega arith
 
-  module _ (before laps : ℕ) (some_laps : 0 < laps) (back : state_at a (word stem lap)
-      (length stem + (before + laps) * length lap) ≡ state_at a (word stem lap) (length stem + before * length lap))
+  module _ (before laps : ℕ) (some_laps : 0 < laps) (back : state_at a (lasso_word stem lap)
+      (length stem + (before + laps) * length lap) ≡ state_at a (lasso_word stem lap)
+      (length stem + before * length lap))
     where
-      back_here : state_at a (word stem lap) (length stem + before * length lap + laps * length lap) ≡ state_at a
-          (word stem lap) (length stem + before * length lap)
+      back_here : state_at a (lasso_word stem lap) (length stem + before * length lap + laps * length lap) ≡ state_at a
+          (lasso_word stem lap) (length stem + before * length lap)
       back_here = rw (end_is before laps) back
 
-      pub even_is_accepted : is_even (greatest_from (priority_at a (word stem lap)) (length stem + before * length lap)
+      pub even_is_accepted : is_even
+          (greatest_from (priority_at a (lasso_word stem lap)) (length stem + before * length lap)
           (laps * length lap)) ≡ true → IsAccepted file stem lap
       even_is_accepted even =
-          let run = run_of_auto is_chain is_auto (word stem lap) letters_are (length stem + before * length lap)
+          let run = run_of_auto is_chain is_auto (lasso_word stem lap) letters_are (length stem + before * length lap)
           (laps * length lap) (some_letters laps some_laps) back_here even in
           record {
             has_letter = some;
             before = before;
             laps = laps;
             some = some_laps;
-            states = state_at a (word stem lap);
+            states = state_at a (lasso_word stem lap);
             sets = run.0;
             run = rw (end_is before laps) at run.1;
             returns = sym back;
             met = run.2;
           }
 
-      pub accepted_is_even : IsAccepted file stem lap → is_even (greatest_from (priority_at a (word stem lap))
+      pub accepted_is_even : IsAccepted file stem lap → is_even (greatest_from (priority_at a (lasso_word stem lap))
           (length stem + before * length lap) (laps * length lap)) ≡ true
       accepted_is_even accepted =
-          let w = word stem lap in
+          let w = lasso_word stem lap in
           let from = length stem + accepted.before * length lap in
           let count = accepted.laps * length lap in
           let end = end_is accepted.before accepted.laps in

@@ -3,7 +3,7 @@ use Rattle.std.proofs.Common.{rules, ◌≡◌, ℕ, ◌<◌, ◌≤◌, Bool, t
 use Rattle.std.proofs.Common.{ap, sym, ◌∙◌, arith}
 use Rattle.ps_hoa.specs.Conditions.{Condition, Conditions, constant, infinitely, finitely, all_hold, any_holds}
 use Rattle.ps_hoa.specs.Conditions.{last, more}
-use Rattle.ps_automaton.specs.Chains.{Link, Chain, chain_of, chain_of_all, link_of, links_of}
+use Rattle.ps_automaton.specs.Chains.{ChainLink, Chain, chain_of, chain_of_all, link_of, links_of}
 use Rattle.ps_automaton.specs.Chains.{holds, all_of_them, one_of_them, chain_holds, is_even}
 use Rattle.ps_automaton.specs.Chains.{base_number, raised, first_number, level_by, is_met, greatest_level}
 
@@ -18,27 +18,27 @@ raised_even accepts next = grind arith
 base_even : (base : Bool) → is_even (base_number base) ≡ base
 base_even base = grind arith
 
-pub level_below_first : (base : Bool) (links : List Link) (has : ℕ → Bool) →
+pub level_below_first : (base : Bool) (links : List ChainLink) (has : ℕ → Bool) →
     level_by base links has ≤ first_number base links
 level_below_first base [] has = omega arith
 level_below_first base (link ∷ links) has = grind (arith, level_below_first base links has, raised_more)
 
 -- the greatest number that a chain gives along edges
-abbrev greatest : Bool → List Link → List (ℕ → Bool) → ℕ
+abbrev greatest : Bool → List ChainLink → List (ℕ → Bool) → ℕ
 greatest base links edges = greatest_level (record { links = links; base = base }) edges
 
-greatest_below_first : (base : Bool) (links : List Link) (edges : List (ℕ → Bool)) →
+greatest_below_first : (base : Bool) (links : List ChainLink) (edges : List (ℕ → Bool)) →
     greatest base links edges ≤ first_number base links
 greatest_below_first base links [] = omega arith
 greatest_below_first base links (has ∷ edges) =
     omega (arith, level_below_first base links has, greatest_below_first base links edges)
 
-first_reached : (base : Bool) (link : Link) (links : List Link) (edges : List (ℕ → Bool)) →
+first_reached : (base : Bool) (link : ChainLink) (links : List ChainLink) (edges : List (ℕ → Bool)) →
     is_met edges link.colour ≡ true → first_number base (link ∷ links) ≤ greatest base (link ∷ links) edges
 first_reached base link links [] met = cc
 first_reached base link links (has ∷ edges) met = grind (arith, first_reached base link links edges)
 
-first_left_out : (base : Bool) (link : Link) (links : List Link) (edges : List (ℕ → Bool)) →
+first_left_out : (base : Bool) (link : ChainLink) (links : List ChainLink) (edges : List (ℕ → Bool)) →
     is_met edges link.colour ≡ false → greatest base (link ∷ links) edges ≡ greatest base links edges
 first_left_out base link links [] unmet = refl
 first_left_out base link links (has ∷ edges) unmet = grind (arith, first_left_out base link links edges)
@@ -49,7 +49,7 @@ greatest_of_base : (base : Bool) (has : ℕ → Bool) (edges : List (ℕ → Boo
 greatest_of_base base has [] = omega arith
 greatest_of_base base has (next ∷ edges) = omega (arith, greatest_of_base base next edges)
 
-key_law : (base : Bool) (links : List Link) (edges : List (ℕ → Bool)) → 0 < length edges →
+key_law : (base : Bool) (links : List ChainLink) (edges : List (ℕ → Bool)) → 0 < length edges →
     is_even (greatest base links edges) ≡ chain_holds base links (is_met edges)
 key_law base [] [] some = absurd (omega arith)
 key_law base [] (has ∷ edges) some = ap is_even (greatest_of_base base has edges) ∙ base_even base
@@ -68,12 +68,12 @@ joined true a b = cond a true b
 joined false a b = cond a b false
 
 -- a link decides if its set is met, and otherwise the other operands decide
-link_decides : (met : ℕ → Bool) (accepts : Bool) (c : Condition) {link : Link} (b : Bool) →
+link_decides : (met : ℕ → Bool) (accepts : Bool) (c : Condition) {link : ChainLink} (b : Bool) →
     link_of accepts c ≡ Some link → joined accepts (holds met c) b ≡ cond (met link.colour) link.accepts b
 link_decides met accepts c b e = grind arith
 
 -- operands that are all links decide before the rest of the chain decides
-links_decide : (met : ℕ → Bool) (accepts : Bool) (cs : Conditions) (base : Bool) (rest links : List Link) →
+links_decide : (met : ℕ → Bool) (accepts : Bool) (cs : Conditions) (base : Bool) (rest links : List ChainLink) →
     links_of accepts cs ≡ Some links → chain_holds base (links ++ rest) met ≡ joined accepts (together met accepts cs)
     (chain_holds base rest met)
 links_decide met accepts last base rest links e = grind arith

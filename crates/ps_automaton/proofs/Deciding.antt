@@ -7,7 +7,7 @@ use Rattle.ps_text.proofs.Decisions.{Decided, decide_as, decide_below, decide_bo
 use Rattle.ps_label.specs.Expression.{Expression}
 use Rattle.ps_label.specs.Truth.{label_truth}
 use Rattle.ps_hoa.specs.Files.{GuardData, EdgeData, RowData, FileData, stated, of_state, at_letter, is_among}
-use Rattle.ps_hoa.specs.Edges.{row_among, row_of, IsOpen, IsTaken, is_marked}
+use Rattle.ps_hoa.specs.Edges.{row_among, row_of, IsEnabled, IsTaken, is_marked}
 use Rattle.ps_automaton.specs.Answers.{AreAlike, AreClashing, Clash, IsFirstClash, IsAdmitted, IsRefused}
 use Rattle.ps_automaton.specs.Chains.{Chain, chain_of, has_complement}
 use Rattle.ps_automaton.specs.declared.fault.AutomatonFault.{AutomatonFault}
@@ -72,7 +72,7 @@ alike_or_not row one other = decide_both (cases_eq one.target other.target)
     (λ set le. marked-above row one set (omega arith) ∙ sym (marked-above row other set (omega arith))))
 
 pub open_or_not : (aliases : List Expression) (label : Option Expression) (guard : GuardData) (letter : ℕ) →
-    Decided (IsOpen aliases label guard letter)
+    Decided (IsEnabled aliases label guard letter)
 open_or_not aliases label (stated e) letter = decide_true (label_truth aliases letter e)
 open_or_not aliases None of_state letter = inr (λ h. h)
 open_or_not aliases (Some e) of_state letter = decide_true (label_truth aliases letter e)

@@ -81,6 +81,7 @@ target_of_alike {s} {t} a b alike =
     let bits : (i : ℕ) → i < 64 → bit_at s.sets i ≡ bit_at t.sets i = grind arith in
     grind (arith, same_from_bits_below 64 s.sets t.sets a.few b.few bits)
 
+-- the data of the edge at index k are at index k of the list of data
 pub edge_at : (items : List Edge) (k : ℕ) {e : Edge} → k < length items → e ≡ get_or items k e →
     slice_get (map edge_data items) k ≡ Some (edge_data e)
 edge_at items k {e} within is = grind (arith, slice_get-map, slice_get_read)

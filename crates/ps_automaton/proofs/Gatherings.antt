@@ -4,7 +4,7 @@ use Rattle.std.proofs.Common.{drop, get_or, Option, None, Some, ap, append_assoc
 use Rattle.std.proofs.Common.{drop-cons, arith}
 use Rattle.std.specs.Prelude.{is_some, HoldsAt}
 use Rattle.std.proofs.lemmas.List.{map-append, get_or-drop, drop_all}
-use Rattle.ps_hoa.specs.Conditions.{Condition, Conditions, last, more, row_of}
+use Rattle.ps_hoa.specs.Conditions.{Condition, Conditions, last, more, operands_in}
 use Rattle.ps_hoa.specs.Values.{condition_of}
 use Rattle.ps_hoa.specs.declared.condition.Cond.{Cond, All, Any}
 use Rattle.ps_hoa.proofs.Reading.CondRows.{condition_of-All, condition_of-Any}
@@ -20,7 +20,7 @@ use Rattle.std.specs.declared.alloc.Global.{Global}
 
 -- the operands from the index k on
 abbrev pub from_place : List Cond → ℕ → Conditions
-from_place operands k = row_of (map condition_of (drop k operands))
+from_place operands k = operands_in (map condition_of (drop k operands))
 
 -- the collection before the index k: the links so far, and the index of the remaining operand if it has occurred
 abbrev pub IsGathering : Bool → List Cond → List Link → List Link → ℕ → Option ℕ → Type 0
@@ -30,7 +30,7 @@ IsGathering accepts operands before after k (Some at) =
     (at < length operands) × HoldsAt (λ c. whole accepts operands before ≡ in_front (Some (map link_data after))
     (in_front (links_of accepts (from_place operands k)) (chain_of (condition_of c)))) operands at
 
-pub in_front_twice : (a b : List chains.Link) (chain : Option Chain) →
+pub in_front_twice : (a b : List chains.ChainLink) (chain : Option Chain) →
     in_front (Some a) (in_front (Some b) chain) ≡ in_front (Some (a ++ b)) chain
 in_front_twice a b chain = grind (arith, append_assoc)
 
@@ -45,9 +45,10 @@ place_is operands k here d = grind (arith, get_or-drop k operands 0 d, add-zero 
 
 from_place_is : (operands : List Cond) (k : ℕ) {c : Cond} → drop k operands ≡ c ∷ drop (k + 1) operands →
     from_place operands k ≡ more (condition_of c) (from_place operands (k + 1))
-from_place_is operands k here = ap (λ (xs : List Cond). row_of (map condition_of xs)) here
+from_place_is operands k here = ap (λ (xs : List Cond). operands_in (map condition_of xs)) here
 
-links_with : (front : List chains.Link) (accepts : Bool) (c : Condition) (cs : Conditions) {link : chains.Link}
+links_with : (front : List chains.ChainLink) (accepts : Bool) (c : Condition)
+    (cs : Conditions) {link : chains.ChainLink}
     (chain : Option Chain) → link_of accepts c ≡ Some link →
     in_front (Some front) (in_front (links_of accepts (more c cs)) chain) ≡ in_front (Some (front ++ link ∷ []))
     (in_front (links_of accepts cs) chain)
@@ -76,7 +77,7 @@ gather_second accepts operands before after k at {c} here is gathered =
     cc (gathered.1 c, from_place_is operands k here, is)
 
 nothing_left : (operands : List Cond) (k : ℕ) → length operands ≤ k → from_place operands k ≡ last
-nothing_left operands k done = ap (λ (xs : List Cond). row_of (map condition_of xs)) (drop_all k operands done)
+nothing_left operands k done = ap (λ (xs : List Cond). operands_in (map condition_of xs)) (drop_all k operands done)
 
 pub gathered_all : (accepts : Bool) (operands : List Cond) (before after : List Link) (k : ℕ) → length operands ≤ k →
     IsGathering accepts operands before after k None →

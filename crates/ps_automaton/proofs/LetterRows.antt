@@ -6,7 +6,7 @@ use Rattle.std.proofs.lemmas.Bool.{cases_lt}
 use Rattle.std.proofs.lemmas.Option.{slice_get_within, slice_get-get_or}
 use Rattle.std.proofs.Math.Nat.{mod-eq_of_lt}
 use Rattle.ps_text.proofs.Simple.{same_some}
-use Rattle.ps_hoa.specs.Edges.{IsOpen}
+use Rattle.ps_hoa.specs.Edges.{IsEnabled}
 use Rattle.ps_hoa.specs.Files.{EdgeData, RowData, FileData, of_state, at_letter}
 use Rattle.ps_hoa.specs.Sound.{IsSoundRow}
 use Rattle.ps_hoa.proofs.Soundness.SoundLaws.{sound_edge}
@@ -36,11 +36,11 @@ module _ {file : FileData} {row : RowData} (row_sound : IsSoundRow file row) (by
   guard_at place at = by_letter 0 row.edges by.0 place at ∙ ap at_letter (omega arith)
 
   letter_of_place : (place : ℕ) {letter : ℕ} {edge : EdgeData} → slice_get row.edges place ≡ Some edge →
-      IsOpen file.aliases row.label edge.guard letter → letter ≡ place
+      IsEnabled file.aliases row.label edge.guard letter → letter ≡ place
   letter_of_place place at open_at = rw (guard_at place at) at open_at
 
   open_at_place : (place : ℕ) {edge : EdgeData} → slice_get row.edges place ≡ Some edge →
-      IsOpen file.aliases row.label edge.guard place
+      IsEnabled file.aliases row.label edge.guard place
   open_at_place place at = rw (guard_at place at) refl
 
   -- the edge at an index

@@ -8,7 +8,7 @@ use Rattle.ps_diagram.specs.Labels.{one_where}
 use Rattle.ps_diagram.specs.Letters.{assignment}
 use Rattle.ps_diagram.specs.Tree.{Tree, leaf_at}
 use Rattle.ps_diagram.specs.Table.{Table, IsNode, Keeps, leaf_of}
-use Rattle.ps_hoa.specs.Edges.{IsOpen}
+use Rattle.ps_hoa.specs.Edges.{IsEnabled}
 use Rattle.ps_hoa.specs.Files.{EdgeData, RowData, FileData, of_state}
 use Rattle.ps_automaton.specs.Inner.Drafts.{IsLabelNode, IsWhere, Meet, ShowsEdge}
 
@@ -16,6 +16,7 @@ pub kept_leaf : {t u : Table} → Keeps t u → {node : ℕ} (letter : ℕ) → 
     leaf_of u node letter ≡ leaf_of t node letter
 kept_leaf keeps {node} letter held = ap (λ (tree : Tree). leaf_at tree (assignment letter)) (keeps.same node held)
 
+-- a table that keeps the nodes of a second keeps those of each table that the second keeps
 pub keeps_both : {t u v : Table} → Keeps t u → Keeps u v → Keeps t v
 keeps_both a b = grind arith
 
@@ -37,7 +38,7 @@ where_one b e = grind arith
 
 pub label_shows : (t : Table) (file : FileData) (label : Option Expression) (node : ℕ) →
     IsLabelNode t file label (Some node) →
-    IsNode t node × ((letter : ℕ) → IsWhere (leaf_of t node letter) 1 (IsOpen file.aliases label of_state letter))
+    IsNode t node × ((letter : ℕ) → IsWhere (leaf_of t node letter) 1 (IsEnabled file.aliases label of_state letter))
 label_shows t file label node h = grind (arith, where_one)
 
 pub shown_is_taken : {P : Type 0} {leaf : Option ℕ} (value : ℕ) {x : ℕ} → IsWhere leaf value P → leaf ≡ Some x → P

@@ -5,7 +5,7 @@ use Rattle.std.specs.Prelude.{nat_eq}
 use Rattle.std.proofs.Math.Nat.{le_antisymm}
 use Rattle.std.proofs.lemmas.List.{length-map, drop-map, drop_all}
 use Rattle.std.proofs.Math.ListN.{get_or-map}
-use Rattle.ps_automaton.specs.Chains.{Link, Chain, base_number, first_number, raised, level_by, level}
+use Rattle.ps_automaton.specs.Chains.{ChainLink, Chain, base_number, first_number, raised, level_by, level}
 use Rattle.ps_automaton.specs.Inner.Numbering.{AreSetsBelow, IsTable}
 use Rattle.ps_automaton.specs.Inner.Views.{link_data}
 use Rattle.ps_automaton.specs.declared.chain.Link as code
@@ -34,33 +34,33 @@ set_below_most base numbers has (suc k) s h is = grind (arith, set_below_most ba
 
 -- ## The numbers of a chain
 
-abbrev alone : Bool → List Link → ℕ → ℕ
+abbrev alone : Bool → List ChainLink → ℕ → ℕ
 alone base links s = level_by base links (λ x. nat_eq x s)
 
-base_below_level : (base : Bool) (links : List Link) (has : ℕ → Bool) → base_number base ≤ level_by base links has
+base_below_level : (base : Bool) (links : List ChainLink) (has : ℕ → Bool) → base_number base ≤ level_by base links has
 base_below_level base [] has = omega arith
 base_below_level base (link ∷ links) has =
     search (rules, level_below_first, raised_more, base_below_level base links has)
 
-level_grows : (base : Bool) (link : Link) (links : List Link) (has : ℕ → Bool) →
+level_grows : (base : Bool) (link : ChainLink) (links : List ChainLink) (has : ℕ → Bool) →
     level_by base links has ≤ level_by base (link ∷ links) has
 level_grows base link links has = search (rules, level_below_first, raised_more)
 
-alone_below_level : (base : Bool) (links : List Link) (has : ℕ → Bool) (s : ℕ) → has s ≡ true →
+alone_below_level : (base : Bool) (links : List ChainLink) (has : ℕ → Bool) (s : ℕ) → has s ≡ true →
     alone base links s ≤ level_by base links has
 alone_below_level base [] has s is = omega arith
 alone_below_level base (link ∷ links) has s is =
     grind (arith, alone_below_level base links has s is, level_grows base link links has)
 
 -- the edge has a set that alone gives the edge's number
-record Attained (base : Bool) (links : List Link) (has : ℕ → Bool) : Type 0 where
+record Attained (base : Bool) (links : List ChainLink) (has : ℕ → Bool) : Type 0 where
   set : ℕ
   small : set < 64
   has_it : has set ≡ true
   is : level_by base links has ≡ alone base links set
 
 -- if the edge has the first link's set, the number is that of the first link; otherwise the other links give the number
-attained : (base : Bool) (links : List Link) (has : ℕ → Bool) → AreSetsBelow 64 links →
+attained : (base : Bool) (links : List ChainLink) (has : ℕ → Bool) → AreSetsBelow 64 links →
     (level_by base links has ≡ base_number base) ⊎ Attained base links has
 attained base [] has small = inl refl
 attained base (link ∷ links) has small =
@@ -105,7 +105,7 @@ pub set_of_link : (links : List code.Link) (k : ℕ) {link : code.Link} → AreS
 set_of_link links k {link} small within is =
     grind (arith, get_or-map link_data links k link, length-map links link_data)
 
-pub table_step : (base : Bool) (link : Link) (rest : List Link) (numbers : List ℕ) {number : ℕ} (s : ℕ) →
+pub table_step : (base : Bool) (link : ChainLink) (rest : List ChainLink) (numbers : List ℕ) {number : ℕ} (s : ℕ) →
     length numbers ≡ 64 → link.colour < 64 → number ≡ first_number base (link ∷ rest) →
     get_or numbers s 0 ≡ alone base rest s → get_or (set numbers link.colour number) s 0 ≡ alone base (link ∷ rest) s
 table_step base link rest numbers {number} s size small is before = search rules

@@ -6,7 +6,7 @@ use Rattle.std.proofs.Math.Nat.{eq-or-lt_of_le, le_antisymm, mod-lt, div-add-mod
 use Rattle.std.proofs.Math.Nat.{mul-le-mul_left, suc-add, add-suc}
 use Rattle.std.proofs.lemmas.Bool.{le-ltb, lt-ltb}
 use Rattle.std.proofs.lemmas.Nat.{mod-mul-add}
-use Rattle.ps_automaton.specs.Words.{word, Repeats}
+use Rattle.ps_automaton.specs.Words.{lasso_word, Repeats}
 use Rattle.ps_automaton.specs.Autos.{Auto, state_at, priority_at, greatest_from, state_behind, greatest_along}
 use Rattle.ps_automaton.specs.Autos.{state_after, greatest_of_laps}
 
@@ -65,14 +65,15 @@ any_return_decides again later some_p some_q = search (rules, le_antisymm, one_b
 
 -- ## Words
 
-pub word_within : (stem lap : List ℕ) (t : ℕ) → t < length stem → word stem lap t ≡ get_or stem t 0
+pub word_within : (stem lap : List ℕ) (t : ℕ) → t < length stem → lasso_word stem lap t ≡ get_or stem t 0
 word_within stem lap t low = rw (lt-ltb t (length stem) low)
 
 pub word_behind : (stem lap : List ℕ) (t : ℕ) → length stem ≤ t →
-    word stem lap t ≡ get_or lap ((t - length stem) % length lap) 0
+    lasso_word stem lap t ≡ get_or lap ((t - length stem) % length lap) 0
 word_behind stem lap t high = rw (le-ltb t (length stem) high)
 
-pub word_repeats : (stem lap : List ℕ) (before laps : ℕ) → Repeats (word stem lap) (length stem + before * length lap)
+pub word_repeats : (stem lap : List ℕ) (before laps : ℕ) →
+    Repeats (lasso_word stem lap) (length stem + before * length lap)
     (laps * length lap)
 word_repeats stem lap before laps t low = grind (
   arith,
@@ -82,7 +83,7 @@ word_repeats stem lap before laps t low = grind (
 )
 
 pub word_of_lap : (stem lap : List ℕ) (laps k : ℕ) → k < length lap →
-    word stem lap (length stem + laps * length lap + k) ≡ get_or lap k 0
+    lasso_word stem lap (length stem + laps * length lap + k) ≡ get_or lap k 0
 word_of_lap stem lap laps k within = grind (arith, word_behind, mod-mul-add)
 
 -- ## States
@@ -113,17 +114,18 @@ list_is_read a w from (x ∷ xs) each =
     let later = list_is_read a w (from + 1) xs (λ k within. ap w (omega arith) ∙ each (suc k) (omega arith)) in
     record { state = grind (arith, add-one, later.state); greatest = grind (arith, add-one, later.greatest) }
 
-pub stem_is_read : (a : Auto) (stem lap : List ℕ) → state_at a (word stem lap) (length stem) ≡
+pub stem_is_read : (a : Auto) (stem lap : List ℕ) → state_at a (lasso_word stem lap) (length stem) ≡
     state_behind a a.start stem
-stem_is_read a stem lap = ap (state_at a (word stem lap)) (omega arith)
-    ∙ (list_is_read a (word stem lap) 0 stem (λ k within. search (rules, word_within))).state
+stem_is_read a stem lap = ap (state_at a (lasso_word stem lap)) (omega arith)
+    ∙ (list_is_read a (lasso_word stem lap) 0 stem (λ k within. search (rules, word_within))).state
 
 pub laps_are_read : (a : Auto) (stem lap : List ℕ) (laps : ℕ) →
-    state_at a (word stem lap) (length stem + laps * length lap) ≡ state_after a (state_behind a a.start stem) lap laps
-laps_are_read a stem lap zero = ap (state_at a (word stem lap)) (omega arith) ∙ stem_is_read a stem lap
+    state_at a (lasso_word stem lap) (length stem + laps * length lap) ≡ state_after a (state_behind a a.start stem) lap
+    laps
+laps_are_read a stem lap zero = ap (state_at a (lasso_word stem lap)) (omega arith) ∙ stem_is_read a stem lap
 laps_are_read a stem lap (suc laps) = grind (
   arith,
-  list_is_read a (word stem lap) (length stem + laps * length lap) lap (word_of_lap stem lap laps),
+  list_is_read a (lasso_word stem lap) (length stem + laps * length lap) lap (word_of_lap stem lap laps),
   laps_are_read a stem lap laps,
 )
 
@@ -134,11 +136,11 @@ laps_together a q lap m (suc n) = rw add-suc (ap (λ s. state_behind a s lap) (l
 
 -- the greatest priority along some laps that follow earlier laps
 pub greatest_is_read : (a : Auto) (stem lap : List ℕ) (before laps : ℕ) →
-    greatest_from (priority_at a (word stem lap)) (length stem + before * length lap) (laps * length lap)
+    greatest_from (priority_at a (lasso_word stem lap)) (length stem + before * length lap) (laps * length lap)
     ≡ greatest_of_laps a (state_after a (state_behind a a.start stem) lap before) lap laps
 greatest_is_read a stem lap before zero = search rules
 greatest_is_read a stem lap before (suc laps) =
-    let w = word stem lap in
+    let w = lasso_word stem lap in
     let from = length stem + before * length lap in
     let q = state_behind a a.start stem in
     grind (

@@ -13,7 +13,7 @@ use Rattle.ps_hoa.specs.Edges.{Goes, is_marked, row_of}
 use Rattle.ps_hoa.specs.Files.{RowData, FileData}
 use Rattle.ps_hoa.specs.Sound.{IsSoundFile, IsSoundRow}
 use Rattle.ps_automaton.specs.Answers.{AreClashing}
-use Rattle.ps_automaton.specs.Chains.{Chain, Link, level, level_by}
+use Rattle.ps_automaton.specs.Chains.{Chain, ChainLink, level, level_by}
 use Rattle.ps_automaton.specs.Inner.Drafts.{AreJoined, ArePlaces, AreSteps, IsStepsOf, IsTargetAt, IsUnion, Moves}
 use Rattle.ps_automaton.specs.Inner.Drafts.{Names}
 use Rattle.ps_automaton.specs.Inner.Drafts.{Stops, TakenEdge, step_of_target}
@@ -24,7 +24,7 @@ use Rattle.ps_automaton.proofs.TakenEdges.{edge_of, goes_of}
 use Rattle.ps_automaton.proofs.Unions.{at_leaf, union_clear}
 
 -- the number of an edge depends only on its sets less than 64
-level_by_same : (base : Bool) (links : List Link) (f g : ℕ → Bool) → AreSetsBelow 64 links →
+level_by_same : (base : Bool) (links : List ChainLink) (f g : ℕ → Bool) → AreSetsBelow 64 links →
     ((set : ℕ) → set < 64 → f set ≡ g set) → level_by base links f ≡ level_by base links g
 level_by_same base [] f g few same = refl
 level_by_same base (link ∷ links) f g few same = cc (

@@ -5,7 +5,7 @@ use Rattle.std.specs.List.{slice_get}
 use Rattle.std.specs.Option.{option_map, IsSomeAnd}
 use Rattle.std.proofs.lemmas.Bool.{cases_lt}
 use Rattle.ps_text.proofs.Simple.{same_some}
-use Rattle.ps_diagram.specs.Leaves.{AreAlike as AgreeingLeaves, joined}
+use Rattle.ps_diagram.specs.Leaves.{AreCompatible as AgreeingLeaves, either_leaf}
 use Rattle.ps_diagram.specs.Table.{Table, IsNode, Keeps, leaf_of}
 use Rattle.ps_hoa.specs.Files.{EdgeData, RowData, FileData}
 use Rattle.ps_hoa.specs.Sound.{IsSoundFile, IsSoundRow}
@@ -26,10 +26,10 @@ pub marked_shows : (file : FileData) (row : RowData) (edge : EdgeData) (t u : Ta
 marked_shows file row edge t u node marked value shows is letter small = search rules
 
 joined_second : (Q : ℕ → Type 0) (o : Option ℕ) (p : ℕ) → AgreeingLeaves o (Some p) → Q p →
-    IsSomeAnd (joined o (Some p)) Q
+    IsSomeAnd (either_leaf o (Some p)) Q
 joined_second Q o p h k = search rules
 
-joined_from : (o m : Option ℕ) {x : ℕ} → joined o m ≡ Some x → (o ≡ Some x) ⊎ (m ≡ Some x)
+joined_from : (o m : Option ℕ) {x : ℕ} → either_leaf o m ≡ Some x → (o ≡ Some x) ⊎ (m ≡ Some x)
 joined_from o m h = search rules
 
 pub at_leaf : (P : ℕ → Type 0) (o : Option ℕ) {x : ℕ} → o ≡ Some x → IsSomeAnd o P → P x
@@ -68,7 +68,7 @@ module _ {file : FileData} (sound : IsSoundFile file) {row : RowData} (row_sound
     node_leaf letter = kept_leaf keeps letter union.held
 
     pub union_grown : {after : Table} {made : ℕ} → IsNode after made →
-        ((letter : ℕ) → leaf_of after made letter ≡ joined (leaf_of t node letter) (leaf_of t marked letter)) →
+        ((letter : ℕ) → leaf_of after made letter ≡ either_leaf (leaf_of t node letter) (leaf_of t marked letter)) →
         ((letter : ℕ) → AgreeingLeaves (leaf_of t node letter) (leaf_of t marked letter)) →
         IsUnion file row (count + 1) new after made
     union_grown held leaf agree = record {
@@ -85,7 +85,7 @@ module _ {file : FileData} (sound : IsSoundFile file) {row : RowData} (row_sound
 
         by_place : (letter : ℕ) → letter < 2 ^ length file.names → (e : TakenEdge file row (count + 1) letter) →
             (e.place < count) ⊎ (count ≤ e.place) →
-            IsSomeAnd (joined (leaf_of t node letter) (leaf_of t marked letter)) (IsTargetAt row e.edge new)
+            IsSomeAnd (either_leaf (leaf_of t node letter) (leaf_of t marked letter)) (IsTargetAt row e.edge new)
         by_place letter small e (inl low) =
             let first : TakenEdge file row count letter = grind arith in
             let was = subst (λ o. IsSomeAnd o (IsTargetAt row e.edge old)) (sym (node_leaf letter))

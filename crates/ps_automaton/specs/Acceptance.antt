@@ -6,7 +6,7 @@ use Rattle.std.specs.Prelude.{◌≡◌, ℕ, zero, suc, ◌+◌, ◌*◌, ◌<�
 use Rattle.ps_hoa.specs.Files.{FileData}
 use Rattle.ps_hoa.specs.Edges.{Goes}
 use Rattle.ps_automaton.specs.Chains.{holds, is_met}
-use Rattle.ps_automaton.specs.Words.{word}
+use Rattle.ps_automaton.specs.Words.{lasso_word}
 
 -- the state before each letter, and the sets of the edge that is taken at this letter
 pub record IsRun (file : FileData) (w : ℕ → ℕ) (count : ℕ) (states : ℕ → ℕ) (sets : ℕ → ℕ → Bool) : Type 0 where
@@ -25,6 +25,6 @@ pub record IsAccepted (file : FileData) (stem lap : List ℕ) : Type 0 where
   pub some : 0 < laps
   pub states : ℕ → ℕ
   pub sets : ℕ → ℕ → Bool
-  pub run : IsRun file (word stem lap) (length stem + (before + laps) * length lap) states sets
+  pub run : IsRun file (lasso_word stem lap) (length stem + (before + laps) * length lap) states sets
   pub returns : states (length stem + before * length lap) ≡ states (length stem + (before + laps) * length lap)
   pub met : IsTrue (holds (is_met (part sets (length stem + before * length lap) (laps * length lap))) file.condition)

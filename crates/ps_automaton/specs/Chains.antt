@@ -9,12 +9,12 @@ use Rattle.ps_hoa.specs.Conditions.{SetData, Condition, Conditions, constant, in
 use Rattle.ps_hoa.specs.Conditions.{last, more}
 
 -- a set, and whether a part of a run is accepted if this link decides
-pub record Link : Type 0 where
+pub record ChainLink : Type 0 where
   pub colour : ℕ
   pub accepts : Bool
 
 pub record Chain : Type 0 where
-  pub links : List Link
+  pub links : List ChainLink
   pub base : Bool
 
 -- ## The chain of a condition
@@ -22,17 +22,17 @@ pub record Chain : Type 0 where
 abbrev pub base_alone : Bool → Option Chain
 base_alone base = Some (record { links = []; base = base })
 
-abbrev pub link_to : Bool → SetData → Option Link
+abbrev pub link_to : Bool → SetData → Option ChainLink
 link_to accepts set = if set.complemented then None else Some (record { colour = set.number; accepts = accepts })
 
 -- the link of an operand: of an `Inf` in a disjunction, or of a `Fin` in a conjunction
-abbrev pub link_of : Bool → Condition → Option Link
+abbrev pub link_of : Bool → Condition → Option ChainLink
 link_of true (infinitely set) = link_to true set
 link_of false (finitely set) = link_to false set
 link_of accepts c = None
 
 -- the links of the operands, if every operand is a link
-abbrev pub links_of : Bool → Conditions → Option (List Link)
+abbrev pub links_of : Bool → Conditions → Option (List ChainLink)
 links_of accepts last = Some []
 links_of accepts (more c cs) = elim (link_of accepts c) [
   | None ↦ None
@@ -40,12 +40,12 @@ links_of accepts (more c cs) = elim (link_of accepts c) [
 ]
 
 -- the given links followed by a chain, if both exist
-abbrev pub in_front : Option (List Link) → Option Chain → Option Chain
+abbrev pub in_front : Option (List ChainLink) → Option Chain → Option Chain
 in_front None chain = None
 in_front (Some links) None = None
 in_front (Some links) (Some chain) = Some (record { links = links ++ chain.links; base = chain.base })
 
-abbrev pub one_link : Option Link → Option (List Link)
+abbrev pub one_link : Option ChainLink → Option (List ChainLink)
 one_link None = None
 one_link (Some link) = Some (link ∷ [])
 
@@ -103,7 +103,7 @@ abbrev mutual
   one_of_them met (more c cs) = if holds met c then true else one_of_them met cs
 
 -- the truth value that a chain gives: that of the first link whose set is met, or of the base
-abbrev pub chain_holds : Bool → List Link → (ℕ → Bool) → Bool
+abbrev pub chain_holds : Bool → List ChainLink → (ℕ → Bool) → Bool
 chain_holds base [] met = base
 chain_holds base (link ∷ links) met = if met link.colour then link.accepts else chain_holds base links met
 
@@ -122,12 +122,12 @@ raised true next = if is_even next then next else next + 1
 raised false next = if is_even next then next + 1 else next
 
 -- the number of the first link, or of the base if there is no link; numbers are computed from the end of the chain
-abbrev pub first_number : Bool → List Link → ℕ
+abbrev pub first_number : Bool → List ChainLink → ℕ
 first_number base [] = base_number base
 first_number base (link ∷ links) = raised link.accepts (first_number base links)
 
 -- the number of the first link whose set an edge has, or of the base
-abbrev pub level_by : Bool → List Link → (ℕ → Bool) → ℕ
+abbrev pub level_by : Bool → List ChainLink → (ℕ → Bool) → ℕ
 level_by base [] has = base_number base
 level_by base (link ∷ links) has = if has link.colour then first_number base (link ∷ links) else level_by base links has
 

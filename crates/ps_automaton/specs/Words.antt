@@ -1,8 +1,8 @@
 -- Words that repeat: a stem, and then a lap for ever. A word is a function from indices, which begin at 0, to letters.
 use Rattle.std.specs.Prelude.{◌≡◌, ℕ, ◌+◌, ◌-◌, ◌%◌, ◌≤◌, List, length, nat_lt, if◌then◌else◌, slice_index}
 
-abbrev pub word : List ℕ → List ℕ → ℕ → ℕ
-word stem lap t =
+abbrev pub lasso_word : List ℕ → List ℕ → ℕ → ℕ
+lasso_word stem lap t =
     if nat_lt t (length stem) then slice_index stem t else slice_index lap ((t - length stem) % length lap)
 
 -- from the index `from` on, each value occurs again `count` indices later

@@ -9,7 +9,7 @@ use Rattle.ps_game.specs.Games.{ParityGame, vertex_count, owner_of, priority_of,
 use Rattle.ps_certificate.specs.declared.flaw.Flaw.{Flaw}
 use Rattle.ps_certificate.specs.declared.flaw.Flaw.TheVariants.{Rank}
 use Rattle.ps_certificate.specs.Certificates.{CertificateData, Fits, Remains, HasRightMove, IsClosed, IsValid}
-use Rattle.ps_certificate.specs.Certificates.{KeepsCount, BreaksCount, IsFlaw, Precedes, IsFirstFlaw, StandsBefore}
+use Rattle.ps_certificate.specs.Certificates.{KeepsCount, BreaksCount, IsFlaw, Precedes, IsFirstFlaw, OccursBefore}
 use Rattle.ps_certificate.specs.Certificates.{winner_of, choice_of, counts_of, opposing, opposing_at}
 use Rattle.ps_certificate.specs.Inner.Prefixes.{IsFirstBroken, IsFirstFlawAt, KeepsCounts, KeepsCountsAt}
 use Rattle.ps_certificate.specs.Inner.Prefixes.{KeepCountsBefore}
@@ -122,7 +122,7 @@ same_edge {certificate} {v} {w} fits first other = elim (cases_order other.place
 pub IsFirstFlawAt-rank : {game : ParityGame} {certificate : CertificateData} {v w p : ℕ} →
     Fits game certificate → Remains game certificate v w → winner_of certificate w ≡ winner_of certificate v →
     IsFirstBroken game certificate v w p → ((w' : ℕ) → Remains game certificate v w' → (w' ≡ w) ⊎ (KeepsCounts
-    game certificate v w' ⊎ StandsBefore (successors_of game v) w w')) → IsFirstFlawAt game certificate 1 v (Rank v w p)
+    game certificate v w' ⊎ OccursBefore (successors_of game v) w w')) → IsFirstFlawAt game certificate 1 v (Rank v w p)
 IsFirstFlawAt-rank {game} {certificate} {v} {w} {p} fits remains same_winner broken edges = grind (arith, others)
   where
     here : (w' p' : ℕ) → BreaksCount game certificate v w' p' →
@@ -153,7 +153,7 @@ own_edges game certificate v own is {w'} remains = search rules
 pub other_edges : (game : ParityGame) (certificate : CertificateData) (v w number : ℕ) →
     number < length (successors_of game v) → w ≡ slice_index (successors_of game v) number →
     ((k : ℕ) → k < number → KeepsCounts game certificate v (get_or (successors_of game v) k 0)) → (w' : ℕ) → Remains
-    game certificate v w' → (w' ≡ w) ⊎ (KeepsCounts game certificate v w' ⊎ StandsBefore (successors_of game v) w w')
+    game certificate v w' → (w' ≡ w) ⊎ (KeepsCounts game certificate v w' ⊎ OccursBefore (successors_of game v) w w')
 other_edges game certificate v w number within is before w' remains =
     let (j, j_within, j_is) = place_of (successors_of game v) remains.edge.1 in
     grind (arith, cases_order j number)

@@ -13,7 +13,7 @@ use Rattle.std.specs.Option.{option_map}
 use Rattle.ps_text.specs.Answers.{Piece, Stream, Found, next_of, offset_of, signs}
 use Rattle.ps_text.specs.Parts.{PartAnswers, IsRead, then_by}
 use Rattle.ps_text.specs.Readers.{tail, Reads, Stops, Carries}
-use Rattle.ps_text.specs.Cursors.{next_byte, place_of}
+use Rattle.ps_text.specs.Cursors.{next_byte, stream_offset}
 use Rattle.ps_text.specs.Faults.{found_of}
 use Rattle.ps_text.specs.declared.faults.Fault.TheVariants.{Text, OutOfMemory}
 use Rattle.ps_text.proofs.Simple.{same_some}
@@ -217,12 +217,12 @@ module _ (odd even ids : List ℕ) where
               (subst (λ ps. IsRead whole (signs (pieces_at 0 text)) c (signs ps)) h m.1)
           go (p ∷ ps) h = absurd (omega (arith, e, ap length h))
 
-      pub text_trails : {e : CertFault} → (length end.pieces ≡ 0 → ⊥) → e ≡ Text Syntax (place_of end) →
+      pub text_trails : {e : CertFault} → (length end.pieces ≡ 0 → ⊥) → e ≡ Text Syntax (stream_offset end) →
           TellsEntries odd even ids text (Err e)
       text_trails more is = subst (λ x. TellsEntries odd even ids text (Err x)) (sym is) (go end.pieces refl)
         where
           go : (ps : List (Piece Seen)) → end.pieces ≡ ps → PartAnswers causes whole (stream_at 0 text)
-              (Err (record { cause = Syntax; offset = place_of end }))
+              (Err (record { cause = Syntax; offset = stream_offset end }))
           go [] h = absurd (more (ap length h))
           go (p ∷ ps) h = subst (λ o. PartAnswers causes whole (stream_at 0 text)
               (Err (record { cause = Syntax; offset = o }))) (sym (ap (λ qs. offset_of qs end.end) h))

@@ -121,6 +121,7 @@ wins_each_loop {game} {certificate} {player} is_player fits valid {path} {i} {j}
           }))
     ]
 
+-- with a valid certificate, each player holds the vertices that the certificate gives to the player
 pub BothHold-from_valid : (game : ParityGame) (certificate : CertificateData) → Fits game certificate →
     IsValid game certificate → BothHold game certificate
 BothHold-from_valid game certificate fits valid player is_player =

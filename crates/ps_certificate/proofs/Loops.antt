@@ -12,7 +12,7 @@ use Rattle.std.proofs.lemmas.List.{append-nil, drop_more, drop_all}
 use Rattle.ps_text.specs.Answers.{Stream, Found}
 use Rattle.ps_text.specs.Cursors.{next_byte}
 use Rattle.ps_text.specs.Parts.{many, mapped}
-use Rattle.ps_text.specs.Readers.{Reads, Stops, Goes, Carries}
+use Rattle.ps_text.specs.Readers.{Reads, Stops, Parses, Carries}
 use Rattle.ps_text.specs.Faults.{found_of}
 use Rattle.ps_text.proofs.Laws.{Joint}
 use Rattle.ps_text.proofs.Covered.{enters_then}
@@ -76,8 +76,8 @@ behind front (Err o) = Err o
 -- reading the rest of a list gives the elements of the whole list that follow those already read
 pub record Listing {A : Type 0} (whole : Field (List A)) (start : Stream Seen) (rest : Field (List A))
     (now : Stream Seen) (front : List A) : Type 0 where
-  pub carries : (r : Result (List A) (Option (Found CertCause))) (new : Stream Seen) → Goes causes rest now r new
-      → Goes causes whole start (behind front r) new
+  pub carries : (r : Result (List A) (Option (Found CertCause))) (new : Stream Seen) → Parses causes rest now r new
+      → Parses causes whole start (behind front r) new
 
 module _ {A : Type 0} (whole : Field (List A)) (start : Stream Seen) where
   module _ (rest : Field (List A)) (now : Stream Seen) (front : List A) (l : Listing whole start rest now front) where
@@ -90,8 +90,8 @@ module _ {A : Type 0} (whole : Field (List A)) (start : Stream Seen) where
         → longer ≡ front ++ a ∷ [] → Listing whole start other next longer
     listing_next {other} {next} a reads stops e = subst (Listing whole start other next) (sym e) (grind (arith, more))
       where
-        more : (r : Result (List A) (Option (Found CertCause))) (new : Stream Seen) → Goes causes other next r new
-            → Goes causes whole start (behind (front ++ a ∷ []) r) new
+        more : (r : Result (List A) (Option (Found CertCause))) (new : Stream Seen) → Parses causes other next r new
+            → Parses causes whole start (behind (front ++ a ∷ []) r) new
         more (Ok others) new m = subst (λ xs. Reads whole start xs new) (sym (append_assoc front (a ∷ []) others))
             (l.carries (Ok (a ∷ others)) new (reads others new m))
         more (Err o) new m = l.carries (Err o) new (stops o m)

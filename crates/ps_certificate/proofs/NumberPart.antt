@@ -18,7 +18,7 @@ use Rattle.ps_text.proofs.Whole.{Own}
 use Rattle.ps_certificate.specs.declared.fault.CertCause.{CertCause}
 use Rattle.ps_certificate.specs.declared.fault.CertCause.TheVariants.{Syntax, OtherGame}
 use Rattle.ps_certificate.specs.Faults.{CertFault, cause_number}
-use Rattle.ps_text.specs.Cursors.{place_of}
+use Rattle.ps_text.specs.Cursors.{stream_offset}
 use Rattle.ps_text.proofs.Bytes.Pieces.{bytes_append, bytes_at, pieces_with, pieces_split}
 use Rattle.ps_certificate.specs.Inner.Reading.{numeral, HasNoNumber, IsNumberRead}
 use Rattle.ps_text.specs.Bytes.{Seen, pieces_at, bytes_of}
@@ -205,7 +205,7 @@ at_front h = record { front = []; split = refl; clean = λ front more t g e l c.
 
 pub stops_there : {V : Type 0} {P : Field V} {old : Stream Seen} (at : ℕ) (ahead : List ℕ) {f : CertCause} →
     old.pieces ≡ pieces_at at ahead → IsFaultAt causes P [] (first_of (signs (pieces_at at ahead))) f →
-    StopsWith causes P old (record { cause = f; offset = place_of old })
+    StopsWith causes P old (record { cause = f; offset = stream_offset old })
 stops_there {P = P} {old = old} at ahead {f = f} e h = record {
   front = [];
   rest = old.pieces;
@@ -248,12 +248,13 @@ wrong_number {Wrong} settled at (b ∷ bytes) {f = f} l value small behind wrong
     least g h = grind arith
 
 pub stops_at_place : {V : Type 0} {P : Field V} {old : Stream Seen} {f : CertCause} {e : CertFault} →
-    StopsWith causes P old (record { cause = f; offset = place_of old }) → e ≡ Text f (place_of old) →
+    StopsWith causes P old (record { cause = f; offset = stream_offset old }) → e ≡ Text f (stream_offset old) →
     Stops causes P old (found_of e)
 stops_at_place {P = P} {old = old} s is = subst (λ x. Stops causes P old (found_of x)) (sym is) s
 
+-- without a digit the part stops at the first byte, with the error `Syntax`
 pub judged_fails : (Wrong : Verdict) {old : Stream Seen} {e : CertFault} →
-    (e ≡ Text Syntax (place_of old)) × HasNoNumber old → Stops causes (judged Wrong) old (found_of e)
+    (e ≡ Text Syntax (stream_offset old)) × HasNoNumber old → Stops causes (judged Wrong) old (found_of e)
 judged_fails Wrong h = stops_at_place (stops_there h.1.at h.1.bytes h.1.old_is (go h.1.none)) h.0
   where
     go : (numeral h.1.bytes ≡ []) ⊎ ((0 < run_length h.1.bytes) × (2 ^ 64 ≤ decimal_value (numeral h.1.bytes))) →
@@ -263,17 +264,18 @@ judged_fails Wrong h = stops_at_place (stops_there h.1.at h.1.bytes h.1.old_is (
 
 pub judged_wrong : {Wrong : Verdict} → Settled Wrong → {old new : Stream Seen} {n : ℕ} (f : CertCause) {e : CertFault}
     (r : IsNumberRead old new n) → Wrong r.rest n f → ((g : CertCause) → Wrong r.rest n g →
-    cause_number f ≤ cause_number g) → e ≡ Text f (place_of old) → Stops causes (judged Wrong) old (found_of e)
+    cause_number f ≤ cause_number g) → e ≡ Text f (stream_offset old) → Stops causes (judged Wrong) old (found_of e)
 judged_wrong settled f r wrong first is =
     stops_at_place (stops_there r.at (read_bytes r) r.old_is (wrong_number settled r.at (read_bytes r)
     (read_long r) (read_value r) r.small (read_behind r) wrong first)) is
 
 -- a number, if `Wrong` states which numbers are not the game's
 module _ (Wrong : ℕ → Type 0) {old new : Stream Seen} {n : ℕ} (r : IsNumberRead old new n) where
+  -- a number that ends its field and is not wrong is read as that number
   pub number_reads : (EndsField r.rest → Wrong n → ⊥) → Reads (number Wrong) old n new
   number_reads right = judged_reads (OfOtherGame Wrong) (settled_other Wrong) r (λ f w. right w.1 w.2)
 
-  pub number_wrong : {e : CertFault} → EndsField r.rest → Wrong n → e ≡ Text OtherGame (place_of old) →
+  pub number_wrong : {e : CertFault} → EndsField r.rest → Wrong n → e ≡ Text OtherGame (stream_offset old) →
       Stops causes (number Wrong) old (found_of e)
   number_wrong ended wrong is = judged_wrong (settled_other Wrong) OtherGame r
       (refl, ended, wrong) (λ g w. rw w.0 (omega arith)) is

@@ -5,7 +5,7 @@ use Rattle.std.specs.List.{AllPairs}
 use Rattle.std.proofs.lemmas.Bool.{cases_order}
 use Rattle.ps_game.specs.Games.{ParityGame, IsGame, vertex_count}
 use Rattle.ps_certificate.specs.declared.flaw.Flaw.{Flaw}
-use Rattle.ps_certificate.specs.Certificates.{CertificateData, IsFlaw, StandsBefore, EdgePrecedes, Precedes}
+use Rattle.ps_certificate.specs.Certificates.{CertificateData, IsFlaw, OccursBefore, EdgePrecedes, Precedes}
 use Rattle.ps_certificate.specs.Certificates.{IsFirstFlaw}
 
 -- a list of different numbers has each number at only one index
@@ -13,10 +13,10 @@ one_place : (xs : List ℕ) → AllPairs (λ x y. x ≢ y) xs → {i j : ℕ} �
     slice_index xs i ≡ slice_index xs j → i ≡ j
 one_place xs different {i} {j} i_within j_within same = search (rules, cases_order)
 
-not_before_itself : (xs : List ℕ) → AllPairs (λ x y. x ≢ y) xs → {x y : ℕ} → y ≡ x → StandsBefore xs x y → ⊥
+not_before_itself : (xs : List ℕ) → AllPairs (λ x y. x ≢ y) xs → {x y : ℕ} → y ≡ x → OccursBefore xs x y → ⊥
 not_before_itself xs different same (i, j, below, within, at_i, at_j) = search rules
 
-not_both_before : (xs : List ℕ) → AllPairs (λ x y. x ≢ y) xs → {x y : ℕ} → StandsBefore xs x y → StandsBefore xs y x → ⊥
+not_both_before : (xs : List ℕ) → AllPairs (λ x y. x ≢ y) xs → {x y : ℕ} → OccursBefore xs x y → OccursBefore xs y x → ⊥
 not_both_before xs different (i, j, below, within, at_i, at_j) (k, l, below', within', at_k, at_l) =
     search (rules, one_place)
 

@@ -20,7 +20,7 @@ use Rattle.ps_certificate.specs.declared.fault.CertCause.TheVariants.{Syntax, Ot
 use Rattle.ps_certificate.specs.Faults.{CertFault, cause_number}
 use Rattle.ps_certificate.specs.Pairs.{Pairs, with_pair, DoesNotRise}
 use Rattle.ps_certificate.specs.Inner.Prefixes.{IsAt}
-use Rattle.ps_text.specs.Cursors.{next_byte, place_of}
+use Rattle.ps_text.specs.Cursors.{next_byte, stream_offset}
 use Rattle.ps_certificate.specs.Inner.Reading.{is_end, rises, IsNumberRead, TellsNumber, TellsPriority}
 use Rattle.ps_certificate.specs.Texts.{causes, judged, WrongPriority, IsZero, pair}
 use Rattle.ps_certificate.proofs.NumberPart.{settled_zero, settled_priority, syntax_least, judged_reads, judged_fails}
@@ -34,7 +34,7 @@ use Rattle.ps_certificate.proofs.Steps.{ends_true, ends_false}
 -- ## A count that is not 0
 
 pub zero_fails : {old new : Stream Seen} {n : ℕ} {e : CertFault} → IsNumberRead old new n → n ≡ 0 →
-    e ≡ Text Syntax (place_of old) → Stops causes (judged IsZero) old (found_of e)
+    e ≡ Text Syntax (stream_offset old) → Stops causes (judged IsZero) old (found_of e)
 zero_fails r none is = judged_wrong settled_zero Syntax r (refl, none) (λ g w. syntax_least g) is
 
 pub positive_reads : {old new : Stream Seen} {n : ℕ} → IsNumberRead old new n → (n ≡ 0 → ⊥) →
@@ -63,7 +63,7 @@ module _ (ps : List ℕ) (last : Option ℕ) (pairs : Pairs) (same : pairs.last 
 
   module _ (mid : Stream Seen) (n : ℕ) (r : IsNumberRead old mid n) where
     pub priority_open : (new : Stream Seen) {e : CertFault} → is_end (next_byte mid) ≡ false →
-        e ≡ Text Syntax (place_of mid)
+        e ≡ Text Syntax (stream_offset mid)
         → TellsPriority ps pairs old (Err e) new
     priority_open new {e} h is = inr (
       n,
@@ -74,12 +74,12 @@ module _ (ps : List ℕ) (last : Option ℕ) (pairs : Pairs) (same : pairs.last 
     )
 
     pub priority_low : (new : Stream Seen) {e : CertFault} → is_end (next_byte mid) ≡ true → rises last n ≡ false
-        → e ≡ Text Syntax (place_of old) → TellsPriority ps pairs old (Err e) new
+        → e ≡ Text Syntax (stream_offset old) → TellsPriority ps pairs old (Err e) new
     priority_low new h low is = inl (judged_wrong (settled_priority ps pairs) Syntax r
         (ends_true r h, inl (refl, stays_below pairs n same low)) (λ g w. syntax_least g) is)
 
     pub priority_unknown : (new : Stream Seen) {e : CertFault} → is_end (next_byte mid) ≡ true → rises last n ≡ true
-        → (Contains ps n → ⊥) → e ≡ Text OtherGame (place_of old) → TellsPriority ps pairs old (Err e) new
+        → (Contains ps n → ⊥) → e ≡ Text OtherGame (stream_offset old) → TellsPriority ps pairs old (Err e) new
     priority_unknown new h up none is = inl (judged_wrong (grind (arith, settled_priority)) OtherGame r
         (grind (arith, ends_true), inr (refl, none)) (λ g w. least g w.1) is)
       where

@@ -15,7 +15,7 @@ use Rattle.ps_text.specs.Faults.{found_of}
 use Rattle.ps_text.specs.Digits.{decimal_value}
 use Rattle.ps_text.specs.declared.faults.Fault.TheVariants.{Text}
 use Rattle.ps_text.specs.Bytes.{Seen, pieces_at, take_byte, is_digit}
-use Rattle.ps_text.specs.Cursors.{next_byte, place_of, IsAhead, Passes}
+use Rattle.ps_text.specs.Cursors.{next_byte, stream_offset, IsAhead, Passes}
 use Rattle.ps_text.proofs.ByteRuns.{run_len}
 use Rattle.ps_text.proofs.Laws.{Or}
 use Rattle.ps_text.proofs.Simple.{none_is_some, same_some}
@@ -44,7 +44,7 @@ module _ {V : Type 0} (a b : ℕ) (v w : V) (old : Stream Seen) where
       reads_next (take_two a b v w) NoBad old new t.0 w t.1 next (second_taken a v t.0 other t.2) (λ f x. x)
 
   pub two_fails : {e : CertFault} → (next_byte old ≡ Some a → ⊥) → (next_byte old ≡ Some b → ⊥) →
-      e ≡ Text Syntax (place_of old) → Stops causes (two a b v w) old (found_of e)
+      e ≡ Text Syntax (stream_offset old) → Stops causes (two a b v w) old (found_of e)
   two_fails h k is = stops_at_place (stops_here cause_number Syntax (lawful_two a b v w).laws none) is
     where
       none : (t : Seen) → next_of old ≡ Some t → Or (At a) (At b) t → ⊥
@@ -121,11 +121,12 @@ module _ (left : List ℕ) (old : Stream Seen) where
       reads_next (take_byte 10) (IsMissing left) old new t.0 tt t.1 next (byte_taken t.0 t.2)
       (λ f x. omega (arith, x.1, none))
 
-  pub end_fails : {e : CertFault} → (next_byte old ≡ Some 10 → ⊥) → e ≡ Text Syntax (place_of old) →
+  pub end_fails : {e : CertFault} → (next_byte old ≡ Some 10 → ⊥) → e ≡ Text Syntax (stream_offset old) →
       Stops causes (one (take_byte 10) (IsMissing left)) old (found_of e)
   end_fails h is = stops_at_place (stops_here cause_number Syntax (lawful_newline left).laws (avoids 10 old h)) is
 
-  pub end_missing : {e : CertFault} → next_byte old ≡ Some 10 → 0 < length left → e ≡ Text OtherGame (place_of old) →
+  pub end_missing : {e : CertFault} → next_byte old ≡ Some 10 → 0 < length left →
+      e ≡ Text OtherGame (stream_offset old) →
       Stops causes (one (take_byte 10) (IsMissing left)) old (found_of e)
   end_missing {e} h some is =
       let t = next_is (next_of old) h in

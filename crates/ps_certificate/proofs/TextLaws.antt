@@ -36,6 +36,7 @@ Separates s = (s.byte ≡ 32) ⊎ (s.byte ≡ 10)
 digit_separates : Apart AtDigit Separates
 digit_separates = search rules
 
+-- a space is not a digit
 pub digit_no_space : Apart AtDigit (At 32)
 digit_no_space t d e = omega (arith, e, d.0)
 
@@ -140,6 +141,7 @@ abbrev pub behind_space : List ℕ → Pairs → Field Pairs
 behind_space ps pairs = then_by
     (judged (WrongPriority ps pairs)) (λ p. then_by (byte 58) (λ _. mapped (λ m. with_pair pairs p m) (judged IsZero)))
 
+-- the laws of a space and the count after it, as one link of a chain
 pub chain_pair : (ps : List ℕ) (pairs : Pairs) → Chain (byte 32) (λ _. behind_space ps pairs) (At 32) AtDigit ⊥
 chain_pair ps pairs = tight (byte_of 32) (λ _. (chain_priority ps pairs).whole)
 

@@ -101,14 +101,14 @@ IsFlaw game certificate (Escape v w) =
 IsFlaw game certificate (Rank v w p) = BreaksCount game certificate v w p
 
 -- one number occurs before another in a list
-abbrev pub StandsBefore : List ℕ → ℕ → ℕ → Type 0
-StandsBefore xs x y =
+abbrev pub OccursBefore : List ℕ → ℕ → ℕ → Type 0
+OccursBefore xs x y =
     (i : ℕ) × (j : ℕ) × (i < j) × (j < length xs) × (slice_index xs i ≡ x) × (slice_index xs j ≡ y)
 
 -- the edge from v to w comes before the edge from v' to w': edges are ordered by vertex, then as in the list of
 -- successors
 abbrev pub EdgePrecedes : ParityGame → ℕ → ℕ → ℕ → ℕ → Type 0
-EdgePrecedes game v w v' w' = (v < v') ⊎ ((v ≡ v') × StandsBefore (successors_of game v) w w')
+EdgePrecedes game v w v' w' = (v < v') ⊎ ((v ≡ v') × OccursBefore (successors_of game v) w w')
 
 -- The order of flaws: wrong moves and escapes come first, by vertex. At the same vertex, a wrong move precedes the
 -- escapes, which are in the order of successors. Flaws in counts follow, by vertex, successor and priority.

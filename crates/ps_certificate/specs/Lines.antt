@@ -3,7 +3,7 @@
 use Rattle.std.specs.Prelude.{◌≡◌, ℕ, ◌≤◌, List, length, map}
 use Rattle.std.specs.List.{All, slice_range, zip}
 use Rattle.ps_certificate.specs.Certificates.{EntryData}
-use Rattle.ps_certificate.specs.Sparse.{row_of, IsRow}
+use Rattle.ps_certificate.specs.Sparse.{dense_row, IsRow}
 use Rattle.ps_certificate.specs.declared.entries.Line.{Line}
 use Rattle.ps_certificate.specs.declared.row.PlacedCount.{PlacedCount}
 
@@ -14,13 +14,13 @@ part_of placed line = slice_range placed line.start line.end
 -- the entry that is stored as a winner and a line
 abbrev pub entry_in : List PlacedCount → ℕ × Line → EntryData
 entry_in placed p =
-    record { winner = p.0; choice = p.1.choice; counts = row_of p.1.width (part_of placed p.1) }
+    record { winner = p.0; choice = p.1.choice; counts = dense_row p.1.width (part_of placed p.1) }
 
 abbrev pub entries_in : List ℕ → List Line → List PlacedCount → List EntryData
 entries_in winners lines placed = map (entry_in placed) (zip winners lines)
 
 -- the part of the list to which the line refers is a row
-pub record IsWithin (placed : List PlacedCount) (line : Line) : Type 0 where
+pub record IsRowWithin (placed : List PlacedCount) (line : Line) : Type 0 where
   pub rises : line.start ≤ line.end
   pub ends : line.end ≤ length placed
   pub row : IsRow line.width (part_of placed line)
@@ -28,4 +28,4 @@ pub record IsWithin (placed : List PlacedCount) (line : Line) : Type 0 where
 -- there is a winner for each line, and each line refers to a row in the list
 pub record AreLines (winners : List ℕ) (lines : List Line) (placed : List PlacedCount) : Type 0 where
   pub each : length winners ≡ length lines
-  pub within : All (IsWithin placed) lines
+  pub within : All (IsRowWithin placed) lines

@@ -14,8 +14,8 @@ counts_from placed zero place = []
 counts_from placed (suc n) place = count_at placed place ∷ counts_from placed n (suc place)
 
 -- a list of counts of a given length
-abbrev pub row_of : ℕ → List PlacedCount → List ℕ
-row_of width placed = counts_from placed width 0
+abbrev pub dense_row : ℕ → List PlacedCount → List ℕ
+dense_row width placed = counts_from placed width 0
 
 -- indices ascend, are at least `from`, and are less than the number of counts
 abbrev pub Rises : ℕ → ℕ → List PlacedCount → Type 0

@@ -23,11 +23,11 @@ pub struct Row<'a> {
 
 impl<'a> Model for Row<'a> {
     ghost use Rattle.std.specs.Prelude.{ℕ, List};
-    ghost use Rattle.ps_certificate.specs.Sparse.{row_of, IsRow};
+    ghost use Rattle.ps_certificate.specs.Sparse.{dense_row, IsRow};
 
     ghost Value = { List ℕ };
 
-    ghost view = { λ row. row_of row.width row.placed.now };
+    ghost view = { λ row. dense_row row.width row.placed.now };
 
     ghost invariant = { λ row. IsRow row.width row.placed.now };
 }

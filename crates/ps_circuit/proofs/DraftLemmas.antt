@@ -14,7 +14,7 @@ use Rattle.ps_circuit.specs.declared.number.Number.{Number}
 use Rattle.ps_circuit.specs.Drafts.{name_bytes}
 use Rattle.ps_circuit.specs.declared.parts.Latch.{Latch}
 use Rattle.ps_circuit.specs.declared.parts.Gate.{Gate}
-use Rattle.ps_circuit.specs.Circuits.{IsName, IsDefinition}
+use Rattle.ps_circuit.specs.Circuits.{IsSymbolName, IsDefinition}
 use Rattle.ps_circuit.specs.Literals.{variable}
 use Rattle.ps_text.specs.Bytes.{Seen}
 use Rattle.ps_circuit.specs.Signs.{Field}
@@ -127,8 +127,8 @@ pub sound_draft : (most : ℕ) {i : Lines ℕ} {l : Lines Latch} {o : Lines ℕ}
     Grown (AddsInput most) no_lines i → Grown (AddsLatch most) (next_lines i) l → Grown AddsOutput (next_lines l) o →
     Grown (AddsGate most) (next_lines o) a
     → length names.inputs ≡ length i.items → length names.latches ≡ length l.items →
-    length names.outputs ≡ length o.items → All IsName names.inputs → All IsName names.latches →
-    All IsName names.outputs → IsSoundDraft (drafted most i l o a names)
+    length names.outputs ≡ length o.items → All IsSymbolName names.inputs → All IsSymbolName names.latches →
+    All IsSymbolName names.outputs → IsSoundDraft (drafted most i l o a names)
 sound_draft most {i} {l} {o} {a} names limit placed gi gl go ga n1 n2 n3 a1 a2 a3 =
     let li = lined input_kind most (input_adds most) {before = []} {read = []} refl defines_none refl gi in
     let ll = lined latch_kind most (latch_adds most) refl li.new li.readings gl in

@@ -24,7 +24,7 @@ use Rattle.ps_text.specs.declared.faults.Fault.TheVariants.{Text, OutOfMemory}
 use Rattle.ps_circuit.specs.Circuits.{CircuitData, IsCircuit}
 use Rattle.ps_text.specs.Bytes.{Seen, stream_of}
 use Rattle.ps_circuit.specs.Signs.{Field, aig_causes}
-use Rattle.ps_text.specs.Cursors.{next_byte, place_of}
+use Rattle.ps_text.specs.Cursors.{next_byte, stream_offset}
 use Rattle.ps_text.specs.Faults.{found_of}
 use Rattle.ps_circuit.specs.Inner.Cursors.{saturated}
 use Rattle.ps_circuit.specs.Texts.{HeaderData, header, Lines, no_lines, input_line, NamesData, no_names, symbol_line}
@@ -50,15 +50,15 @@ pub text_reads : (text : List ℕ) (new : Stream Seen) (d : DraftData) → new.p
 text_reads text new d e m = answers_ok laws_text.laws (stream_of text) d (search (rules, m.1))
 
 pub text_trails : (text : List ℕ) (new : Stream Seen) (d : DraftData) {b : ℕ} {e : AigFault} →
-    ReadsPart circuit_text (stream_of text) d new → next_byte new ≡ Some b → e ≡ Text Syntax (place_of new) →
+    ReadsPart circuit_text (stream_of text) d new → next_byte new ≡ Some b → e ≡ Text Syntax (stream_offset new) →
     FoundAnswers text (found_of e)
 text_trails text new d {b} m n is = subst (λ x. FoundAnswers text (found_of x)) (sym is) (go new.pieces refl)
   where
     go : (ps : List (Piece Seen)) → new.pieces ≡ ps → PartAnswers aig_causes circuit_text (stream_of text)
-        (Err (record { cause = Syntax; offset = place_of new }))
+        (Err (record { cause = Syntax; offset = stream_offset new }))
     go [] y = search (rules, new.end)
     go (p ∷ ps) y =
-        let o : p.start ≡ place_of new = sym (ap (λ z. offset_of z new.end) y) in
+        let o : p.start ≡ stream_offset new = sym (ap (λ z. offset_of z new.end) y) in
         subst (λ x. PartAnswers aig_causes circuit_text (stream_of text) (Err (record { cause = Syntax; offset = x })))
         o (answers_trailing laws_text.laws (stream_of text) new d p ps m.0 m.1 y)
 

@@ -9,7 +9,7 @@ use Rattle.ps_text.specs.Readers.{Reads, Stops}
 use Rattle.ps_text.specs.Faults.{found_of}
 use Rattle.ps_text.specs.declared.faults.Fault.TheVariants.{Text}
 use Rattle.ps_text.specs.Bytes.{Seen, is_space, is_inner, NoBadRun}
-use Rattle.ps_text.specs.Cursors.{next_byte, place_of, Passes}
+use Rattle.ps_text.specs.Cursors.{next_byte, stream_offset, Passes}
 use Rattle.ps_text.proofs.Simple.{same_some, laws_give}
 use Rattle.ps_text.proofs.Covered.{Avoids, Enters, enters_read, enters_mapped}
 use Rattle.ps_text.proofs.Exits.{reads_give, then_meets}
@@ -32,7 +32,7 @@ unfolding gap
 gap_reads {old} {new} {r} x some = run_reads is_space (λ at bytes. tt) NoBadRun x some (λ f h. h) refl
 
 pub gap_stops : {old new : Stream Seen} {r : List ℕ} {e : AigFault} → Passes is_space old new r → r ≡ [] →
-    e ≡ Text Syntax (place_of old) → Stops aig_causes gap old (found_of e)
+    e ≡ Text Syntax (stream_offset old) → Stops aig_causes gap old (found_of e)
 unfolding gap
 gap_stops {old} {new} x none is = subst (λ y. Stops aig_causes gap old (found_of y)) (sym is)
     (run_stops is_space (λ at bytes. tt) NoBadRun cause_number Syntax 32 refl (subst (Passes is_space old new) none x))
@@ -43,7 +43,7 @@ unfolding rest_of_line
 rest_reads {old} {new} {r} x some = run_reads is_inner (λ at bytes. bytes) NoBadRun x some (λ f h. h) refl
 
 pub rest_stops : {old new : Stream Seen} {r : List ℕ} {e : AigFault} → Passes is_inner old new r → r ≡ [] →
-    e ≡ Text Syntax (place_of old) → Stops aig_causes rest_of_line old (found_of e)
+    e ≡ Text Syntax (stream_offset old) → Stops aig_causes rest_of_line old (found_of e)
 unfolding rest_of_line
 rest_stops {old} {new} x none is = subst (λ y. Stops aig_causes rest_of_line old (found_of y)) (sym is)
     (run_stops is_inner (λ at bytes. bytes) NoBadRun cause_number Syntax 32 refl

@@ -13,13 +13,16 @@ use Rattle.ps_components.proofs.Places.{slice_get-append_left, slice_get-push_ca
 use Rattle.ps_circuit.specs.declared.builder.Sides.{Sides}
 use Rattle.ps_circuit.specs.contracts.builder.SidesPartialEq.TheImpl as sides_eq
 use Rattle.ps_circuit.specs.Literals.{variable, negated}
-use Rattle.ps_circuit.specs.Building.{Drafted, AreSides, Extends, IsChoice, IsFull, IsHeld, IsNew, IsSoundDraft, Meets}
+use Rattle.ps_circuit.specs.Building.{Drafted, AreSides, Extends, IsChoice, IsFull, IsHeld, IsNew, IsSoundDraft}
+use Rattle.ps_circuit.specs.Building.{MeetsEquations}
 use Rattle.ps_circuit.specs.Building.{NeedsChoice, NeedsGate, for_either}
 use Rattle.ps_circuit.specs.Building.{bit, variables_of}
 
+-- a truth value is true or false
 pub bool_cases : (b : Bool) → (b ≡ true) ⊎ (b ≡ false)
 bool_cases b = cases_Bool b
 
+-- true is not false
 pub true_is_not_false : true ≡ false → ⊥
 true_is_not_false e = cc
 
@@ -60,16 +63,18 @@ variable-negated l = search (rules, of_literal, negated_even, negated_odd)
 pub held-negated : (d : Drafted) (l : ℕ) → IsHeld d l → IsHeld d (negated l)
 held-negated d l h = subst (λ n. n ≤ variables_of d) (sym (variable-negated l)) h
 
+-- each draft extends itself
 pub extends-refl : (d : Drafted) → Extends d d
 extends-refl d = record { given = refl; more = omega arith; same = λ k s e. e }
 
+-- an extension of an extension is an extension
 pub extends-trans : (a b c : Drafted) → Extends a b → Extends b c → Extends a c
 extends-trans a b c x y = search rules
 
 pub held-extends : (a b : Drafted) → Extends a b → (l : ℕ) → IsHeld a l → IsHeld b l
 held-extends a b x l h = let p = x.more in let q = x.given in omega arith
 
-pub meets-extends : (a b : Drafted) → Extends a b → (v : ℕ → Bool) → Meets b v → Meets a v
+pub meets-extends : (a b : Drafted) → Extends a b → (v : ℕ → Bool) → MeetsEquations b v → MeetsEquations a v
 meets-extends a b x v m = search rules
 
 -- the gates with one more gate
@@ -129,7 +134,8 @@ placed old new s place is sides room given keys stored =
           }
     ]
 
-pub placed-bit : (d : Drafted) (s : Sides) (place : ℕ) → slice_get d.gates place ≡ Some s → (v : ℕ → Bool) → Meets d v →
+pub placed-bit : (d : Drafted) (s : Sides) (place : ℕ) → slice_get d.gates place ≡ Some s → (v : ℕ → Bool) →
+    MeetsEquations d v →
     bit v (2 * (d.given + 1 + place)) ≡ (bit v s.first && bit v s.second)
 placed-bit d s place at v m = bit-plain v (d.given + 1 + place) ∙ m.each place s at
 
@@ -162,7 +168,7 @@ pub chosen_bits : (v : ℕ → Bool) (s h l : ℕ) {ns : ℕ} (high low result :
 chosen_bits v s h l high low result e eh el er = er ∙ chosen_either v s h l high low e eh el
 
 -- a choice in which one alternative is the constant true
-bit_one : {d : Drafted} (v : ℕ → Bool) → Meets d v → bit v 1 ≡ true
+bit_one : {d : Drafted} (v : ℕ → Bool) → MeetsEquations d v → bit v 1 ≡ true
 bit_one v m = ap not m.constant
 
 either_high : (d : Drafted) (s high low : ℕ) → high ≡ 1 → IsChoice d s high low s low

@@ -25,12 +25,14 @@ syntax_least g = search rules
 pub judge_any : Judges AnyNumber
 judge_any n = judge_none cause_number
 
+-- it can be decided whether the greatest variable is wrong
 pub judge_most : Judges WrongMost
 judge_most n = judge_cause cause_number Literal (decide_below (2 ^ 31) n)
 
 pub judge_count : Judges WrongCount
 judge_count n = judge_cause cause_number Sections (decide_not (cases_eq n 0))
 
+-- it can be decided whether a literal is wrong
 pub judge_literal : (most : ℕ) → Judges (WrongLiteral most)
 judge_literal most n = judge_cause cause_number Literal (decide_below (suc (2 * most + 1)) n)
 

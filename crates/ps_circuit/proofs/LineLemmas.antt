@@ -5,7 +5,7 @@ use Rattle.std.proofs.Common.{◌≡◌, ℕ, ◌+◌, ◌-◌, ◌*◌, ◌^◌
 use Rattle.std.proofs.Common.{Option, Result, Ok, Err, Contains, refl, subst, inl, inr, arith, rules}
 use Rattle.ps_text.specs.Answers.{Stream, Found}
 use Rattle.ps_text.specs.Parts.{give, then_by, times, mapped}
-use Rattle.ps_text.specs.Readers.{Reads, Stops, Goes, Carries}
+use Rattle.ps_text.specs.Readers.{Reads, Stops, Parses, Carries}
 use Rattle.ps_text.proofs.Exits.{reads_give}
 use Rattle.ps_text.proofs.Branches.{reads_shrinks, times_reads, times_fails, times_fails_later}
 use Rattle.ps_circuit.specs.declared.number.Number.{Number}
@@ -220,8 +220,8 @@ is_row {C} {item} l = record {
 }
   where
     go : (n : ℕ) (c d : C) (old mid new : Stream Seen) (r : Result C (Option (Found AigCause))) → 0 < n →
-        Reads (item c) old d mid → Goes aig_causes (times (n - 1) item d) mid r new →
-        Goes aig_causes (times n item c) old r new
+        Reads (item c) old d mid → Parses aig_causes (times (n - 1) item d) mid r new →
+        Parses aig_causes (times n item c) old r new
     go n c d old mid new (Ok e) z m k = times_reads item (λ c. (l c).laws) separates_digit n z m k
     go n c d old mid new (Err o) z m k = times_fails_later item (λ c. (l c).laws) separates_digit aig_causes n o z m k
 

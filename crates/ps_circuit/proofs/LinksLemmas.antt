@@ -8,7 +8,7 @@ use Rattle.std.proofs.lemmas.List.Quantifiers.{position-Some}
 use Rattle.std.proofs.lemmas.Bool.{eqb-true}
 use Rattle.ps_circuit.specs.declared.links.Links.{Links}
 use Rattle.ps_circuit.specs.declared.parts.Gate.{Gate}
-use Rattle.ps_components.specs.Graphs.{Way, Link, IsWithin}
+use Rattle.ps_components.specs.Graphs.{Way, Link, LinksStayWithin}
 use Rattle.ps_components.specs.Orders.{IsOrder, IsFirstOnCycle}
 use Rattle.ps_circuit.specs.Circuits.{CircuitData, definitions, ReadsGate}
 use Rattle.ps_circuit.specs.Literals.{variable}
@@ -98,7 +98,7 @@ pub links-by_variables : {gates : List Gate} {variables : List ℕ} {links : Lis
 links-by_variables {gates} once are e = links-by_places (are_places gates once) (grind arith)
 
 module _ (gates : List Gate) (links : List Links) (a : AreLinksOf gates links) where
-  pub links_within : IsWithin (graph_of links)
+  pub links_within : LinksStayWithin (graph_of links)
   links_within i j l = omega (arith, a.each, slice_get_within gates j _ (a.link_reads i j l).at_j)
 
   pub order-of_links : {order : List ℕ} → IsOrder (Link (graph_of links)) (length links) order →
@@ -126,7 +126,7 @@ gates_once c once i j d lt within e = grind (arith, length-append, many, length-
     at_gate i d lt = search (rules, get_or-append-add, get_or-map, c.inputs, c.latches, c.gates)
 
 -- a literal of a gate links to the index of a gate
-pub side_within : (links : List Links) (item place : ℕ) {sides : Links} → IsWithin (graph_of links) →
+pub side_within : (links : List Links) (item place : ℕ) {sides : Links} → LinksStayWithin (graph_of links) →
     slice_get links item ≡ Some sides → place < 2 → IfSome (side_of sides place) (λ to. to < length links)
 side_within links item place {sides} within at lt = which (side_of sides place) refl
   where

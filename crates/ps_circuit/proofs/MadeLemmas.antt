@@ -137,6 +137,7 @@ mux_lasts s high low = by_test (high == low) _ _ (taken_as_is high)
     (by_test (high == 1 && low == 0) _ _ (taken_as_is s) (by_test (high == 0 && low == 1) _ _ (taken_as_is (negated s))
     (search (rules, by_test, or_lasts, and_lasts, chosen_lasts))))
 
+-- a choice extends the draft
 pub mux-extends : (d : Drafted) (s high low : ℕ) → Extends d (mux_of d s high low).draft
 mux-extends d s high low = (mux_lasts s high low).extends d
 

@@ -8,7 +8,7 @@ use Rattle.std.proofs.lemmas.Bool.{or_parts}
 use Rattle.std.proofs.Math.Bool.{and-true, and_self, and_comm}
 use Rattle.std.proofs.lemmas.Option.{slice_get_within}
 use Rattle.ps_circuit.specs.declared.builder.Sides.{Sides}
-use Rattle.ps_circuit.specs.Building.{Drafted, AreSides, Extends, IsFull, IsHeld, IsSoundDraft, Meets, bit}
+use Rattle.ps_circuit.specs.Building.{Drafted, AreSides, Extends, IsFull, IsHeld, IsSoundDraft, MeetsEquations, bit}
 use Rattle.ps_circuit.specs.Building.{variables_of}
 use Rattle.ps_circuit.specs.Literals.{negated, variable}
 use Rattle.ps_circuit.specs.Gates.{Made, has_sides, gate_of, and_of, or_of, chosen_of, mux_of}
@@ -28,7 +28,7 @@ room-before d e x room = let p = x.more in let q = x.given in omega arith
 pub record IsMade (m : Made) (wanted : (ℕ → Bool) → Bool) : Type 0 where
   pub sound : IsSoundDraft m.draft
   pub held : IsHeld m.draft m.literal
-  pub is : (v : ℕ → Bool) → Meets m.draft v → bit v m.literal ≡ wanted v
+  pub is : (v : ℕ → Bool) → MeetsEquations m.draft v → bit v m.literal ≡ wanted v
 
 pub made-as : (m : Made) (p q : (ℕ → Bool) → Bool) → ((v : ℕ → Bool) → v 0 ≡ false → p v ≡ q v) → IsMade m p →
     IsMade m q

@@ -16,7 +16,7 @@ use Rattle.ps_circuit.specs.Causes.{AigFault, cause_number}
 use Rattle.ps_text.specs.declared.faults.Fault.TheVariants.{Text}
 use Rattle.ps_text.specs.Bytes.{Seen, word, is_digit}
 use Rattle.ps_circuit.specs.Signs.{aig_causes, Field, number_at, number, gap, line_end, more, by_more}
-use Rattle.ps_text.specs.Cursors.{place_of}
+use Rattle.ps_text.specs.Cursors.{stream_offset}
 use Rattle.ps_text.specs.Faults.{found_of}
 use Rattle.ps_circuit.specs.Inner.Cursors.{Tells, saturated, NumberIs, TellsNumber}
 use Rattle.ps_circuit.specs.Texts.{AnyNumber, WrongMost, WrongCount, sections, field, header}
@@ -36,7 +36,7 @@ abbrev BadDigits : (ℕ → AigCause → Type 0) → List ℕ → AigCause → T
 BadDigits Wrong digits f = Wrong (decimal_value digits) f
 
 number_is : {old new : Stream Seen} {n : Number} (x : NumberIs old new n) → n.value ≡ decimal_value x.run →
-    n ≡ number_at (place_of old) x.run
+    n ≡ number_at (stream_offset old) x.run
 number_is x e = ap₂ (λ (v o : ℕ). record { value = v; offset = o }) e x.offset
 
 pub number_small : (Wrong : ℕ → AigCause → Type 0) {old new : Stream Seen} {n : Number} → NumberIs old new n →
@@ -51,7 +51,7 @@ pub number_any : {old new : Stream Seen} {n : Number} → NumberIs old new n →
     (v : Number) × (n.value ≡ saturated v.value) × Reads (number AnyNumber) old v new
 unfolding number
 number_any {old} {new} x = (
-  number_at (place_of old) x.run,
+  number_at (stream_offset old) x.run,
   x.value,
   search (rules, run_reads),
 )
@@ -64,6 +64,7 @@ unfolding number
 number_wrong Wrong {old} {new} f x wrong least is = subst (λ y. Stops aig_causes (number Wrong) old (found_of y))
     (sym (is ∙ ap (Text f) x.offset)) (search (rules, run_bad))
 
+-- an error that the reader of numbers reports is the error at which the part stops
 pub number_none : (Wrong : ℕ → AigCause → Type 0) {old : Stream Seen} (new : Stream Seen) (e : AigFault) →
     TellsNumber old (Err e) new → Stops aig_causes (number Wrong) old (found_of e)
 unfolding number

@@ -9,7 +9,8 @@ use Rattle.std.proofs.lemmas.List.Quantifiers.{all_pairs_push}
 use Rattle.std.specs.Global.{Global}
 use Rattle.ps_circuit.specs.declared.parts.Gate.{Gate}
 use Rattle.ps_components.specs.Graphs.{Way}
-use Rattle.ps_circuit.specs.Circuits.{CircuitData, definitions, readings, IsDefinition, IsName, IsDraft, ReadsGate}
+use Rattle.ps_circuit.specs.Circuits.{CircuitData, definitions, readings, IsDefinition, IsSymbolName, IsDraft}
+use Rattle.ps_circuit.specs.Circuits.{ReadsGate}
 use Rattle.ps_circuit.specs.Literals.{variable}
 use Rattle.ps_circuit.specs.Drafts.{name_bytes}
 use Rattle.ps_components.specs.Orders.{IsFirstOnCycle}
@@ -46,8 +47,9 @@ apart_of literals h i j d lt within e =
 -- the parts that were read form a draft
 pub draft_of : {c : CircuitData} {defined : List ℕ} → c.most < 2 ^ 31 → Defines c.most [] (definitions c) defined →
     All (IsKnownIn defined) (readings c) → length c.input_names ≡ length c.inputs →
-    length c.latch_names ≡ length c.latches → length c.output_names ≡ length c.outputs → All IsName c.input_names →
-    All IsName c.latch_names → All IsName c.output_names → IsDraft c
+    length c.latch_names ≡ length c.latches → length c.output_names ≡ length c.outputs →
+    All IsSymbolName c.input_names →
+    All IsSymbolName c.latch_names → All IsSymbolName c.output_names → IsDraft c
 draft_of {c} limit d known n1 n2 n3 a1 a2 a3 = search (rules, apart_of)
 
 pub at_true : (b : Bool) (P : Type 0) → b ≡ true → OnTrue b P → P
@@ -76,6 +78,6 @@ cyclic_tells gates starts {i} first l is same = search (rules, slice_get-get_or)
 
 -- a name that was parsed is a valid name
 pub name_set : (names : List (Option (Vec ℕ Global))) (i : ℕ) {name : List ℕ} (v : Vec ℕ Global) →
-    All IsName (map name_bytes names) → v.items ≡ name → 0 < length name → All (λ b. b ≢ 10) name →
-    All IsName (map name_bytes (set names i (Some v)))
+    All IsSymbolName (map name_bytes names) → v.items ≡ name → 0 < length name → All (λ b. b ≢ 10) name →
+    All IsSymbolName (map name_bytes (set names i (Some v)))
 name_set names i v h e full plain = search (rules, map-set, All-set)

@@ -28,7 +28,7 @@ use Rattle.ps_text.specs.declared.faults.Fault.TheVariants.{Text}
 use Rattle.ps_circuit.specs.Drafts.{name_bytes}
 use Rattle.ps_text.specs.Bytes.{Seen, pieces_at, is_digit, is_inner, byte}
 use Rattle.ps_circuit.specs.Signs.{aig_causes, rest_of_line, newline}
-use Rattle.ps_text.specs.Cursors.{next_byte, place_of, Passes, IsAhead}
+use Rattle.ps_text.specs.Cursors.{next_byte, stream_offset, Passes, IsAhead}
 use Rattle.ps_text.specs.Faults.{found_of}
 use Rattle.ps_circuit.specs.Inner.Cursors.{NumberIs}
 use Rattle.ps_circuit.specs.Texts.{Kind, NamesData, names_of, put_names, add_name, take_kind, IsBadSymbol, symbol_line}
@@ -83,7 +83,7 @@ module _ {all : NamesData} {kind : Kind} {names : List (Option (Vec ℕ Global))
   past_no_number s2 x = past_letter (λ f b. omega (arith, (bad_symbol a.is (seen_digits x) b).0))
 
   pub letter_stops : {s2 : Stream Seen} {n : Number} {e : AigFault} → NumberIs s1 s2 n → length names < 2 ^ 64 →
-      (slice_get (map name_bytes names) n.value ≡ Some None → ⊥) → e ≡ Text Syntax (place_of old) →
+      (slice_get (map name_bytes names) n.value ≡ Some None → ⊥) → e ≡ Text Syntax (stream_offset old) →
       Stops aig_causes (symbol_line all) old (found_of e)
   unfolding symbol_line
   letter_stops {e = e} x small taken is =
@@ -166,7 +166,7 @@ pub symbol_shrinks : (names : NamesData) {after : NamesData} {s new : Stream See
 symbol_shrinks names m = reads_shrinks (λ w h. (symbol_laws names).null w h) m
 
 pub symbol_refused : (names : NamesData) (s : Stream Seen) {e : AigFault} → (next_byte s ≡ Some 105 → ⊥) →
-    (next_byte s ≡ Some 108 → ⊥) → (next_byte s ≡ Some 111 → ⊥) → e ≡ Text Syntax (place_of s)
+    (next_byte s ≡ Some 108 → ⊥) → (next_byte s ≡ Some 111 → ⊥) → e ≡ Text Syntax (stream_offset s)
     → Stops aig_causes (symbol_line names) s (found_of e)
 symbol_refused names s i l o is = grind (arith, stops_here, symbol_laws)
 

@@ -294,6 +294,7 @@ unfolding header body
 chain_text = chained chain_header.whole (λ h. (chain_inputs h no_lines).whole) separates_body (λ t h. tt) (λ t h. tt)
     (λ t h. tt) (λ t h. tt) (λ n. n.0)
 
+-- the laws of the grammar of a whole circuit
 pub laws_text : Lawful circuit_text Any Any ⊥
 unfolding circuit_text
 laws_text = chain_text.whole

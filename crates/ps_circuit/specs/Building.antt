@@ -2,7 +2,7 @@
 --     Drafted      the number of given variables, and the two literals of each gate; the gates have the next variables,
 --               in order
 --     bit v literal      the value of a literal, if each variable has the value that v gives
---     Meets d v      variable 0 is false, and each gate is the conjunction of its two literals
+--     MeetsEquations d v      variable 0 is false, and each gate is the conjunction of its two literals
 --     Extends old new      the existing gates remain, with the same variables
 --     IsSoundDraft d      the invariant of the gates of a builder
 use Rattle.std.specs.Prelude.{◌≡◌, ◌≢◌, ℕ, ◌+◌, ◌^◌, ◌<◌, ◌≤◌, ◌&&◌, ◌||◌, Bool, false, not, if◌then◌else◌, List}
@@ -26,7 +26,7 @@ IsHeld d literal = variable literal ≤ variables_of d
 abbrev pub bit : (ℕ → Bool) → ℕ → Bool
 bit v literal = if is_negated literal then not (v (variable literal)) else v (variable literal)
 
-pub record Meets (d : Drafted) (v : ℕ → Bool) : Type 0 where
+pub record MeetsEquations (d : Drafted) (v : ℕ → Bool) : Type 0 where
   pub constant : v 0 ≡ false
   pub each : (k : ℕ) (s : Sides) → slice_get d.gates k ≡ Some s →
       v (d.given + 1 + k) ≡ (bit v s.first && bit v s.second)
@@ -70,7 +70,7 @@ pub record NeedsGate (d : Drafted) (x y : ℕ) : Type 0 where
 -- the disjunction of x and y is a choice: it has the value of `high` if s is true, and that of `low` if s is false
 abbrev pub IsChoice : Drafted → (s high low x y : ℕ) → Type 0
 IsChoice d s high low x y =
-    (v : ℕ → Bool) → Meets d v → (bit v x || bit v y) ≡ (if bit v s then bit v high else bit v low)
+    (v : ℕ → Bool) → MeetsEquations d v → (bit v x || bit v y) ≡ (if bit v s then bit v high else bit v low)
 
 -- A choice needs a new gate if there is no gate yet for one of its three conjunctions. The three conjunctions are that
 -- of `s` and `high`, that of `low` and the negation of `s`, and the one whose negation is the choice.

@@ -47,9 +47,9 @@ pub record ReadsGate (gates : List Gate) (i j : ℕ) : Type 0 where
   pub side : (variable reader.first ≡ variable read.literal) ⊎ (variable reader.second ≡ variable read.literal)
 
 -- a name has at least one byte, and no newline
-abbrev pub IsName : Option (List ℕ) → Type 0
-IsName None = Unit {0}
-IsName (Some bytes) = (0 < length bytes) × All (λ b. b ≢ 10) bytes
+abbrev pub IsSymbolName : Option (List ℕ) → Type 0
+IsSymbolName None = Unit {0}
+IsSymbolName (Some bytes) = (0 < length bytes) × All (λ b. b ≢ 10) bytes
 
 pub record IsDraft (c : CircuitData) : Type 0 where
   pub limit : c.most < 2 ^ 31
@@ -59,9 +59,9 @@ pub record IsDraft (c : CircuitData) : Type 0 where
   pub inputs_named : length c.input_names ≡ length c.inputs
   pub latches_named : length c.latch_names ≡ length c.latches
   pub outputs_named : length c.output_names ≡ length c.outputs
-  pub input_names : All IsName c.input_names
-  pub latch_names : All IsName c.latch_names
-  pub output_names : All IsName c.output_names
+  pub input_names : All IsSymbolName c.input_names
+  pub latch_names : All IsSymbolName c.latch_names
+  pub output_names : All IsSymbolName c.output_names
 
 pub record IsCircuit (c : CircuitData) : Type 0 where
   pub draft : IsDraft c

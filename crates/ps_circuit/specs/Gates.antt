@@ -9,7 +9,7 @@ use Rattle.std.specs.List.{list_any, position_or_len}
 use Rattle.ps_circuit.specs.declared.builder.Sides.{Sides}
 use Rattle.ps_circuit.specs.declared.encode_fault.EncodeFault.{EncodeFault}
 use Rattle.ps_circuit.specs.declared.encode_fault.EncodeFault.TheVariants.{CircuitTooLarge}
-use Rattle.ps_circuit.specs.Building.{Drafted, Extends, IsFull, IsHeld, Meets, bit, variables_of}
+use Rattle.ps_circuit.specs.Building.{Drafted, Extends, IsFull, IsHeld, MeetsEquations, bit, variables_of}
 use Rattle.ps_circuit.specs.Literals.{negated}
 
 pub record Made : Type 0 where
@@ -65,7 +65,7 @@ pub record MakesGates (old new : Drafted) (result : Result ℕ EncodeFault) (all
   -- the existing gates remain, also if the call fails
   pub extends : Extends old new
   pub held : IfOk result (IsHeld new)
-  pub bit : IfOk result (λ literal. (v : ℕ → Bool) → Meets new v → bit v literal ≡ value v)
+  pub bit : IfOk result (λ literal. (v : ℕ → Bool) → MeetsEquations new v → bit v literal ≡ value v)
   pub made : IfOk result (λ literal. all ≡ record { draft = new; literal = literal })
   -- if it fails for want of a variable, then all variables exist, a further one is needed, and the gates need too many
   pub too_large : result ≡ Err CircuitTooLarge → IsFull new

@@ -2,7 +2,8 @@
 
 ghost use Rattle.std.specs.Prelude.{◌≡◌, ℕ, ◌+◌, ◌*◌, ◌^◌, ◌<◌, ◌≤◌, ◌&&◌, ◌||◌, Bool, not, cond, [], length};
 ghost use Rattle.std.specs.Prelude.{slice_get, Some, IfOk};
-ghost use Rattle.ps_circuit.specs.Building.{Drafted, AreSides, Extends, IsFull, IsHeld, IsNew, IsSoundDraft, Meets};
+ghost use Rattle.ps_circuit.specs.Building.{Drafted, AreSides, Extends, IsFull, IsHeld, IsNew, IsSoundDraft};
+ghost use Rattle.ps_circuit.specs.Building.{MeetsEquations};
 ghost use Rattle.ps_circuit.specs.Building.{NeedsChoice, NeedsGate, bit, variables_of};
 ghost use Rattle.ps_circuit.specs.Literals.{negated};
 ghost use Rattle.ps_circuit.specs.Gates.{MakesGates, and_of, chosen_of, gate_of, mux_of, or_of};

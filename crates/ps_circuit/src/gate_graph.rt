@@ -1,6 +1,6 @@
 //! The gates of a circuit, as a graph.
 
-ghost use Rattle.ps_components.specs.Graphs.{IsWithin};
+ghost use Rattle.ps_components.specs.Graphs.{LinksStayWithin};
 ghost use Rattle.ps_circuit.specs.Inner.GateGraphs.{graph_of};
 
 use crate::links::Links;
@@ -11,7 +11,7 @@ use ps_components::Graph;
 pub struct GateGraph {
     /// For each gate, the gates that it reads.
     pub links: Vec<Links>,
-    pub ghost within: { IsWithin (graph_of links.items) },
+    pub ghost within: { LinksStayWithin (graph_of links.items) },
 }
 
 impl Graph for GateGraph {

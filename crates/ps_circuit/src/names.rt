@@ -4,7 +4,7 @@ ghost use Rattle.std.specs.Prelude.{◌≡◌, ◌≢◌, ℕ, ◌<◌, ◌^◌,
 ghost use Rattle.std.specs.Prelude.{vec_len, IfOk, OnOk, IsTrue, All};
 ghost use Rattle.ps_text.specs.Answers.{next_of};
 ghost use Rattle.ps_text.specs.Parts.{many};
-ghost use Rattle.ps_circuit.specs.Circuits.{IsName};
+ghost use Rattle.ps_circuit.specs.Circuits.{IsSymbolName};
 ghost use Rattle.ps_circuit.specs.Inner.Cursors.{Tells};
 ghost use Rattle.ps_circuit.specs.Drafts.{name_bytes};
 ghost use Rattle.ps_circuit.specs.Inner.Names.{AreNames, AreNone, TellsComment, is_kind, names_data};
@@ -111,12 +111,12 @@ fn name_line(
     cursor: &mut Cursor,
     names: &mut Vec<Option<Vec<u8>>>,
 ) -> Result<(), AigFault>
-    requires { All IsName (map name_bytes names.old.items) }
+    requires { All IsSymbolName (map name_bytes names.old.items) }
     ensures exact { (all : NamesData) (kind : Kind) (t : Seen) → names_of all kind ≡ map name_bytes names.old.items →
         next_of cursor.old ≡ Some t → take_kind t ≡ Some kind → Tells
         (λ _. put_names all kind (map name_bytes names.new.items)) (parts.symbol_line all) cursor.old
         result cursor.new }
-    ensures names { All IsName (map name_bytes names.new.items) }
+    ensures names { All IsSymbolName (map name_bytes names.new.items) }
     ensures stay { vec_len names.new ≡ vec_len names.old }
 {
     let refusal = cursor.refusal(AigCause::Syntax);

@@ -5,8 +5,8 @@ use Rattle.std.proofs.Common.{length-set, add-zero}
 use Rattle.std.proofs.lemmas.Option.{slice_get_within, slice_get-get_or}
 use Rattle.std.proofs.lemmas.Bool.{cases_lt}
 use Rattle.std.proofs.lemmas.List.{length-take-le}
-use Rattle.ps_components.specs.declared.marks.Mark.{Mark}
-use Rattle.ps_components.specs.declared.marks.Mark.TheVariants.{Unseen, Active, Closed}
+use Rattle.ps_components.specs.declared.statuses.Status.{Status}
+use Rattle.ps_components.specs.declared.statuses.Status.TheVariants.{Unseen, Active, Closed}
 use Rattle.ps_components.specs.declared.search.Pending.{Pending}
 use Rattle.ps_components.specs.Graphs.{Digraph, Link, SameOrWay}
 use Rattle.ps_components.specs.Searching.{NoLater, IsSettled, closed, active as settled_active, IsSoundSearch}
@@ -15,17 +15,19 @@ use Rattle.ps_components.proofs.Places.{slice_get-append_left, slice_get-append_
 use Rattle.ps_components.proofs.Places.{slice_get-but_last, slice_get-set_cases, slice_get-take, slice_get-take_back}
 use Rattle.ps_components.proofs.Places.{slice_get-drop, length-but_last}
 
-length-close_all : (marks : List Mark) (vs : List ℕ) (k : ℕ) → length (close_all marks vs k) ≡ length marks
-length-close_all marks [] k = refl
-length-close_all marks (v ∷ vs) k = length-close_all (set marks v (Closed k)) vs k ∙ length-set marks v (Closed k)
+length-close_all : (statuses : List Status) (vs : List ℕ) (k : ℕ) → length (close_all statuses vs k) ≡ length statuses
+length-close_all statuses [] k = refl
+length-close_all statuses (v ∷ vs) k = length-close_all (set statuses v (Closed k)) vs k
+    ∙ length-set statuses v (Closed k)
 
--- each item of the list is closed, and all other items keep their marks
-pub close_all_cases : (marks : List Mark) (vs : List ℕ) (k v : ℕ) →
-    ((j : ℕ) × (slice_get vs j ≡ Some v) × (v < length marks → slice_get (close_all marks vs k) v ≡ Some (Closed k)))
-    ⊎ (((j : ℕ) → slice_get vs j ≢ Some v) × (slice_get (close_all marks vs k) v ≡ slice_get marks v))
-close_all_cases marks [] k v = inr (λ j h. cc, refl)
-close_all_cases marks (w ∷ vs) k v = elim (close_all_cases (set marks w (Closed k)) vs k v) [
-  | inl y ↦ inl (suc y.0, y.1, λ lt. y.2 (omega (arith, length-set marks w (Closed k))))
+-- each item of the list is closed, and all other items keep their statuses
+pub close_all_cases : (statuses : List Status) (vs : List ℕ) (k v : ℕ) →
+    ((j : ℕ) × (slice_get vs j ≡ Some v) ×
+    (v < length statuses → slice_get (close_all statuses vs k) v ≡ Some (Closed k)))
+    ⊎ (((j : ℕ) → slice_get vs j ≢ Some v) × (slice_get (close_all statuses vs k) v ≡ slice_get statuses v))
+close_all_cases statuses [] k v = inr (λ j h. cc, refl)
+close_all_cases statuses (w ∷ vs) k v = elim (close_all_cases (set statuses w (Closed k)) vs k v) [
+  | inl y ↦ inl (suc y.0, y.1, λ lt. y.2 (omega (arith, length-set statuses w (Closed k))))
   | inr n ↦ search (rules, slice_get-set_cases, apart)
 ]
   where
@@ -33,19 +35,20 @@ close_all_cases marks (w ∷ vs) k v = elim (close_all_cases (set marks w (Close
     apart ne out h3 h = grind arith
 
 -- closing an item does not increase the bound on the remaining steps
-turns-close_one : (g : Digraph) (first : ℕ) (marks : List Mark) (v k : ℕ) →
-    turns_from g first (set marks v (Closed k)) ≤ turns_from g first marks
+turns-close_one : (g : Digraph) (first : ℕ) (statuses : List Status) (v k : ℕ) →
+    turns_from g first (set statuses v (Closed k)) ≤ turns_from g first statuses
 turns-close_one g first [] v k = omega arith
 turns-close_one g first (m ∷ ms) zero k = omega arith
 turns-close_one g first (m ∷ ms) (suc v) k = omega (arith, turns-close_one g (suc first) ms v k)
 
-turns-close_all : (g : Digraph) (marks : List Mark) (vs : List ℕ) (k : ℕ) →
-    turns_from g 0 (close_all marks vs k) ≤ turns_from g 0 marks
-turns-close_all g marks [] k = omega arith
-turns-close_all g marks (v ∷ vs) k = search (rules, turns-close_one, turns-close_all g (set marks v (Closed k)) vs k)
+turns-close_all : (g : Digraph) (statuses : List Status) (vs : List ℕ) (k : ℕ) →
+    turns_from g 0 (close_all statuses vs k) ≤ turns_from g 0 statuses
+turns-close_all g statuses [] k = omega arith
+turns-close_all g statuses (v ∷ vs) k =
+    search (rules, turns-close_one, turns-close_all g (set statuses v (Closed k)) vs k)
 
-module _ {g : Digraph} {marks : List Mark} {active bounds : List ℕ} {pending : List Pending} {order : List ℕ}
-    {bound : ℕ} (s : IsSoundSearch g marks active bounds pending order)
+module _ {g : Digraph} {statuses : List Status} {active bounds : List ℕ} {pending : List Pending} {order : List ℕ}
+    {bound : ℕ} (s : IsSoundSearch g statuses active bounds pending order)
     (is_last : slice_get bounds (length bounds - 1) ≡ Some bound)
     (done : (i : ℕ) (e : Pending) → slice_get pending i ≡ Some e → e.from < bound) where
   abbrev number : ℕ
@@ -54,8 +57,8 @@ module _ {g : Digraph} {marks : List Mark} {active bounds : List ℕ} {pending :
   abbrev front : List ℕ
   front = take (length bounds - 1) bounds
 
-  abbrev marks' : List Mark
-  marks' = close_all marks (drop bound active) number
+  abbrev statuses' : List Status
+  statuses' = close_all statuses (drop bound active) number
 
   abbrev order' : List ℕ
   order' = order ++ drop bound active
@@ -86,31 +89,32 @@ module _ {g : Digraph} {marks : List Mark} {active bounds : List ℕ} {pending :
   in_segment : (p v : ℕ) → bound ≤ p → slice_get active p ≡ Some v → slice_get (drop bound active) (p - bound) ≡ Some v
   in_segment p v le h = search (rules, slice_get-drop)
 
-  -- ---- marks
+  -- ---- statuses
 
-  -- each item of the segment is closed now, and all other items keep their marks
-  mark_cases : (v : ℕ) →
-      ((p : ℕ) × (bound ≤ p) × (slice_get active p ≡ Some v) × (slice_get marks' v ≡ Some (Closed number)))
-      ⊎ (((p : ℕ) → bound ≤ p → slice_get active p ≢ Some v) × (slice_get marks' v ≡ slice_get marks v))
-  mark_cases v = search (rules, close_all_cases, from_segment, slice_get_within, in_segment)
+  -- each item of the segment is closed now, and all other items keep their statuses
+  status_cases : (v : ℕ) →
+      ((p : ℕ) × (bound ≤ p) × (slice_get active p ≡ Some v) × (slice_get statuses' v ≡ Some (Closed number)))
+      ⊎ (((p : ℕ) → bound ≤ p → slice_get active p ≢ Some v) × (slice_get statuses' v ≡ slice_get statuses v))
+  status_cases v = search (rules, close_all_cases, from_segment, slice_get_within, in_segment)
 
-  now_closed : (p v : ℕ) → bound ≤ p → slice_get active p ≡ Some v → slice_get marks' v ≡ Some (Closed number)
-  now_closed p v le h = grind (arith, mark_cases v)
+  now_closed : (p v : ℕ) → bound ≤ p → slice_get active p ≡ Some v → slice_get statuses' v ≡ Some (Closed number)
+  now_closed p v le h = grind (arith, status_cases v)
 
-  -- the mark of an item that is not in the segment is unchanged
-  stays : (v : ℕ) (m : Mark) → ((p : ℕ) → m ≡ Active p → p < bound) → slice_get marks v ≡ Some m →
-      slice_get marks' v ≡ Some m
-  stays v m out h = grind (arith, mark_cases v, s.active_marked)
+  -- the status of an item that is not in the segment is unchanged
+  stays : (v : ℕ) (m : Status) → ((p : ℕ) → m ≡ Active p → p < bound) → slice_get statuses v ≡ Some m →
+      slice_get statuses' v ≡ Some m
+  stays v m out h = grind (arith, status_cases v, s.active_marked)
 
-  closed_stays : (v k : ℕ) → slice_get marks v ≡ Some (Closed k) → slice_get marks' v ≡ Some (Closed k)
+  closed_stays : (v k : ℕ) → slice_get statuses v ≡ Some (Closed k) → slice_get statuses' v ≡ Some (Closed k)
   closed_stays v k h = stays v (Closed k) (λ p e. cc) h
 
-  closed_cases : (v k : ℕ) → slice_get marks' v ≡ Some (Closed k) →
-      (slice_get marks v ≡ Some (Closed k)) ⊎ ((k ≡ number) × ((p : ℕ) × (bound ≤ p) × (slice_get active p ≡ Some v)))
-  closed_cases v k h = grind (arith, mark_cases v)
+  closed_cases : (v k : ℕ) → slice_get statuses' v ≡ Some (Closed k) →
+      (slice_get statuses v ≡ Some (Closed k)) ⊎
+      ((k ≡ number) × ((p : ℕ) × (bound ≤ p) × (slice_get active p ≡ Some v)))
+  closed_cases v k h = grind (arith, status_cases v)
 
   -- no active item is closed, and each active item has only one index
-  apart : (p v k : ℕ) → slice_get active p ≡ Some v → slice_get marks v ≡ Some (Closed k) → ⊥
+  apart : (p v k : ℕ) → slice_get active p ≡ Some v → slice_get statuses v ≡ Some (Closed k) → ⊥
   apart p v k h c = cc (s.active_marked p v h)
 
   one_place : (p q v : ℕ) → slice_get active p ≡ Some v → slice_get active q ≡ Some v → p ≡ q
@@ -123,11 +127,11 @@ module _ {g : Digraph} {marks : List Mark} {active bounds : List ℕ} {pending :
 
   -- ---- the fields of the invariant
 
-  closed-active_marked : (p v : ℕ) → slice_get (take bound active) p ≡ Some v → slice_get marks' v ≡ Some (Active p)
-  closed-active_marked p v h = grind (arith, mark_cases v, on_path p v h, s.active_marked p v, one_place)
+  closed-active_marked : (p v : ℕ) → slice_get (take bound active) p ≡ Some v → slice_get statuses' v ≡ Some (Active p)
+  closed-active_marked p v h = grind (arith, status_cases v, on_path p v h, s.active_marked p v, one_place)
 
-  closed-marked_active : (p v : ℕ) → slice_get marks' v ≡ Some (Active p) → slice_get (take bound active) p ≡ Some v
-  closed-marked_active p v h = grind (arith, mark_cases v, s.marked_active p v, slice_get-take bound active p)
+  closed-marked_active : (p v : ℕ) → slice_get statuses' v ≡ Some (Active p) → slice_get (take bound active) p ≡ Some v
+  closed-marked_active p v h = grind (arith, status_cases v, s.marked_active p v, slice_get-take bound active p)
 
   closed-bounds_start : 0 < length (take bound active) → slice_get front 0 ≡ Some 0
   closed-bounds_start h = search (rules, bound_cases, bound_below, short)
@@ -136,7 +140,7 @@ module _ {g : Digraph} {marks : List Mark} {active bounds : List ℕ} {pending :
       slice_get (take bound active) q ≡ Some w → NoLater front p q → SameOrWay g v w
   closed-together p q v w hp hq later = search (rules, on_path, bound_cases)
 
-  still : (p w : ℕ) → IsSettled marks bounds p w → IsSettled marks' front p w
+  still : (p w : ℕ) → IsSettled statuses bounds p w → IsSettled statuses' front p w
   still p w (closed k c) = closed k (closed_stays w k c)
   still p w (settled_active q a later) = elim (cases_lt q bound) [
     | inl lt ↦ settled_active q (grind (arith, stays)) (λ k b h. later k b (in_front k b h).0)
@@ -144,13 +148,13 @@ module _ {g : Digraph} {marks : List Mark} {active bounds : List ℕ} {pending :
   ]
 
   -- each target of the segment is closed now, or was closed before
-  led_to : (p w : ℕ) → bound ≤ p → IsSettled marks bounds p w →
-      (m : ℕ) × (slice_get marks' w ≡ Some (Closed m)) × (m ≤ number)
+  led_to : (p w : ℕ) → bound ≤ p → IsSettled statuses bounds p w →
+      (m : ℕ) × (slice_get statuses' w ≡ Some (Closed m)) × (m ≤ number)
   led_to p w le (closed k c) = (k, closed_stays w k c, omega (arith, s.numbered w k c))
   led_to p w le (settled_active q a later) = (number, now_closed q w (grind arith) (s.marked_active q w a), omega arith)
 
-  closed-closed_links : (v k w : ℕ) → slice_get marks' v ≡ Some (Closed k) → Link g v w →
-      (m : ℕ) × (slice_get marks' w ≡ Some (Closed m)) × (m ≤ k)
+  closed-closed_links : (v k w : ℕ) → slice_get statuses' v ≡ Some (Closed k) → Link g v w →
+      (m : ℕ) × (slice_get statuses' w ≡ Some (Closed m)) × (m ≤ k)
   closed-closed_links v k w h l = elim (closed_cases v k h) [
     | inl y ↦ (let m = s.closed_links v k w y l in (m.0, closed_stays w m.0 m.1, m.2))
     | inr y ↦ elim (s.looked_at y.1.0 v w y.1.2 l) [
@@ -159,12 +163,12 @@ module _ {g : Digraph} {marks : List Mark} {active bounds : List ℕ} {pending :
     ]
   ]
 
-  closed-same : (v w k : ℕ) → slice_get marks' v ≡ Some (Closed k) → slice_get marks' w ≡ Some (Closed k) →
+  closed-same : (v w k : ℕ) → slice_get statuses' v ≡ Some (Closed k) → slice_get statuses' w ≡ Some (Closed k) →
       SameOrWay g v w
   closed-same v w k hv hw = search (rules, closed_cases, at_most)
 
-  closed-begins : (v k : ℕ) → slice_get marks' v ≡ Some (Closed k) →
-      (u : ℕ) × (slice_get order' k ≡ Some u) × (slice_get marks' u ≡ Some (Closed k))
+  closed-begins : (v k : ℕ) → slice_get statuses' v ≡ Some (Closed k) →
+      (u : ℕ) × (slice_get order' k ≡ Some u) × (slice_get statuses' u ≡ Some (Closed k))
   closed-begins v k h = elim (closed_cases v k h) [
     | inl y ↦ (let b = s.begins v k y in (b.0, slice_get-append_left order _ k b.0 b.1, closed_stays b.0 k b.2))
     | inr y ↦ (let first = slice_get-get_or active bound 0 bound_below in
@@ -173,32 +177,32 @@ module _ {g : Digraph} {marks : List Mark} {active bounds : List ℕ} {pending :
         (get_or active bound 0, rw y.0 (rw add-zero at here), rw y.0 (now_closed bound _ (omega arith) first)))
   ]
 
-  closed-starts : (i v k : ℕ) → slice_get order' i ≡ Some v → slice_get marks' v ≡ Some (Closed k) → k ≤ i
+  closed-starts : (i v k : ℕ) → slice_get order' i ≡ Some v → slice_get statuses' v ≡ Some (Closed k) → k ≤ i
   closed-starts i v k h hv = grind (arith, closed_cases v k hv, place_cases i v h, s.starts i v k, s.ordered i v, apart)
 
-  closed-listed : (v k : ℕ) → slice_get marks' v ≡ Some (Closed k) → (i : ℕ) × (slice_get order' i ≡ Some v)
+  closed-listed : (v k : ℕ) → slice_get statuses' v ≡ Some (Closed k) → (i : ℕ) × (slice_get order' i ≡ Some v)
   closed-listed v k h = elim (closed_cases v k h) [
     | inl y ↦ (let i = s.listed v k y in (i.0, slice_get-append_left order _ i.0 v i.1))
     | inr y ↦ (number + (y.1.0 - bound), slice_get-append_right order _ _ v (in_segment y.1.0 v y.1.1 y.1.2))
   ]
 
-  closed-ordered : (i v : ℕ) → slice_get order' i ≡ Some v → (k : ℕ) × (slice_get marks' v ≡ Some (Closed k))
+  closed-ordered : (i v : ℕ) → slice_get order' i ≡ Some v → (k : ℕ) × (slice_get statuses' v ≡ Some (Closed k))
   closed-ordered i v h = elim (place_cases i v h) [
     | inl o ↦ (let c = s.ordered i v o in (c.0, closed_stays v c.0 c.1))
     | inr o ↦ (number, now_closed (bound + o.0) v (omega arith) o.2)
   ]
 
   closed-rises : (i j v w k m : ℕ) → i < j → slice_get order' i ≡ Some v → slice_get order' j ≡ Some w →
-      slice_get marks' v ≡ Some (Closed k) → slice_get marks' w ≡ Some (Closed m) → k ≤ m
+      slice_get statuses' v ≡ Some (Closed k) → slice_get statuses' w ≡ Some (Closed m) → k ≤ m
   closed-rises i j v w k m lt hi hj hv hw = search (rules, closed_cases, place_cases, apart, slice_get_within)
 
   closed-once : (i j v : ℕ) → slice_get order' i ≡ Some v → slice_get order' j ≡ Some v → i ≡ j
   closed-once i j v hi hj = grind (arith, place_cases, apart, one_place)
 
-  pub sound-closed : IsSoundSearch g marks' (take bound active) front pending order'
+  pub sound-closed : IsSoundSearch g statuses' (take bound active) front pending order'
   sound-closed = record {
     within = s.within;
-    marked = length-close_all marks (drop bound active) number ∙ s.marked;
+    marked = length-close_all statuses (drop bound active) number ∙ s.marked;
     active_marked = closed-active_marked;
     marked_active = closed-marked_active;
     bounds_rise = λ i j b c hi hj. s.bounds_rise i j b c (in_front i b hi).0 (in_front j c hj).0;
@@ -219,11 +223,11 @@ module _ {g : Digraph} {marks : List Mark} {active bounds : List ℕ} {pending :
     once = closed-once;
   }
 
-  pub in_range : (j v : ℕ) → slice_get (drop bound active) j ≡ Some v → v < length marks
-  in_range j v h = slice_get_within marks v _ (s.active_marked (bound + j) v (from_segment j v h))
+  pub in_range : (j v : ℕ) → slice_get (drop bound active) j ≡ Some v → v < length statuses
+  in_range j v h = slice_get_within statuses v _ (s.active_marked (bound + j) v (from_segment j v h))
 
-  pub fewer-closed : turns g marks' front pending < turns g marks bounds pending
-  fewer-closed = omega (arith, turns-close_all g marks (drop bound active) number, length-but_last bounds is_last)
+  pub fewer-closed : turns g statuses' front pending < turns g statuses bounds pending
+  fewer-closed = omega (arith, turns-close_all g statuses (drop bound active) number, length-but_last bounds is_last)
 
-  pub kept-closed : (v : ℕ) → slice_get marks' v ≡ Some Unseen → slice_get marks v ≡ Some Unseen
-  kept-closed v h = grind (arith, mark_cases v)
+  pub kept-closed : (v : ℕ) → slice_get statuses' v ≡ Some Unseen → slice_get statuses v ≡ Some Unseen
+  kept-closed v h = grind (arith, status_cases v)

@@ -4,8 +4,8 @@ use Rattle.std.proofs.Common.{◌∙◌, arith, Some, Option, slice_get, set, su
 use Rattle.std.proofs.Common.{length-append, length-set}
 use Rattle.std.proofs.lemmas.Option.{slice_get_within}
 use Rattle.std.proofs.lemmas.Bool.{cases_eq, cases_lt}
-use Rattle.ps_components.specs.declared.marks.Mark.{Mark}
-use Rattle.ps_components.specs.declared.marks.Mark.TheVariants.{Unseen, Active, Closed}
+use Rattle.ps_components.specs.declared.statuses.Status.{Status}
+use Rattle.ps_components.specs.declared.statuses.Status.TheVariants.{Unseen, Active, Closed}
 use Rattle.ps_components.specs.declared.search.Pending.{Pending}
 use Rattle.ps_components.specs.Graphs.{Digraph, Link, SameOrWay, Way}
 use Rattle.ps_components.specs.Searching.{NoLater, IsSettled, closed, active as settled_active, IsPending}
@@ -51,26 +51,27 @@ waits-there g p item (suc n) place w lt h = elim (cases_lt place n) [
   ))
 ]
 
--- how the bound on the remaining steps changes when one mark changes
-turns_from-set : (g : Digraph) (first : ℕ) (marks : List Mark) (i : ℕ) (old new : Mark) →
-    slice_get marks i ≡ Some old → turns_from g first (set marks i new) + turns_of g (first + i) old ≡ turns_from g
-    first marks + turns_of g (first + i) new
+-- how the bound on the remaining steps changes when one status changes
+turns_from-set : (g : Digraph) (first : ℕ) (statuses : List Status) (i : ℕ) (old new : Status) →
+    slice_get statuses i ≡ Some old →
+    turns_from g first (set statuses i new) + turns_of g (first + i) old ≡ turns_from g
+    first statuses + turns_of g (first + i) new
 turns_from-set g first [] i old new h = cc
 turns_from-set g first (m ∷ ms) zero old new h = let same : m ≡ old = cc in rw (same, add-zero) (omega arith)
 turns_from-set g first (m ∷ ms) (suc i) old new h = grind (arith, turns_from-set g (suc first) ms i old new h)
 
-module _ {g : Digraph} {marks : List Mark} {active bounds : List ℕ} {pending : List Pending} {order : List ℕ}
-    {item : ℕ} (but : IsSoundBut g item marks active bounds pending order) (within : item < g.count)
-    (unseen : slice_get marks item ≡ Some Unseen)
+module _ {g : Digraph} {statuses : List Status} {active bounds : List ℕ} {pending : List Pending} {order : List ℕ}
+    {item : ℕ} (but : IsSoundBut g item statuses active bounds pending order) (within : item < g.count)
+    (unseen : slice_get statuses item ≡ Some Unseen)
     (reached : (p v : ℕ) → slice_get active p ≡ Some v → Way (Link g) v item) where
-  abbrev s : IsSoundSearch g marks active bounds (pending ++ but.skipped) order
+  abbrev s : IsSoundSearch g statuses active bounds (pending ++ but.skipped) order
   s = but.sound
 
   abbrev place : ℕ
   place = length active
 
-  abbrev marks' : List Mark
-  marks' = set marks item (Active place)
+  abbrev statuses' : List Status
+  statuses' = set statuses item (Active place)
 
   abbrev active' : List ℕ
   active' = active ++ item ∷ []
@@ -84,23 +85,23 @@ module _ {g : Digraph} {marks : List Mark} {active bounds : List ℕ} {pending :
   abbrev pending' : List Pending
   pending' = pending ++ more
 
-  -- ---- marks
+  -- ---- statuses
 
-  mark_cases : (v : ℕ) → ((v ≡ item) × (slice_get marks' v ≡ Some (Active place))) ⊎
-      ((v ≢ item) × (slice_get marks' v ≡ slice_get marks v))
-  mark_cases v = search (rules, slice_get-set_cases, slice_get_within)
+  status_cases : (v : ℕ) → ((v ≡ item) × (slice_get statuses' v ≡ Some (Active place))) ⊎
+      ((v ≢ item) × (slice_get statuses' v ≡ slice_get statuses v))
+  status_cases v = search (rules, slice_get-set_cases, slice_get_within)
 
-  mark_on : (v : ℕ) (m : Mark) → (m ≡ Unseen → ⊥) → slice_get marks v ≡ Some m → slice_get marks' v ≡ Some m
-  mark_on v m seen h = grind (arith, mark_cases v)
+  status_on : (v : ℕ) (m : Status) → (m ≡ Unseen → ⊥) → slice_get statuses v ≡ Some m → slice_get statuses' v ≡ Some m
+  status_on v m seen h = grind (arith, status_cases v)
 
-  closed_on : (v k : ℕ) → slice_get marks v ≡ Some (Closed k) → slice_get marks' v ≡ Some (Closed k)
-  closed_on v k h = mark_on v (Closed k) (λ e. cc) h
+  closed_on : (v k : ℕ) → slice_get statuses v ≡ Some (Closed k) → slice_get statuses' v ≡ Some (Closed k)
+  closed_on v k h = status_on v (Closed k) (λ e. cc) h
 
-  closed_back : (v k : ℕ) → slice_get marks' v ≡ Some (Closed k) → slice_get marks v ≡ Some (Closed k)
-  closed_back v k h = grind (arith, mark_cases v)
+  closed_back : (v k : ℕ) → slice_get statuses' v ≡ Some (Closed k) → slice_get statuses v ≡ Some (Closed k)
+  closed_back v k h = grind (arith, status_cases v)
 
-  pub kept-entered : (v : ℕ) → slice_get marks' v ≡ Some Unseen → slice_get marks v ≡ Some Unseen
-  kept-entered v h = grind (arith, mark_cases v)
+  pub kept-entered : (v : ℕ) → slice_get statuses' v ≡ Some Unseen → slice_get statuses v ≡ Some Unseen
+  kept-entered v h = grind (arith, status_cases v)
 
   -- ---- the path and its bounds
 
@@ -112,12 +113,12 @@ module _ {g : Digraph} {marks : List Mark} {active bounds : List ℕ} {pending :
       ((slice_get bounds i ≡ Some b) × (i < length bounds) × (b < place)) ⊎ ((i ≡ length bounds) × (place ≡ b))
   bound_cases i b h = search (rules, slice_get-push_cases, slice_get_within)
 
-  entered-active_marked : (p v : ℕ) → slice_get active' p ≡ Some v → slice_get marks' v ≡ Some (Active p)
-  entered-active_marked p v h = grind (arith, path_cases p v h, mark_cases v, s.active_marked p v)
+  entered-active_marked : (p v : ℕ) → slice_get active' p ≡ Some v → slice_get statuses' v ≡ Some (Active p)
+  entered-active_marked p v h = grind (arith, path_cases p v h, status_cases v, s.active_marked p v)
 
-  entered-marked_active : (p v : ℕ) → slice_get marks' v ≡ Some (Active p) → slice_get active' p ≡ Some v
+  entered-marked_active : (p v : ℕ) → slice_get statuses' v ≡ Some (Active p) → slice_get active' p ≡ Some v
   entered-marked_active p v h =
-      grind (arith, mark_cases v, slice_get-push active item, slice_get-append_left active (item ∷ []) p v)
+      grind (arith, status_cases v, slice_get-push active item, slice_get-append_left active (item ∷ []) p v)
 
   entered-bounds_rise : (i j b c : ℕ) → slice_get bounds' i ≡ Some b → slice_get bounds' j ≡ Some c → i < j → b < c
   entered-bounds_rise i j b c hi hj lt = grind (arith, bound_cases i b hi, bound_cases j c hj, s.bounds_rise i j b c)
@@ -174,16 +175,16 @@ module _ {g : Digraph} {marks : List Mark} {active bounds : List ℕ} {pending :
       let t = waits-there g place item (g.degree item) l.place w l.at l.target in
       grind (arith, slice_get-append_right pending more t.0 _ t.1)
 
-  entered : (p w : ℕ) → p < place → w ≡ item → IsSettled marks' bounds' p w
-  entered p w lt same = settled_active place (grind (arith, mark_cases w)) (λ k b h le. omega arith)
+  entered : (p w : ℕ) → p < place → w ≡ item → IsSettled statuses' bounds' p w
+  entered p w lt same = settled_active place (grind (arith, status_cases w)) (λ k b h le. omega arith)
 
-  still : (p w : ℕ) → p < place → IsSettled marks bounds p w → IsSettled marks' bounds' p w
+  still : (p w : ℕ) → p < place → IsSettled statuses bounds p w → IsSettled statuses' bounds' p w
   still p w lt (closed k c) = closed k (closed_on w k c)
-  still p w lt (settled_active q a later) = settled_active q (mark_on w (Active q) (λ e. cc) a)
+  still p w lt (settled_active q a later) = settled_active q (status_on w (Active q) (λ e. cc) a)
       (λ k b h le. elim (bound_cases k b h) [ inl y ↦ later k b y.0 le | inr y ↦ absurd (omega (arith, y.1)) ])
 
   entered-looked_at : (p v w : ℕ) → slice_get active' p ≡ Some v → Link g v w →
-      IsPending pending' p w ⊎ IsSettled marks' bounds' p w
+      IsPending pending' p w ⊎ IsSettled statuses' bounds' p w
   entered-looked_at p v w h l = elim (path_cases p v h) [
     | inl k ↦ elim (s.looked_at p v w k.0 l) [
       | inl y ↦ elim (slice_get-append_cases pending but.skipped y.at y.step y.is) [
@@ -195,10 +196,10 @@ module _ {g : Digraph} {marks : List Mark} {active bounds : List ℕ} {pending :
     | inr k ↦ inl (rw k.0 (waiting w (rw (← k.1) at l)))
   ]
 
-  pub sound-entered : IsSoundSearch g marks' active' bounds' pending' order
+  pub sound-entered : IsSoundSearch g statuses' active' bounds' pending' order
   sound-entered = record {
     within = s.within;
-    marked = length-set marks item _ ∙ s.marked;
+    marked = length-set statuses item _ ∙ s.marked;
     active_marked = entered-active_marked;
     marked_active = entered-marked_active;
     bounds_rise = entered-bounds_rise;
@@ -219,10 +220,10 @@ module _ {g : Digraph} {marks : List Mark} {active bounds : List ℕ} {pending :
     once = s.once;
   }
 
-  pub fewer-entered : turns g marks' bounds' pending' < turns g marks bounds pending
+  pub fewer-entered : turns g statuses' bounds' pending' < turns g statuses bounds pending
   fewer-entered = grind (
     arith,
-    turns_from-set g 0 marks item Unseen (Active place) unseen,
+    turns_from-set g 0 statuses item Unseen (Active place) unseen,
     length-append bounds (place ∷ []),
     length-append pending more,
     waits-length g place item (g.degree item),

@@ -1,20 +1,21 @@
 -- Merging the last segments of the path, or removing a pending link, preserves the invariant of the search.
 use Rattle.std.proofs.Common.{◌≡◌, ℕ, ◌-◌, ◌≤◌, ◌⊎◌, inl, inr, List, length, take, arith, Some, slice_get}
 use Rattle.std.proofs.lemmas.Bool.{cases_lt}
-use Rattle.ps_components.specs.declared.marks.Mark.{Mark}
-use Rattle.ps_components.specs.declared.marks.Mark.TheVariants.{Active}
+use Rattle.ps_components.specs.declared.statuses.Status.{Status}
+use Rattle.ps_components.specs.declared.statuses.Status.TheVariants.{Active}
 use Rattle.ps_components.specs.declared.search.Pending.{Pending}
 use Rattle.ps_components.specs.Graphs.{Digraph, Link}
-use Rattle.ps_components.specs.Searching.{IsSettled, closed, active as settled_active, IsPending, IsSoundSearch, IsCut}
+use Rattle.ps_components.specs.Searching.{IsSettled, closed, active as settled_active, IsPending, IsSoundSearch}
+use Rattle.ps_components.specs.Searching.{IsCutAt}
 use Rattle.ps_components.proofs.Places.{slice_get-take_back, slice_get-but_last}
 use Rattle.ps_components.proofs.Ways.{across}
 
-module _ {g : Digraph} {marks : List Mark} {active bounds : List ℕ} {pending : List Pending} {order : List ℕ}
-    (s : IsSoundSearch g marks active bounds pending order) where
+module _ {g : Digraph} {statuses : List Status} {active bounds : List ℕ} {pending : List Pending} {order : List ℕ}
+    (s : IsSoundSearch g statuses active bounds pending order) where
   -- if the last segment has a link to w, it can be merged with all segments back to the segment of w
   pub sound-merged : {from place v w : ℕ} {fewer : List ℕ} → slice_get active from ≡ Some v → Link g v w →
-      slice_get marks w ≡ Some (Active place) → ((k b : ℕ) → slice_get bounds k ≡ Some b → b ≤ from) →
-      IsCut bounds place fewer → IsSoundSearch g marks active fewer pending order
+      slice_get statuses w ≡ Some (Active place) → ((k b : ℕ) → slice_get bounds k ≡ Some b → b ≤ from) →
+      IsCutAt bounds place fewer → IsSoundSearch g statuses active fewer pending order
   sound-merged {from} {place} {v} {w} {fewer} hv l hw last cut = record {
     within = s.within;
     marked = s.marked;
@@ -42,13 +43,14 @@ module _ {g : Digraph} {marks : List Mark} {active bounds : List ℕ} {pending :
     once = s.once;
   }
     where
-      still : (p w : ℕ) → IsSettled marks bounds p w → IsSettled marks fewer p w
+      still : (p w : ℕ) → IsSettled statuses bounds p w → IsSettled statuses fewer p w
       still p w (closed k c) = closed k c
       still p w (settled_active q a later) = settled_active q a (λ k b h. later k b (cut.part k b h))
 
   -- a pending link with a settled target can be removed
   pub sound-taken : {e : Pending} → slice_get pending (length pending - 1) ≡ Some e →
-      IsSettled marks bounds e.from e.to → IsSoundSearch g marks active bounds (take (length pending - 1) pending) order
+      IsSettled statuses bounds e.from e.to →
+      IsSoundSearch g statuses active bounds (take (length pending - 1) pending) order
   sound-taken {e} last settled = record {
     within = s.within;
     marked = s.marked;
@@ -77,7 +79,7 @@ module _ {g : Digraph} {marks : List Mark} {active bounds : List ℕ} {pending :
       back i f h = slice_get-take_back (length pending - 1) pending i f h
 
       still : (p w : ℕ) → IsPending pending p w → IsPending (take (length pending - 1) pending) p w ⊎
-          IsSettled marks bounds p w
+          IsSettled statuses bounds p w
       still p w y = elim (slice_get-but_last pending last y.at y.step y.is) [
         | inl k ↦ inl (record { at = y.at; step = y.step; is = k; from_is = y.from_is; to_is = y.to_is })
         | inr k ↦ inr (rw (← y.from_is, ← y.to_is, ← k) settled)

@@ -3,7 +3,7 @@ use Rattle.std.proofs.Common.{◌≡◌, ◌∙◌, ℕ, ◌⊎◌, drop, inl, i
 use Rattle.std.proofs.Common.{arith, Some, slice_get, set}
 use Rattle.std.proofs.lemmas.Option.{slice_get_within}
 use Rattle.std.proofs.lemmas.List.{nil_from_length}
-use Rattle.ps_components.specs.declared.marks.Mark.{Mark}
+use Rattle.ps_components.specs.declared.statuses.Status.{Status}
 use Rattle.ps_components.specs.declared.search.Pending.{Pending}
 use Rattle.ps_components.specs.Graphs.{Digraph, IsReached}
 use Rattle.ps_components.specs.ComponentLists.{ComponentsData, IsIn, AreComponents, AreMet}
@@ -14,28 +14,28 @@ use Rattle.ps_components.proofs.Places.{slice_get-set_cases, slice_get-drop}
 use Rattle.ps_components.proofs.Closing.{close_all_cases}
 
 -- an item that is now closed was on the path
-pub reached-closed : (g : Digraph) (marks : List Mark) (active : List ℕ) (bound k : ℕ) →
-    ChangesReached g active marks (close_all marks (drop bound active) k)
-reached-closed g marks active bound k v = grind (arith, close_all_cases, slice_get-drop)
+pub reached-closed : (g : Digraph) (statuses : List Status) (active : List ℕ) (bound k : ℕ) →
+    ChangesReached g active statuses (close_all statuses (drop bound active) k)
+reached-closed g statuses active bound k v = grind (arith, close_all_cases, slice_get-drop)
 
--- only the mark of one item changed, and this item is reachable from the path
-pub reached-entered : {g : Digraph} (marks : List Mark) (active : List ℕ) {item : ℕ} (m : Mark) →
-    IsReached g active item → ChangesReached g active marks (set marks item m)
-reached-entered marks active {item} m r v = grind (arith, slice_get-set_cases)
+-- only the status of one item changed, and this item is reachable from the path
+pub reached-entered : {g : Digraph} (statuses : List Status) (active : List ℕ) {item : ℕ} (m : Status) →
+    IsReached g active item → ChangesReached g active statuses (set statuses item m)
+reached-entered statuses active {item} m r v = grind (arith, slice_get-set_cases)
 
 -- a vertex reachable from one root is reachable from the roots
 pub reached-root : {g : Digraph} (roots : List ℕ) (k : ℕ) {root v : ℕ} → slice_get roots k ≡ Some root →
     IsReached g (root ∷ []) v → IsReached g roots v
 reached-root {g} roots k {root} {v} at r = grind arith
 
-module _ {g : Digraph} {marks : List Mark} {active bounds : List ℕ} {pending : List Pending} {order : List ℕ}
-    (s : IsSoundSearch g marks active bounds pending order) where
-  -- one more step of the search changes only the marks of vertices reachable from the path
-  pub reached-more : {marks' : List Mark} {active' bounds' : List ℕ} {pending' : List Pending}
-      {order' : List ℕ} (marks'' : List Mark) → IsSoundSearch g marks' active' bounds' pending' order' →
-      ChangesReached g active marks marks' → ChangesReached g active' marks' marks'' →
-      ChangesReached g active marks marks''
-  reached-more {active' = active'} marks'' s' before now v = grind (arith, on_path, SameOrWay-join)
+module _ {g : Digraph} {statuses : List Status} {active bounds : List ℕ} {pending : List Pending} {order : List ℕ}
+    (s : IsSoundSearch g statuses active bounds pending order) where
+  -- one more step of the search changes only the statuses of vertices reachable from the path
+  pub reached-more : {statuses' : List Status} {active' bounds' : List ℕ} {pending' : List Pending}
+      {order' : List ℕ} (statuses'' : List Status) → IsSoundSearch g statuses' active' bounds' pending' order' →
+      ChangesReached g active statuses statuses' → ChangesReached g active' statuses' statuses'' →
+      ChangesReached g active statuses statuses''
+  reached-more {active' = active'} statuses'' s' before now v = grind (arith, on_path, SameOrWay-join)
     where
       on_path : (p a : ℕ) → slice_get active' p ≡ Some a → IsReached g active a
       on_path p a h = elim (before a) [ inl f ↦ (p, a, grind arith, inl refl) | inr r ↦ r ]
@@ -43,14 +43,15 @@ module _ {g : Digraph} {marks : List Mark} {active bounds : List ℕ} {pending :
   no_path : length bounds ≡ 0 → active ≡ []
   no_path none = nil_from_length active (grind (arith, s.bounds_start, slice_get_within bounds 0 0))
 
-  -- a search that begins at one item changes only the marks of vertices reachable from this item
-  pub reached-begun : length bounds ≡ 0 → (item : ℕ) (m : Mark) (marks' : List Mark) →
-      ChangesReached g (active ++ item ∷ []) (set marks item m) marks' → ChangesReached g (item ∷ []) marks marks'
-  reached-begun none item m marks' now v = here (rw (no_path none) at (now v))
+  -- a search that begins at one item changes only the statuses of vertices reachable from this item
+  pub reached-begun : length bounds ≡ 0 → (item : ℕ) (m : Status) (statuses' : List Status) →
+      ChangesReached g (active ++ item ∷ []) (set statuses item m) statuses' →
+      ChangesReached g (item ∷ []) statuses statuses'
+  reached-begun none item m statuses' now v = here (rw (no_path none) at (now v))
     where
-      here : (slice_get marks' v ≡ slice_get (set marks item m) v) ⊎ IsReached g (item ∷ []) v →
-          (slice_get marks' v ≡ slice_get marks v) ⊎ IsReached g (item ∷ []) v
-      here (inl e) = elim (slice_get-set_cases marks item v m) [
+      here : (slice_get statuses' v ≡ slice_get (set statuses item m) v) ⊎ IsReached g (item ∷ []) v →
+          (slice_get statuses' v ≡ slice_get statuses v) ⊎ IsReached g (item ∷ []) v
+      here (inl e) = elim (slice_get-set_cases statuses item v m) [
         | inl same ↦ inr (0, item, refl, inl (sym same.0))
         | inr n ↦ inl (e ∙ n.1)
       ]

@@ -15,8 +15,8 @@ pub record Link (g : Digraph) (v w : ℕ) : Type 0 where
   pub target : g.target v place ≡ Some w
 
 -- each link leads to a vertex of the graph
-abbrev pub IsWithin : Digraph → Type 0
-IsWithin g = (v w : ℕ) → Link g v w → w < g.count
+abbrev pub LinksStayWithin : Digraph → Type 0
+LinksStayWithin g = (v w : ℕ) → Link g v w → w < g.count
 
 -- a way: a path of one or more steps of R, from one number to another
 pub data Way (R : ℕ → ℕ → Type 0) : ℕ → ℕ → Type 0 where

@@ -4,22 +4,22 @@
 --     Visits, Runs, Advances, Enters, Merges, Takes      what the methods of the search do
 use Rattle.std.specs.Prelude.{◌≡◌, ℕ, ◌<◌, ◌≤◌, List, [], ◌∷◌, ◌++◌, length, slice_get, slice_set, Some, All}
 use Rattle.ps_components.specs.Graphs.{Digraph}
-use Rattle.ps_components.specs.Searching.{IsSoundSearch, IsSoundBut, IsSettled, KeepsMarks, ChangesReached, HasMet}
+use Rattle.ps_components.specs.Searching.{IsSoundSearch, IsSoundBut, IsSettled, KeepsStatuses, ChangesReached, HasMet}
 use Rattle.ps_components.specs.Searching.{turns}
-use Rattle.ps_components.specs.declared.marks.Mark.TheVariants.{Unseen, Active}
+use Rattle.ps_components.specs.declared.statuses.Status.TheVariants.{Unseen, Active}
 use Rattle.ps_components.specs.declared.search.Pending.{Pending}
 use Rattle.ps_components.specs.declared.search.Search.{Search}
 
 abbrev pub IsSound : Digraph → Search → Type 0
-IsSound g s = IsSoundSearch g s.marks s.active.items s.bounds.items s.pending.items s.order.items
+IsSound g s = IsSoundSearch g s.statuses s.active.items s.bounds.items s.pending.items s.order.items
 
 -- the search would be sound if some more links, which all lead to `item`, were pending
 abbrev pub IsSoundButFor : Digraph → ℕ → Search → Type 0
-IsSoundButFor g item s = IsSoundBut g item s.marks s.active.items s.bounds.items s.pending.items s.order.items
+IsSoundButFor g item s = IsSoundBut g item s.statuses s.active.items s.bounds.items s.pending.items s.order.items
 
 -- a bound on the number of steps that the search still needs
 abbrev pub turns_left : Digraph → Search → ℕ
-turns_left g s = turns g s.marks s.bounds.items s.pending.items
+turns_left g s = turns g s.statuses s.bounds.items s.pending.items
 
 -- the path is empty
 pub record IsIdle (g : Digraph) (s : Search) : Type 0 where
@@ -29,46 +29,46 @@ pub record IsIdle (g : Digraph) (s : Search) : Type 0 where
 -- the search is idle, and all items are unseen
 pub record IsFresh (g : Digraph) (s : Search) : Type 0 where
   pub idle : IsIdle g s
-  pub unseen : All (λ m. m ≡ Unseen) s.marks
+  pub unseen : All (λ m. m ≡ Unseen) s.statuses
 
 -- the visited items are exactly the roots and the items reachable from them
 pub record HasVisited (g : Digraph) (roots : List ℕ) (s : Search) : Type 0 where
   pub idle : IsIdle g s
-  pub met : HasMet g roots s.marks
+  pub met : HasMet g roots s.statuses
 
--- the item was visited, and only the marks of items reachable from it changed
+-- the item was visited, and only the statuses of items reachable from it changed
 pub record Visits (g : Digraph) (item : ℕ) (old new : Search) : Type 0 where
   pub idle : IsIdle g new
-  pub kept : KeepsMarks old.marks new.marks
-  pub seen : ¬ (slice_get new.marks item ≡ Some Unseen)
-  pub reached : ChangesReached g (item ∷ []) old.marks new.marks
+  pub kept : KeepsStatuses old.statuses new.statuses
+  pub seen : ¬ (slice_get new.statuses item ≡ Some Unseen)
+  pub reached : ChangesReached g (item ∷ []) old.statuses new.statuses
 
--- the path is empty again, and only the marks of items reachable from the old path changed
+-- the path is empty again, and only the statuses of items reachable from the old path changed
 pub record Runs (g : Digraph) (old new : Search) : Type 0 where
   pub idle : IsIdle g new
-  pub kept : KeepsMarks old.marks new.marks
-  pub reached : ChangesReached g old.active.items old.marks new.marks
+  pub kept : KeepsStatuses old.statuses new.statuses
+  pub reached : ChangesReached g old.active.items old.statuses new.statuses
 
 -- one step
 pub record Advances (g : Digraph) (old new : Search) : Type 0 where
   pub sound : IsSound g new
   pub fewer : turns_left g new < turns_left g old
-  pub kept : KeepsMarks old.marks new.marks
-  pub reached : ChangesReached g old.active.items old.marks new.marks
+  pub kept : KeepsStatuses old.statuses new.statuses
+  pub reached : ChangesReached g old.active.items old.statuses new.statuses
 
 -- the item was appended to the path
 pub record Enters (g : Digraph) (item : ℕ) (old new : Search) : Type 0 where
   pub sound : IsSound g new
   pub fewer : turns_left g new < turns_left g old
-  pub kept : KeepsMarks old.marks new.marks
-  pub entered : new.marks ≡ slice_set old.marks item (Active (length old.active.items))
+  pub kept : KeepsStatuses old.statuses new.statuses
+  pub entered : new.statuses ≡ slice_set old.statuses item (Active (length old.active.items))
   pub path : new.active.items ≡ old.active.items ++ item ∷ []
 
 -- segments were merged, so that the target of the pending link is settled
 pub record Merges (g : Digraph) (link : Pending) (old new : Search) : Type 0 where
   pub sound : IsSound g new
-  pub settled : IsSettled new.marks new.bounds.items link.from link.to
-  pub marks : new.marks ≡ old.marks
+  pub settled : IsSettled new.statuses new.bounds.items link.from link.to
+  pub statuses : new.statuses ≡ old.statuses
   pub shorter : length new.bounds.items ≤ length old.bounds.items
   pub pending : new.pending.items ≡ old.pending.items
 
@@ -76,4 +76,4 @@ pub record Merges (g : Digraph) (link : Pending) (old new : Search) : Type 0 whe
 pub record Takes (g : Digraph) (old new : Search) : Type 0 where
   pub sound : IsSound g new
   pub fewer : turns_left g new < turns_left g old
-  pub marks : new.marks ≡ old.marks
+  pub statuses : new.statuses ≡ old.statuses

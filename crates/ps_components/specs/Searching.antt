@@ -1,9 +1,9 @@
 -- The invariants of the search for components.
 use Rattle.std.specs.Prelude.{◌≡◌, ℕ, ◌+◌, ◌<◌, ◌≤◌, ◌⊎◌, List, [], ◌∷◌, ◌++◌, length, slice_get, slice_set, Option}
 use Rattle.std.specs.Prelude.{Some, None, zero, suc}
-use Rattle.ps_components.specs.Graphs.{Digraph, Link, IsWithin, SameOrWay, IsReached}
-use Rattle.ps_components.specs.declared.marks.Mark.{Mark}
-use Rattle.ps_components.specs.declared.marks.Mark.TheVariants.{Unseen, Active, Closed}
+use Rattle.ps_components.specs.Graphs.{Digraph, Link, LinksStayWithin, SameOrWay, IsReached}
+use Rattle.ps_components.specs.declared.statuses.Status.{Status}
+use Rattle.ps_components.specs.declared.statuses.Status.TheVariants.{Unseen, Active, Closed}
 use Rattle.ps_components.specs.declared.search.Pending.{Pending}
 
 -- each bound that is at most p is also at most q
@@ -11,9 +11,9 @@ abbrev pub NoLater : List ℕ → ℕ → ℕ → Type 0
 NoLater bounds p q = (k b : ℕ) → slice_get bounds k ≡ Some b → b ≤ p → b ≤ q
 
 -- the target w of a link from index p of the path is closed, or it is on the path in the same segment or a later one
-pub data IsSettled (marks : List Mark) (bounds : List ℕ) (p w : ℕ) : Type 0 where
-  closed : (k : ℕ) → slice_get marks w ≡ Some (Closed k) → IsSettled marks bounds p w
-  active : (q : ℕ) → slice_get marks w ≡ Some (Active q) → NoLater bounds p q → IsSettled marks bounds p w
+pub data IsSettled (statuses : List Status) (bounds : List ℕ) (p w : ℕ) : Type 0 where
+  closed : (k : ℕ) → slice_get statuses w ≡ Some (Closed k) → IsSettled statuses bounds p w
+  active : (q : ℕ) → slice_get statuses w ≡ Some (Active q) → NoLater bounds p q → IsSettled statuses bounds p w
 
 -- the link from index p of the path to w is pending
 pub record IsPending (pending : List Pending) (p w : ℕ) : Type 0 where
@@ -26,12 +26,12 @@ pub record IsPending (pending : List Pending) (p w : ℕ) : Type 0 where
 -- the path consists of segments, each of which begins at a bound. The items of a segment can reach one another and the
 -- items of later segments. The closed items are in the order, and their links lead to items that were closed earlier or
 -- in the same component
-pub record IsSoundSearch (g : Digraph) (marks : List Mark) (active bounds : List ℕ) (pending : List Pending)
+pub record IsSoundSearch (g : Digraph) (statuses : List Status) (active bounds : List ℕ) (pending : List Pending)
     (order : List ℕ) : Type 0 where
-  pub within : IsWithin g
-  pub marked : length marks ≡ g.count
-  pub active_marked : (p v : ℕ) → slice_get active p ≡ Some v → slice_get marks v ≡ Some (Active p)
-  pub marked_active : (p v : ℕ) → slice_get marks v ≡ Some (Active p) → slice_get active p ≡ Some v
+  pub within : LinksStayWithin g
+  pub marked : length statuses ≡ g.count
+  pub active_marked : (p v : ℕ) → slice_get active p ≡ Some v → slice_get statuses v ≡ Some (Active p)
+  pub marked_active : (p v : ℕ) → slice_get statuses v ≡ Some (Active p) → slice_get active p ≡ Some v
   pub bounds_rise : (i j b c : ℕ) → slice_get bounds i ≡ Some b → slice_get bounds j ≡ Some c → i < j → b < c
   pub bounds_within : (i b : ℕ) → slice_get bounds i ≡ Some b → b < length active
   pub bounds_start : 0 < length active → slice_get bounds 0 ≡ Some 0
@@ -42,57 +42,59 @@ pub record IsSoundSearch (g : Digraph) (marks : List Mark) (active bounds : List
   pub together : (p q v w : ℕ) → slice_get active p ≡ Some v → slice_get active q ≡ Some w → NoLater bounds p q →
       SameOrWay g v w
   pub looked_at : (p v w : ℕ) → slice_get active p ≡ Some v → Link g v w →
-      IsPending pending p w ⊎ IsSettled marks bounds p w
-  pub closed_links : (v k w : ℕ) → slice_get marks v ≡ Some (Closed k) → Link g v w →
-      (m : ℕ) × (slice_get marks w ≡ Some (Closed m)) × (m ≤ k)
-  pub same : (v w k : ℕ) → slice_get marks v ≡ Some (Closed k) → slice_get marks w ≡ Some (Closed k) → SameOrWay g v w
-  pub numbered : (v k : ℕ) → slice_get marks v ≡ Some (Closed k) → k < length order
-  pub begins : (v k : ℕ) → slice_get marks v ≡ Some (Closed k) →
-      (u : ℕ) × (slice_get order k ≡ Some u) × (slice_get marks u ≡ Some (Closed k))
-  pub starts : (i v k : ℕ) → slice_get order i ≡ Some v → slice_get marks v ≡ Some (Closed k) → k ≤ i
-  pub listed : (v k : ℕ) → slice_get marks v ≡ Some (Closed k) → (i : ℕ) × (slice_get order i ≡ Some v)
-  pub ordered : (i v : ℕ) → slice_get order i ≡ Some v → (k : ℕ) × (slice_get marks v ≡ Some (Closed k))
+      IsPending pending p w ⊎ IsSettled statuses bounds p w
+  pub closed_links : (v k w : ℕ) → slice_get statuses v ≡ Some (Closed k) → Link g v w →
+      (m : ℕ) × (slice_get statuses w ≡ Some (Closed m)) × (m ≤ k)
+  pub same : (v w k : ℕ) → slice_get statuses v ≡ Some (Closed k) → slice_get statuses w ≡ Some (Closed k) →
+      SameOrWay g v w
+  pub numbered : (v k : ℕ) → slice_get statuses v ≡ Some (Closed k) → k < length order
+  pub begins : (v k : ℕ) → slice_get statuses v ≡ Some (Closed k) →
+      (u : ℕ) × (slice_get order k ≡ Some u) × (slice_get statuses u ≡ Some (Closed k))
+  pub starts : (i v k : ℕ) → slice_get order i ≡ Some v → slice_get statuses v ≡ Some (Closed k) → k ≤ i
+  pub listed : (v k : ℕ) → slice_get statuses v ≡ Some (Closed k) → (i : ℕ) × (slice_get order i ≡ Some v)
+  pub ordered : (i v : ℕ) → slice_get order i ≡ Some v → (k : ℕ) × (slice_get statuses v ≡ Some (Closed k))
   pub rises : (i j v w k m : ℕ) → i < j → slice_get order i ≡ Some v → slice_get order j ≡ Some w →
-      slice_get marks v ≡ Some (Closed k) → slice_get marks w ≡ Some (Closed m) → k ≤ m
+      slice_get statuses v ≡ Some (Closed k) → slice_get statuses w ≡ Some (Closed m) → k ≤ m
   pub once : (i j v : ℕ) → slice_get order i ≡ Some v → slice_get order j ≡ Some v → i ≡ j
 
 -- the lists would satisfy the invariant if some more links, which all lead to `item`, were pending after the others
-pub record IsSoundBut (g : Digraph) (item : ℕ) (marks : List Mark) (active bounds : List ℕ) (pending : List Pending)
+pub record IsSoundBut (g : Digraph) (item : ℕ) (statuses : List Status) (active bounds : List ℕ)
+    (pending : List Pending)
     (order : List ℕ) : Type 0 where
   pub skipped : List Pending
   pub lead : (i : ℕ) (e : Pending) → slice_get skipped i ≡ Some e → e.to ≡ item
-  pub sound : IsSoundSearch g marks active bounds (pending ++ skipped) order
+  pub sound : IsSoundSearch g statuses active bounds (pending ++ skipped) order
 
--- each marked item is in the order, and each item of the order has an entry in the list of marks
-pub record AreListed (marks : List Mark) (order : List ℕ) : Type 0 where
-  pub within : (i v : ℕ) → slice_get order i ≡ Some v → v < length marks
-  pub listed : (v : ℕ) (m : Mark) → slice_get marks v ≡ Some m →
+-- each marked item is in the order, and each item of the order has an entry in the list of statuses
+pub record AreListed (statuses : List Status) (order : List ℕ) : Type 0 where
+  pub within : (i v : ℕ) → slice_get order i ≡ Some v → v < length statuses
+  pub listed : (v : ℕ) (m : Status) → slice_get statuses v ≡ Some m →
       (m ≡ Unseen) ⊎ ((i : ℕ) × (slice_get order i ≡ Some v))
 
 -- the roots were seen, and each closed item is a root or is reachable from a root
-pub record HasMet (g : Digraph) (roots : List ℕ) (marks : List Mark) : Type 0 where
-  pub seen : (i v : ℕ) → slice_get roots i ≡ Some v → ¬ (slice_get marks v ≡ Some Unseen)
-  pub reached : (v k : ℕ) → slice_get marks v ≡ Some (Closed k) → IsReached g roots v
+pub record HasMet (g : Digraph) (roots : List ℕ) (statuses : List Status) : Type 0 where
+  pub seen : (i v : ℕ) → slice_get roots i ≡ Some v → ¬ (slice_get statuses v ≡ Some Unseen)
+  pub reached : (v k : ℕ) → slice_get statuses v ≡ Some (Closed k) → IsReached g roots v
 
--- only the marks of vertices that are reachable from the list `from` have changed
-abbrev pub ChangesReached : Digraph → List ℕ → List Mark → List Mark → Type 0
+-- only the statuses of vertices that are reachable from the list `from` have changed
+abbrev pub ChangesReached : Digraph → List ℕ → List Status → List Status → Type 0
 ChangesReached g from old new = (v : ℕ) → (slice_get new v ≡ slice_get old v) ⊎ IsReached g from v
 
 -- `fewer` has the bounds that are at most `place`, and no others
-pub record IsCut (bounds : List ℕ) (place : ℕ) (fewer : List ℕ) : Type 0 where
+pub record IsCutAt (bounds : List ℕ) (place : ℕ) (fewer : List ℕ) : Type 0 where
   pub part : (k b : ℕ) → slice_get fewer k ≡ Some b → slice_get bounds k ≡ Some b
   pub kept : (k b : ℕ) → slice_get bounds k ≡ Some b → b ≤ place → slice_get fewer k ≡ Some b
   pub below : (k b : ℕ) → slice_get fewer k ≡ Some b → b ≤ place
   pub shorter : length fewer ≤ length bounds
 
--- the marks that result when each item of the list is closed, in the component k
-abbrev pub close_all : List Mark → List ℕ → ℕ → List Mark
-close_all marks [] k = marks
-close_all marks (v ∷ vs) k = close_all (slice_set marks v (Closed k)) vs k
+-- the statuses that result when each item of the list is closed, in the component k
+abbrev pub close_all : List Status → List ℕ → ℕ → List Status
+close_all statuses [] k = statuses
+close_all statuses (v ∷ vs) k = close_all (slice_set statuses v (Closed k)) vs k
 
 -- each marked item stays marked
-abbrev pub KeepsMarks : List Mark → List Mark → Type 0
-KeepsMarks old new = (v : ℕ) → slice_get new v ≡ Some Unseen → slice_get old v ≡ Some Unseen
+abbrev pub KeepsStatuses : List Status → List Status → Type 0
+KeepsStatuses old new = (v : ℕ) → slice_get new v ≡ Some Unseen → slice_get old v ≡ Some Unseen
 
 -- the pending link for one slot of an item at index p of the path, if the slot has a target
 abbrev pub wait_of : ℕ → Option ℕ → List Pending
@@ -105,20 +107,20 @@ waits g p item zero = []
 waits g p item (suc n) = waits g p item n ++ wait_of p (g.target item n)
 
 -- a bound on the number of remaining steps of the search
-abbrev pub turns_of : Digraph → ℕ → Mark → ℕ
+abbrev pub turns_of : Digraph → ℕ → Status → ℕ
 turns_of g item Unseen = g.degree item + 2
 turns_of g item (Active _) = 0
 turns_of g item (Closed _) = 0
 
-abbrev pub turns_from : Digraph → ℕ → List Mark → ℕ
+abbrev pub turns_from : Digraph → ℕ → List Status → ℕ
 turns_from g item [] = 0
 turns_from g item (m ∷ ms) = turns_of g item m + turns_from g (suc item) ms
 
-abbrev pub turns : Digraph → List Mark → List ℕ → List Pending → ℕ
-turns g marks bounds pending = turns_from g 0 marks + length bounds + length pending
+abbrev pub turns : Digraph → List Status → List ℕ → List Pending → ℕ
+turns g statuses bounds pending = turns_from g 0 statuses + length bounds + length pending
 
 -- the number of the component of a closed item
-abbrev pub number_of : Mark → Option ℕ
-number_of Unseen = None
-number_of (Active _) = None
-number_of (Closed k) = Some k
+abbrev pub component_of : Status → Option ℕ
+component_of Unseen = None
+component_of (Active _) = None
+component_of (Closed k) = Some k

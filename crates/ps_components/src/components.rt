@@ -4,8 +4,8 @@ ghost use Rattle.std.specs.Prelude.{◌≡◌, ◌<◌, [], length, slice_get, S
 ghost use Rattle.ps_components.specs.ComponentLists.{AreComponents, AreMet, AreAllMet};
 
 use crate::graph::Graph;
-use crate::marks::Mark;
 use crate::search::Search;
+use crate::statuses::Status;
 use std::alloc::{AllocError, Global};
 use std::marker::Model;
 
@@ -19,16 +19,16 @@ pub struct Components {
 impl Model for Components {
     ghost use Rattle.std.specs.Prelude.{map};
     ghost use Rattle.ps_components.specs.ComponentLists.{ComponentsData};
-    ghost use Rattle.ps_components.specs.Searching.{number_of, AreListed};
+    ghost use Rattle.ps_components.specs.Searching.{component_of, AreListed};
 
     ghost Value = { ComponentsData };
 
     ghost view = { λ c. record {
-      numbers = map number_of c.search.marks;
+      numbers = map component_of c.search.statuses;
       order = c.search.order.items;
     } };
 
-    ghost invariant = { λ c. AreListed c.search.marks c.search.order.items };
+    ghost invariant = { λ c. AreListed c.search.statuses c.search.order.items };
 }
 
 impl Components {
@@ -65,8 +65,8 @@ impl Components {
         requires { item < length self.now.numbers }
         ensures { slice_get self.now.numbers item ≡ Some result }
     {
-        match self.search.marks.at(item) {
-            Mark::Closed(number) => Some(number),
+        match self.search.statuses.at(item) {
+            Status::Closed(number) => Some(number),
             _ => None,
         }
     }

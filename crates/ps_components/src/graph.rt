@@ -1,7 +1,7 @@
 //! Graphs of numbered vertices.
 
 ghost use Rattle.std.specs.Prelude.{◌≡◌, ◌<◌, IfSome};
-ghost use Rattle.ps_components.specs.Graphs.{Digraph, IsWithin};
+ghost use Rattle.ps_components.specs.Graphs.{Digraph, LinksStayWithin};
 
 /// A directed graph whose vertices are numbered from 0. Each vertex has numbered slots, and each slot has a target or
 /// is empty. A link leads from a vertex to the target of one of its slots.
@@ -12,7 +12,7 @@ pub trait Graph {
     /// The number of vertices.
     fn count(&self) -> usize
         ensures count { result ≡ (graph self.now).count }
-        ensures within { IsWithin (graph self.now) };
+        ensures within { LinksStayWithin (graph self.now) };
 
     /// The number of slots of a vertex.
     fn degree(&self, item: usize) -> usize

@@ -20,8 +20,8 @@
 mod arranging;
 mod components;
 mod graph;
-mod marks;
 mod search;
+mod statuses;
 mod trail;
 
 pub use arranging::{Arrangement, arrange};

@@ -4,13 +4,13 @@
 ghost use Rattle.std.specs.Prelude.{◌≡◌, ℕ, ◌<◌, ◌≤◌, ◌++◌, ◌∷◌, [], ◌-◌, All, length, slice_get, slice_set, Some};
 ghost use Rattle.std.specs.Prelude.{OnOk, IfOk, ◌^◌};
 ghost use Rattle.ps_components.specs.Graphs.{Way, Link};
-ghost use Rattle.ps_components.specs.Searching.{IsSettled, IsCut, AreListed, close_all, waits};
+ghost use Rattle.ps_components.specs.Searching.{IsSettled, IsCutAt, AreListed, close_all, waits};
 ghost use Rattle.ps_components.specs.Searches.{IsSound, IsSoundButFor, IsIdle, IsFresh, HasVisited, Visits, Runs};
 ghost use Rattle.ps_components.specs.Searches.{Advances, Enters, Merges, Takes};
 ghost use Rattle.ps_components.specs.declared.search.Pending.{Pending};
 
 use crate::graph::Graph;
-use crate::marks::{Mark, Marks};
+use crate::statuses::{Status, Statuses};
 use std::alloc::{AllocError, Global};
 
 /// A link that is still to be followed, from the item at index `from` of the path.
@@ -24,7 +24,7 @@ pub struct Pending {
 #[derive(Drop)]
 pub struct Search {
     /// The state of each item.
-    pub marks: Marks,
+    pub statuses: Statuses,
     active: Vec<usize>,
     bounds: Vec<usize>,
     pending: Vec<Pending>,
@@ -38,7 +38,7 @@ impl Search {
         ensures { IfOk result (IsFresh (G.graph graph.now)) }
     {
         Ok(Search {
-            marks: Marks::unseen(alloc, graph.count())?,
+            statuses: Statuses::unseen(alloc, graph.count())?,
             active: Vec::new(alloc),
             bounds: Vec::new(alloc),
             pending: Vec::new(alloc),
@@ -48,11 +48,11 @@ impl Search {
 
     /// A search of the empty graph.
     pub fn empty(alloc: Global) -> Self
-        ensures marks { result.marks ≡ [] }
+        ensures statuses { result.statuses ≡ [] }
         ensures order { result.order.items ≡ [] }
     {
         Search {
-            marks: Marks::new(alloc),
+            statuses: Statuses::new(alloc),
             active: Vec::new(alloc),
             bounds: Vec::new(alloc),
             pending: Vec::new(alloc),
@@ -62,16 +62,16 @@ impl Search {
 
     /// Forgets the graph, but keeps the allocated memory.
     pub fn forget(&mut self)
-        ensures marks { self.new.marks ≡ [] }
+        ensures statuses { self.new.statuses ≡ [] }
         ensures order { self.new.order.items ≡ [] }
     {
-        self.marks.clear();
+        self.statuses.clear();
         self.order.clear();
     }
 
     /// Starts anew, and visits the roots and all vertices reachable from them. Fails if out of memory.
     pub fn again<G: Graph>(&mut self, graph: &G, roots: &[usize]) -> Result<(), AllocError>
-        requires listed { AreListed self.old.marks self.old.order.items }
+        requires listed { AreListed self.old.statuses self.old.order.items }
         requires within { All (λ v. v < (G.graph graph.now).count) roots.now }
         ensures { OnOk result (HasVisited (G.graph graph.now) roots.now self.new) }
     {
@@ -79,13 +79,13 @@ impl Search {
         self.visit_each(graph, roots)
     }
 
-    /// Resets the marks of all marked items, which `order` lists, and prepares for a graph. Fails if out of memory.
+    /// Resets the statuses of all marked items, which `order` lists, and prepares for a graph. Fails if out of memory.
     fn renew<G: Graph>(&mut self, graph: &G) -> Result<(), AllocError>
-        requires { AreListed self.old.marks self.old.order.items }
+        requires { AreListed self.old.statuses self.old.order.items }
         ensures { OnOk result (IsFresh (G.graph graph.now) self.new) }
     {
-        unmark(&mut self.marks, &self.order);
-        self.marks.resize(graph.count())?;
+        reset(&mut self.statuses, &self.order);
+        self.statuses.resize(graph.count())?;
         self.active.clear();
         self.bounds.clear();
         self.pending.clear();
@@ -111,7 +111,7 @@ impl Search {
         requires idle { IsIdle (G.graph graph.now) self.old }
         ensures { OnOk result (Visits (G.graph graph.now) item self.old self.new) }
     {
-        if let Mark::Unseen = self.marks.at(item) {
+        if let Status::Unseen = self.statuses.at(item) {
             self.enter(graph, item)?;
             self.run(graph)?;
         }
@@ -142,13 +142,13 @@ impl Search {
         if pending.from < bound {
             return self.close(graph, bound);
         }
-        match self.marks.at(pending.to) {
-            Mark::Unseen => return self.follow(graph, pending),
-            Mark::Active(place) => {
+        match self.statuses.at(pending.to) {
+            Status::Unseen => return self.follow(graph, pending),
+            Status::Active(place) => {
                 self.merge(graph, pending, place);
                 self.take(graph, pending);
             }
-            Mark::Closed(_) => self.take(graph, pending),
+            Status::Closed(_) => self.take(graph, pending),
         }
         Ok(())
     }
@@ -157,7 +157,7 @@ impl Search {
     fn follow<G: Graph>(&mut self, graph: &G, pending: Pending) -> Result<(), AllocError>
         requires last { slice_get self.old.pending.items (length self.old.pending.items - 1) ≡ Some pending }
         requires within { pending.to < (G.graph graph.now).count }
-        requires unseen { slice_get self.old.marks pending.to ≡ Some Mark.Unseen }
+        requires unseen { slice_get self.old.statuses pending.to ≡ Some Status.Unseen }
         requires reached { (p v : ℕ) → slice_get self.old.active.items p ≡ Some v →
             Way (Link (G.graph graph.now)) v pending.to }
         requires sound { IsSound (G.graph graph.now) self.old }
@@ -170,7 +170,7 @@ impl Search {
     /// Appends an unseen item, which all items of the path can reach, to the path. Fails if out of memory.
     fn enter<G: Graph>(&mut self, graph: &G, item: usize) -> Result<(), AllocError>
         requires within { item < (G.graph graph.now).count }
-        requires unseen { slice_get self.old.marks item ≡ Some Mark.Unseen }
+        requires unseen { slice_get self.old.statuses item ≡ Some Status.Unseen }
         requires reached { (p v : ℕ) → slice_get self.old.active.items p ≡ Some v →
             Way (Link (G.graph graph.now)) v item }
         requires sound { IsSoundButFor (G.graph graph.now) item self.old }
@@ -180,18 +180,18 @@ impl Search {
         self.active.push(item)?;
         self.bounds.push(place)?;
         wait(&mut self.pending, graph, place, item)?;
-        self.marks.put(item, place)?;
+        self.statuses.put(item, place)?;
         Ok(())
     }
 
     /// Merges the last segment, which has a link to the item at index `place`, with all segments back to the segment of
     /// that item.
     fn merge<G: Graph>(&mut self, graph: &G, pending: Pending, place: usize)
-        requires within { pending.to < length self.old.marks }
+        requires within { pending.to < length self.old.statuses }
         requires linked { (v : ℕ) × (slice_get self.old.active.items pending.from ≡ Some v) ×
             Link (G.graph graph.now) v pending.to }
         requires last { (k b : ℕ) → slice_get self.old.bounds.items k ≡ Some b → b ≤ pending.from }
-        requires marked { slice_get self.old.marks pending.to ≡ Some (Mark.Active place) }
+        requires marked { slice_get self.old.statuses pending.to ≡ Some (Status.Active place) }
         requires sound { IsSound (G.graph graph.now) self.old }
         ensures { Merges (G.graph graph.now) pending self.old self.new }
     {
@@ -201,7 +201,7 @@ impl Search {
     /// Removes the last pending link, whose target is settled.
     fn take<G: Graph>(&mut self, graph: &G, pending: Pending)
         requires last { slice_get self.old.pending.items (length self.old.pending.items - 1) ≡ Some pending }
-        requires settled { IsSettled self.old.marks self.old.bounds.items pending.from pending.to }
+        requires settled { IsSettled self.old.statuses self.old.bounds.items pending.from pending.to }
         requires sound { IsSound (G.graph graph.now) self.old }
         ensures { Takes (G.graph graph.now) self.old self.new }
     {
@@ -218,7 +218,7 @@ impl Search {
         let number = self.order.len();
         let segment = &self.active[bound..];
         self.order.extend_from_slice(segment)?;
-        close_items(&mut self.marks, segment, number)?;
+        close_items(&mut self.statuses, segment, number)?;
         self.active.truncate(bound);
         self.bounds.pop();
         Ok(())
@@ -248,7 +248,7 @@ fn wait<G: Graph>(
 fn cut(bounds: &mut Vec<usize>, place: usize)
     requires rise { (i j b c : ℕ) → slice_get bounds.old.items i ≡ Some b → slice_get bounds.old.items j ≡ Some c →
         i < j → b < c }
-    ensures { IsCut bounds.old.items place bounds.new.items }
+    ensures { IsCutAt bounds.old.items place bounds.new.items }
 {
     while let Some(&bound) = bounds.last() {
         if bound <= place {
@@ -258,24 +258,24 @@ fn cut(bounds: &mut Vec<usize>, place: usize)
     }
 }
 
-/// Resets the marks of all marked items, which `items` lists, to unseen.
-fn unmark(marks: &mut Marks, items: &[usize])
-    requires { AreListed marks.old items.now }
-    ensures { All (λ m. m ≡ Mark.Unseen) marks.new }
+/// Resets the statuses of all marked items, which `items` lists, to unseen.
+fn reset(statuses: &mut Statuses, items: &[usize])
+    requires { AreListed statuses.old items.now }
+    ensures { All (λ m. m ≡ Status.Unseen) statuses.new }
 {
     for &item in items {
-        marks.clear_at(item);
+        statuses.clear_at(item);
     }
 }
 
 /// Closes the given items, in the component with the given number. Fails if out of memory.
-fn close_items(marks: &mut Marks, items: &[usize], number: usize) -> Result<(), AllocError>
-    requires within { (k v : ℕ) → slice_get items.now k ≡ Some v → v < length marks.old }
+fn close_items(statuses: &mut Statuses, items: &[usize], number: usize) -> Result<(), AllocError>
+    requires within { (k v : ℕ) → slice_get items.now k ≡ Some v → v < length statuses.old }
     requires number { number < 2 ^ 63 }
-    ensures { OnOk result (marks.new ≡ close_all marks.old items.now number) }
+    ensures { OnOk result (statuses.new ≡ close_all statuses.old items.now number) }
 {
     for &item in items {
-        marks.close(item, number)?;
+        statuses.close(item, number)?;
     }
     Ok(())
 }

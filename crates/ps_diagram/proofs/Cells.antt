@@ -12,7 +12,8 @@ use Rattle.ps_diagram.specs.declared.view.View.{View}
 use Rattle.ps_diagram.specs.declared.view.View.TheVariants.{Nothing}
 use Rattle.ps_diagram.specs.Tree.{Tree, IsFrom, IsReduced}
 use Rattle.ps_diagram.specs.Inner.Parts.{IsPart}
-use Rattle.ps_diagram.specs.Table.{Table, tree_by, trees_of, tree_at, tree_in, tree_of, IsNode, IsWithin, IsSoundTable}
+use Rattle.ps_diagram.specs.Table.{Table, tree_by, trees_of, tree_at, tree_in, tree_of, IsNode, IsCellWithin}
+use Rattle.ps_diagram.specs.Table.{IsSoundTable}
 use Rattle.ps_diagram.specs.Table.{Keeps}
 
 -- the table with one more cell
@@ -43,25 +44,28 @@ pub tree_at-new : (cells : List View) (cell : View) → tree_at (cells ++ cell �
 tree_at-new cells cell = search (rules, trees_push, get_or_push, length_trees)
 
 -- the tree of a cell does not change when a cell is added, if the nodes of the cell are in the table
-pub tree_in-old : (cells : List View) (cell c : View) → IsWithin (length cells) c →
+pub tree_in-old : (cells : List View) (cell c : View) → IsCellWithin (length cells) c →
     tree_in (cells ++ cell ∷ []) c ≡ tree_in cells c
 tree_in-old cells cell c h = search (rules, tree_at-old)
 
-pub within-weaker : {a : ℕ} (b : ℕ) (c : View) → a ≤ b → IsWithin a c → IsWithin b c
+pub within-weaker : {a : ℕ} (b : ℕ) (c : View) → a ≤ b → IsCellWithin a c → IsCellWithin b c
 within-weaker b c h k = search rules
 
 -- in a sound table, cells with equal trees are equal
-pub same_cell : (t : Table) → IsSoundTable t → (a b : View) → IsWithin (length t.cells) a →
-    IsWithin (length t.cells) b → tree_in t.cells a ≡ tree_in t.cells b → a ≡ b
+pub same_cell : (t : Table) → IsSoundTable t → (a b : View) → IsCellWithin (length t.cells) a →
+    IsCellWithin (length t.cells) b → tree_in t.cells a ≡ tree_in t.cells b → a ≡ b
 unfolding tree_of
 same_cell t h a b k m n = search rules
 
+-- a truth value is true or false
 pub bool_cases : (b : Bool) → (b ≡ true) ⊎ (b ≡ false)
 bool_cases b = cases_Bool b
 
+-- true is not false
 pub true_is_not_false : true ≡ false → ⊥
 true_is_not_false e = cc
 
+-- each table keeps its own nodes
 pub keeps_refl : (t : Table) → Keeps t t
 keeps_refl t = record { propositions = refl; held = λ node h. h; same = λ node h. refl }
 
@@ -88,14 +92,14 @@ each_cell P cells cell old new k h =
     search (rules, old_or_new, length-append, get_or_append_left, tree_at-old, get_or_push, tree_at-new)
 
 -- a sound table stays sound when a well-made new cell is added
-pub sound_more : {t : Table} {cell : View} → IsSoundTable t → IsWithin (length t.cells) cell →
+pub sound_more : {t : Table} {cell : View} → IsSoundTable t → IsCellWithin (length t.cells) cell →
     IsFrom 0 t.propositions (tree_in t.cells cell) → IsReduced (tree_in t.cells cell) →
     ((k : ℕ) → k < length t.cells → cell ≡ get_or t.cells k Nothing → ⊥) → IsSoundTable (more t cell)
 unfolding tree_of
 sound_more {t} {cell} s w o r new =
     let n = length t.cells in
     let old = t.cells in
-    let earlier : (k : ℕ) → k < n → IsWithin n (get_or old k Nothing) =
+    let earlier : (k : ℕ) → k < n → IsCellWithin n (get_or old k Nothing) =
     λ k h. within-weaker n _ (omega arith) (s.earlier k h) in
     let apart : (k : ℕ) → k < n → tree_in old cell ≡ tree_at old k → ⊥ =
     λ k h e. new k h (same_cell t s cell (get_or old k Nothing) w (earlier k h) (e ∙ s.built k h)) in
@@ -103,7 +107,7 @@ sound_more {t} {cell} s w o r new =
       few = s.few;
       built = each_cell (λ k c u. u ≡ tree_in (old ++ cell ∷ []) c) old cell
           (λ k h. s.built k h ∙ sym (tree_in-old old cell _ (earlier k h))) (sym (tree_in-old old cell cell w));
-      earlier = each_cell (λ k c u. IsWithin k c) old cell s.earlier w;
+      earlier = each_cell (λ k c u. IsCellWithin k c) old cell s.earlier w;
       ordered = each_cell (λ k c u. IsFrom 0 t.propositions u) old cell s.ordered o;
       reduced = each_cell (λ k c u. IsReduced u) old cell s.reduced r;
       one = λ a b ha hb. each_cell (λ k c u. u ≡ tree_at (old ++ cell ∷ []) b → k ≡ b) old cell (λ k h. each_cell
@@ -127,7 +131,8 @@ at_place {u} {cell} place s keeps stays e = search (rules, slice_get_within, get
 
 pub interned : {t : Table} {cells : List View} {cell : View} (place : ℕ) (eq : View → View → Bool) →
     ((a b : View) → eq a b ≡ true → a ≡ b) → ((a : View) → eq a a ≡ true) → IsSoundTable t →
-    IsWithin (length t.cells) cell → IsFrom 0 t.propositions (tree_in t.cells cell) → IsReduced (tree_in t.cells cell) →
+    IsCellWithin (length t.cells) cell → IsFrom 0 t.propositions (tree_in t.cells cell) →
+    IsReduced (tree_in t.cells cell) →
     cells ≡ insert_key eq t.cells cell → ((k : View) × (slice_get cells place ≡ Some k) × (eq cell k ≡ true)) →
     Interned t (record { propositions = t.propositions; cells = cells }) cell place
 interned {t} {cells} {cell} place eq sound_eq refl_eq s w o r is stored =

@@ -7,10 +7,10 @@ use Rattle.std.proofs.lemmas.Option.{slice_get_within, get_or_from_slice_get}
 use Rattle.std.specs.Prelude.{option_and_then}
 use Rattle.ps_label.specs.Truth.{is_in}
 use Rattle.ps_diagram.specs.declared.classes.Class.{Class}
-use Rattle.ps_diagram.specs.Letters.{assignment, letter_of, IsBefore, IsLeast, AgreeOn, AgreeOff}
+use Rattle.ps_diagram.specs.Letters.{assignment, letter_of, IsBefore, IsLeastLetter, AgreeOn, AgreeOff}
 use Rattle.ps_diagram.specs.Tree.{leaf_at, IsFrom}
 use Rattle.ps_diagram.specs.Table.{Table, IsNode, IsSoundTable, Keeps, tree_of, leaf_of}
-use Rattle.ps_diagram.specs.Reached.{AreLeaves, LeadsTo}
+use Rattle.ps_diagram.specs.Reached.{AreLeaves, LeadsToLeaf}
 use Rattle.ps_diagram.specs.Inner.Known.{IsMapped}
 use Rattle.ps_diagram.specs.Inner.Rests.{mixed, IsDivided}
 use Rattle.ps_diagram.specs.Inner.Numbered.{class_at, AreOf, IsPlaced}
@@ -26,7 +26,8 @@ IsThere list k = (i : ℕ) × (i < length list) × ((class_at list i).rest ≡ k
 
 -- the classes have the leaves of a node, in the order of their least letters
 record IsListed (t : Table) (node : ℕ) (list : List Class) : Type 0 where
-  pub least : (i : ℕ) → i < length list → IsLeast (LeadsTo t node (class_at list i).rest) (class_at list i).letter
+  pub least : (i : ℕ) → i < length list →
+      IsLeastLetter (LeadsToLeaf t node (class_at list i).rest) (class_at list i).letter
   pub complete : (f : ℕ → Bool) (k : ℕ) → leaf_at (tree_of t node) f ≡ Some k → IsThere list k
   pub rising : (i j : ℕ) → i < j → j < length list → IsBefore (class_at list i).letter (class_at list j).letter
 
@@ -46,11 +47,12 @@ listed t node own leaves list h o =
 
 -- a node has the same leaves when the table grows
 leads_kept : {t u : Table} → Keeps t u → {node : ℕ} → IsNode t node → (leaf letter : ℕ) →
-    LeadsTo t node leaf letter ↔ LeadsTo u node leaf letter
+    LeadsToLeaf t node leaf letter ↔ LeadsToLeaf u node leaf letter
 leads_kept k {node} h leaf letter = search rules
 
-least_kept : {t u : Table} → Keeps t u → {node leaf letter : ℕ} → IsNode t node → IsLeast (LeadsTo t node leaf) letter →
-    IsLeast (LeadsTo u node leaf) letter
+least_kept : {t u : Table} → Keeps t u → {node leaf letter : ℕ} → IsNode t node →
+    IsLeastLetter (LeadsToLeaf t node leaf) letter →
+    IsLeastLetter (LeadsToLeaf u node leaf) letter
 least_kept k {leaf} {letter} h is = search (rules, leads_kept)
 
 leaves_kept : {t u : Table} → Keeps t u → {node : ℕ} → IsNode t node → {leaves : List (ℕ × ℕ)} →
@@ -158,7 +160,7 @@ module _ {s u : Table} (m : Made s u) where
       grind (arith, divided_alike m.sound m.mask a (tree_of u m.divided) m.division (assignment x) (assignment y) e)
 
   -- the letter of a class has no proposition outside the mask, because without it the letter would come earlier
-  masked : (c : Class) → IsLeast (LeadsTo u m.divided c.rest) c.letter → (p : ℕ) → is_in p m.mask ≡ false →
+  masked : (c : Class) → IsLeastLetter (LeadsToLeaf u m.divided c.rest) c.letter → (p : ℕ) → is_in p m.mask ≡ false →
       is_in p c.letter ≡ false
   masked c first p off = false_from_ne_true (is_in p c.letter) (λ is.
       let n = u.propositions in

@@ -11,10 +11,11 @@ use Rattle.std.specs.Prelude.{AllPairs, Any, MatchOption, is_some}
 use Rattle.std.specs.List.{AllByRecursion}
 use Rattle.std.specs.Map.{lookup}
 use Rattle.ps_label.specs.Truth.{is_in}
-use Rattle.ps_diagram.specs.Leaves.{joined}
-use Rattle.ps_diagram.specs.Letters.{assignment, IsBefore, IsLeast}
+use Rattle.ps_diagram.specs.Leaves.{either_leaf}
+use Rattle.ps_diagram.specs.Letters.{assignment, IsBefore, IsLeastLetter}
 use Rattle.ps_diagram.specs.Inner.Parts.{IsChoice}
-use Rattle.ps_diagram.specs.Reached.{LeadsTo, AreLeaves, IsFound, IsFirst, AreRising, Gathers, IsGathered, HaveFound}
+use Rattle.ps_diagram.specs.Reached.{LeadsToLeaf, AreLeaves, IsFound, IsFirstLetterTo, AreRising, Gathers, IsGathered}
+use Rattle.ps_diagram.specs.Reached.{HaveFound}
 use Rattle.ps_diagram.specs.Split.{root_of}
 use Rattle.ps_diagram.specs.Table.{Table, tree_of}
 use Rattle.ps_diagram.specs.Tree.{Tree, final, choice, leaf_at, IsFrom}
@@ -26,11 +27,11 @@ use Rattle.ps_diagram.proofs.Letters.{no_bit, top_bit, lower_bit}
 -- ## Lists of leaves
 
 lookup-append : (test : ℕ → Bool) (xs ys : List (ℕ × ℕ)) →
-    lookup test (xs ++ ys) ≡ joined (lookup test xs) (lookup test ys)
+    lookup test (xs ++ ys) ≡ either_leaf (lookup test xs) (lookup test ys)
 lookup-append test [] ys = refl
 lookup-append test (x ∷ xs) ys = search (rules, bool_cases, lookup-append test xs ys)
 
-none_front : (a b : Option ℕ) → joined a b ≡ None → a ≡ None
+none_front : (a b : Option ℕ) → either_leaf a b ≡ None → a ≡ None
 none_front a b h = search rules
 
 found_last : (xs : List (ℕ × ℕ)) (k z : ℕ) → lookup (nat_eq k) xs ≡ None →
@@ -96,12 +97,13 @@ pub root_later : (n p : ℕ) (t : Tree) → IsFrom (p + 1) n t → p < n → p <
 root_later n p t h k = search rules
 
 first_low : {n : ℕ} (p : ℕ) {letter : ℕ} {low : Tree} (high : Tree) → letter < 2 ^ p → p < root_of n low →
-    {leaf place : ℕ} → IsFirst n low letter leaf place → IsFirst n (choice p low high) letter leaf place
+    {leaf place : ℕ} → IsFirstLetterTo n low letter leaf place → IsFirstLetterTo n (choice p low high) letter leaf place
 first_low p {letter} {low} high lt root {place} h = search (rules, no_bit, bool_cases, cases_order)
 
 first_high : {n : ℕ} (p letter : ℕ) (low : Tree) {high : Tree} → letter < 2 ^ p → p < root_of n high →
-    {leaf place : ℕ} → ((f : ℕ → Bool) → leaf_at low f ≡ Some leaf → ⊥) → IsFirst n high (letter + 2 ^ p) leaf place →
-    IsFirst n (choice p low high) letter leaf place
+    {leaf place : ℕ} → ((f : ℕ → Bool) → leaf_at low f ≡ Some leaf → ⊥) →
+    IsFirstLetterTo n high (letter + 2 ^ p) leaf place →
+    IsFirstLetterTo n (choice p low high) letter leaf place
 first_high p letter low {high} lt root {place} fresh h =
     let bit : is_in p place ≡ true = h.same p root ∙ top_bit p letter lt in
     record {
@@ -123,7 +125,8 @@ first_high p letter low {high} lt root {place} fresh h =
     }
 
 low_before_high : {n : ℕ} (p : ℕ) {letter : ℕ} {low high : Tree} → letter < 2 ^ p → p < root_of n low →
-    p < root_of n high → {k x m y : ℕ} → IsFirst n low letter k x → IsFirst n high (letter + 2 ^ p) m y → IsBefore x y
+    p < root_of n high → {k x m y : ℕ} → IsFirstLetterTo n low letter k x →
+    IsFirstLetterTo n high (letter + 2 ^ p) m y → IsBefore x y
 low_before_high p {letter} lt rl rh a b = grind (arith, no_bit, top_bit, lower_bit)
 
 not_found : (found : List (ℕ × ℕ)) (leaf : ℕ) → lookup (nat_eq leaf) found ≡ None → IsFound found leaf → ⊥
@@ -133,9 +136,9 @@ gathers_choice : {n : ℕ} (p : ℕ) {letter : ℕ} {low high : Tree} {old mid n
     p < root_of n low → p < root_of n high → Gathers n low letter old mid → Gathers n high (letter + 2 ^ p) mid new →
     Gathers n (choice p low high) letter old new
 gathers_choice {n} p {letter} {low} {high} {old} {mid} {new} lt rl rh a b =
-    let L : ℕ × ℕ → Type 0 = λ pair. IsFirst n low letter pair.0 pair.1 in
-    let H : ℕ × ℕ → Type 0 = λ pair. IsFirst n high (letter + 2 ^ p) pair.0 pair.1 in
-    let C : ℕ × ℕ → Type 0 = λ pair. IsFirst n (choice p low high) letter pair.0 pair.1 in
+    let L : ℕ × ℕ → Type 0 = λ pair. IsFirstLetterTo n low letter pair.0 pair.1 in
+    let H : ℕ × ℕ → Type 0 = λ pair. IsFirstLetterTo n high (letter + 2 ^ p) pair.0 pair.1 in
+    let C : ℕ × ℕ → Type 0 = λ pair. IsFirstLetterTo n (choice p low high) letter pair.0 pair.1 in
     let N : ℕ × ℕ → Type 0 = λ pair. lookup (nat_eq pair.0) mid ≡ None in
     let O : ℕ × ℕ → Type 0 = λ pair. lookup (nat_eq pair.0) old ≡ None in
     record {
@@ -197,8 +200,8 @@ seen_more t old new node value found put h own q is f leaf e = elim (put q) [
 zero_bit : (q : ℕ) → is_in q 0 ≡ false
 zero_bit q = no_bit 0 0 q (omega arith) (omega arith)
 
-least_of : (t : Table) (node : ℕ) {leaf place : ℕ} → IsFirst t.propositions (tree_of t node) 0 leaf place →
-    IsLeast (LeadsTo t node leaf) place
+least_of : (t : Table) (node : ℕ) {leaf place : ℕ} → IsFirstLetterTo t.propositions (tree_of t node) 0 leaf place →
+    IsLeastLetter (LeadsToLeaf t node leaf) place
 least_of t node h = search (rules, zero_bit)
 
 entry_of : (P : ℕ → ℕ → Type 0) (es : List (ℕ × ℕ)) (leaf : ℕ) {z : ℕ} → AllByRecursion (λ pair. P pair.0 pair.1) es →
@@ -211,15 +214,16 @@ entry_of P (pair ∷ es) leaf {z} h e = elim (bool_cases (nat_eq leaf pair.0)) [
 
 -- gathering from an empty list finds each leaf with its first letter
 firsts : {t : Table} {node : ℕ} {found : List (ℕ × ℕ)} → IsGathered t node found →
-    AllByRecursion (λ pair. IsFirst t.propositions (tree_of t node) 0 pair.0 pair.1) found
+    AllByRecursion (λ pair. IsFirstLetterTo t.propositions (tree_of t node) 0 pair.0 pair.1) found
 firsts h = rw h.all.is h.all.first
 
 pub path_found : {t : Table} {node : ℕ} (leaf : ℕ) {found : List (ℕ × ℕ)} → IsGathered t node found → (o : Option ℕ) →
     o ≡ lookup (nat_eq leaf) found →
-    MatchOption o ((letter : ℕ) → LeadsTo t node leaf letter → ⊥) (λ letter. IsLeast (LeadsTo t node leaf) letter)
+    MatchOption o ((letter : ℕ) → LeadsToLeaf t node leaf letter → ⊥)
+    (λ letter. IsLeastLetter (LeadsToLeaf t node leaf) letter)
 path_found leaf {found} h None e = λ letter at. not_found found leaf (sym e) (h.all.whole (assignment letter) leaf at.1)
 path_found {t} {node} leaf {found} h (Some z) e =
-    least_of t node (entry_of (IsFirst t.propositions (tree_of t node) 0) found leaf (firsts h) (sym e))
+    least_of t node (entry_of (IsFirstLetterTo t.propositions (tree_of t node) 0) found leaf (firsts h) (sym e))
 
 any_of_found : (es : List (ℕ × ℕ)) (leaf : ℕ) {z : ℕ} → lookup (nat_eq leaf) es ≡ Some z →
     Any (λ pair. pair.0 ≡ leaf) es

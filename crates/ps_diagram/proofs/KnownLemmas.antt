@@ -8,6 +8,7 @@ use Rattle.ps_diagram.specs.Inner.Known.{Knows, KnowsPairs, pair_eq}
 use Rattle.ps_diagram.proofs.Cells.{keeps_refl}
 use Rattle.ps_diagram.proofs.Keys.{and_both}
 
+-- a table that keeps the nodes of a second keeps those of each table that the second keeps
 pub keeps_trans : {t u v : Table} → Keeps t u → Keeps u v → Keeps t v
 keeps_trans a b = search rules
 
@@ -15,10 +16,12 @@ keeps_trans a b = search rules
 pub read_keeps : (other : Option Table) {t u : Table} → Keeps t u → Keeps (unwrap_or other t) (unwrap_or other u)
 read_keeps other h = search (rules, keeps_refl)
 
+-- a property of a node's tree stays when the table is kept
 pub kept : (P : Tree → Type 0) {t u : Table} → Keeps t u → {node : ℕ} → IsNode t node → P (tree_of t node) →
     P (tree_of u node)
 kept P k {node} h p = rw (k.same node h) p
 
+-- equal options hold equal numbers
 pub some_nat : (x y : ℕ) → Some x ≡ Some y → x ≡ y
 some_nat x y e = cc
 
@@ -46,8 +49,10 @@ one_more F eq same known new {key} {value} put h f q made e = elim (put q) [
   | inr is ↦ subst (λ k. F k made) (same key q is.0) (subst (F key) (some_nat value made (sym is.1 ∙ e)) f)
 ]
 
+-- what is known stays sound when a related pair of nodes is added
 pub knows_more : (R : Tree → Tree → Type 0) (s t : Table) (known new : ℕ → Option ℕ) {key value : ℕ} →
-    MayBePut eqb known new key value → Knows R s t known → IsNode s key → IsNode t value → R (tree_of s key) (tree_of t value) → Knows R s t new
+    MayBePut eqb known new key value → Knows R s t known → IsNode s key → IsNode t value →
+    R (tree_of s key) (tree_of t value) → Knows R s t new
 knows_more R s t known new update h hk hv r = one_more (λ k v. IsNode s k × IsNode t v × R (tree_of s k) (tree_of t v))
     eqb eqb-true known new update h (hk, hv, r)
 
@@ -55,7 +60,8 @@ pub pair_same : (a b : ℕ × ℕ) → pair_eq a b ≡ true → a ≡ b
 pair_same (x, y) (a, b) e = search (rules, and_both, eqb-true)
 
 pub pairs_more : (R : Tree → Tree → Tree → Type 0) (t : Table) (known new : ℕ × ℕ → Option ℕ) {x y value : ℕ} →
-    MayBePut pair_eq known new (x, y) value → KnowsPairs R t known → IsNode t x → IsNode t y → IsNode t value → R (tree_of t x) (tree_of t y) (tree_of t value) → KnowsPairs R t new
+    MayBePut pair_eq known new (x, y) value → KnowsPairs R t known → IsNode t x → IsNode t y → IsNode t value →
+    R (tree_of t x) (tree_of t y) (tree_of t value) → KnowsPairs R t new
 pairs_more R t known new update h hx hy hv r a b =
     one_more (λ k v. IsNode t k.0 × IsNode t k.1 × IsNode t v × R (tree_of t k.0) (tree_of t k.1) (tree_of t v)) pair_eq
     pair_same known new update (λ k. h k.0 k.1) (hx, hy, hv, r) (a, b)

@@ -12,6 +12,7 @@ use Rattle.ps_diagram.proofs.Canon.{from-blind}
 added : (b : Bool) (n low : ℕ) → low < 2 ^ n → low + cond b (2 ^ n) 0 < 2 ^ suc n
 added b n low h = grind (arith, pow-suc)
 
+-- the letter of n bits is less than 2^n
 pub letter_lt : (n : ℕ) (f : ℕ → Bool) → letter_of n f < 2 ^ n
 letter_lt zero f = omega arith
 letter_lt (suc n) f = added (f n) n (letter_of n f) (letter_lt n f)
@@ -20,12 +21,15 @@ letter_lt (suc n) f = added (f n) n (letter_of n f) (letter_lt n f)
 on_top : (n low : ℕ) → low + 2 ^ n ≡ 1 * 2 ^ n + low
 on_top n low = omega arith
 
+-- adding 2^n to a number less than 2^n sets bit n
 pub top_bit : (n low : ℕ) → low < 2 ^ n → is_in n (low + 2 ^ n) ≡ true
 top_bit n low h = grind (arith, on_top, bit_at_cat_high)
 
+-- adding 2^n leaves the bits before n as they are
 pub lower_bit : (n low p : ℕ) → p < n → is_in p (low + 2 ^ n) ≡ is_in p low
 lower_bit n low p h = rw (on_top n low, bit_at_cat_low 1 n low p h)
 
+-- a number less than 2^n has no bit from n on
 pub no_bit : (n low p : ℕ) → low < 2 ^ n → n ≤ p → is_in p low ≡ false
 no_bit n low p h le = rw (bit_at_above low n p h le)
 
@@ -35,6 +39,7 @@ bit_here b n low h = grind (arith, top_bit, add-zero, no_bit)
 bit_below : (b : Bool) (n low p : ℕ) → p < n → is_in p (low + cond b (2 ^ n) 0) ≡ is_in p low
 bit_below b n low p h = grind (arith, lower_bit, add-zero)
 
+-- bit p of the letter is the value of the function at p
 pub letter_is : (n : ℕ) (f : ℕ → Bool) (p : ℕ) → p < n → is_in p (letter_of n f) ≡ f p
 letter_is zero f p h = absurd (omega arith)
 letter_is (suc n) f p h = elim (cases_lt p n) [

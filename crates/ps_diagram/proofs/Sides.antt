@@ -7,6 +7,7 @@ use Rattle.ps_diagram.specs.Inner.Parts.{IsChoice}
 use Rattle.ps_diagram.specs.Split.{root_of, IsConstant, IsSides}
 use Rattle.ps_diagram.proofs.Canon.{blind-from, changed, same_cond, side_leaf}
 
+-- the two nodes of a choice are the sides of its node
 pub sides_of_test : {t : Table} {node p low high : ℕ} → IsChoice t node p low high → IsSides t node p low high
 sides_of_test {t} {node} {p} {low} {high} h = search (rules, blind-from)
 

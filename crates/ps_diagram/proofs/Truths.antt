@@ -9,7 +9,7 @@ use Rattle.ps_label.specs.Truth.{alias_truths, expressions, truth}
 use Rattle.ps_label.proofs.Tables.{table}
 use Rattle.ps_diagram.specs.declared.fault.OverlayError.TheVariants.{Clash}
 use Rattle.ps_diagram.specs.Clashes.{TellsClash}
-use Rattle.ps_diagram.specs.Leaves.{joined, opposite}
+use Rattle.ps_diagram.specs.Leaves.{either_leaf, opposite}
 use Rattle.ps_diagram.specs.Labels.{leaf_where, one_where, IsOneOrNone, HaveTruths}
 use Rattle.ps_diagram.specs.Letters.{assignment}
 use Rattle.ps_diagram.specs.Tree.{leaf_at}
@@ -45,7 +45,7 @@ guarded_is value b = search rules
 pub opposite_of : (b : Bool) → opposite (one_where b) ≡ one_where (cond b false true)
 opposite_of b = search rules
 
-pub joined_of : (a b : Bool) → joined (one_where a) (one_where b) ≡ one_where (cond a true b)
+pub joined_of : (a b : Bool) → either_leaf (one_where a) (one_where b) ≡ one_where (cond a true b)
 joined_of a b = search rules
 
 -- The operands so far decide the truth value of the whole, or the remaining operands decide it. If one true operand
@@ -61,7 +61,7 @@ decided_cases any a b rest = grind arith
 
 pub decided_more : (any : Bool) {old new made : Option ℕ} (b rest : Bool) {whole : Bool} →
     IsDecided any old (cond b (cond any true rest) (cond any rest false)) whole →
-    made ≡ one_where (cond any b (cond b false true)) → new ≡ joined old made → IsDecided any new rest whole
+    made ≡ one_where (cond any b (cond b false true)) → new ≡ either_leaf old made → IsDecided any new rest whole
 decided_more any b rest h e j = grind (arith, joined_of, decided_cases)
 
 -- the expressions from an index on are the expression at this index and those after it

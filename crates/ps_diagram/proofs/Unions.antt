@@ -3,10 +3,10 @@ use Rattle.std.proofs.Common.{◌≡◌, ℕ, suc, Bool, true, false, cond, leng
 use Rattle.std.proofs.Common.{take, drop, refl, ap, sym, subst, ◌∙◌, arith, rules}
 use Rattle.std.proofs.lemmas.List.{map-append, take-append-drop}
 use Rattle.std.proofs.lemmas.List.Elements.{All-drop, All-push, All-take}
-use Rattle.ps_label.specs.Expression.{AreOver, Expression, row_of}
+use Rattle.ps_label.specs.Expression.{AreOver, Expression, operands_in}
 use Rattle.ps_label.specs.Truth.{truth, all_true, any_true}
 use Rattle.ps_diagram.specs.Labels.{HaveTruths, IsOneOrNone, one_where}
-use Rattle.ps_diagram.specs.Leaves.{joined}
+use Rattle.ps_diagram.specs.Leaves.{either_leaf}
 use Rattle.ps_diagram.specs.Table.{Table, IsNode, Keeps, leaf_of}
 use Rattle.ps_diagram.specs.Inner.Unions.{IsTruth, first_leaf, leaves_of}
 use Rattle.ps_diagram.proofs.Cells.{keeps_refl}
@@ -15,24 +15,24 @@ use Rattle.ps_diagram.proofs.Truths.{IsDecided, decided_more, joined_of, leaf_ke
 
 -- ## Leaves
 
-joined_none : (a : Option ℕ) → joined a None ≡ a
+joined_none : (a : Option ℕ) → either_leaf a None ≡ a
 joined_none a = search rules
 
-joined_assoc : (a b c : Option ℕ) → joined (joined a b) c ≡ joined a (joined b c)
+joined_assoc : (a b c : Option ℕ) → either_leaf (either_leaf a b) c ≡ either_leaf a (either_leaf b c)
 joined_assoc a b c = search rules
 
-pub first_leaf-append : (xs ys : List (Option ℕ)) → first_leaf (xs ++ ys) ≡ joined (first_leaf xs) (first_leaf ys)
+pub first_leaf-append : (xs ys : List (Option ℕ)) → first_leaf (xs ++ ys) ≡ either_leaf (first_leaf xs) (first_leaf ys)
 first_leaf-append [] ys = refl
 first_leaf-append (x ∷ xs) ys = search (rules, joined_assoc, first_leaf-append xs ys)
 
 -- the first leaf of a list with one more node
 pub first_leaf-push : (t : Table) (nodes : List ℕ) {more : List ℕ} (node letter : ℕ) → more ≡ nodes ++ node ∷ [] →
-    first_leaf (leaves_of t more letter) ≡ joined (first_leaf (leaves_of t nodes letter)) (leaf_of t node letter)
+    first_leaf (leaves_of t more letter) ≡ either_leaf (first_leaf (leaves_of t nodes letter)) (leaf_of t node letter)
 first_leaf-push t nodes node letter e = search (rules, map-append, first_leaf-append, joined_none)
 
 -- the first leaf of a list that is cut into halves
 pub first_leaf-halves : (t : Table) (nodes : List ℕ) (m letter : ℕ) →
-    joined (first_leaf (leaves_of t (take m nodes) letter)) (first_leaf (leaves_of t (drop m nodes) letter))
+    either_leaf (first_leaf (leaves_of t (take m nodes) letter)) (first_leaf (leaves_of t (drop m nodes) letter))
     ≡ first_leaf (leaves_of t nodes letter)
 first_leaf-halves t nodes m letter = sym (grind (arith, first_leaf-append))
     ∙ ap first_leaf (sym (map-append (λ n. leaf_of t n letter) (take m nodes) (drop m nodes)))
@@ -76,9 +76,9 @@ truths_more {t} {u} nodes {node} k h is e = subst (All (IsTruth u)) (sym e) (sea
 
 pub union_more : {t u : Table} (nodes : List ℕ) {more : List ℕ} (node letter : ℕ) → Keeps t u → All (IsTruth t) nodes →
     more ≡ nodes ++ node ∷ [] →
-    first_leaf (leaves_of u more letter) ≡ joined (first_leaf (leaves_of t nodes letter)) (leaf_of u node letter)
+    first_leaf (leaves_of u more letter) ≡ either_leaf (first_leaf (leaves_of t nodes letter)) (leaf_of u node letter)
 union_more {t} {u} nodes {more} node letter k h e = first_leaf-push u nodes node letter e
-    ∙ ap (λ xs. joined (first_leaf xs) (leaf_of u node letter)) (leaves_kept nodes letter k h)
+    ∙ ap (λ xs. either_leaf (first_leaf xs) (leaf_of u node letter)) (leaves_kept nodes letter k h)
 
 pub no_nodes : (t : Table) {nodes : List ℕ} → nodes ≡ [] → All (IsTruth t) nodes
 no_nodes t e = subst (All (IsTruth t)) (sym e) (λ i d lt. absurd (omega arith))
@@ -96,7 +96,7 @@ module _ {s t u : Table} (nodes : List ℕ) {front back : List ℕ} (m : ℕ) {o
   one_truth letter = grind (arith, union_truth s front letter front_truths, leaf_kept letter second held)
 
   pub union_halves : (letter : ℕ) → leaf_of u other letter ≡ first_leaf (leaves_of t back letter) →
-      joined (leaf_of u one letter) (leaf_of u other letter) ≡ first_leaf (leaves_of s nodes letter)
+      either_leaf (leaf_of u one letter) (leaf_of u other letter) ≡ first_leaf (leaves_of s nodes letter)
   union_halves letter other_leaf =
       let back_truths = All-drop (IsTruth s) m nodes h in
       grind (
@@ -119,15 +119,16 @@ pub record AreOperands (any : Bool) (s t : Table) (named made : List ℕ) (rest 
   pub keeps : Keeps s t
   pub nodes : All (IsTruth t) made
   pub aliases : (known : ℕ → List Bool) × HaveTruths t named known
-  pub within : AreOver (length named) t.propositions (row_of rest)
+  pub within : AreOver (length named) t.propositions (operands_in rest)
   pub leaf : (known : ℕ → List Bool) → HaveTruths s named known → (letter : ℕ) →
-      IsDecided any (first_leaf (leaves_of t made letter)) (cond any (any_true (known letter) letter (row_of rest))
-      (all_true (known letter) letter (row_of rest))) (truth (known letter) letter label)
+      IsDecided any (first_leaf (leaves_of t made letter)) (cond any (any_true (known letter) letter (operands_in rest))
+      (all_true (known letter) letter (operands_in rest))) (truth (known letter) letter label)
 
 pub no_operands : (any : Bool) {s : Table} {named made : List ℕ} {rest : List Expression} (label : Expression) →
     made ≡ [] → (known : ℕ → List Bool) × HaveTruths s named known →
-    AreOver (length named) s.propositions (row_of rest) → ((known : List Bool) (letter : ℕ) →
-    cond any (any_true known letter (row_of rest)) (all_true known letter (row_of rest)) ≡ truth known letter label) →
+    AreOver (length named) s.propositions (operands_in rest) → ((known : List Bool) (letter : ℕ) →
+    cond any (any_true known letter (operands_in rest)) (all_true known letter (operands_in rest)) ≡ truth known letter
+    label) →
     AreOperands any s s named made rest label
 no_operands any {s} label none given within decides = grind (arith, keeps_refl, no_nodes)
 
@@ -146,7 +147,7 @@ operands_more any {made = made} {e = e} {rest = rest} {node = node} a v k held l
   aliases = (v.aliases.0, truths_kept k v.aliases.1);
   within = rw k.propositions v.within.1;
   leaf = λ known h letter. decided_more any (truth (known letter) letter e) _ (by any (truth (known letter) letter e)
-      (any_true (known letter) letter (row_of rest)) (all_true (known letter) letter (row_of rest))
+      (any_true (known letter) letter (operands_in rest)) (all_true (known letter) letter (operands_in rest))
       (v.leaf known h letter)) (leaf known (truths_kept v.keeps h) letter) (union_more made node letter k v.nodes is);
 }
   where

@@ -2,8 +2,8 @@
 use Rattle.std.specs.Prelude.{◌≡◌, ◌↔◌, ℕ, ◌<◌, ◌^◌, false, List, length, slice_get, Some, AllPairs, IsSomeAnd}
 use Rattle.ps_label.specs.Truth.{is_in}
 use Rattle.ps_diagram.specs.declared.classes.Class.{Class}
-use Rattle.ps_diagram.specs.Letters.{AgreeOff, AgreeOn, IsBefore, IsLeast}
-use Rattle.ps_diagram.specs.Reached.{LeadsTo}
+use Rattle.ps_diagram.specs.Letters.{AgreeOff, AgreeOn, IsBefore, IsLeastLetter}
+use Rattle.ps_diagram.specs.Reached.{LeadsToLeaf}
 use Rattle.ps_diagram.specs.Table.{Table, IsNode, leaf_of}
 
 -- for all truth values of the propositions outside the mask, x and y lead to the same leaf, or both to no leaf
@@ -15,7 +15,7 @@ LeadAlike t node mask x y =
 -- diagram of the class depends only on the other propositions, and has the leaf of the first table's node at each
 -- letter of the class.
 pub record IsClass (s t : Table) (node mask places k : ℕ) (c : Class) : Type 0 where
-  pub least : IsLeast (LeadsTo t places k) c.letter
+  pub least : IsLeastLetter (LeadsToLeaf t places k) c.letter
   pub masked : (p : ℕ) → is_in p mask ≡ false → is_in p c.letter ≡ false
   pub held : IsNode t c.rest
   pub others : (x y : ℕ) → AgreeOff mask x y → leaf_of t c.rest x ≡ leaf_of t c.rest y

@@ -2,15 +2,15 @@
 use Rattle.std.specs.Prelude.{◌≡◌, ℕ, Option, Some, None}
 
 -- the first leaf if there is one, and otherwise the second
-abbrev pub joined : Option ℕ → Option ℕ → Option ℕ
-joined None second = second
-joined (Some k) second = Some k
+abbrev pub either_leaf : Option ℕ → Option ℕ → Option ℕ
+either_leaf None second = second
+either_leaf (Some k) second = Some k
 
 -- the arguments are not two different leaves
-abbrev pub AreAlike : Option ℕ → Option ℕ → Type 0
-AreAlike None second = Unit {0}
-AreAlike (Some k) None = Unit {0}
-AreAlike (Some k) (Some m) = k ≡ m
+abbrev pub AreCompatible : Option ℕ → Option ℕ → Type 0
+AreCompatible None second = Unit {0}
+AreCompatible (Some k) None = Unit {0}
+AreCompatible (Some k) (Some m) = k ≡ m
 
 -- the leaf 1 if the argument is None, and otherwise None
 abbrev pub opposite : Option ℕ → Option ℕ

@@ -27,6 +27,6 @@ abbrev pub AgreeOff : ℕ → ℕ → ℕ → Type 0
 AgreeOff mask x y = (p : ℕ) → is_in p mask ≡ false → is_in p x ≡ is_in p y
 
 -- the letter has the property, and no earlier letter has it
-pub record IsLeast (P : ℕ → Type 0) (letter : ℕ) : Type 0 where
+pub record IsLeastLetter (P : ℕ → Type 0) (letter : ℕ) : Type 0 where
   pub here : P letter
   pub none_before : (x : ℕ) → P x → IsBefore x letter → ⊥

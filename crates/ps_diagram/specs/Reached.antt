@@ -1,23 +1,23 @@
 -- The leaves of a node, and the least letter that leads to each leaf.
 --
---     LeadsTo t node leaf letter     the letter leads from the node to the leaf
+--     LeadsToLeaf t node leaf letter     the letter leads from the node to the leaf
 --     AreLeaves t node found         all leaves of the node, each with its least letter, in the order of these letters
 use Rattle.std.specs.Prelude.{◌≡◌, ℕ, ◌^◌, ◌<◌, Bool, true, List, [], ◌∷◌, ◌++◌, All, AllPairs, Any, Some, None, nat_eq}
 use Rattle.std.specs.List.{AllByRecursion}
 use Rattle.std.specs.Map.{lookup}
 use Rattle.ps_label.specs.Truth.{is_in}
-use Rattle.ps_diagram.specs.Letters.{assignment, IsBefore, IsLeast}
+use Rattle.ps_diagram.specs.Letters.{assignment, IsBefore, IsLeastLetter}
 use Rattle.ps_diagram.specs.Split.{root_of}
 use Rattle.ps_diagram.specs.Table.{Table, IsNode, tree_of, leaf_of}
 use Rattle.ps_diagram.specs.Tree.{Tree, leaf_at}
 
-abbrev pub LeadsTo : Table → ℕ → ℕ → ℕ → Type 0
-LeadsTo t node leaf letter = (letter < 2 ^ t.propositions) × (leaf_of t node letter ≡ Some leaf)
+abbrev pub LeadsToLeaf : Table → ℕ → ℕ → ℕ → Type 0
+LeadsToLeaf t node leaf letter = (letter < 2 ^ t.propositions) × (leaf_of t node letter ≡ Some leaf)
 
 -- each pair consists of a leaf and its least letter
 pub record AreLeaves (t : Table) (node : ℕ) (found : List (ℕ × ℕ)) : Type 0 where
-  pub least : All (λ pair. IsLeast (LeadsTo t node pair.0) pair.1) found
-  pub each : (leaf letter : ℕ) → LeadsTo t node leaf letter → Any (λ pair. pair.0 ≡ leaf) found
+  pub least : All (λ pair. IsLeastLetter (LeadsToLeaf t node pair.0) pair.1) found
+  pub each : (leaf letter : ℕ) → LeadsToLeaf t node leaf letter → Any (λ pair. pair.0 ≡ leaf) found
   pub rising : AllPairs (λ a b. IsBefore a.1 b.1) found
 
 -- ## While leaves are gathered: below a node to which the start of a letter leads
@@ -27,7 +27,7 @@ IsFound found leaf = (letter : ℕ) × (lookup (nat_eq leaf) found ≡ Some lett
 
 -- The letter `place` leads to the leaf, and agrees with `letter` on all propositions before the tree's first test.
 -- Every earlier letter that leads to the leaf first differs from `place` at a proposition that is true in `letter`.
-pub record IsFirst (n : ℕ) (t : Tree) (letter leaf place : ℕ) : Type 0 where
+pub record IsFirstLetterTo (n : ℕ) (t : Tree) (letter leaf place : ℕ) : Type 0 where
   pub within : place < 2 ^ n
   pub there : leaf_at t (assignment place) ≡ Some leaf
   pub same : (q : ℕ) → q < root_of n t → is_in q place ≡ is_in q letter
@@ -42,7 +42,7 @@ AreRising (pair ∷ pairs) = AllByRecursion (λ later. IsBefore pair.1 later.1) 
 pub record Gathers (n : ℕ) (t : Tree) (letter : ℕ) (old new : List (ℕ × ℕ)) : Type 0 where
   pub added : List (ℕ × ℕ)
   pub is : new ≡ old ++ added
-  pub first : AllByRecursion (λ pair. IsFirst n t letter pair.0 pair.1) added
+  pub first : AllByRecursion (λ pair. IsFirstLetterTo n t letter pair.0 pair.1) added
   pub fresh : AllByRecursion (λ pair. lookup (nat_eq pair.0) old ≡ None) added
   pub rising : AreRising added
   pub whole : (f : ℕ → Bool) (leaf : ℕ) → leaf_at t f ≡ Some leaf → IsFound new leaf

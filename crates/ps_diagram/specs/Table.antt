@@ -49,17 +49,17 @@ pub record Keeps (old new : Table) : Type 0 where
   pub same : (node : ℕ) → IsNode old node → tree_of new node ≡ tree_of old node
 
 -- the nodes in the cell are less than `count`
-abbrev pub IsWithin : ℕ → View → Type 0
-IsWithin count Nothing = Unit {0}
-IsWithin count (Leaf k) = Unit {0}
-IsWithin count (Test p low high) = (low < count) × (high < count)
+abbrev pub IsCellWithin : ℕ → View → Type 0
+IsCellWithin count Nothing = Unit {0}
+IsCellWithin count (Leaf k) = Unit {0}
+IsCellWithin count (Test p low high) = (low < count) × (high < count)
 
 -- The tree of each cell is made from the trees of earlier cells, and is ordered and reduced. Equal trees have the same
 -- node.
 pub record IsSoundTable (t : Table) : Type 0 where
   pub few : t.propositions ≤ 64
   pub built : (node : ℕ) → IsNode t node → tree_of t node ≡ tree_in t.cells (slice_index_or t.cells node Nothing)
-  pub earlier : (node : ℕ) → IsNode t node → IsWithin node (slice_index_or t.cells node Nothing)
+  pub earlier : (node : ℕ) → IsNode t node → IsCellWithin node (slice_index_or t.cells node Nothing)
   pub ordered : (node : ℕ) → IsNode t node → IsFrom 0 t.propositions (tree_of t node)
   pub reduced : (node : ℕ) → IsNode t node → IsReduced (tree_of t node)
   pub one : (a b : ℕ) → IsNode t a → IsNode t b → tree_of t a ≡ tree_of t b → a ≡ b

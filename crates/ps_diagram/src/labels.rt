@@ -5,7 +5,7 @@ ghost use Rattle.ps_label.specs.Expression.{AreOverFrom, Expression, IsOver, exp
 ghost use Rattle.ps_label.specs.Truth.{expressions, is_in, label_truth, truth};
 ghost use Rattle.ps_diagram.specs.Table.{IsNode, Keeps, leaf_of};
 ghost use Rattle.ps_diagram.specs.Labels.{AreNodesOf, HaveTruths, IsOneOrNone, leaf_where, one_where};
-ghost use Rattle.ps_diagram.specs.Leaves.{joined};
+ghost use Rattle.ps_diagram.specs.Leaves.{either_leaf};
 ghost use Rattle.ps_diagram.specs.Inner.Unions.{IsTruth, first_leaf, leaves_of};
 
 use crate::fault::OverlayError;
@@ -178,7 +178,7 @@ impl Store {
         ensures keeps { Keeps self.old self.new }
         ensures held { IfOk result (λ node. IsNode self.new node) }
         ensures leaf { IfOk result
-            (λ node. (letter : ℕ) → leaf_of self.new node letter ≡ joined (leaf_of self.old first letter)
+            (λ node. (letter : ℕ) → leaf_of self.new node letter ≡ either_leaf (leaf_of self.old first letter)
             (leaf_of self.old second letter)) }
     {
         match self.overlay(first, second) {

@@ -4,7 +4,7 @@ ghost use Rattle.std.specs.Prelude.{◌≡◌, ◌≢◌, ℕ, ◌+◌, ◌^◌,
 ghost use Rattle.indexmap.specs.IndexMap.{get};
 ghost use Rattle.ps_diagram.specs.Table.{IsNode, Keeps, leaf_of, tree_of};
 ghost use Rattle.ps_diagram.specs.Split.{IsConstant};
-ghost use Rattle.ps_diagram.specs.Leaves.{AreAlike, joined};
+ghost use Rattle.ps_diagram.specs.Leaves.{AreCompatible, either_leaf};
 ghost use Rattle.ps_diagram.specs.Inner.Known.{IsClash, IsOverlay, KnowsPairs, pair_eq};
 ghost use Rattle.ps_diagram.specs.Clashes.{TellsClash};
 
@@ -26,9 +26,9 @@ impl Store {
         ensures keeps { Keeps self.old self.new }
         ensures held { IfOk result (λ node. IsNode self.new node) }
         ensures leaf { IfOk result
-            (λ node. (letter : ℕ) → leaf_of self.new node letter ≡ joined (leaf_of self.old first letter)
+            (λ node. (letter : ℕ) → leaf_of self.new node letter ≡ either_leaf (leaf_of self.old first letter)
             (leaf_of self.old second letter)) }
-        ensures alike { OnOk result ((letter : ℕ) → AreAlike (leaf_of self.old first letter)
+        ensures alike { OnOk result ((letter : ℕ) → AreCompatible (leaf_of self.old first letter)
             (leaf_of self.old second letter)) }
         ensures clash { IfErr result (TellsClash self.old first second) }
     {

@@ -2,8 +2,8 @@
 
 ghost use Rattle.std.specs.Prelude.{◌≡◌, ℕ, ◌+◌, ◌^◌, ◌<◌, IfOk, OnOk, MatchOption, is_some, nat_eq};
 ghost use Rattle.indexmap.specs.IndexMap.{get};
-ghost use Rattle.ps_diagram.specs.Letters.{IsLeast};
-ghost use Rattle.ps_diagram.specs.Reached.{AreLeaves, Gathers, HaveFound, IsGathered, LeadsTo};
+ghost use Rattle.ps_diagram.specs.Letters.{IsLeastLetter};
+ghost use Rattle.ps_diagram.specs.Reached.{AreLeaves, Gathers, HaveFound, IsGathered, LeadsToLeaf};
 ghost use Rattle.ps_diagram.specs.Split.{root_of};
 ghost use Rattle.ps_diagram.specs.Table.{IsNode, tree_of};
 
@@ -27,8 +27,8 @@ impl Store {
     pub fn path_to(&self, node: Node, leaf: u64) -> Result<Option<u64>, AllocError>
         requires held { IsNode self.now node }
         ensures { IfOk result
-            (λ found. MatchOption found ((letter : ℕ) → LeadsTo self.now node leaf letter → ⊥)
-            (λ letter. IsLeast (LeadsTo self.now node leaf) letter)) }
+            (λ found. MatchOption found ((letter : ℕ) → LeadsToLeaf self.now node leaf letter → ⊥)
+            (λ letter. IsLeastLetter (LeadsToLeaf self.now node leaf) letter)) }
     {
         Ok(self.found_below(node)?.get(&leaf).copied())
     }

@@ -4,7 +4,7 @@ ghost use Rattle.std.specs.Prelude.{◌≡◌, ◌↔◌, IsTrue, ℕ, ◌+◌, 
 ghost use Rattle.std.specs.Prelude.{Option, Some, None, cond};
 ghost use Rattle.ps_diagram.specs.Tree.{IsBlind, IsFrom, IsReduced, IsTestOf};
 ghost use Rattle.ps_diagram.specs.Inner.Parts.{IsPart};
-ghost use Rattle.ps_diagram.specs.Table.{Table, IsNode, IsSoundTable, IsWithin, Keeps, leaf_of, tree_of, tree_in};
+ghost use Rattle.ps_diagram.specs.Table.{Table, IsNode, IsSoundTable, IsCellWithin, Keeps, leaf_of, tree_of, tree_in};
 ghost use Rattle.ps_diagram.specs.Views.{Sees};
 ghost use Rattle.ps_diagram.specs.declared.view.View.TheVariants.{Nothing};
 
@@ -177,7 +177,7 @@ impl Store {
 
     /// The node with this cell, which is added if the table has none.
     pub(crate) fn intern(&mut self, cell: View) -> Result<Node, AllocError>
-        requires within { IsWithin (length self.old.cells) cell }
+        requires within { IsCellWithin (length self.old.cells) cell }
         requires ordered { IsFrom 0 self.old.propositions (tree_in self.old.cells cell) }
         requires reduced { IsReduced (tree_in self.old.cells cell) }
         ensures keeps { Keeps self.old self.new }

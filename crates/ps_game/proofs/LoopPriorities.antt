@@ -31,6 +31,7 @@ module _ (game : ParityGame) (path : List ℕ) (i j : ℕ) (within : j ≤ lengt
       get_or (map (priority_of game) (slice_range path i j)) k 0 ≡ priority_of game (get_or path (i + k) 0)
   priority_at k below = search (rules, get_or-map, places, length-map, get_or-take, get_or-drop)
 
+-- no priority in a loop is greater than the priority of the loop
 pub le-loop_priority : (game : ParityGame) (path : List ℕ) (i j k : ℕ) → i ≤ k → k < j → j ≤ length path →
     priority_of game (get_or path k 0) ≤ loop_priority game path i j
 unfolding loop_priority
@@ -42,6 +43,7 @@ le-loop_priority game path i j k after before within =
       le-greatest all (k - i) (omega (arith, places game path i j within)),
     )
 
+-- some vertex of a loop has the priority of the loop
 pub loop_priority_stands : (game : ParityGame) (path : List ℕ) (i j : ℕ) → i < j → j ≤ length path →
     (k : ℕ) × (i ≤ k) × (k < j) × (priority_of game (get_or path k 0) ≡ loop_priority game path i j)
 unfolding loop_priority

@@ -104,6 +104,7 @@ one_word words v w b within is others = search (rules, get_or-set_at, cases_eq, 
 
 module _ {places : ℕ} {words : List ℕ} {region : List Bool} (packed : ArePacked places words)
     (is : members places words ≡ region) where
+  -- the set as a list has an entry for each of the `places` vertices
   pub places_are : length region ≡ places
   places_are = ap length (sym is) ∙ length-members places words
 

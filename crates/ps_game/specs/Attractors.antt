@@ -6,7 +6,8 @@ use Rattle.ps_game.specs.Subgames.{IsWithin, LeadsInto}
 
 -- the set contains the target, each vertex of the player with an edge within the subgame into the set, and each vertex
 -- of the other player with all edges within the subgame into the set
-pub record IsClosed (game : ParityGame) (subgame : ℕ → Bool) (player : ℕ) (target set : ℕ → Bool) : Type 0 where
+pub record IsClosedUnderAttraction (game : ParityGame) (subgame : ℕ → Bool) (player : ℕ) (target set : ℕ → Bool) : Type
+    0 where
   pub holds : IsWithin target set
   pub own : (v w : ℕ) → IsTrue (subgame v) → owner_of game v ≡ player → LeadsInto game subgame v w →
       IsTrue (set w) → IsTrue (set v)
@@ -29,6 +30,6 @@ pub record Falls (game : ParityGame) (subgame : ℕ → Bool) (player : ℕ) (ta
       LeadsDown game subgame set rank v w
 
 -- the set is contained in every closed set
-abbrev pub IsLeast : ParityGame → (ℕ → Bool) → ℕ → (ℕ → Bool) → (ℕ → Bool) → Type 0
-IsLeast game subgame player target set =
-    (closed : ℕ → Bool) → IsClosed game subgame player target closed → IsWithin set closed
+abbrev pub IsLeastClosed : ParityGame → (ℕ → Bool) → ℕ → (ℕ → Bool) → (ℕ → Bool) → Type 0
+IsLeastClosed game subgame player target set =
+    (closed : ℕ → Bool) → IsClosedUnderAttraction game subgame player target closed → IsWithin set closed

@@ -23,9 +23,9 @@ impl Format for Bytes {
 }
 
 /// The lexicon in which each byte is a token, except spaces.
-struct Marks;
+struct Punctuation;
 
-impl Lexicon for Marks {
+impl Lexicon for Punctuation {
     type Sign = u8;
 
     ghost is_blank = { λ b. b ≡ 32 };
@@ -36,5 +36,5 @@ impl Lexicon for Marks {
 #[test]
 fn laws_of_texts() {
     one_answer::<Bytes>();
-    one_tokenisation::<Marks>();
+    one_tokenisation::<Punctuation>();
 }

@@ -52,7 +52,7 @@ use Rattle.ps_hoa.proofs.Outcomes.LabelOutcomes.{Has, has_signs, has_int, has_st
 use Rattle.ps_hoa.proofs.Outcomes.LabelOutcomes.{has_condition}
 use Rattle.ps_hoa.proofs.Reading.BodyReading.{int_begins}
 use Rattle.ps_hoa.proofs.Reading.Exits.{Serves, serves_as, Loop}
-use Rattle.ps_hoa.proofs.Reading.MarkReading.{tests_string, sign_begins, mark_elsewhere}
+use Rattle.ps_hoa.proofs.Reading.ExpectReading.{tests_string, sign_begins, expect_elsewhere}
 use Rattle.ps_hoa.proofs.Reading.StateReading.{string_begins}
 use Rattle.ps_hoa.proofs.Soundness.HeaderKept.{Kept, keeps_int, keeps_names, few_more, one_more_alias}
 use Rattle.ps_hoa.proofs.Soundness.Keeping.{Keeps, keeps_give, keeps_one, keeps_then, keeps_behind, keeps_either}
@@ -199,7 +199,7 @@ module _ (h : HeaderData) where
 
     pub no_string_serves : ((next_of s).sign.kind ≡ Text → ⊥) → Serves s (give h) (second_string h)
     no_string_serves differs = serves_as s (right_otherwise laws_one_string laws_no_string (there_of s)
-        (mark_elsewhere tests_string s differs) (λ n. n))
+        (expect_elsewhere tests_string s differs) (λ n. n))
 
   has_one_string : Has (one_string h)
   has_one_string = has_mapped hoa_causes (unchanged h) string has_string

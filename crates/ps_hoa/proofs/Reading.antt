@@ -3,7 +3,7 @@
 pub mod NextSign
 pub mod SingleSigns
 pub mod Exits
-pub mod MarkReading
+pub mod ExpectReading
 pub mod IntSigns
 pub mod RowReading
 pub mod NestedRows

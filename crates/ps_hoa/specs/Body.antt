@@ -12,7 +12,7 @@ use Rattle.std.specs.Prelude.{codes, if◌then◌else◌, nat_eq, Option, None, 
 use Rattle.ps_label.specs.Expression.{Expression}
 use Rattle.ps_text.specs.Parts.{Part, give, one, then_by, either, many, mapped, barred}
 use Rattle.ps_hoa.specs.Tokens.{Sign}
-use Rattle.ps_hoa.specs.Operands.{number_limit, nesting_limit, mark_in, mark}
+use Rattle.ps_hoa.specs.Operands.{number_limit, nesting_limit, expect_in, expect}
 use Rattle.ps_hoa.specs.Labels as labels
 use Rattle.ps_hoa.specs.Labels.{ScopeData}
 use Rattle.ps_hoa.specs.Files.{EdgeData, RowData, GuardData, stated, of_state, at_letter, once}
@@ -66,10 +66,10 @@ abbrev pub set_number : ℕ → List ℕ → Part Sign (List ℕ) HoaCause
 set_number count ns = mapped (once ns) (one int_in (BadIn (IsBadSet count)))
 
 abbrev pub closing : List ℕ → Part Sign (List ℕ) HoaCause
-closing ns = mapped (λ _. ns) (mark is_right_brace)
+closing ns = mapped (λ _. ns) (expect is_right_brace)
 
 abbrev pub sets : ℕ → Part Sign (List ℕ) HoaCause
-sets count = then_by (mark is_left_brace) (λ _. then_by (many (set_number count) []) closing)
+sets count = then_by (expect is_left_brace) (λ _. then_by (many (set_number count) []) closing)
 
 -- acceptance sets between braces, or nothing
 abbrev pub marks : HeaderData → Part Sign (List ℕ) HoaCause
@@ -94,10 +94,10 @@ some_label e _ = Some e
 -- the rest of a label after `[`
 abbrev pub label_in_brackets : HeaderData → Part Sign (Option Expression) HoaCause
 label_in_brackets h =
-    then_by (labels.label (body_scope h) nesting_limit) (λ e. mapped (some_label e) (mark is_right_bracket))
+    then_by (labels.label (body_scope h) nesting_limit) (λ e. mapped (some_label e) (expect is_right_bracket))
 
 abbrev pub state_label : HeaderData → Part Sign (Option Expression) HoaCause
-state_label h = either (then_by (mark is_left_bracket) (λ _. label_in_brackets h)) (give None)
+state_label h = either (then_by (expect is_left_bracket) (λ _. label_in_brackets h)) (give None)
 
 -- ## Edges
 
@@ -152,17 +152,18 @@ abbrev pub guard_of : RowData → Option Expression → GuardData
 guard_of row None = plain_guard row
 guard_of row (Some e) = stated e
 
-abbrev pub with_edge : RowData → Option Expression → ℕ → List ℕ → RowData
-with_edge row label target ns =
+abbrev pub row_with_edge : RowData → Option Expression → ℕ → List ℕ → RowData
+row_with_edge row label target ns =
     record row { edges = row.edges ++ record { guard = guard_of row label; target = target; marks = ns } ∷ [] }
 
 abbrev pub labelled_edge : HeaderData → ℕ → RowData → Part Sign RowData HoaCause
 labelled_edge h before row =
     then_by (one is_bracket (IsBadBracket before row)) (λ _. then_by (label_in_brackets h) (λ label.
-    then_by (labelled_target h) (λ target. mapped (with_edge row label target) (marks h))))
+    then_by (labelled_target h) (λ target. mapped (row_with_edge row label target) (marks h))))
 
 abbrev pub plain_edge : HeaderData → ℕ → RowData → Part Sign RowData HoaCause
-plain_edge h before row = then_by (plain_target h before row) (λ target. mapped (with_edge row None target) (marks h))
+plain_edge h before row =
+    then_by (plain_target h before row) (λ target. mapped (row_with_edge row None target) (marks h))
 
 abbrev pub edge : HeaderData → ℕ → RowData → Part Sign RowData HoaCause
 edge h before row = either (labelled_edge h before row) (plain_edge h before row)
@@ -229,7 +230,7 @@ abbrev pub IsBadClose : HeaderData → BodyData → Sign → HoaCause → Type 0
 IsBadClose h body s f = (is_end s.kind ≡ true) × IsBadEnd h body f
 
 abbrev pub ended : HeaderData → BodyData → Part Sign BodyData HoaCause
-ended h body = mapped (λ _. body) (one (mark_in is_end) (IsBadClose h body))
+ended h body = mapped (λ _. body) (one (expect_in is_end) (IsBadClose h body))
 
 abbrev pub body : HeaderData → Part Sign BodyData HoaCause
 body h = then_by (many (state h) no_rows) (ended h)

@@ -10,7 +10,7 @@ use Rattle.std.specs.Str.{bytes_eq}
 use Rattle.ps_text.specs.Digits.{decimal_value}
 use Rattle.ps_text.specs.Parts.{Part, NoBad, one, then_by, either}
 use Rattle.ps_hoa.specs.Labels.{boolean_in}
-use Rattle.ps_hoa.specs.Operands.{InfixGrammar, is_not, is_left, mark, rows, closed, operand as operand_of}
+use Rattle.ps_hoa.specs.Operands.{InfixGrammar, is_not, is_left, expect, rows, closed, operand as operand_of}
 use Rattle.ps_hoa.specs.Operands.{number_limit}
 use Rattle.ps_hoa.specs.Tokens.{Sign}
 use Rattle.ps_hoa.specs.declared.infix.Connective.{Connective}
@@ -39,9 +39,9 @@ mutual
     last : Conditions
     more : Condition → Conditions → Conditions
 
-abbrev pub row_of : List Condition → Conditions
-row_of [] = last
-row_of (c ∷ cs) = more c (row_of cs)
+abbrev pub operands_in : List Condition → Conditions
+operands_in [] = last
+operands_in (c ∷ cs) = more c (operands_in cs)
 
 abbrev pub constant_of : Option Bool → Option Condition
 constant_of None = None
@@ -76,18 +76,18 @@ abbrev pub set_in : Bool → Sign → Option SetData
 set_in complemented sign = set_value complemented sign.kind sign.text
 
 -- an `INT` above the greatest `INT`
-abbrev pub IsBadSet : Kind → List ℕ → HoaCause → Type 0
-IsBadSet kinds.Int text f = (number_limit < decimal_value text) × (f ≡ causes.Limit)
-IsBadSet kind text f = ⊥
+abbrev pub IsTooLargeSet : Kind → List ℕ → HoaCause → Type 0
+IsTooLargeSet kinds.Int text f = (number_limit < decimal_value text) × (f ≡ causes.Limit)
+IsTooLargeSet kind text f = ⊥
 
 abbrev pub BadSet : Sign → HoaCause → Type 0
-BadSet sign f = IsBadSet sign.kind sign.text f
+BadSet sign f = IsTooLargeSet sign.kind sign.text f
 
 abbrev pub set : Bool → Part Sign SetData HoaCause
 set complemented = one (set_in complemented) BadSet
 
 abbrev pub any_set : Part Sign SetData HoaCause
-any_set = either (then_by (mark is_not) (λ _. set true)) (set false)
+any_set = either (then_by (expect is_not) (λ _. set true)) (set false)
 
 abbrev pub closed_set : Bool → SetData → Part Sign Condition HoaCause
 closed_set often s = closed (visits often s)
@@ -96,15 +96,15 @@ abbrev pub often_or_not : Part Sign Bool HoaCause
 often_or_not = one often_in NoBad
 
 abbrev pub visit : Part Sign Condition HoaCause
-visit = then_by often_or_not (λ often. then_by (mark is_left) (λ _. then_by any_set (closed_set often)))
+visit = then_by often_or_not (λ often. then_by (expect is_left) (λ _. then_by any_set (closed_set often)))
 
 abbrev pub atom : Part Sign Condition HoaCause
 atom = either (one constant_in NoBad) visit
 
 -- the condition that operands form when a connective joins them
 abbrev pub together : Connective → List Condition → Condition
-together connectives.And cs = all_hold (row_of cs)
-together connectives.Or cs = any_holds (row_of cs)
+together connectives.And cs = all_hold (operands_in cs)
+together connectives.Or cs = any_holds (operands_in cs)
 
 -- an operand is an atom or is in parentheses; `!` never comes before an operand
 abbrev pub grammar : InfixGrammar Condition

@@ -21,14 +21,14 @@ row_of file q = row_among file.rows q
 
 -- A guard is open at the letters at which its own label is true, at the letters at which the state's label is true, or
 -- at a single letter.
-abbrev pub IsOpen : List Expression → Option Expression → GuardData → ℕ → Type 0
-IsOpen aliases label (stated e) letter = IsTrue (label_truth aliases letter e)
-IsOpen aliases None of_state letter = ⊥
-IsOpen aliases (Some e) of_state letter = IsTrue (label_truth aliases letter e)
-IsOpen aliases label (at_letter k) letter = letter ≡ k
+abbrev pub IsEnabled : List Expression → Option Expression → GuardData → ℕ → Type 0
+IsEnabled aliases label (stated e) letter = IsTrue (label_truth aliases letter e)
+IsEnabled aliases None of_state letter = ⊥
+IsEnabled aliases (Some e) of_state letter = IsTrue (label_truth aliases letter e)
+IsEnabled aliases label (at_letter k) letter = letter ≡ k
 
 abbrev pub IsTaken : FileData → RowData → EdgeData → ℕ → Type 0
-IsTaken file row edge letter = IsOpen file.aliases row.label edge.guard letter
+IsTaken file row edge letter = IsEnabled file.aliases row.label edge.guard letter
 
 -- an edge is in its own sets and in the sets of its state
 abbrev pub is_marked : RowData → EdgeData → ℕ → Bool

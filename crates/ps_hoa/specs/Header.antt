@@ -245,16 +245,16 @@ counted_condition h =
 
 -- Each proposition has a slot of its own. All numbers that are not propositions share one slot, since it only matters
 -- whether there is such a number.
-abbrev pub place_of : ℕ → ℕ
-place_of n = if nat_lt n proposition_limit then n else proposition_limit
+abbrev pub slot_of : ℕ → ℕ
+slot_of n = if nat_lt n proposition_limit then n else proposition_limit
 
 abbrev pub has_place : ℕ → List ℕ → Bool
 has_place place [] = false
-has_place place (n ∷ ns) = if nat_eq place (place_of n) then true else has_place place ns
+has_place place (n ∷ ns) = if nat_eq place (slot_of n) then true else has_place place ns
 
 -- a number is kept if its slot is free, so a repeated proposition counts once
 abbrev pub kept : List ℕ → ℕ → List ℕ
-kept ns n = if has_place (place_of n) ns then ns else ns ++ n ∷ []
+kept ns n = if has_place (slot_of n) ns then ns else ns ++ n ∷ []
 
 abbrev pub index : List ℕ → Part Sign (List ℕ) HoaCause
 index ns = mapped (kept ns) (int number_limit)
@@ -376,8 +376,8 @@ body_value h kind = None
 abbrev pub IsBadBody : HeaderData → Sign → HoaCause → Type 0
 IsBadBody h s f = (s.kind ≡ kinds.Body) × IsBadHeader h f
 
-abbrev pub body_mark : HeaderData → Part Sign HeaderData HoaCause
-body_mark h = one (λ s. body_value h s.kind) (IsBadBody h)
+abbrev pub body_token : HeaderData → Part Sign HeaderData HoaCause
+body_token h = one (λ s. body_value h s.kind) (IsBadBody h)
 
 abbrev pub header : Part Sign HeaderData HoaCause
-header = then_by (many item no_items) body_mark
+header = then_by (many item no_items) body_token

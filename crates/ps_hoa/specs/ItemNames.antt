@@ -1,8 +1,8 @@
 -- The names of the items of a header.
 --     item_names      the names of the items that the parser knows
 --     item_named name      the item with this name
---     mark_of item      the index of the mark of an item that may occur only once; no_marks: none of these items has
---               occurred
+--     once_of item      the index of the once of an item that may occur only once; none_occurred: none of these items
+--               has occurred
 use Rattle.std.specs.Prelude.{ℕ, Bool, false, List, [], ◌∷◌, codes, if◌then◌else◌, Option, None, Some}
 use Rattle.std.specs.Str.{bytes_eq}
 use Rattle.ps_hoa.specs.declared.items.Item.{Item}
@@ -29,19 +29,19 @@ item_named name = item_among item_names name
 
 -- ## Items that may occur only once
 
-abbrev pub mark_of : Item → Option ℕ
-mark_of items.States = Some 0
-mark_of items.Propositions = Some 1
-mark_of items.Acceptance = Some 2
-mark_of items.Controllable = Some 3
-mark_of item = None
+abbrev pub once_of : Item → Option ℕ
+once_of items.States = Some 0
+once_of items.Propositions = Some 1
+once_of items.Acceptance = Some 2
+once_of items.Controllable = Some 3
+once_of item = None
 
-abbrev pub no_marks : List Bool
-no_marks = false ∷ false ∷ false ∷ false ∷ []
+abbrev pub none_occurred : List Bool
+none_occurred = false ∷ false ∷ false ∷ false ∷ []
 
-abbrev pub mark_among : Option Item → Option ℕ
-mark_among None = None
-mark_among (Some item) = mark_of item
+abbrev pub once_among : Option Item → Option ℕ
+once_among None = None
+once_among (Some item) = once_of item
 
-abbrev pub mark_named : List ℕ → Option ℕ
-mark_named name = mark_among (item_named name)
+abbrev pub once_named : List ℕ → Option ℕ
+once_named name = once_among (item_named name)

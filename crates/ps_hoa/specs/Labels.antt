@@ -7,7 +7,7 @@
 use Rattle.std.specs.Prelude.{ℕ, ◌≡◌, ◌≤◌, ◌<◌, ◌⊎◌, Bool, true, false, List, codes, if◌then◌else◌, Option}
 use Rattle.std.specs.Prelude.{None, Some, position}
 use Rattle.std.specs.Str.{bytes_eq}
-use Rattle.ps_label.specs.Expression.{Expression, constant, proposition, alias, not_of, all_of, any_of, row_of}
+use Rattle.ps_label.specs.Expression.{Expression, constant, proposition, alias, not_of, all_of, any_of, operands_in}
 use Rattle.ps_text.specs.Digits.{decimal_value}
 use Rattle.ps_text.specs.Parts.{Part, one}
 use Rattle.ps_hoa.specs.Operands.{InfixGrammar, operand as operand_of, rows, number_limit}
@@ -72,8 +72,8 @@ leaf scope = one (leaf_in scope.names) (BadLeaf scope)
 
 -- the expression that operands form when a connective joins them
 abbrev pub together : Connective → List Expression → Expression
-together connectives.And es = all_of (row_of es)
-together connectives.Or es = any_of (row_of es)
+together connectives.And es = all_of (operands_in es)
+together connectives.Or es = any_of (operands_in es)
 
 -- an operand is a single token, follows `!`, or is in parentheses
 abbrev pub grammar : ScopeData → InfixGrammar Expression

@@ -1,6 +1,6 @@
 -- The common grammar of labels and acceptance conditions: single tokens, an operand in parentheses, rows of operands,
 -- and operands that contain other operands.
---     mark test      a single token whose kind passes the test
+--     expect test      a single token whose kind passes the test
 --     inner part      the given part between parentheses
 --     row sign join operand      operands with this sign between them: a single operand keeps its value, and several
 --               are joined at once
@@ -37,20 +37,20 @@ abbrev pub is_right : Kind → Bool
 is_right kinds.RightParen = true
 is_right kind = false
 
-abbrev pub mark_in : (Kind → Bool) → Sign → Option (Unit {0})
-mark_in test sign = if test sign.kind then Some tt else None
+abbrev pub expect_in : (Kind → Bool) → Sign → Option (Unit {0})
+expect_in test sign = if test sign.kind then Some tt else None
 
-abbrev pub mark : (Kind → Bool) → Part Sign (Unit {0}) HoaCause
-mark test = one (mark_in test) NoBad
+abbrev pub expect : (Kind → Bool) → Part Sign (Unit {0}) HoaCause
+expect test = one (expect_in test) NoBad
 
 abbrev pub before : {V : Type 0} → V → Unit {0} → V
 before v _ = v
 
 abbrev pub closed : {V : Type 0} → V → Part Sign V HoaCause
-closed v = mapped (before v) (mark is_right)
+closed v = mapped (before v) (expect is_right)
 
 abbrev pub inner : {V : Type 0} → Part Sign V HoaCause → Part Sign V HoaCause
-inner part = then_by (mark is_left) (λ _. then_by part (λ v. closed v))
+inner part = then_by (expect is_left) (λ _. then_by part (λ v. closed v))
 
 abbrev pub single : {V : Type 0} → V → List V
 single v = v ∷ []
@@ -64,7 +64,7 @@ joined join (v ∷ []) = v
 joined join vs = join vs
 
 abbrev pub further : {V : Type 0} → (Kind → Bool) → Part Sign V HoaCause → List V → Part Sign (List V) HoaCause
-further sign operand vs = then_by (mark sign) (λ _. mapped (with_last vs) operand)
+further sign operand vs = then_by (expect sign) (λ _. mapped (with_last vs) operand)
 
 abbrev pub operands : {V : Type 0} → (Kind → Bool) → Part Sign V HoaCause → Part Sign (List V) HoaCause
 operands sign operand = then_by (mapped single operand) (λ vs. many (λ ws. further sign operand ws) vs)
@@ -115,7 +115,7 @@ abbrev pub bar : {V : Type 0} → Option (V → V) → Part Sign (Unit {0}) HoaC
 bar negated = barred (give tt) (λ _. IsTooDeep negated)
 
 abbrev pub negation : {V : Type 0} → (V → V) → Part Sign V HoaCause → Part Sign V HoaCause
-negation negated operand = then_by (mark is_not) (λ _. mapped negated operand)
+negation negated operand = then_by (expect is_not) (λ _. mapped negated operand)
 
 -- an operand that contains another operand: after `!`, if that is allowed, or in parentheses
 abbrev pub holding : {V : Type 0} → Option (V → V) → Part Sign V HoaCause → Part Sign V HoaCause → Part Sign V HoaCause

@@ -6,8 +6,8 @@ use Rattle.std.specs.List.{prefix_len}
 use Rattle.std.specs.Str.{bytes_eq}
 use Rattle.ps_text.specs.Answers.{Piece, Stream}
 use Rattle.ps_hoa.specs.Bytes.{class_of, is_digit, is_name_byte}
-use Rattle.ps_hoa.specs.ItemNames.{no_marks}
-use Rattle.ps_hoa.specs.Tokens.{Sign, marked}
+use Rattle.ps_hoa.specs.ItemNames.{none_occurred}
+use Rattle.ps_hoa.specs.Tokens.{Sign, in_context}
 use Rattle.ps_hoa.specs.declared.tokens.Class.{Class}
 use Rattle.ps_hoa.specs.declared.tokens.Class.TheVariants.{Blank, Digit, Letter, At, Quote, Dash, Slash, Sign as SignOf}
 use Rattle.ps_hoa.specs.declared.tokens.Class.TheVariants.{Other}
@@ -17,7 +17,7 @@ use Rattle.ps_hoa.specs.declared.tokens.Kind.TheVariants.{OpenComment, Odd, Fini
 use Rattle.ps_hoa.specs.declared.tokens.Step.{Step}
 use Rattle.ps_hoa.specs.declared.tokens.Step.TheVariants.{Skip, Found}
 use Rattle.ps_hoa.specs.declared.tokens.Lexeme.{Lexeme}
-use Rattle.ps_hoa.specs.declared.tokens.Marks.{Marks}
+use Rattle.ps_hoa.specs.declared.tokens.History.{History}
 
 abbrev pub head_or_zero : List ℕ → ℕ
 head_or_zero [] = 0
@@ -52,8 +52,8 @@ quoted_len (b ∷ bs) false = if nat_eq b 34 then Some 1 else one_more (quoted_l
 abbrev pub begins_with : List ℕ → List ℕ → Bool
 begins_with bytes word = bytes_eq (take (length word) bytes) word
 
--- The definitions up to `step_of` give the blank, comment or token that begins with the first byte, and its length. The
--- class of the first byte and the bytes after it determine the kind of a token.
+-- The definitions up to `scan_step` give the blank, comment or token that begins with the first byte, and its length.
+-- The class of the first byte and the bytes after it determine the kind of a token.
 abbrev pub number_step : ℕ → List ℕ → Step
 number_step b bs =
     if nat_eq b 48 && nat_lt 0 (prefix_len is_digit bs) then Found ZeroRun (1 + prefix_len is_digit bs)
@@ -76,8 +76,8 @@ text_by (Some n) = Found Text (1 + n)
 abbrev pub text_step : List ℕ → Step
 text_step bs = text_by (quoted_len bs false)
 
-abbrev pub mark_step : List ℕ → Step
-mark_step bs =
+abbrev pub dash_step : List ℕ → Step
+dash_step bs =
     if begins_with bs (codes "-BODY--") then Found Body 8
     else (if begins_with bs (codes "-END--") then Found End 7
     else (if begins_with bs (codes "-ABORT--") then Found Abort 9
@@ -96,14 +96,14 @@ class_step Digit b bs = number_step b bs
 class_step Letter b bs = name_step bs
 class_step At b bs = alias_step bs
 class_step Quote b bs = text_step bs
-class_step Dash b bs = mark_step bs
+class_step Dash b bs = dash_step bs
 class_step Slash b bs = comment_step bs
 class_step (SignOf kind) b bs = Found kind 1
 class_step Other b bs = Found Odd 1
 
-unfoldable pub step_of : List ℕ → Step
-step_of [] = Found Finish 0
-step_of (b ∷ bs) = class_step (class_of b) b bs
+unfoldable pub scan_step : List ℕ → Step
+scan_step [] = Found Finish 0
+scan_step (b ∷ bs) = class_step (class_of b) b bs
 
 abbrev pub step_len : Step → ℕ
 step_len (Skip n) = n
@@ -130,15 +130,15 @@ abbrev pub IsNoBlank : Step → Type 0
 IsNoBlank (Skip n) = ⊥
 IsNoBlank (Found kind n) = Unit {0}
 
-abbrev pub fresh : Marks
-fresh = record { stood = no_marks; ended = false }
+abbrev pub fresh : History
+fresh = record { stood = none_occurred; ended = false }
 
 -- the tokens after the first `skip` bytes, which belong to the token or blank before them
 unfoldable pub lex_behind : List ℕ → ℕ → ℕ → List (Piece Sign)
 lex_behind [] skip at = []
 lex_behind (b ∷ bs) (suc skip) at = lex_behind bs skip (at + 1)
 lex_behind (b ∷ bs) zero at =
-    elim (step_of (b ∷ bs)) [
+    elim (scan_step (b ∷ bs)) [
       | Skip n ↦ lex_behind bs (n - 1) (at + 1)
       | Found kind n ↦ record { sign = record { kind = kind; text = take n (b ∷ bs) }; start = at } ∷ lex_behind bs
           (n - 1) (at + 1)
@@ -148,21 +148,21 @@ abbrev pub lex : ℕ → List ℕ → List (Piece Sign)
 lex at bytes = lex_behind bytes 0 at
 
 -- the state of the tokenizer: the text, the offset of the next token, and the names that have occurred
-pub record Reading : Type 0 where
+pub record ScanState : Type 0 where
   pub source : List ℕ
   pub at : ℕ
-  pub marks : Marks
+  pub history : History
 
 -- the text has this token at these offsets, regardless of the tokens before it
 pub record IsLexeme (source : List ℕ) (found : Lexeme) : Type 0 where
   pub rises : found.start ≤ found.stop
   pub within : found.stop ≤ length source
-  pub token : step_of (drop found.start source) ≡ Found found.kind (found.stop - found.start)
+  pub token : scan_step (drop found.start source) ≡ Found found.kind (found.stop - found.start)
   pub some : found.start < length source → found.start < found.stop
   pub proper : found.start < length source → is_finish found.kind ≡ false
 
-unfoldable pub stream_of : Reading → Stream Sign
-stream_of r = record { pieces = marked r.marks (lex r.at (drop r.at r.source)); end = length r.source }
+unfoldable pub stream_of : ScanState → Stream Sign
+stream_of r = record { pieces = in_context r.history (lex r.at (drop r.at r.source)); end = length r.source }
 
 -- the next token; at the end of the text, a piece of the kind `Finish`
 abbrev pub next_of : Stream Sign → Piece Sign

@@ -4,7 +4,7 @@ use Rattle.ps_text.specs.Answers.{Piece}
 use Rattle.ps_hoa.specs.Scan.{IsLexeme}
 use Rattle.ps_hoa.specs.Tokens.{Sign, IsBlankRun, kind_here}
 use Rattle.ps_hoa.specs.declared.tokens.Kind.{Kind}
-use Rattle.ps_hoa.specs.declared.tokens.Marks.{Marks}
+use Rattle.ps_hoa.specs.declared.tokens.History.{History}
 use Rattle.ps_hoa.specs.declared.tokens.Token.{Token}
 
 -- the token as the grammar sees it
@@ -18,9 +18,9 @@ pub record IsSpan (source : List ℕ) (token : Token) : Type 0 where
   pub text : token.text.now ≡ slice_range source token.start token.stop
 
 -- `kind` is the kind of the token by itself; the field `kind` of the token also depends on the earlier tokens
-pub record IsKept (source : List ℕ) (marks : Marks) (kind : Kind) (token : Token) : Type 0 where
+pub record IsOwnKind (source : List ℕ) (history : History) (kind : Kind) (token : Token) : Type 0 where
   pub lexeme : IsLexeme source (record { kind = kind; start = token.start; stop = token.stop })
-  pub here : token.kind ≡ kind_here marks kind token.text.now
+  pub here : token.kind ≡ kind_here history kind token.text.now
   pub text : token.text.now ≡ slice_range source token.start token.stop
 
 -- the bytes between two offsets of a text are blanks and comments

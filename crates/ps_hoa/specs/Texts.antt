@@ -10,7 +10,7 @@ use Rattle.std.specs.Option.{unwrap_or}
 use Rattle.ps_text.specs.Answers.{Piece, Found}
 use Rattle.ps_text.specs.Parts.{Part, then_by, mapped, PartAnswers}
 use Rattle.ps_hoa.specs.Bytes.{is_name_byte}
-use Rattle.ps_hoa.specs.Tokens.{Sign, IsBlankPart, IsBlankRun, AllBytes, StopsBefore, AreTokens, marked}
+use Rattle.ps_hoa.specs.Tokens.{Sign, IsBlankPart, IsBlankRun, AllBytes, StopsBefore, AreTokens, in_context}
 use Rattle.ps_hoa.specs.Scan.{fresh}
 use Rattle.ps_hoa.specs.Causes.{hoa_causes}
 use Rattle.ps_hoa.specs.Conditions.{Condition}
@@ -78,7 +78,7 @@ pub data ReadsFile (bytes : List ℕ) : Result FileData (Found HoaCause) → Typ
       length bytes ≤ text_limit → IsBehindBlanks bytes blanks (codes "HOA:" ++ more) →
       IsBehindBlanks more further rest → IsVersion rest (codes "v1") tail →
       AreTokens (length blanks + 4 + length further + 2) tail pieces →
-      PartAnswers hoa_causes file (record { pieces = marked fresh pieces; end = length bytes }) answer →
+      PartAnswers hoa_causes file (record { pieces = in_context fresh pieces; end = length bytes }) answer →
       ReadsFile bytes answer
 
 -- the fault is the answer to the text

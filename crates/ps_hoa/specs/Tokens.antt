@@ -3,23 +3,23 @@
 --     IsComment text      `/* .. */`, with comments of its own inside
 --     IsBlankRun text      blanks and comments
 --     IsName text      a letter or `_`, followed by letters, digits, `_` and `-`
---     Stands kind text rest      a token of this kind, followed by rest: the longest token that can begin here
---     IsToken kind text rest      as `Stands`, or a token that is never allowed: a comment that is not closed, or a
---               byte that begins no token
+--     IsLongestToken kind text rest      a token of this kind, followed by rest: the longest token that can begin here
+--     IsToken kind text rest      as `IsLongestToken`, or a token that is never allowed: a comment that is not closed,
+--               or a byte that begins no token
 --     AreTokens at bytes pieces      the tokens of `bytes`, with blanks between them; `at` is the offset of the bytes
---     marked marks pieces      the given tokens, with other kinds for the second occurrence of a name that may occur
---               only once, and for every token after `--END--`
+--     in_context history pieces      the given tokens, with other kinds for the second occurrence of a name that may
+--               occur only once, and for every token after `--END--`
 use Rattle.std.specs.Prelude.{◌≡◌, ℕ, suc, ◌+◌, ◌<◌, ◌⊎◌, ◌≢◌, ◌||◌, Bool, true, false, List, [], ◌∷◌, ◌++◌, length}
 use Rattle.std.specs.Prelude.{codes, if◌then◌else◌, nat_eq, get_or, set, Option, None, Some}
 use Rattle.std.specs.Str.{bytes_eq}
 use Rattle.ps_text.specs.Answers.{Piece}
 use Rattle.ps_hoa.specs.Bytes.{class_of, is_digit, is_name_byte}
-use Rattle.ps_hoa.specs.ItemNames.{mark_named}
+use Rattle.ps_hoa.specs.ItemNames.{once_named}
 use Rattle.ps_hoa.specs.declared.tokens.Class.TheVariants.{Blank, Letter, Sign as SignOf}
 use Rattle.ps_hoa.specs.declared.tokens.Kind.{Kind}
 use Rattle.ps_hoa.specs.declared.tokens.Kind.TheVariants.{Header, HeaderAgain, Word, AliasName, Int, ZeroRun, Text}
 use Rattle.ps_hoa.specs.declared.tokens.Kind.TheVariants.{Body, End, Abort, OpenComment, Odd, Behind, Finish}
-use Rattle.ps_hoa.specs.declared.tokens.Marks.{Marks}
+use Rattle.ps_hoa.specs.declared.tokens.History.{History}
 
 pub record Sign : Type 0 where
   pub kind : Kind
@@ -97,12 +97,12 @@ abbrev pub StopsBefore : (ℕ → Bool) → List ℕ → Type 0
 StopsBefore p [] = Unit {0}
 StopsBefore p (b ∷ bs) = p b ≡ false
 
-pub record Stands (kind : Kind) (text rest : List ℕ) : Type 0 where
+pub record IsLongestToken (kind : Kind) (text rest : List ℕ) : Type 0 where
   pub form : HasForm kind text
   pub longest : StopsBefore (lengthens kind) rest
 
 -- a comment begins here and is not closed
-pub record IsOpen (text rest : List ℕ) : Type 0 where
+pub record IsUnclosedComment (text rest : List ℕ) : Type 0 where
   pub begins : text ≡ codes "/*"
   pub unclosed : (comment more : List ℕ) → text ++ rest ≡ comment ++ more → IsComment comment → ⊥
 
@@ -112,12 +112,12 @@ pub record IsOdd (text rest : List ℕ) : Type 0 where
   pub text_is : text ≡ byte ∷ []
   pub no_blank : class_of byte ≢ Blank
   pub no_comment : (more : List ℕ) → text ++ rest ≡ codes "/*" ++ more → ⊥
-  pub no_token : (kind : Kind) (token more : List ℕ) → text ++ rest ≡ token ++ more → Stands kind token more → ⊥
+  pub no_token : (kind : Kind) (token more : List ℕ) → text ++ rest ≡ token ++ more → IsLongestToken kind token more → ⊥
 
 abbrev pub IsToken : Kind → List ℕ → List ℕ → Type 0
-IsToken OpenComment text rest = IsOpen text rest
+IsToken OpenComment text rest = IsUnclosedComment text rest
 IsToken Odd text rest = IsOdd text rest
-IsToken kind text rest = Stands kind text rest
+IsToken kind text rest = IsLongestToken kind text rest
 
 -- one token after blanks, and the rest after the token
 pub record IsNext (at : ℕ) (bytes : List ℕ) (piece : Piece Sign) (rest : List ℕ) : Type 0 where
@@ -135,34 +135,35 @@ AreTokens at bytes (p ∷ ps) =
 -- ## Names that may occur only once, and what follows the end
 
 -- the name has occurred before; `HOA:` always has
-abbrev pub has_stood : Marks → Option ℕ → Bool
-has_stood marks None = false
-has_stood marks (Some mark) = get_or marks.stood mark false
+abbrev pub has_stood : History → Option ℕ → Bool
+has_stood history None = false
+has_stood history (Some once) = get_or history.stood once false
 
-abbrev pub is_known : Marks → List ℕ → Bool
-is_known marks name = if bytes_eq name (codes "HOA:") then true else has_stood marks (mark_named name)
+abbrev pub is_known : History → List ℕ → Bool
+is_known history name = if bytes_eq name (codes "HOA:") then true else has_stood history (once_named name)
 
-abbrev pub with_mark : Marks → Option ℕ → Marks
-with_mark marks None = marks
-with_mark marks (Some mark) = record marks { stood = set marks.stood mark true }
+abbrev pub with_once : History → Option ℕ → History
+with_once history None = history
+with_once history (Some once) = record history { stood = set history.stood once true }
 
-abbrev pub with_name : Marks → List ℕ → Marks
-with_name marks name = with_mark marks (mark_named name)
+abbrev pub with_occurred : History → List ℕ → History
+with_occurred history name = with_once history (once_named name)
 
 -- After `--END--`, all tokens except a comment that is not closed have the kind `Behind`.
-abbrev pub kind_here : Marks → Kind → List ℕ → Kind
-kind_here marks OpenComment text = OpenComment
-kind_here marks Finish text = Finish
-kind_here marks Header text = if marks.ended then Behind else (if is_known marks text then HeaderAgain else Header)
-kind_here marks kind text = if marks.ended then Behind else kind
+abbrev pub kind_here : History → Kind → List ℕ → Kind
+kind_here history OpenComment text = OpenComment
+kind_here history Finish text = Finish
+kind_here history Header text =
+    if history.ended then Behind else (if is_known history text then HeaderAgain else Header)
+kind_here history kind text = if history.ended then Behind else kind
 
-abbrev pub marks_after : Marks → Kind → List ℕ → Marks
-marks_after marks Header text = with_name marks text
-marks_after marks End text = record marks { ended = true }
-marks_after marks kind text = marks
+abbrev pub history_after : History → Kind → List ℕ → History
+history_after history Header text = with_occurred history text
+history_after history End text = record history { ended = true }
+history_after history kind text = history
 
-abbrev pub marked : Marks → List (Piece Sign) → List (Piece Sign)
-marked marks [] = []
-marked marks (p ∷ ps) =
-    record { sign = record { kind = kind_here marks p.sign.kind p.sign.text; text = p.sign.text }; start = p.start } ∷
-    marked (marks_after marks p.sign.kind p.sign.text) ps
+abbrev pub in_context : History → List (Piece Sign) → List (Piece Sign)
+in_context history [] = []
+in_context history (p ∷ ps) =
+    record { sign = record { kind = kind_here history p.sign.kind p.sign.text; text = p.sign.text }; start = p.start } ∷
+    in_context (history_after history p.sign.kind p.sign.text) ps

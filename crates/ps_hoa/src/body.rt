@@ -9,7 +9,7 @@ ghost use Rattle.ps_hoa.specs.Body as parts;
 ghost use Rattle.ps_hoa.specs.Body.{BadIn, edge_limit, has_row, IsBadClose, IsBadNext, IsBadRow, IsWrongCount, is_end};
 ghost use Rattle.ps_hoa.specs.Body.{last_row, no_rows, state_value, with_row};
 ghost use Rattle.ps_hoa.specs.Header.{HeaderData, int_in, names_of, name_value, header_data};
-ghost use Rattle.ps_hoa.specs.Operands.{mark_in};
+ghost use Rattle.ps_hoa.specs.Operands.{expect_in};
 ghost use Rattle.ps_hoa.specs.Inner.Reads.{ReadsAs, Takes};
 ghost use Rattle.ps_hoa.specs.Inner.Rows.{body_data, IsEndWrong};
 ghost use Rattle.ps_hoa.specs.Scan.{next_of, stream_of};
@@ -22,7 +22,7 @@ use crate::file::Row;
 use crate::header::Header;
 use crate::refusal::{fault_at, refused};
 use crate::rows::Rows;
-use crate::signs::{is_name, mark};
+use crate::signs::{expect, is_name};
 use crate::tokens::{Kind, Token, Tokens};
 use ps_label::Label;
 use std::alloc::Global;
@@ -127,7 +127,7 @@ fn end(tokens: &mut Tokens, header: &Header, rows: &Rows) -> Result<(), HoaFault
 
 /// Checks that a token is `--END--`, and that the last row is complete.
 fn end_of(token: Token, header: &Header, rows: &Rows) -> Result<(), HoaFault>
-    ensures { Takes (λ u. u) (mark_in is_end) (IsBadClose (header_data header.now) (body_data rows.now))
+    ensures { Takes (λ u. u) (expect_in is_end) (IsBadClose (header_data header.now) (body_data rows.now))
         (piece_of token.entry) result }
 {
     match token.kind {
@@ -175,7 +175,7 @@ fn state_label(
     if !tokens.is_at(Kind::LeftBracket) {
         return Ok(None);
     }
-    mark(tokens, Kind::LeftBracket)?;
+    expect(tokens, Kind::LeftBracket)?;
     let label = label_in_brackets(alloc, tokens, header)?;
     Ok(Some(label))
 }

@@ -11,7 +11,7 @@ ghost use Rattle.ps_hoa.specs.Values.{condition_of, set_data};
 use crate::fault::{HoaCause, HoaFault};
 use crate::infix::{self, Connective, Infix};
 use crate::refusal::{fault_at, refused};
-use crate::signs::{int_of, mark};
+use crate::signs::{expect, int_of};
 use crate::tokens::{Kind, Token, Tokens, is_same};
 use std::alloc::{AllocError, Global};
 
@@ -68,9 +68,9 @@ impl Infix for Conditions {
             return constant(tokens);
         };
         tokens.advance();
-        mark(tokens, Kind::LeftParen)?;
+        expect(tokens, Kind::LeftParen)?;
         let set = any_set(tokens)?;
-        mark(tokens, Kind::RightParen)?;
+        expect(tokens, Kind::RightParen)?;
         Ok(visits(often, set))
     }
 

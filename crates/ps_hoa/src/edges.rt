@@ -19,7 +19,7 @@ use crate::file::{Edge, Guard, Row};
 use crate::header::Header;
 use crate::label::label;
 use crate::refusal::{fault_at, refused};
-use crate::signs::{int_of, mark};
+use crate::signs::{expect, int_of};
 use crate::tokens::{Kind, Token, Tokens};
 use ps_label::Label;
 use smallvec::SmallVec;
@@ -210,7 +210,7 @@ pub(crate) fn label_in_brackets(
 {
     let scope = header.scope();
     let label = label(alloc, tokens, &scope)?;
-    mark(tokens, Kind::RightBracket)?;
+    expect(tokens, Kind::RightBracket)?;
     Ok(label)
 }
 
@@ -315,9 +315,9 @@ pub(crate) fn marks(
 fn sets(alloc: Global, tokens: &mut Tokens, count: u32) -> Result<SmallVec<u32, 4>, HoaFault>
     ensures { ReadsAs (λ marks. marks.items) (parts.sets count) tokens.old result tokens.new }
 {
-    mark(tokens, Kind::LeftBrace)?;
+    expect(tokens, Kind::LeftBrace)?;
     let marks = set_numbers(alloc, tokens, count)?;
-    mark(tokens, Kind::RightBrace)?;
+    expect(tokens, Kind::RightBrace)?;
     Ok(marks)
 }
 

@@ -1,7 +1,7 @@
 //! The numbers of `controllable-AP:`.
 
 ghost use Rattle.std.specs.Prelude.{◌≡◌, [], OnOk, OnErr};
-ghost use Rattle.ps_hoa.specs.Header.{has_place, kept, place_of};
+ghost use Rattle.ps_hoa.specs.Header.{has_place, kept, slot_of};
 
 use std::alloc::{AllocError, Global};
 use std::marker::Model;
@@ -56,7 +56,7 @@ impl Indices {
 
 /// Whether one of the numbers has the same slot as the given number.
 fn has_place(numbers: &[u32], number: u32) -> bool
-    ensures { result ≡ has_place (place_of number) numbers.now }
+    ensures { result ≡ has_place (slot_of number) numbers.now }
 {
     let place = place_of(number);
     for other in numbers {
@@ -69,7 +69,7 @@ fn has_place(numbers: &[u32], number: u32) -> bool
 
 /// The slot of a number.
 fn place_of(number: u32) -> u32
-    ensures { result ≡ place_of number }
+    ensures { result ≡ slot_of number }
 {
     if number < LAST_PLACE {
         number

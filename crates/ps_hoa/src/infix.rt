@@ -9,7 +9,7 @@ ghost use Rattle.ps_hoa.specs.Inner.Signs.{IsLeaf};
 
 use crate::fault::{HoaCause, HoaFault};
 use crate::refusal::fault_at;
-use crate::signs::{is_kind, mark};
+use crate::signs::{expect, is_kind};
 use crate::tokens::{Kind, Tokens};
 use std::alloc::{AllocError, Global};
 
@@ -148,7 +148,7 @@ fn operand<G: Infix>(
         return Ok(grammar.negated(alloc, negated)?);
     }
     let inner = row(alloc, tokens, grammar, room - 1, Connective::Or)?;
-    mark(tokens, Kind::RightParen)?;
+    expect(tokens, Kind::RightParen)?;
     Ok(inner)
 }
 

@@ -6,7 +6,7 @@ ghost use Rattle.ps_text.specs.Parts.{many};
 ghost use Rattle.ps_hoa.specs.Inner.Flaws.{body_in};
 ghost use Rattle.ps_hoa.specs.Header as parts;
 ghost use Rattle.ps_hoa.specs.Header.{header as header_part, item_in, item_value, no_items, header_data};
-ghost use Rattle.ps_hoa.specs.ItemNames.{item_named, mark_named, mark_of};
+ghost use Rattle.ps_hoa.specs.ItemNames.{item_named, once_named, once_of};
 ghost use Rattle.ps_hoa.specs.Labels as labels;
 ghost use Rattle.ps_hoa.specs.Operands.{nesting_limit};
 ghost use Rattle.ps_hoa.specs.Inner.Reads.{ReadsAs, Takes};
@@ -76,12 +76,12 @@ pub(crate) fn item_named(name: &[u8]) -> Option<Item>
 }
 
 /// The number of marks. A mark records the occurrence of an item that may occur only once.
-pub(crate) const MARK_COUNT: usize = 4;
+pub(crate) const ONCE_COUNT: usize = 4;
 
 /// The index of the mark of an item, if the item may occur only once.
-fn mark_of(item: Item) -> Option<usize>
-    ensures value { result ≡ mark_of item }
-    ensures within { IfSome result (λ mark. mark < MARK_COUNT) }
+fn once_of(item: Item) -> Option<usize>
+    ensures value { result ≡ once_of item }
+    ensures within { IfSome result (λ once. once < ONCE_COUNT) }
 {
     match item {
         Item::States => Some(0),
@@ -93,11 +93,11 @@ fn mark_of(item: Item) -> Option<usize>
 }
 
 /// The index of the mark of the item with this name, if the item may occur only once.
-pub(crate) fn mark_named(name: &[u8]) -> Option<usize>
-    ensures value { result ≡ mark_named name.now }
-    ensures within { IfSome result (λ mark. mark < MARK_COUNT) }
+pub(crate) fn once_named(name: &[u8]) -> Option<usize>
+    ensures value { result ≡ once_named name.now }
+    ensures within { IfSome result (λ once. once < ONCE_COUNT) }
 {
-    mark_of(item_named(name)?)
+    once_of(item_named(name)?)
 }
 
 /// Parses a header, up to `--BODY--`.
@@ -105,21 +105,21 @@ pub(crate) fn header<'a>(alloc: Global, tokens: &mut Tokens<'a>) -> Result<Heade
     ensures { ReadsAs header_data header_part tokens.old result tokens.new }
 {
     let header = items(alloc, tokens)?;
-    body_mark(tokens, &header)?;
+    body_token(tokens, &header)?;
     Ok(header)
 }
 
 /// Reads the token `--BODY--`, and checks the header as a whole.
-fn body_mark(tokens: &mut Tokens, header: &Header) -> Result<(), HoaFault>
-    ensures { ReadsAs (λ _. header_data header.now) (parts.body_mark (header_data header.now)) tokens.old
+fn body_token(tokens: &mut Tokens, header: &Header) -> Result<(), HoaFault>
+    ensures { ReadsAs (λ _. header_data header.now) (parts.body_token (header_data header.now)) tokens.old
         result tokens.new }
 {
     let token = tokens.advance();
-    body_mark_of(token, header)
+    body_token_of(token, header)
 }
 
 /// Checks that a token is `--BODY--`, and that the header as a whole has no flaw.
-fn body_mark_of(token: Token, header: &Header) -> Result<(), HoaFault>
+fn body_token_of(token: Token, header: &Header) -> Result<(), HoaFault>
     ensures { Takes (λ _. header_data header.now) (body_in (header_data header.now))
         (parts.IsBadBody (header_data header.now)) (piece_of token.entry) result }
 {

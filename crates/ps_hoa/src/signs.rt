@@ -6,7 +6,7 @@ ghost use Rattle.ps_text.specs.Digits.{decimal_value};
 ghost use Rattle.ps_text.specs.Parts.{NoBad, barred as barred_by};
 ghost use Rattle.ps_hoa.specs.Header.{int as int_part, int_in, IsAbove, IsAlternating};
 ghost use Rattle.ps_hoa.specs.Header.{name_value, string as string_part, string_in, unescaped as meaning};
-ghost use Rattle.ps_hoa.specs.Operands.{mark as mark_part, mark_in, number_limit};
+ghost use Rattle.ps_hoa.specs.Operands.{expect as expect_part, expect_in, number_limit};
 ghost use Rattle.ps_hoa.specs.Inner.Reads.{ReadsAs, Takes};
 ghost use Rattle.ps_hoa.specs.Inner.Signs.{inside, IsTestOf};
 ghost use Rattle.ps_hoa.specs.Spans.{piece_of};
@@ -18,18 +18,18 @@ use crate::tokens::{Kind, Token, Tokens, is_same};
 use std::alloc::{AllocError, Global};
 
 /// Reads a token of the given kind.
-pub(crate) fn mark(tokens: &mut Tokens, kind: Kind) -> Result<(), HoaFault>
+pub(crate) fn expect(tokens: &mut Tokens, kind: Kind) -> Result<(), HoaFault>
     requires { kind ≢ Kind.Finish }
-    ensures { (test : Kind → Bool) → IsTestOf test kind → ReadsAs (λ u. u) (mark_part test) tokens.old
+    ensures { (test : Kind → Bool) → IsTestOf test kind → ReadsAs (λ u. u) (expect_part test) tokens.old
         result tokens.new }
 {
     let token = tokens.advance();
-    mark_of(token, kind)
+    expect_of(token, kind)
 }
 
 /// Checks that a token is of the given kind.
-fn mark_of(token: Token, kind: Kind) -> Result<(), HoaFault>
-    ensures { (test : Kind → Bool) → IsTestOf test kind → Takes (λ u. u) (mark_in test) NoBad
+fn expect_of(token: Token, kind: Kind) -> Result<(), HoaFault>
+    ensures { (test : Kind → Bool) → IsTestOf test kind → Takes (λ u. u) (expect_in test) NoBad
         (piece_of token.entry) result }
 {
     if is_kind(token, kind) {

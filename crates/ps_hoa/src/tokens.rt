@@ -7,12 +7,12 @@ ghost use Rattle.std.specs.Str.{bytes_eq};
 ghost use Rattle.ps_text.specs.Answers.{Piece};
 ghost use Rattle.ps_hoa.specs.Bytes.{class_of as class, is_digit as digit, is_name_byte as names};
 ghost use Rattle.ps_hoa.specs.Scan.{alias_step, begins_with, behind_next, comment_len, comment_step, fresh};
-ghost use Rattle.ps_hoa.specs.Scan.{IsLexeme, IsNoBlank, IsTokenClass, IsTokenStep, lex, mark_step, name_step, next_of};
-ghost use Rattle.ps_hoa.specs.Scan.{number_step, quoted_len, SkipsSome, step_len, step_of, stream_of, text_step};
-ghost use Rattle.ps_hoa.specs.Tokens.{AreTokens, is_known, kind_here, marked, marks_after, Sign, with_name};
-ghost use Rattle.ps_hoa.specs.Spans.{AreBlanks, IsKept, IsSpan, piece_of};
+ghost use Rattle.ps_hoa.specs.Scan.{IsLexeme, IsNoBlank, IsTokenClass, IsTokenStep, lex, dash_step, name_step, next_of};
+ghost use Rattle.ps_hoa.specs.Scan.{number_step, quoted_len, SkipsSome, step_len, scan_step, stream_of, text_step};
+ghost use Rattle.ps_hoa.specs.Tokens.{AreTokens, is_known, kind_here, in_context, history_after, Sign, with_occurred};
+ghost use Rattle.ps_hoa.specs.Spans.{AreBlanks, IsOwnKind, IsSpan, piece_of};
 
-use crate::items::{MARK_COUNT, mark_named};
+use crate::items::{ONCE_COUNT, once_named};
 use std::marker::Model;
 
 /// The kind of a token (HOA v1, tokens).
@@ -111,8 +111,8 @@ fn class_of(byte: u8) -> Class
 
 /// Which of the names that may occur only once have occurred, and whether `--END--` has occurred.
 #[derive(Clone, Copy)]
-pub struct Marks {
-    pub(crate) stood: [bool; MARK_COUNT],
+pub struct History {
+    pub(crate) stood: [bool; ONCE_COUNT],
     pub(crate) ended: bool,
 }
 
@@ -272,8 +272,8 @@ pub(crate) fn begins_with(bytes: &[u8], word: &[u8]) -> bool
     bytes.starts_with(word)
 }
 
-fn mark_step(bytes: &[u8]) -> Step
-    ensures { result ≡ mark_step bytes.now }
+fn dash_step(bytes: &[u8]) -> Step
+    ensures { result ≡ dash_step bytes.now }
 {
     if begins_with(bytes, b"-BODY--") {
         Step::Found(Kind::Body, 8)
@@ -299,9 +299,9 @@ fn comment_step(bytes: &[u8]) -> Step
 }
 
 /// The blank, the comment or the token that begins with the first byte.
-#[tactic(auto, unfolding(crate::specs::Scan::step_of))]
+#[tactic(auto, unfolding(crate::specs::Scan::scan_step))]
 fn step_at(bytes: &[u8]) -> Step
-    ensures { result ≡ step_of bytes.now }
+    ensures { result ≡ scan_step bytes.now }
 {
     let Some((first, rest)) = bytes.split_first() else {
         return Step::Found(Kind::Finish, 0);
@@ -312,7 +312,7 @@ fn step_at(bytes: &[u8]) -> Step
         Class::Letter => name_step(rest),
         Class::At => alias_step(rest),
         Class::Quote => text_step(rest),
-        Class::Dash => mark_step(rest),
+        Class::Dash => dash_step(rest),
         Class::Slash => comment_step(rest),
         Class::Sign(kind) => Step::Found(kind, 1),
         Class::Other => Step::Found(Kind::Odd, 1),
@@ -356,7 +356,7 @@ pub(crate) fn behind_blanks(source: &[u8], from: usize) -> usize
     ensures blanks { AreBlanks source.now from result }
     ensures from { from ≤ result }
     ensures within { result ≤ length source.now }
-    ensures token { IsNoBlank (step_of (drop result source.now)) }
+    ensures token { IsNoBlank (scan_step (drop result source.now)) }
     ensures same { lex result (drop result source.now) ≡ lex from (drop from source.now) }
 {
     first_lexeme(source, from).start
@@ -369,13 +369,13 @@ pub(crate) fn is_same(name: &[u8], word: &[u8]) -> bool
     name == word
 }
 
-impl Marks {
+impl History {
     /// The marks when only `HOA:` has occurred.
     fn new() -> Self
         ensures { result ≡ fresh }
     {
-        Marks {
-            stood: [false; MARK_COUNT],
+        History {
+            stood: [false; ONCE_COUNT],
             ended: false,
         }
     }
@@ -387,9 +387,9 @@ impl Marks {
         if is_same(name, b"HOA:") {
             return true;
         }
-        match mark_named(name) {
+        match once_named(name) {
             None => false,
-            Some(mark) => self.stood[mark],
+            Some(once) => self.stood[once],
         }
     }
 
@@ -407,16 +407,16 @@ impl Marks {
     }
 
     fn with_name(&mut self, name: &[u8])
-        ensures { self.new ≡ with_name self.old name.now }
+        ensures { self.new ≡ with_occurred self.old name.now }
     {
-        if let Some(mark) = mark_named(name) {
-            self.stood[mark] = true;
+        if let Some(once) = once_named(name) {
+            self.stood[once] = true;
         }
     }
 
     /// Records that a token has occurred.
     fn pass(&mut self, kind: Kind, text: &[u8])
-        ensures { self.new ≡ marks_after self.old kind text.now }
+        ensures { self.new ≡ history_after self.old kind text.now }
     {
         match kind {
             Kind::Header => self.with_name(text),
@@ -447,18 +447,18 @@ pub struct Tokens<'a> {
     next: Token<'a>,
     /// The kind of the next token, regardless of the tokens before it.
     kind: Kind,
-    marks: Marks,
+    history: History,
 }
 
 impl<'a> Model for Tokens<'a> {
-    ghost use Rattle.ps_hoa.specs.Scan.{Reading};
-    ghost use Rattle.ps_hoa.specs.Spans.{IsKept};
+    ghost use Rattle.ps_hoa.specs.Scan.{ScanState};
+    ghost use Rattle.ps_hoa.specs.Spans.{IsOwnKind};
 
-    ghost Value = { Reading };
+    ghost Value = { ScanState };
 
-    ghost view = { λ t. record { source = t.source.now; at = t.next.start; marks = t.marks } };
+    ghost view = { λ t. record { source = t.source.now; at = t.next.start; history = t.history } };
 
-    ghost invariant = { λ t. IsKept t.source.now t.marks t.kind t.next };
+    ghost invariant = { λ t. IsOwnKind t.source.now t.history t.kind t.next };
 }
 
 impl<'a> Tokens<'a> {
@@ -467,17 +467,17 @@ impl<'a> Tokens<'a> {
     pub fn new(source: &'a [u8], from: usize) -> Self
         requires { from ≤ length source.now }
         ensures pieces { (pieces : List (Piece Sign)) → AreTokens from (drop from source.now) pieces →
-            (stream_of result).pieces ≡ marked fresh pieces }
+            (stream_of result).pieces ≡ in_context fresh pieces }
         ensures end { (stream_of result).end ≡ length source.now }
         ensures source { result.source ≡ source.now }
     {
-        let marks = Marks::new();
+        let history = History::new();
         let lexeme = first_lexeme(source, from);
         Tokens {
             source,
-            next: token_of(source, lexeme, marks),
+            next: token_of(source, lexeme, history),
             kind: lexeme.kind,
-            marks,
+            history,
         }
     }
 
@@ -502,9 +502,9 @@ impl<'a> Tokens<'a> {
         ensures rises { result.stop ≤ self.new.at }
     {
         let token = self.next;
-        self.marks.pass(self.kind, token.text);
+        self.history.pass(self.kind, token.text);
         let lexeme = first_lexeme(self.source, token.stop);
-        self.next = token_of(self.source, lexeme, self.marks);
+        self.next = token_of(self.source, lexeme, self.history);
         self.kind = lexeme.kind;
         token
     }
@@ -518,14 +518,14 @@ impl<'a> Tokens<'a> {
 }
 
 /// The token for a lexeme, given the marks of the tokens before it.
-fn token_of<'a>(source: &'a [u8], lexeme: Lexeme, marks: Marks) -> Token<'a>
+fn token_of<'a>(source: &'a [u8], lexeme: Lexeme, history: History) -> Token<'a>
     requires { IsLexeme source.now lexeme }
-    ensures kept { IsKept source.now marks lexeme.kind result }
+    ensures kept { IsOwnKind source.now history lexeme.kind result }
     ensures start { result.start ≡ lexeme.start }
 {
     let text = &source[lexeme.start..lexeme.stop];
     Token {
-        kind: marks.kind_of(lexeme.kind, text),
+        kind: history.kind_of(lexeme.kind, text),
         text,
         start: lexeme.start,
         stop: lexeme.stop,

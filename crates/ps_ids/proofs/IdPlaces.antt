@@ -13,7 +13,7 @@ use Rattle.std.proofs.Math.Seq.{get_or-append_seam}
 use Rattle.std.specs.List.{Contains, list_any, position, position_or_len}
 use Rattle.std.specs.List.{slice_index}
 use Rattle.std.specs.Option.{is_some}
-use Rattle.ps_ids.specs.Ids.{AreDistinct, IsKept, IsTable, KeepsPlace, own_place}
+use Rattle.ps_ids.specs.Ids.{AreDistinct, IsRecordedAt, IsIdTable, KeepsPlace, own_place}
 
 abbrev is_id : ℕ → ℕ → Bool
 is_id id other = eqb id other
@@ -53,26 +53,26 @@ found_at ids id place distinct same at =
     subst (λ xs. Some place ≡ position (is_id id) xs) same (sym (position_here ids id place distinct at.0 at.1))
 
 -- the table records only the indices of ids
-pub near_at : (first : ℕ) (ids near : List ℕ) (far : ℕ → Option ℕ) (id place : ℕ) → IsTable first ids near far →
+pub near_at : (first : ℕ) (ids near : List ℕ) (far : ℕ → Option ℕ) (id place : ℕ) → IsIdTable first ids near far →
     first ≤ id → slice_index near (own_place first id) ≡ place + 1 → IsAt ids place id
 near_at first ids near far id place is above e =
     let at = is.near_sound (own_place first id) place e in
     (at.0, at.1 ∙ omega arith)
 
 -- the tree has the index of an id that is neither at its own index nor at the index in the table
-pub position_by_table : (first : ℕ) (ids near : List ℕ) (far : ℕ → Option ℕ) (id : ℕ) → IsTable first ids near far →
+pub position_by_table : (first : ℕ) (ids near : List ℕ) (far : ℕ → Option ℕ) (id : ℕ) → IsIdTable first ids near far →
     ((first ≤ id) → slice_index near (own_place first id) ≡ 0) → (IsAt ids (own_place first id) id → ⊥) →
     far id ≡ position (is_id id) ids
 position_by_table first ids near far id is not_near not_own = go (far id) refl
   where
-    not_kept : (k : ℕ) → k < length ids → get_or ids k 0 ≡ id → far id ≡ None → IsKept first near far id k → ⊥
+    not_kept : (k : ℕ) → k < length ids → get_or ids k 0 ≡ id → far id ≡ None → IsRecordedAt first near far id k → ⊥
     not_kept k l same e (inl own) = not_own (grind arith)
     not_kept k l same e (inr (inl (above, at))) = absurd (omega (arith, at, not_near above))
     not_kept k l same e (inr (inr at)) = some_none k (sym at ∙ e)
 
     nowhere : far id ≡ None → (k : ℕ) → k < length ids → get_or ids k 0 ≢ id
     nowhere e k l same =
-        not_kept k l same e (subst (λ q. IsKept first near far q k) same (is.whole k l))
+        not_kept k l same e (subst (λ q. IsRecordedAt first near far q k) same (is.whole k l))
 
     go : (o : Option ℕ) → far id ≡ o → far id ≡ position (is_id id) ids
     go None e = e ∙ sym (position_nowhere ids id (nowhere e))
@@ -89,10 +89,10 @@ some_position p ids = go (position p ids) refl
 
 -- the tables are still correct after an id is added
 pub table_push : (first : ℕ) (ids ids' near near' : List ℕ) (old new : ℕ → Option ℕ) (id place : ℕ) →
-    IsTable first ids near old → place ≡ length ids → KeepsPlace first near near' old new id place →
-    (Contains ids id → ⊥) → ids' ≡ ids ++ id ∷ [] → IsTable first ids' near' new
+    IsIdTable first ids near old → place ≡ length ids → KeepsPlace first near near' old new id place →
+    (Contains ids id → ⊥) → ids' ≡ ids ++ id ∷ [] → IsIdTable first ids' near' new
 table_push first ids ids' near near' old new id place is at keeps absent e =
-    subst (λ xs. IsTable first xs near' new) (sym e) (record {
+    subst (λ xs. IsIdTable first xs near' new) (sym e) (record {
       distinct = all_pairs_push (λ x y. x ≢ y) ids id is.distinct (λ k d l same. search (rules, Contains-get_or));
       sound = λ q p h. ⊎_elim (λ (here : (q ≡ id) × (p ≡ place)). grind (arith, longer, get_or-append_seam))
           (λ (before : old q ≡ Some p). let r = is.sound q p before in
@@ -107,25 +107,25 @@ table_push first ids ids' near near' old new id place is at keeps absent e =
     longer : length (ids ++ id ∷ []) ≡ length ids + 1
     longer = length-append ids (id ∷ [])
 
-    before : (p : ℕ) → p < length ids → IsKept first near' new (get_or (ids ++ id ∷ []) p 0) p
-    before p l = subst (λ q. IsKept first near' new q p) (sym (get_or_append_left ids (id ∷ []) 0 p l))
+    before : (p : ℕ) → p < length ids → IsRecordedAt first near' new (get_or (ids ++ id ∷ []) p 0) p
+    before p l = subst (λ q. IsRecordedAt first near' new q p) (sym (get_or_append_left ids (id ∷ []) 0 p l))
         (keeps.others (get_or ids p 0) p (λ same. absent (search (rules, Contains-get_or))) (is.whole p l))
 
-    last : (p : ℕ) → p ≡ length ids → IsKept first near' new (get_or (ids ++ id ∷ []) p 0) p
-    last p e = subst (λ q. IsKept first near' new q p) (search (rules, get_or-append_seam))
-        (subst (λ q. IsKept first near' new id q) (at ∙ sym e) keeps.kept)
+    last : (p : ℕ) → p ≡ length ids → IsRecordedAt first near' new (get_or (ids ++ id ∷ []) p 0) p
+    last p e = subst (λ q. IsRecordedAt first near' new q p) (search (rules, get_or-append_seam))
+        (subst (λ q. IsRecordedAt first near' new id q) (at ∙ sym e) keeps.kept)
 
-pub table_same : (first : ℕ) (ids ids' near near' : List ℕ) (old new : ℕ → Option ℕ) → IsTable first ids near old →
-    ids' ≡ ids → near' ≡ near → ((q : ℕ) → new q ≡ old q) → IsTable first ids' near' new
+pub table_same : (first : ℕ) (ids ids' near near' : List ℕ) (old new : ℕ → Option ℕ) → IsIdTable first ids near old →
+    ids' ≡ ids → near' ≡ near → ((q : ℕ) → new q ≡ old q) → IsIdTable first ids' near' new
 table_same first ids ids' near near' old new is e n same =
-    subst (λ xs. IsTable first xs near' new) (sym e) (subst (λ ns. IsTable first ids ns new) (sym n) (record {
+    subst (λ xs. IsIdTable first xs near' new) (sym e) (subst (λ ns. IsIdTable first ids ns new) (sym n) (record {
       distinct = is.distinct;
       sound = λ q p h. is.sound q p (sym (same q) ∙ h);
       near_sound = is.near_sound;
       whole = λ p l. kept_same (get_or ids p 0) p (is.whole p l);
     }))
   where
-    kept_same : (id p : ℕ) → IsKept first near old id p → IsKept first near new id p
+    kept_same : (id p : ℕ) → IsRecordedAt first near old id p → IsRecordedAt first near new id p
     kept_same id p (inl own) = inl own
     kept_same id p (inr (inl at)) = inr (inl at)
     kept_same id p (inr (inr at)) = inr (inr (same id ∙ at))

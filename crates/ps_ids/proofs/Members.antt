@@ -12,9 +12,11 @@ use Rattle.ps_ids.specs.Ids.{AreDistinct}
 eqb-equivalence : IsEquivalence eqb
 eqb-equivalence = search (rules, eq-eqb, nat_tests, eqb-true)
 
+-- the test of the list is true for each id in the list
 pub any-from_Contains : (q : ℕ) (ids : List ℕ) → Contains ids q → list_any (eqb q) ids ≡ true
 any-from_Contains q ids h = list_any-from_Contains eqb-equivalence q ids h
 
+-- an id for which the test of the list is true is in the list
 pub Contains-any : (q : ℕ) (ids : List ℕ) → list_any (eqb q) ids ≡ true → Contains ids q
 Contains-any q ids h = Contains-from_any eqb-true q ids h
 

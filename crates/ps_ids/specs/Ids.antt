@@ -18,22 +18,22 @@ own_place first id = id - first
 
 -- `place` is the id's own index, or it is recorded in the table at the id's distance from `first`, or in the tree for
 -- the id. An entry of the table is one more than the index, or 0 if it records none.
-abbrev pub IsKept : (first : ℕ) (near : List ℕ) (far : ℕ → Option ℕ) (id place : ℕ) → Type 0
-IsKept first near far id place = (own_place first id ≡ place) ⊎
+abbrev pub IsRecordedAt : (first : ℕ) (near : List ℕ) (far : ℕ → Option ℕ) (id place : ℕ) → Type 0
+IsRecordedAt first near far id place = (own_place first id ≡ place) ⊎
     (((first ≤ id) × (slice_index near (own_place first id) ≡ place + 1)) ⊎ (far id ≡ Some place))
 
 -- the index of each id is recorded, and the table and the tree record only the indices of ids
-pub record IsTable (first : ℕ) (ids near : List ℕ) (far : ℕ → Option ℕ) : Type 0 where
+pub record IsIdTable (first : ℕ) (ids near : List ℕ) (far : ℕ → Option ℕ) : Type 0 where
   pub distinct : AreDistinct ids
   pub sound : (id place : ℕ) → far id ≡ Some place → (place < length ids) × (slice_index ids place ≡ id)
   pub near_sound : (k place : ℕ) → slice_index near k ≡ place + 1 → (place < length ids) ×
       (slice_index ids place ≡ first + k)
-  pub whole : (place : ℕ) → place < length ids → IsKept first near far (slice_index ids place) place
+  pub whole : (place : ℕ) → place < length ids → IsRecordedAt first near far (slice_index ids place) place
 
 -- the new tables record the index of the id, and everything else is as in the old tables
 pub record KeepsPlace (first : ℕ) (old_near new_near : List ℕ) (old new : ℕ → Option ℕ) (id place : ℕ) : Type 0 where
-  pub kept : IsKept first new_near new id place
-  pub others : (q p : ℕ) → q ≢ id → IsKept first old_near old q p → IsKept first new_near new q p
+  pub kept : IsRecordedAt first new_near new id place
+  pub others : (q p : ℕ) → q ≢ id → IsRecordedAt first old_near old q p → IsRecordedAt first new_near new q p
   pub sound : (q p : ℕ) → new q ≡ Some p → ((q ≡ id) × (p ≡ place)) ⊎ (old q ≡ Some p)
   pub near_sound : (k p : ℕ) → slice_index new_near k ≡ p + 1 → ((first + k ≡ id) × (p ≡ place)) ⊎
       (slice_index old_near k ≡ p + 1)

@@ -7,7 +7,7 @@ ghost use Rattle.std.specs.Prelude.{is_some, length, position, slice_index, if鈼
 ghost use Rattle.std.specs.Ordering.{nat_cmp};
 ghost use Rattle.std.specs.List.{list_any};
 ghost use Rattle.std.specs.BTreeMap.{get};
-ghost use Rattle.ps_ids.specs.Ids.{AreDistinct, IsTable, KeepsPlace, own_place};
+ghost use Rattle.ps_ids.specs.Ids.{AreDistinct, IsIdTable, KeepsPlace, own_place};
 
 use std::alloc::{AllocError, Global};
 use std::collections::BTreeMap;
@@ -34,7 +34,7 @@ impl Model for Ids {
 
     ghost view = { 位 ids. ids.list.items };
 
-    ghost invariant = { 位 ids. IsTable ids.first ids.list.items ids.near.items (位 id. get nat_cmp ids.far id) };
+    ghost invariant = { 位 ids. IsIdTable ids.first ids.list.items ids.near.items (位 id. get nat_cmp ids.far id) };
 }
 
 impl Ids {

@@ -2,7 +2,7 @@
 
 ghost use Rattle.std.specs.Prelude.{◌≡◌, ◌<◌, ◌≤◌, All, IfOk, length};
 ghost use Rattle.ps_game.specs.Games.{vertex_count};
-ghost use Rattle.ps_improvement.specs.Attempts.{HasPlaces};
+ghost use Rattle.ps_improvement.specs.Attempts.{IsAttemptFor};
 
 use crate::evaluating::evaluate;
 use crate::fuel::Fuel;
@@ -44,7 +44,7 @@ pub enum Attempted {
 
 /// Computes which vertices player 0 may win, and by which moves. Fails if out of memory.
 pub fn attempt<A: Arena>(alloc: Global, arena: &A, fuel: u64) -> Result<Attempted, AllocError>
-    ensures { IfOk result (HasPlaces (vertex_count (A.game arena.now))) }
+    ensures { IfOk result (IsAttemptFor (vertex_count (A.game arena.now))) }
 {
     if !has_room::<A, usize>(arena) {
         return Ok(Attempted::OutOfRoom);
@@ -143,7 +143,7 @@ fn settle<A: Arena>(
 /// The result of a plan: player 0 wins the vertices from which plays never stop.
 fn answer_of<A: Arena>(alloc: Global, arena: &A, plan: Plan) -> Result<Attempted, AllocError>
     requires { length plan.rows.items ≡ vertex_count (A.game arena.now) }
-    ensures { IfOk result (HasPlaces (vertex_count (A.game arena.now))) }
+    ensures { IfOk result (IsAttemptFor (vertex_count (A.game arena.now))) }
 {
     let mut fuel = Fuel {
         left: 0,

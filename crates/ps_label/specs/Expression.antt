@@ -31,9 +31,9 @@ abbrev mutual
   operands (more_of-Label l row) = more (expression l) (operands row)
 
 -- the expressions of a list as operands
-abbrev pub row_of : List Expression → Operands
-row_of [] = last
-row_of (e ∷ es) = more e (row_of es)
+abbrev pub operands_in : List Expression → Operands
+operands_in [] = last
+operands_in (e ∷ es) = more e (operands_in es)
 
 abbrev pub list_of : Operands → List Expression
 list_of last = []

@@ -4,7 +4,7 @@ use Rattle.std.proofs.Common.{arith, inl, inr, ◌⊎◌, rules}
 use Rattle.std.specs.Prelude.{◌||◌, ◌&&◌}
 use Rattle.std.proofs.lemmas.Bool.{cases_lt}
 use Rattle.ps_label.specs.Truth.{is_in}
-use Rattle.ps_diagram.specs.Letters.{assignment, letter_of, IsBefore, IsLeast, AgreeOn, AgreeOff}
+use Rattle.ps_diagram.specs.Letters.{assignment, letter_of, IsBefore, IsLeastLetter, AgreeOn, AgreeOff}
 use Rattle.ps_diagram.proofs.Alone.{same_letter}
 use Rattle.ps_diagram.proofs.Cells.{bool_cases, true_is_not_false}
 use Rattle.ps_diagram.proofs.Letters.{letter_lt, letter_is, no_bit}
@@ -194,5 +194,6 @@ pub second_agrees : (board : Board) (mask y : ℕ) → IsMaskOf board mask → y
 second_agrees board mask y m lt = second_off board mask y m lt
 
 -- the least letter with a property is unique
-pub one_least : (n : ℕ) {P : ℕ → Type 0} {x y : ℕ} → x < 2 ^ n → y < 2 ^ n → IsLeast P x → IsLeast P y → x ≡ y
+pub one_least : (n : ℕ) {P : ℕ → Type 0} {x y : ℕ} → x < 2 ^ n → y < 2 ^ n → IsLeastLetter P x → IsLeastLetter P y →
+    x ≡ y
 one_least n {x} {y} lx ly a b = neither_before n lx ly (λ h. b.none_before x a.here h) (λ h. a.none_before y b.here h)

@@ -9,8 +9,8 @@ use Rattle.ps_diagram.specs.Letters.{letter_of}
 use Rattle.ps_diagram.proofs.Alone.{same_letter}
 use Rattle.ps_diagram.proofs.Letters.{letter_lt, letter_is, no_bit}
 use Rattle.ps_automaton.proofs.Deciding.{some_or_none}
-use Rattle.ps_machine.specs.Extracting.{IsOther, is_others}
-use Rattle.ps_machine.specs.Boards.{Board, IsFirstLetter, IsSecondLetter, SameStep, SameSteps, IsClass, IsMove}
+use Rattle.ps_machine.specs.Extracting.{IsOtherLetter, is_others}
+use Rattle.ps_machine.specs.Boards.{Board, IsFirstLetter, IsSecondLetter, SameStep, SameSteps, IsClassLetter, IsMove}
 use Rattle.ps_machine.specs.declared.key.Key.TheVariants.{First}
 use Rattle.ps_machine.proofs.LeastLetters.{least_there}
 
@@ -26,6 +26,7 @@ module _ (n : ℕ) (mine : ℕ → Bool) where
   pub part : ℕ → ℕ
   part x = letter_of n (λ p. mine p && is_in p x)
 
+  -- the part of a letter has only the propositions of its player
   pub part_over : (x : ℕ) → IsOver n mine (part x)
   unfolding part
   part_over x = search (rules, letter_lt, cases_lt, letter_is, no_bit, part)
@@ -110,7 +111,7 @@ module _ (board : Board) where
 
   -- each letter of the first player has a class
   pub class_there : (q : ℕ) {x : ℕ} → IsFirstLetter board x →
-      (class : ℕ) × IsClass board q class × SameSteps board q x class
+      (class : ℕ) × IsClassLetter board q class × SameSteps board q x class
   class_there q {x} first =
       let P : ℕ → Type 0 = λ other. IsFirstLetter board other × SameSteps board q other x in
       let l = least_there board.propositions P (λ y. search (rules, both_or_not, first_or_not, steps_or_not))
@@ -136,12 +137,12 @@ module _ (board : Board) where
 
 -- ## Letters of the other player
 
-pub other_over : (b : Bool) (board : Board) (x : ℕ) → IsOther b board x →
+pub other_over : (b : Bool) (board : Board) (x : ℕ) → IsOtherLetter b board x →
     IsOver board.propositions (is_others b board) x
 other_over b board x h = search (rules, second_over, first_over)
 
 pub over_other : (b : Bool) (board : Board) {x : ℕ} → IsOver board.propositions (is_others b board) x →
-    IsOther b board x
+    IsOtherLetter b board x
 over_other b board h = search (rules, over_second, over_first)
 
 -- ## Keys

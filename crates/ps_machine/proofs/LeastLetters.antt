@@ -11,7 +11,7 @@ use Rattle.std.proofs.lemmas.Map.Views.{Contains-from_any, list_any-from_Contain
 use Rattle.std.proofs.lemmas.Nat.Bits.{bit_at-suc, bit_at_lowest, bit_at-lt}
 use Rattle.std.proofs.Math.Nat.{pow-suc}
 use Rattle.ps_label.specs.Truth.{is_in}
-use Rattle.ps_diagram.specs.Letters.{IsBefore, IsLeast}
+use Rattle.ps_diagram.specs.Letters.{IsBefore, IsLeastLetter}
 use Rattle.ps_diagram.proofs.Letters.{no_bit}
 use Rattle.ps_automaton.proofs.Deciding.{some_or_none}
 
@@ -55,7 +55,8 @@ true_is_within n y p within is = search (rules, cases_lt, no_bit)
 pub before_ranks : (n : ℕ) {x y : ℕ} → y < 2 ^ n → IsBefore x y → rank 0 n x < rank 0 n y
 before_ranks n {x} {y} within before = search (rules, true_is_within, rank_rises)
 
-goes_down : (n : ℕ) (P : ℕ → Type 0) → ((y : ℕ) → P y → y < 2 ^ n) → ((y : ℕ) → IsLeast P y → ⊥) → (bound y : ℕ) → P y →
+goes_down : (n : ℕ) (P : ℕ → Type 0) → ((y : ℕ) → P y → y < 2 ^ n) → ((y : ℕ) → IsLeastLetter P y → ⊥) → (bound y : ℕ) →
+    P y →
     rank 0 n y < bound → ⊥
 goes_down n P within none zero y here small = absurd (omega arith)
 goes_down n P within none (suc bound) y here small = none y (record {
@@ -66,14 +67,14 @@ goes_down n P within none (suc bound) y here small = none y (record {
 })
 
 -- a property for which there is no least letter holds for no letter
-pub none_without_least : (n : ℕ) (P : ℕ → Type 0) → ((y : ℕ) → P y → y < 2 ^ n) → ((y : ℕ) → IsLeast P y → ⊥) →
+pub none_without_least : (n : ℕ) (P : ℕ → Type 0) → ((y : ℕ) → P y → y < 2 ^ n) → ((y : ℕ) → IsLeastLetter P y → ⊥) →
     (y : ℕ) → P y → ⊥
 none_without_least n P within none y here = goes_down n P within none (rank 0 n y + 1) y here (omega arith)
 
 -- ## The least letter
 
 down_to_least : (n : ℕ) (P : ℕ → Type 0) → ((y : ℕ) → P y ⊎ (P y → ⊥)) → ((y : ℕ) → P y → y < 2 ^ n) → (bound y : ℕ) →
-    P y → rank 0 n y < bound → (z : ℕ) × IsLeast P z
+    P y → rank 0 n y < bound → (z : ℕ) × IsLeastLetter P z
 down_to_least n P tell within zero y here small = absurd (omega arith)
 down_to_least n P tell within (suc bound) y here small =
     elim (some_or_none Lower lower_or_not (2 ^ n) (λ x lower. within x lower.0)) [
@@ -92,7 +93,7 @@ down_to_least n P tell within (suc bound) y here small =
 
 -- a decidable property that holds for some letter has a least letter
 pub least_there : (n : ℕ) (P : ℕ → Type 0) → ((y : ℕ) → P y ⊎ (P y → ⊥)) → ((y : ℕ) → P y → y < 2 ^ n) → (y : ℕ) → P y →
-    (z : ℕ) × IsLeast P z
+    (z : ℕ) × IsLeastLetter P z
 least_there n P tell within y here = down_to_least n P tell within (rank 0 n y + 1) y here (omega arith)
 
 -- ## Sums

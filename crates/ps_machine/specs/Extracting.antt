@@ -1,6 +1,6 @@
 -- The machine of a certificate: its memory states, the letters that it outputs, and its next memory states.
 --     IsUsed game certificate v      v ends a path from vertex 0 that follows the table of the winner of vertex 0
---     IsKept .. v      v is the smallest of the used first-player vertices that share its memory state
+--     IsRepresentative .. v      v is the smallest of the used first-player vertices that share its memory state
 --     IsMachineOf board mover keys game certificate m      the machine: its memory states are the kept vertices,
 --               ascending
 -- A winner who moves first remembers the current vertex. A winner who moves second remembers only the state of the
@@ -11,12 +11,12 @@ use Rattle.std.specs.List.{All, AllPairs, Contains}
 use Rattle.ps_game.specs.Games.{ParityGame}
 use Rattle.ps_game.specs.Plays.{IsPath, Follows}
 use Rattle.ps_certificate.specs.Certificates.{CertificateData, choice_of}
-use Rattle.ps_diagram.specs.Letters.{IsLeast}
+use Rattle.ps_diagram.specs.Letters.{IsLeastLetter}
 use Rattle.ps_hoa.specs.Files.{is_among}
 use Rattle.ps_machine.specs.Behaviours.{Behaviour}
-use Rattle.ps_machine.specs.Boards.{Board, IsFirstLetter, IsSecondLetter, SameSteps, IsClass}
+use Rattle.ps_machine.specs.Boards.{Board, IsFirstLetter, IsSecondLetter, SameSteps, IsClassLetter}
 use Rattle.ps_machine.specs.Numbering.{StandsAt}
-use Rattle.ps_machine.specs.Solving.{winner}
+use Rattle.ps_machine.specs.Solving.{winner_at_start}
 use Rattle.ps_machine.specs.declared.key.Key.{Key}
 use Rattle.ps_machine.specs.declared.key.Key.TheVariants.{First, Second}
 
@@ -24,7 +24,7 @@ pub record IsUsed (game : ParityGame) (certificate : CertificateData) (v : ℕ) 
   pub path : List ℕ
   pub is_path : IsPath game path
   pub begins : slice_index path 0 ≡ 0
-  pub follows : Follows game (winner certificate) (choice_of certificate) path
+  pub follows : Follows game (winner_at_start certificate) (choice_of certificate) path
   pub ends : slice_index path (length path - 1) ≡ v
 
 -- a used vertex at which the first player moves
@@ -37,7 +37,7 @@ abbrev pub Shares : Bool → ℕ → ℕ → ℕ → ℕ → Type 0
 Shares true v q w r = v ≡ w
 Shares false v q w r = q ≡ r
 
-pub record IsKept (is_first : Bool) (keys : List Key) (game : ParityGame) (certificate : CertificateData)
+pub record IsRepresentative (is_first : Bool) (keys : List Key) (game : ParityGame) (certificate : CertificateData)
     (v : ℕ) : Type 0 where
   pub state : ℕ
   pub priority : ℕ
@@ -68,13 +68,13 @@ pub record StepsFirst (board : Board) (keys : List Key) (certificate : Certifica
 pub record StepsSecond (board : Board) (keys : List Key) (certificate : CertificateData) (v q x letter : ℕ) : Type 0
   where
     pub class : ℕ
-    pub is_class : IsClass board q class
+    pub is_class : IsClassLetter board q class
     pub same : SameSteps board q x class
     pub at : ℕ
     pub stands : StandsAt keys at (Second q class)
     pub chosen : ℕ
     pub choice : choice_of certificate at ≡ Some chosen
-    pub least : IsLeast (λ y. IsSecondLetter board y × GoesTo keys board q (class + y) chosen) letter
+    pub least : IsLeastLetter (λ y. IsSecondLetter board y × GoesTo keys board q (class + y) chosen) letter
 
 -- the letter that is output at the vertex v of the state q, if the other player's letter is x
 abbrev pub IsPlayed : Bool → Board → List Key → CertificateData → ℕ → ℕ → ℕ → ℕ → Type 0
@@ -82,9 +82,9 @@ IsPlayed true board keys certificate v q x letter = StepsFirst board keys certif
 IsPlayed false board keys certificate v q x letter = StepsSecond board keys certificate v q x letter
 
 -- a letter of the other player
-abbrev pub IsOther : Bool → Board → ℕ → Type 0
-IsOther true board x = IsSecondLetter board x
-IsOther false board x = IsFirstLetter board x
+abbrev pub IsOtherLetter : Bool → Board → ℕ → Type 0
+IsOtherLetter true board x = IsSecondLetter board x
+IsOtherLetter false board x = IsFirstLetter board x
 
 pub record IsStep (board : Board) (keys : List Key) (kept : List ℕ) (certificate : CertificateData) (m : Behaviour)
     (memory x : ℕ) : Type 0 where
@@ -100,14 +100,14 @@ pub record IsStep (board : Board) (keys : List Key) (kept : List ℕ) (certifica
 
 pub record IsMachineOf (board : Board) (mover : ℕ) (keys : List Key) (game : ParityGame) (certificate : CertificateData)
     (m : Behaviour) : Type 0 where
-  pub player : m.player ≡ winner certificate
-  pub is_first : m.is_first ≡ (mover == winner certificate)
+  pub player : m.player ≡ winner_at_start certificate
+  pub is_first : m.is_first ≡ (mover == winner_at_start certificate)
   pub kept : List ℕ
   pub rising : AllPairs (λ v w. v < w) kept
-  pub each : All (IsKept m.is_first keys game certificate) kept
-  pub complete : (v : ℕ) → IsKept m.is_first keys game certificate v → Contains kept v
+  pub each : All (IsRepresentative m.is_first keys game certificate) kept
+  pub complete : (v : ℕ) → IsRepresentative m.is_first keys game certificate v → Contains kept v
   pub memories : m.memories ≡ length kept
-  pub steps : (memory x : ℕ) → memory < m.memories → IsOther m.is_first board x →
+  pub steps : (memory x : ℕ) → memory < m.memories → IsOtherLetter m.is_first board x →
       IsStep board keys kept certificate m memory x
 
 -- whether a proposition belongs to the other player, who is not the machine's player

@@ -1,6 +1,6 @@
 -- The names of the vertices of an automaton's game.
 --     state_name states q      the state's number, or `sink`
---     digits_of board x      a digit for each proposition of the player who moves first: its truth value in x
+--     letter_digits board x      a digit for each proposition of the player who moves first: its truth value in x
 --     key_name board key      the name of a key: `q/p` or `q:digits`
 --     AreNamed board keys game      each vertex has its number as id, and the name of its key
 use Rattle.std.specs.Prelude.{◌≡◌, ℕ, zero, suc, List, [], ◌∷◌, ◌++◌, length, map, Option, Some, decimal, codes}
@@ -16,20 +16,20 @@ abbrev pub state_name : ℕ → ℕ → List ℕ
 state_name states q = if nat_eq q states then codes "sink" else decimal q
 
 -- 48 and 49 are the digits 0 and 1
-abbrev pub digit_of : Board → ℕ → ℕ → List ℕ
-digit_of board x p = if board.is_first p then (if is_in p x then 49 else 48) ∷ [] else []
+abbrev pub letter_digit : Board → ℕ → ℕ → List ℕ
+letter_digit board x p = if board.is_first p then (if is_in p x then 49 else 48) ∷ [] else []
 
 -- the digits of the first n propositions
 abbrev pub first_digits : Board → ℕ → ℕ → List ℕ
 first_digits board x zero = []
-first_digits board x (suc n) = first_digits board x n ++ digit_of board x n
+first_digits board x (suc n) = first_digits board x n ++ letter_digit board x n
 
-abbrev pub digits_of : Board → ℕ → List ℕ
-digits_of board x = first_digits board x board.propositions
+abbrev pub letter_digits : Board → ℕ → List ℕ
+letter_digits board x = first_digits board x board.propositions
 
 abbrev pub key_name : Board → Key → List ℕ
 key_name board (First q p) = state_name board.states q ++ codes "/" ++ decimal p
-key_name board (Second q x) = state_name board.states q ++ codes ":" ++ digits_of board x
+key_name board (Second q x) = state_name board.states q ++ codes ":" ++ letter_digits board x
 
 abbrev pub key_names : Board → List Key → List (Option (List ℕ))
 key_names board keys = map (λ key. Some (key_name board key)) keys

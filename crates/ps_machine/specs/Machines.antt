@@ -1,6 +1,6 @@
 -- The stored form of a player's finite machine: a decision diagram for each memory state, whose leaves name rows.
 --     MachineData      a machine's propositions, its player, whether that player moves first, its diagrams and its rows
---     step_of m memory x      the row for a memory state, if x is the other player's letter
+--     machine_row m memory x      the row for a memory state, if x is the other player's letter
 --     behaviour m      the behaviour of the machine, without its diagrams
 --     IsWholeMachine m      this is a machine, and its diagrams name a row for each memory state and letter
 use Rattle.std.specs.Prelude.{◌≡◌, ℕ, ◌<◌, Bool, List, length, slice_index, slice_index_or, IsSomeAnd}
@@ -22,11 +22,11 @@ pub record MachineData : Type 0 where
   pub rows : List Row
 
 -- the row that a leaf names
-abbrev pub row_of : MachineData → ℕ → Row
-row_of m leaf = slice_index_or m.rows leaf (record { memory = 0; letter = 0 })
+abbrev pub row_at_leaf : MachineData → ℕ → Row
+row_at_leaf m leaf = slice_index_or m.rows leaf (record { memory = 0; letter = 0 })
 
-abbrev pub step_of : MachineData → ℕ → ℕ → Row
-step_of m memory x = row_of m (unwrap_or (leaf_of m.store (slice_index m.nodes memory) x) (length m.rows))
+abbrev pub machine_row : MachineData → ℕ → ℕ → Row
+machine_row m memory x = row_at_leaf m (unwrap_or (leaf_of m.store (slice_index m.nodes memory) x) (length m.rows))
 
 abbrev pub behaviour : MachineData → Behaviour
 behaviour m =
@@ -37,8 +37,8 @@ behaviour m =
       player = m.player;
       is_first = m.is_first;
       memories = length m.nodes;
-      next = λ memory x. (step_of m memory x).memory;
-      plays = λ memory x. (step_of m memory x).letter;
+      next = λ memory x. (machine_row m memory x).memory;
+      plays = λ memory x. (machine_row m memory x).letter;
     }
 
 -- Each memory state and letter lead to a leaf that names a row. The leaf depends only on the propositions that are
@@ -51,5 +51,5 @@ pub record IsWholeMachine (m : MachineData) : Type 0 where
       (λ leaf. leaf < length m.rows)
   pub reads : (memory x y : ℕ) → memory < length m.nodes → AreSameOn m.inputs x y →
       leaf_of m.store (slice_index m.nodes memory) x ≡ leaf_of m.store (slice_index m.nodes memory) y
-  pub rows : (leaf : ℕ) → leaf < length m.rows → ((row_of m leaf).memory < length m.nodes) ×
-      IsOutput (behaviour m) (row_of m leaf).letter
+  pub rows : (leaf : ℕ) → leaf < length m.rows → ((row_at_leaf m leaf).memory < length m.nodes) ×
+      IsOutput (behaviour m) (row_at_leaf m leaf).letter

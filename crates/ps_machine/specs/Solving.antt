@@ -1,6 +1,6 @@
 -- What is true of a solver's answer for a game.
 --     IsCertified game c      the certificate fits the game and is valid
---     winner c      the winner of vertex 0
+--     winner_at_start c      the winner of vertex 0
 --     AnswersSurely game r      what a sure solver answers: a valid certificate that fits the game, or out of memory
 --     AnswersLeast game r      what psyn's own solver answers: a valid certificate that fits the game, with the least
 --               counts, or out of memory
@@ -22,8 +22,8 @@ pub record IsCertified (game : NamedGameData) (certificate : CertificateData) : 
   pub fits : Fits game.game certificate
   pub valid : IsValid game.game certificate
 
-abbrev pub winner : CertificateData → ℕ
-winner certificate = winner_of certificate 0
+abbrev pub winner_at_start : CertificateData → ℕ
+winner_at_start certificate = winner_of certificate 0
 
 abbrev pub AnswersSurely : NamedGameData → Result CertificateData SolveFault → Type 0
 AnswersSurely game (Ok certificate) = IsCertified game certificate

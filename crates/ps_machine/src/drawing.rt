@@ -14,7 +14,7 @@ ghost use Rattle.ps_machine.specs.declared.key.Key.TheVariants.{First};
 use crate::divided::Divided;
 use crate::key::{Key, Order};
 use crate::machine::Row;
-use crate::memories::{Memories, mark};
+use crate::memories::{Memories, anchor};
 use indexmap::IndexSet;
 use ps_automaton::Automaton;
 use ps_certificate::Certificate;
@@ -65,8 +65,8 @@ impl Plan<'_> {
     {
         let key = Key::First { state, priority };
         let vertex = self.keys.get_index_of(&key).unwrap();
-        let mark = mark(self.moves_first, vertex, state);
-        self.memories.marks.get_index_of(&mark).unwrap()
+        let anchor = anchor(self.moves_first, vertex, state);
+        self.memories.anchors.get_index_of(&anchor).unwrap()
     }
 
     /// The letter that a player who moves first outputs at the vertex of a memory state. This letter is the least

@@ -116,7 +116,7 @@ fn memories_of(
     requires fits { Fits game.now certificate.now }
     requires valid { IsValid game.now certificate.now }
     ensures { IfOk result (λ memories. (used : List ℕ) × AreUsed game.now certificate.now used ×
-        AreMemories moves_first keys.now used memories.kept.items memories.marks.keys) }
+        AreMemories moves_first keys.now used memories.kept.items memories.anchors.keys) }
 {
     let used = used_vertices(alloc, game, certificate)?;
     remembered(alloc, keys, &used, moves_first)

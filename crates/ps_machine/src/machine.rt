@@ -4,7 +4,7 @@ ghost use Rattle.std.specs.Prelude.{◌≡◌, ℕ, ◌<◌, ◌≤◌, IsTrue, 
 ghost use Rattle.ps_hoa.specs.Memory.{bytes_of};
 ghost use Rattle.ps_diagram.specs.Table.{IsNode};
 ghost use Rattle.ps_machine.specs.Inner.Assembling.{machine_of};
-ghost use Rattle.ps_machine.specs.Machines.{IsWholeMachine, behaviour, row_of, step_of};
+ghost use Rattle.ps_machine.specs.Machines.{IsWholeMachine, behaviour, row_at_leaf, machine_row};
 
 use indexmap::IndexSet;
 use ps_diagram::{Node, Store};
@@ -181,7 +181,7 @@ impl Machine {
     /// The row that a leaf names.
     pub fn row(&self, leaf: u64) -> Row
         requires { leaf < length self.now.rows }
-        ensures row { result ≡ row_of self.now leaf }
+        ensures row { result ≡ row_at_leaf self.now leaf }
         ensures within { result.memory < (behaviour self.now).memories }
     {
         self.rows.as_slice()[leaf as usize]
@@ -198,7 +198,7 @@ impl Machine {
     /// The row for a memory state and an input letter: the next memory state, and the letter that is output.
     pub fn step(&self, memory: usize, letter: u64) -> Row
         requires { memory < (behaviour self.now).memories }
-        ensures step { result ≡ step_of self.now memory letter }
+        ensures step { result ≡ machine_row self.now memory letter }
         ensures within { result.memory < (behaviour self.now).memories }
     {
         match self.store.eval(self.nodes[memory], letter) {

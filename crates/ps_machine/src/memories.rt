@@ -1,7 +1,7 @@
 //! The memory states of a certificate's machine.
 
 ghost use Rattle.std.specs.Prelude.{◌≡◌, IfOk, OnOk};
-ghost use Rattle.ps_machine.specs.Inner.Drawing.{AreMemories, KeepsAt, mark_of};
+ghost use Rattle.ps_machine.specs.Inner.Drawing.{AreMemories, KeepsAt, anchor_of};
 
 use crate::key::Key;
 use indexmap::IndexSet;
@@ -13,8 +13,8 @@ pub(crate) struct Memories {
     /// For each memory state, its smallest vertex: a used vertex of the first player at which the machine is in that
     /// state. The list ascends.
     pub kept: Vec<usize>,
-    /// The mark of each memory state: its vertex if the player moves first, and otherwise the automaton's state.
-    pub marks: IndexSet<usize>,
+    /// The anchor of each memory state: its vertex if the player moves first, and otherwise the automaton's state.
+    pub anchors: IndexSet<usize>,
 }
 
 /// A memory state for each used vertex of the first player, or, if the machine's player moves second, for each state of
@@ -26,37 +26,38 @@ pub(crate) fn remembered(
     moves_first: bool,
 ) -> Result<Memories, AllocError>
     ensures { IfOk result (λ memories. AreMemories moves_first keys.now used.now.keys memories.kept.items
-        memories.marks.keys) }
+        memories.anchors.keys) }
 {
     let mut memories = Memories {
         kept: Vec::new(alloc),
-        marks: IndexSet::new(alloc),
+        anchors: IndexSet::new(alloc),
     };
     for (vertex, key) in keys.iter().enumerate() {
         let Key::First { state, .. } = *key else {
             continue;
         };
         if used.contains(&vertex) {
-            memories.keep(vertex, mark(moves_first, vertex, state))?;
+            memories.keep(vertex, anchor(moves_first, vertex, state))?;
         }
     }
     Ok(memories)
 }
 
-/// The mark of a first-player vertex: the vertex itself, or, if the machine's player moves second, the vertex's state.
-pub(crate) fn mark(moves_first: bool, vertex: usize, state: u32) -> usize
-    ensures { result ≡ mark_of moves_first vertex state }
+/// The anchor of a first-player vertex: the vertex itself or, if the machine's player moves second, the state of the
+/// vertex.
+pub(crate) fn anchor(moves_first: bool, vertex: usize, state: u32) -> usize
+    ensures { result ≡ anchor_of moves_first vertex state }
 {
     if moves_first { vertex } else { state as usize }
 }
 
 impl Memories {
-    /// Adds a memory state for a vertex, unless a memory state with this mark exists.
-    fn keep(&mut self, vertex: usize, mark: usize) -> Result<(), AllocError>
-        ensures { OnOk result (KeepsAt self.old.kept.items self.old.marks.keys vertex mark self.new.kept.items
-            self.new.marks.keys) }
+    /// Adds a memory state for a vertex, unless a memory state with this anchor exists.
+    fn keep(&mut self, vertex: usize, anchor: usize) -> Result<(), AllocError>
+        ensures { OnOk result (KeepsAt self.old.kept.items self.old.anchors.keys vertex anchor self.new.kept.items
+            self.new.anchors.keys) }
     {
-        if self.marks.insert(mark)? {
+        if self.anchors.insert(anchor)? {
             self.kept.push(vertex)?;
         }
         Ok(())

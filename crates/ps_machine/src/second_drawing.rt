@@ -4,7 +4,7 @@ ghost use Rattle.std.specs.Prelude.{◌≡◌, ℕ, ◌<◌, false, Any, IfOk, l
 ghost use Rattle.std.specs.List.{All, AllZip, Contains};
 ghost use Rattle.ps_automaton.specs.Automata.{pair_of};
 ghost use Rattle.ps_diagram.specs.Table.{Keeps};
-ghost use Rattle.ps_machine.specs.Boards.{IsClass};
+ghost use Rattle.ps_machine.specs.Boards.{IsClassLetter};
 ghost use Rattle.ps_machine.specs.Inner.Drawing.{IsReply, KeepsRows};
 ghost use Rattle.ps_machine.specs.Numbering.{StandsAt};
 ghost use Rattle.ps_machine.specs.Inner.Planning.{AreDividedBy, AreRowsBy, CanEnterBy, IsAnswerBy, IsDrawnBy};
@@ -23,7 +23,7 @@ impl Plan<'_> {
     fn reply(&self, state: u32, letter: u64) -> Step
         requires turn { self.now.moves_first ≡ false }
         requires entered { (p : ℕ) × CanEnterBy self.now state p }
-        requires class { IsClass (board_by self.now) state letter }
+        requires class { IsClassLetter (board_by self.now) state letter }
         ensures reply { IsReply (board_by self.now) self.now.keys.now.keys self.now.certificate.now state letter
             result.state result.priority }
         ensures enters { CanEnterBy self.now result.state result.priority }
@@ -43,7 +43,7 @@ impl Plan<'_> {
     fn row_of_class(&self, state: u32, class: Class) -> Result<Row, AllocError>
         requires turn { self.now.moves_first ≡ false }
         requires entered { (p : ℕ) × CanEnterBy self.now state p }
-        requires class { IsClass (board_by self.now) state class.letter }
+        requires class { IsClassLetter (board_by self.now) state class.letter }
         requires rest { IsRestBy self.now state class.letter class.rest }
         ensures { IfOk result (IsAnswerBy self.now state class.letter) }
     {
@@ -94,7 +94,7 @@ impl Drawing {
     ) -> Result<Vec<u64>, AllocError>
         requires turn { plan.now.moves_first ≡ false }
         requires entered { (p : ℕ) × CanEnterBy plan.now state p }
-        requires classes { All (λ class. IsClass (board_by plan.now) state class.letter) classes.now }
+        requires classes { All (λ class. IsClassLetter (board_by plan.now) state class.letter) classes.now }
         requires rests { All (λ class. IsRestBy plan.now state class.letter class.rest) classes.now }
         requires rows { AreRowsBy plan.now self.old.rows.keys }
         ensures store { self.new.store ≡ self.old.store }

@@ -12,7 +12,8 @@ use Rattle.std.proofs.lemmas.Option.{slice_get-get_or, slice_get_past}
 use Rattle.ps_components.proofs.Places.{slice_get-append_left, slice_get-push, slice_get-push_cases}
 use Rattle.ps_measure.specs.declared.table.CountCell.{CountCell}
 use Rattle.ps_measure.specs.Ranks.{count_of, width_of, width_in}
-use Rattle.ps_measure.specs.Tables.{next_of, count_here, count_from, row_from, rows_in, AreChained, AreHeaded, AreZero}
+use Rattle.ps_measure.specs.Tables.{next_cell, count_here, count_from, row_from, rows_in, AreChained, AreHeaded}
+use Rattle.ps_measure.specs.Tables.{AreZero}
 use Rattle.ps_measure.specs.Tables.{HasPut}
 use Rattle.ps_measure.proofs.Writing.{written, zeros_at}
 
@@ -25,12 +26,12 @@ unfolding count_from
 no_fuel cells n k = refl
 
 from_cell : (cells : List CountCell) (fuel i k : ℕ) (o : Option CountCell) → slice_get cells i ≡ o →
-    count_from cells (suc fuel) (suc i) k ≡ max (count_here o k) (count_from cells fuel (next_of o) k)
+    count_from cells (suc fuel) (suc i) k ≡ max (count_here o k) (count_from cells fuel (next_cell o) k)
 unfolding count_from
-from_cell cells fuel i k o is = ap (λ p. max (count_here p k) (count_from cells fuel (next_of p) k)) is
+from_cell cells fuel i k o is = ap (λ p. max (count_here p k) (count_from cells fuel (next_cell p) k)) is
 
 next_falls : (cells : List CountCell) → ((i : ℕ) (cell : CountCell) → slice_get cells i ≡ Some cell → cell.next ≤ i) →
-    (i : ℕ) (o : Option CountCell) → slice_get cells i ≡ o → next_of o ≤ i
+    (i : ℕ) (o : Option CountCell) → slice_get cells i ≡ o → next_cell o ≤ i
 next_falls cells h i o k = search rules
 
 module _ (cells : List CountCell)
@@ -45,7 +46,7 @@ module _ (cells : List CountCell)
       search (
         rules,
         from_cell,
-        any_fuel f g (next_of (slice_get cells i)) k (omega (arith, less, a)) (omega (arith, less, b)),
+        any_fuel f g (next_cell (slice_get cells i)) k (omega (arith, less, a)) (omega (arith, less, b)),
       )
 
   -- the count of a chain is the greater of the count of its first cell and the count of the cells after it

@@ -6,9 +6,9 @@ use Rattle.std.specs.List.{range_with_len}
 use Rattle.ps_measure.specs.declared.table.CountCell.{CountCell}
 use Rattle.ps_measure.specs.Ranks.{count_of, width_of, AreRows}
 
-abbrev pub next_of : Option CountCell → ℕ
-next_of None = 0
-next_of (Some cell) = cell.next
+abbrev pub next_cell : Option CountCell → ℕ
+next_cell None = 0
+next_cell (Some cell) = cell.next
 
 abbrev pub count_here : Option CountCell → ℕ → ℕ
 count_here None k = 0
@@ -19,7 +19,7 @@ unfoldable pub count_from : List CountCell → ℕ → ℕ → ℕ → ℕ
 count_from cells zero number k = 0
 count_from cells (suc fuel) zero k = 0
 count_from cells (suc fuel) (suc i) k =
-    max (count_here (slice_get cells i) k) (count_from cells fuel (next_of (slice_get cells i)) k)
+    max (count_here (slice_get cells i) k) (count_from cells fuel (next_cell (slice_get cells i)) k)
 
 -- the row of counts that a chain stores
 abbrev pub row_from : ℕ → List CountCell → ℕ → List ℕ

@@ -21,6 +21,7 @@ use Rattle.ps_pgsolver.proofs.PartLaws.{laws_semicolon, laws_node}
 -- ## The whole text
 
 module _ (known : Option (List ℕ)) where
+  -- the laws of the grammar of an entry
   pub laws_entry : (nodes : List NodeData) → Laws Odd (entry known nodes) (IsKind 0) Nothing ⊥
   unfolding entry
   laws_entry nodes = laws_mapped _ (node known (ids_of nodes)) (laws_node known (ids_of nodes))
@@ -53,6 +54,7 @@ IsWord word t = t ≡ Word word
 pub same_word : {word letters : List ℕ} {v : Unit {0}} → keyword_in word (Word letters) ≡ Some v → letters ≡ word
 same_word {word} {letters} {v} e = search (rules, bytes_eq-Decides, none_is_some, cases_Bool)
 
+-- a keyword is taken where that word is next
 pub takes_word : (word : List ℕ) → keyword_in word (Word word) ≡ Some tt
 takes_word word = ap (λ b. cond b (Some tt) None) ((bytes_eq-Decides word word).1 refl)
 
@@ -109,6 +111,7 @@ module _ (known : Option (List ℕ)) where
   pub joint_parity : Joint (setting (codes "parity")) (λ _. from_start)
   joint_parity = joint (laws_setting (codes "parity")) (λ _. laws_start) parity_apart
 
+  -- the laws of the grammar of a whole game
   pub laws_game : Laws Odd (game known) Anything (IsKind 0) ⊥
   unfolding game
   laws_game = weaker

@@ -6,8 +6,8 @@ use Rattle.std.proofs.lemmas.List.Quantifiers.{position-Some}
 use Rattle.std.specs.List.{All, Contains}
 use Rattle.ps_game.specs.Games.{ParityGame, NamedGameData, vertex_count, successors_of}
 use Rattle.ps_game.specs.Drafts.{NoneBare, NoneUnknown}
-use Rattle.ps_pgsolver.specs.GamesOf.{place_of, vertex_of, draft_of, game_of, named_game_of}
-use Rattle.ps_pgsolver.specs.Nodes.{NodeData, IsNode, KnowsAll, ids_of, names_of}
+use Rattle.ps_pgsolver.specs.GamesOf.{place_of, vertex_of_node, draft_of, game_of, named_game_of}
+use Rattle.ps_pgsolver.specs.Nodes.{NodeData, IsReadNode, KnowsAll, ids_of, names_of}
 
 -- ## Why the draft is a game
 
@@ -36,9 +36,9 @@ draft_at ids (n ∷ nodes) (suc v) l =
 
 draft_count : (ids : List ℕ) (nodes : List NodeData) → vertex_count (draft_of ids nodes) ≡ length nodes
 unfolding vertex_count
-draft_count ids nodes = length-map nodes (vertex_of ids)
+draft_count ids nodes = length-map nodes (vertex_of_node ids)
 
-pub draft_bare : (ids : List ℕ) (nodes : List NodeData) → All IsNode nodes → NoneBare (draft_of ids nodes)
+pub draft_bare : (ids : List ℕ) (nodes : List NodeData) → All IsReadNode nodes → NoneBare (draft_of ids nodes)
 draft_bare ids nodes h v l =
     let r = draft_at ids nodes v l in
     grind (arith, length-map)

@@ -19,15 +19,17 @@ use Rattle.ps_text.specs.Bytes.{is_blank, is_digit, is_letter, is_unquoted}
 use Rattle.ps_pgsolver.specs.Ends.{ends_in}
 use Rattle.ps_pgsolver.specs.Signs.{Sign, Number, Word, Name, Comma, Semicolon, OpenName, Wrong}
 use Rattle.ps_pgsolver.specs.Lexer.{lex, first_sign, first_size, number_sign, word_sign, name_sign, name_size}
-use Rattle.ps_pgsolver.specs.Lexer.{mark_sign, is_closed, stream_of}
-use Rattle.ps_pgsolver.specs.GameTokens.{IsRun, number_behind_word, word_behind_number, stray, IsToken, AreGameTokens}
-use Rattle.ps_pgsolver.proofs.TokenLemmas.{at_digit, at_letter, at_quote, at_mark, lex-blanks, lex-first, lex-end}
+use Rattle.ps_pgsolver.specs.Lexer.{punctuation_sign, is_closed, stream_of}
+use Rattle.ps_pgsolver.specs.GameTokens.{IsByteRun, number_behind_word, word_behind_number, stray, IsToken}
+use Rattle.ps_pgsolver.specs.GameTokens.{AreGameTokens}
+use Rattle.ps_pgsolver.proofs.TokenLemmas.{at_digit, at_letter, at_quote, at_punctuation, lex-blanks, lex-first}
+use Rattle.ps_pgsolver.proofs.TokenLemmas.{lex-end}
 use Rattle.ps_pgsolver.proofs.TokenLemmas.{prefix_len-behind, first_size-positive}
 
 -- ## Runs
 
 first_run : {p : ℕ → Bool} (b : ℕ) (bs : List ℕ) → p b ≡ true →
-    IsRun p (take (prefix_len p (b ∷ bs)) (b ∷ bs)) (drop (prefix_len p (b ∷ bs)) (b ∷ bs))
+    IsByteRun p (take (prefix_len p (b ∷ bs)) (b ∷ bs)) (drop (prefix_len p (b ∷ bs)) (b ∷ bs))
 first_run {p} b bs h = grind (arith, length-prefix_len, run_all p (b ∷ bs), run_ends p (b ∷ bs))
 
 -- ## Classes of bytes
@@ -109,9 +111,10 @@ name_found before bs = go (is_closed bs) refl
     go true x = closed (ltb-true n (length bs) x)
     go false x = open_name (ltb-false n (length bs) x)
 
-mark_found : (before : List ℕ) (b : ℕ) (bs : List ℕ) → is_digit b ≡ false → is_letter b ≡ false → is_blank b ≡ false →
-    eqb b 34 ≡ false → Found before (b ∷ bs) (mark_sign b) 1
-mark_found before b bs d l k q = go (eqb b 44) (eqb b 59) refl refl
+punctuation_found : (before : List ℕ) (b : ℕ) (bs : List ℕ) → is_digit b ≡ false → is_letter b ≡ false →
+    is_blank b ≡ false →
+    eqb b 34 ≡ false → Found before (b ∷ bs) (punctuation_sign b) 1
+punctuation_found before b bs d l k q = go (eqb b 44) (eqb b 59) refl refl
   where
     go : (e f : Bool) → eqb b 44 ≡ e → eqb b 59 ≡ f → IsToken before (cond e Comma (cond f Semicolon Wrong)) (b ∷ []) bs
     go true f x y = ap (λ z. z ∷ []) (eqb-true b 44 x)
@@ -136,14 +139,15 @@ found before b bs k = go (is_digit b) (is_letter b) (eqb b 34) refl refl refl
         let p = at_letter before b bs refl x y in moved before w _ _ p.0 p.1 (word_found before b bs y)
     go false false true x y z = grind (arith, at_quote before bs refl (eqb-true b 34 z), name_found before bs)
     go false false false x y z =
-        let p = at_mark before b bs refl x y z in moved before w _ _ p.0 p.1 (mark_found before b bs x y k z)
+        let p = at_punctuation before b bs refl x y z in
+        moved before w _ _ p.0 p.1 (punctuation_found before b bs x y k z)
 
 -- ## Each token is produced by the lexer
 
 abbrev IsFound : List ℕ → List ℕ → Sign → ℕ → Type 0
 IsFound before w t n = (first_sign before w ≡ t) × (first_size w ≡ n)
 
-run_begins : {p : ℕ → Bool} {text rest : List ℕ} → IsRun p text rest →
+run_begins : {p : ℕ → Bool} {text rest : List ℕ} → IsByteRun p text rest →
     (b : ℕ) × (bs : List ℕ) × (text ≡ b ∷ bs) × (p b ≡ true)
 run_begins {p} {text} r = go text r.some r.all
   where
@@ -151,16 +155,16 @@ run_begins {p} {text} r = go text r.some r.all
     go [] s a = absurd (omega (arith, s))
     go (b ∷ bs) s a = (b, bs, refl, a.0)
 
-run_taken : {p : ℕ → Bool} {text rest : List ℕ} → IsRun p text rest →
+run_taken : {p : ℕ → Bool} {text rest : List ℕ} → IsByteRun p text rest →
     (prefix_len p (text ++ rest) ≡ length text) × (take_while p (text ++ rest) ≡ text)
 run_taken {p} {text} {rest} r = search (rules, run_len, take-append_seam)
 
-digits_are : (before : List ℕ) {text rest : List ℕ} → IsRun is_digit text rest →
+digits_are : (before : List ℕ) {text rest : List ℕ} → IsByteRun is_digit text rest →
     IsFound before (text ++ rest) (number_sign before (text ++ rest)) (length text)
 digits_are before {text} {rest} r = let s = run_begins r in
     let p = at_digit before s.0 (s.1 ++ rest) (ap (λ z. z ++ rest) s.2) s.3 in (p.0, p.1 ∙ (run_taken r).0)
 
-letters_are : (before : List ℕ) {text rest : List ℕ} → IsRun is_letter text rest →
+letters_are : (before : List ℕ) {text rest : List ℕ} → IsByteRun is_letter text rest →
     IsFound before (text ++ rest) (word_sign before (text ++ rest)) (length text)
 letters_are before {text} {rest} r =
     let s = run_begins r in
@@ -187,15 +191,15 @@ token_is before text rest (Name inner) h =
     let p = at_quote before bs (ap (λ z. z ++ rest) h.0) refl in
     grind (arith, closed_name)
 token_is before text rest Comma h =
-    let p = at_mark before 44 rest (ap (λ z. z ++ rest) h) refl refl refl in (p.0, p.1 ∙ ap length (sym h))
+    let p = at_punctuation before 44 rest (ap (λ z. z ++ rest) h) refl refl refl in (p.0, p.1 ∙ ap length (sym h))
 token_is before text rest Semicolon h =
-    let p = at_mark before 59 rest (ap (λ z. z ++ rest) h) refl refl refl in (p.0, p.1 ∙ ap length (sym h))
+    let p = at_punctuation before 59 rest (ap (λ z. z ++ rest) h) refl refl refl in (p.0, p.1 ∙ ap length (sym h))
 token_is before text rest OpenName h = let p = at_quote before (h.0 ++ rest) (ap (λ z. z ++ rest) h.1) refl in
     let q = open_name_is h.0 h.2 h.3 in (p.0 ∙ q.0, p.1 ∙ q.1 ∙ ap length (sym h.1))
 token_is before text rest Wrong (number_behind_word r e) = grind (arith, digits_are before r)
 token_is before text rest Wrong (word_behind_number r e) = grind (arith, letters_are before r)
 token_is before text rest Wrong (stray b x s) =
-    let p = at_mark before b rest (ap (λ z. z ++ rest) x) s.no_digit s.no_letter (ne_eqb b 34 s.no_quote) in
+    let p = at_punctuation before b rest (ap (λ z. z ++ rest) x) s.no_digit s.no_letter (ne_eqb b 34 s.no_quote) in
     (search (rules, s.no_comma, s.no_semicolon))
 
 -- ## The whole text
@@ -261,5 +265,6 @@ lexed (suc k) before w l = step before w (λ before' w' m. lexed k before' w' (o
 pub tokens_found : (text : List ℕ) → AreGameTokens text (stream_of text)
 tokens_found text = (lexed (suc (length text)) [] text (omega arith), refl)
 
+-- the tokens of a text are those of its stream
 pub only_tokens : (text : List ℕ) (s : Stream Sign) → AreGameTokens text s → s ≡ stream_of text
 only_tokens text s h = search (rules, has_one_tokenisation, tokens_differ, tokens_found)

@@ -12,9 +12,9 @@ use Rattle.ps_game.specs.Drafts.{with_places}
 use Rattle.ps_game.specs.Games.{VertexData, ParityGame, HasNoQuote}
 use Rattle.ps_game.specs.Names.{name_bytes, with_none}
 use Rattle.ps_game.proofs.NamesKept.{with_none-all}
-use Rattle.ps_pgsolver.specs.GamesOf.{draft_of, vertex_of}
+use Rattle.ps_pgsolver.specs.GamesOf.{draft_of, vertex_of_node}
 use Rattle.ps_pgsolver.specs.Inner.Kept.{AreKept, nodes_kept, node_kept, vertex_kept, names_with}
-use Rattle.ps_pgsolver.specs.Nodes.{NodeData, IsNode, AreNodes, KnowsEach, KnowsAll, knows_each, knows_all, ids_of}
+use Rattle.ps_pgsolver.specs.Nodes.{NodeData, IsReadNode, AreNodes, KnowsEach, KnowsAll, knows_each, knows_all, ids_of}
 use Rattle.ps_pgsolver.specs.Nodes.{names_of}
 use Rattle.ps_pgsolver.proofs.NodeLemmas.{AreNodes-push}
 
@@ -62,7 +62,7 @@ kept_push (id0 ∷ ids) (v0 ∷ vertices) (name0 ∷ names) id v name i n = ap
 
 placed : (ids : List ℕ) (nodes : List NodeData) → map (with_places ids) (map vertex_kept nodes) ≡ draft_of ids nodes
 placed ids [] = refl
-placed ids (n ∷ nodes) = ap (λ vs. vertex_of ids n ∷ vs) (placed ids nodes)
+placed ids (n ∷ nodes) = ap (λ vs. vertex_of_node ids n ∷ vs) (placed ids nodes)
 
 -- ## The lists, as the nodes that they store
 
@@ -94,7 +94,7 @@ module _ (ids : List ℕ) (vertices : ParityGame) (names : List (Option (List �
     pub pushed_is : nodes_kept ids' vertices' names' ≡ nodes ++ node_kept id v name ∷ []
     pushed_is = search (rules, kept_push)
 
-    pub AreKept-push : ¬ Contains (ids_of nodes) id → IsNode (node_kept id v name) → AreKept ids' vertices' names'
+    pub AreKept-push : ¬ Contains (ids_of nodes) id → IsReadNode (node_kept id v name) → AreKept ids' vertices' names'
     AreKept-push new is = record {
       id_each = grind (arith, length-append);
       name_each = grind (arith, length-append);

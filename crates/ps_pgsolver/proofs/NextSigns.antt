@@ -9,7 +9,7 @@ use Rattle.ps_text.specs.Answers.{next_of, first_of, signs}
 use Rattle.ps_text.specs.Bytes.{is_blank, is_digit, is_letter}
 use Rattle.ps_pgsolver.specs.Ends.{begins_in, ends_in}
 use Rattle.ps_pgsolver.specs.Heads.{is_number, is_comma, name_of}
-use Rattle.ps_pgsolver.specs.Lexer.{lex, first_sign, number_sign, word_sign, name_sign, mark_sign, is_closed}
+use Rattle.ps_pgsolver.specs.Lexer.{lex, first_sign, number_sign, word_sign, name_sign, punctuation_sign, is_closed}
 use Rattle.ps_pgsolver.specs.Lexer.{stream_from}
 use Rattle.ps_pgsolver.specs.Signs.{Sign, Number, Comma, Semicolon, Wrong}
 use Rattle.ps_pgsolver.proofs.TokenLemmas.{stream_from-blanks, prefix_len-behind, lex-first, lex-end}
@@ -46,32 +46,34 @@ sign_quote : (before : List ℕ) (b : ℕ) (bs : List ℕ) → is_digit b ≡ fa
 unfolding first_sign
 sign_quote before b bs d l q = rw (d, l, q) refl
 
-sign_mark : (before : List ℕ) (b : ℕ) (bs : List ℕ) → is_digit b ≡ false → is_letter b ≡ false → eqb b 34 ≡ false →
-    first_sign before (b ∷ bs) ≡ mark_sign b
+sign_punctuation : (before : List ℕ) (b : ℕ) (bs : List ℕ) → is_digit b ≡ false → is_letter b ≡ false →
+    eqb b 34 ≡ false →
+    first_sign before (b ∷ bs) ≡ punctuation_sign b
 unfolding first_sign
-sign_mark before b bs d l q = rw (d, l, q) refl
+sign_punctuation before b bs d l q = rw (d, l, q) refl
 
 -- a property of the first sign, by the class of the first byte
 by_class : (P : Sign → Type 0) (before : List ℕ) (b : ℕ) (bs : List ℕ) →
     (is_digit b ≡ true → P (number_sign before (b ∷ bs))) →
     (is_digit b ≡ false → is_letter b ≡ true → P (word_sign before (b ∷ bs))) → (is_digit b ≡ false → eqb b 34 ≡ true →
-    P (name_sign bs)) → (is_digit b ≡ false → eqb b 34 ≡ false → P (mark_sign b)) → P (first_sign before (b ∷ bs))
-by_class P before b bs number word name mark =
-    search (rules, sign_digit, sign_letter, sign_quote, sign_mark, cases_Bool)
+    P (name_sign bs)) → (is_digit b ≡ false → eqb b 34 ≡ false → P (punctuation_sign b)) →
+    P (first_sign before (b ∷ bs))
+by_class P before b bs number word name punctuation =
+    search (rules, sign_digit, sign_letter, sign_quote, sign_punctuation, cases_Bool)
 
 -- if f has the same value for two signs, f has that value for the sign that a test selects
 of_both : {X : Type 0} {x : X} {a b : Sign} (f : Sign → X) (t : Bool) → f a ≡ x → f b ≡ x → f (cond t a b) ≡ x
 of_both f t h k = search rules
 
 of_marks : {X : Type 0} {x : X} (f : Sign → X) (b : ℕ) → f Comma ≡ x → f Semicolon ≡ x → f Wrong ≡ x →
-    f (mark_sign b) ≡ x
+    f (punctuation_sign b) ≡ x
 of_marks f b p q r = of_both f (eqb b 44) p (of_both f (eqb b 59) q r)
 
 number_number : (t : Bool) (n : ℕ) → is_number (Some (cond t Wrong (Number n))) ≡ not t
 number_number t n = search rules
 
-mark_comma : (s t : Bool) → is_comma (Some (cond s Comma (cond t Semicolon Wrong))) ≡ s
-mark_comma s t = search (rules, of_both)
+punctuation_comma : (s t : Bool) → is_comma (Some (cond s Comma (cond t Semicolon Wrong))) ≡ s
+punctuation_comma s t = search (rules, of_both)
 
 -- the next sign is a number exactly if the next byte is a digit and the byte before it is not a letter
 pub at_number : (before rest : List ℕ) →
@@ -97,7 +99,7 @@ at_comma before [] = refl
 at_comma before (b ∷ bs) = by_class (λ sign. is_comma (Some sign) ≡ eqb b 44) before b bs
     (λ d. of_both is (ends_in is_letter before) refl refl ∙ sym (no_comma_where b is_digit refl d))
     (λ d l. of_both is (ends_in is_digit before) refl refl ∙ sym (no_comma_where b is_letter refl l))
-    (λ d q. search (rules, of_both, is, no_comma_where)) (λ d q. mark_comma (eqb b 44) (eqb b 59))
+    (λ d q. search (rules, of_both, is, no_comma_where)) (λ d q. punctuation_comma (eqb b 44) (eqb b 59))
   where
     is : Sign → Bool
     is sign = is_comma (Some sign)

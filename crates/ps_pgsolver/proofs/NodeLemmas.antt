@@ -9,18 +9,19 @@ use Rattle.std.specs.List.{All, AllPairs, Contains}
 use Rattle.std.proofs.lemmas.List.Elements.{All-push, All-map, Contains-get_or}
 use Rattle.std.proofs.lemmas.List.Quantifiers.{all_pairs_push}
 use Rattle.ps_game.specs.Games.{HasNoQuote}
-use Rattle.ps_pgsolver.specs.Nodes.{NodeData, IsNode, AreNodes, KnowsEach, KnowsAll, knows_each, knows_all, is_member}
+use Rattle.ps_pgsolver.specs.Nodes.{NodeData, IsReadNode, AreNodes, KnowsEach, KnowsAll, knows_each, knows_all}
+use Rattle.ps_pgsolver.specs.Nodes.{is_member}
 use Rattle.ps_pgsolver.specs.Nodes.{ids_of, names_of}
 
 pub ids_of-push : (nodes : List NodeData) (node : NodeData) → ids_of (nodes ++ node ∷ []) ≡ ids_of nodes ++ node.id ∷ []
 ids_of-push nodes node = map-append (λ n. n.id) nodes (node ∷ [])
 
 pub AreNodes-push : {nodes : List NodeData} {node : NodeData} → AreNodes nodes → ¬ Contains (ids_of nodes) node.id →
-    IsNode node → AreNodes (nodes ++ node ∷ [])
+    IsReadNode node → AreNodes (nodes ++ node ∷ [])
 AreNodes-push {nodes} {node} are new is = record {
   distinct = subst (λ ids. AllPairs (λ x y. x ≢ y) ids) (sym (ids_of-push nodes node))
       (all_pairs_push (λ x y. x ≢ y) (ids_of nodes) node.id are.distinct (λ k d l e. search (rules, Contains-get_or)));
-  each = All-push IsNode nodes node are.each is;
+  each = All-push IsReadNode nodes node are.each is;
 }
 
 pub names_plain : {nodes : List NodeData} {names : List (Option (List ℕ))} → names ≡ names_of nodes → AreNodes nodes →

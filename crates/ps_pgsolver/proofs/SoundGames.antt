@@ -15,7 +15,7 @@ use Rattle.ps_game.specs.Games.{NamedGameData, IsGame, vertex_count, VertexData}
 use Rattle.ps_game.proofs.Finished.{IsGame-without_repeats}
 use Rattle.ps_pgsolver.specs.GameTexts.{pg_causes, number_in, BadOwner, more_successor}
 use Rattle.ps_pgsolver.specs.GameTexts.{successors, owner, node, entry, entries, game}
-use Rattle.ps_pgsolver.specs.GamesOf.{draft_of, game_of, named_game_of, vertex_of}
+use Rattle.ps_pgsolver.specs.GamesOf.{draft_of, game_of, named_game_of, vertex_of_node}
 use Rattle.ps_pgsolver.specs.Nodes.{NodeData, KnowsAll, ids_of}
 use Rattle.ps_pgsolver.specs.Reading.{Answer, too_long, refused, unknown, meaning}
 use Rattle.ps_pgsolver.specs.Signs.{Sign, Number}
@@ -87,7 +87,7 @@ each_bare : (ids : List ℕ) (nodes : List NodeData) → AreSound nodes → None
 each_bare ids nodes are v l = let r = draft_at ids nodes v l in grind (arith, length-map)
 
 owned : (ids : List ℕ) (nodes : List NodeData) → AreSound nodes → All (λ v. v.owner < 2) (draft_of ids nodes)
-owned ids nodes are = All-map (λ (v : VertexData). v.owner < 2) (vertex_of ids) nodes (λ k d l. (are k d l).owner)
+owned ids nodes are = All-map (λ (v : VertexData). v.owner < 2) (vertex_of_node ids) nodes (λ k d l. (are k d l).owner)
 
 nodes_are_game : (nodes : List NodeData) → AreSound nodes → KnowsAll (ids_of nodes) nodes → IsGame (game_of nodes)
 nodes_are_game nodes are known = IsGame-without_repeats (draft_of (ids_of nodes) nodes) (owned (ids_of nodes) nodes are)

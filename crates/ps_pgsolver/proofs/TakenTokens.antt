@@ -12,7 +12,7 @@ use Rattle.ps_pgsolver.specs.Heads.{sign_of}
 use Rattle.ps_pgsolver.specs.Lexer.{first_sign, first_size, stream_from}
 use Rattle.ps_pgsolver.specs.Signs.{Sign, Number, Comma, Semicolon}
 use Rattle.ps_pgsolver.specs.declared.token.Kind.{Kind}
-use Rattle.ps_pgsolver.proofs.TokenLemmas.{at_digit, at_mark, reads_split}
+use Rattle.ps_pgsolver.proofs.TokenLemmas.{at_digit, at_punctuation, reads_split}
 
 -- the sign with which a text begins, and its size
 pub record Begins (before rest : List ℕ) (sign : Sign) (size : ℕ) : Type 0 where
@@ -32,12 +32,12 @@ begins_number {before} (b ∷ bs) v d some apart = ⊎_elim (λ (yes : is_digit 
 pub begins_comma : {before : List ℕ} (rest : List ℕ) → begins_in (λ b. eqb b 44) rest ≡ true →
     Begins before rest Comma 1
 begins_comma [] e = let x : false ≡ true = e in cc
-begins_comma {before} (b ∷ bs) e = grind (arith, at_mark before 44 bs refl refl refl refl, eqb-true b 44 e)
+begins_comma {before} (b ∷ bs) e = grind (arith, at_punctuation before 44 bs refl refl refl refl, eqb-true b 44 e)
 
 pub begins_semicolon : {before : List ℕ} (rest : List ℕ) → begins_in (λ b. eqb b 59) rest ≡ true →
     Begins before rest Semicolon 1
 begins_semicolon [] e = let x : false ≡ true = e in cc
-begins_semicolon {before} (b ∷ bs) e = grind (arith, at_mark before 59 bs refl refl refl refl, eqb-true b 59 e)
+begins_semicolon {before} (b ∷ bs) e = grind (arith, at_punctuation before 59 bs refl refl refl refl, eqb-true b 59 e)
 
 -- the sign was read, and the tokens after it begin at the offset `behind`
 pub record Leaves (text : List ℕ) (behind : ℕ) (sign : Sign) (stream : Stream Sign) : Type 0 where

@@ -15,7 +15,7 @@ use Rattle.ps_pgsolver.specs.Heads.{IsHead, sign_of}
 use Rattle.ps_text.specs.Readers.{tail}
 use Rattle.ps_pgsolver.specs.declared.token.Kind.{Kind}
 use Rattle.ps_pgsolver.specs.Lexer.{lex, first_sign, first_size, number_sign, word_sign, name_sign, name_size}
-use Rattle.ps_pgsolver.specs.Lexer.{mark_sign, stream_from}
+use Rattle.ps_pgsolver.specs.Lexer.{punctuation_sign, stream_from}
 
 nil_of : (xs : List ℕ) → length xs ≤ 0 → xs ≡ []
 nil_of [] h = refl
@@ -45,10 +45,10 @@ pub at_quote : (before : List ℕ) {b : ℕ} (bs : List ℕ) {rest : List ℕ} �
 unfolding first_sign first_size
 at_quote before bs e q = rw (e, q) (refl, refl)
 
-pub at_mark : (before : List ℕ) (b : ℕ) (bs : List ℕ) {rest : List ℕ} → rest ≡ b ∷ bs → is_digit b ≡ false →
-    is_letter b ≡ false → eqb b 34 ≡ false → (first_sign before rest ≡ mark_sign b) × (first_size rest ≡ 1)
+pub at_punctuation : (before : List ℕ) (b : ℕ) (bs : List ℕ) {rest : List ℕ} → rest ≡ b ∷ bs → is_digit b ≡ false →
+    is_letter b ≡ false → eqb b 34 ≡ false → (first_sign before rest ≡ punctuation_sign b) × (first_size rest ≡ 1)
 unfolding first_sign first_size
-at_mark before b bs e d l q = rw e (rw (d, l, q) refl, rw (d, l, q) refl)
+at_punctuation before b bs e d l q = rw e (rw (d, l, q) refl, rw (d, l, q) refl)
 
 -- the lexer skips the bytes of a token that was read
 pub lex-skip : (skip : ℕ) (before bs : List ℕ) → lex skip before bs ≡ lex 0 (before ++ take skip bs) (drop skip bs)

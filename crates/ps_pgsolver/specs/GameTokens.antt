@@ -1,5 +1,5 @@
 -- The tokens of a game text, as a relation between its bytes and its pieces.
---     IsRun p text rest      text is a run of bytes that pass p, and rest does not begin with such a byte
+--     IsByteRun p text rest      text is a run of bytes that pass p, and rest does not begin with such a byte
 --     IsToken before sign text rest      text is the token `sign`, between the bytes `before` and `rest`
 --     AreGameTokens text stream      the tokens of a whole text, with blanks between them
 -- A number is a longest run of digits, a word is a longest run of letters, and a name is between quotes. Some tokens
@@ -14,7 +14,7 @@ use Rattle.ps_text.specs.Bytes.{is_blank, is_digit, is_letter, is_unquoted}
 use Rattle.ps_pgsolver.specs.Ends.{ends_in}
 use Rattle.ps_pgsolver.specs.Signs.{Sign, Number, Word, Name, Comma, Semicolon, OpenName, Wrong}
 
-pub record IsRun (p : ℕ → Bool) (text rest : List ℕ) : Type 0 where
+pub record IsByteRun (p : ℕ → Bool) (text rest : List ℕ) : Type 0 where
   pub some : 0 < length text
   pub all : AllOf p text
   pub longest : StopsBefore p rest
@@ -28,21 +28,21 @@ pub record IsStray (b : ℕ) : Type 0 where
   pub no_comma : b ≢ 44
   pub no_semicolon : b ≢ 59
 
-pub data IsWrong (before text rest : List ℕ) : Type 0 where
-  number_behind_word : IsRun is_digit text rest → ends_in is_letter before ≡ true → IsWrong before text rest
-  word_behind_number : IsRun is_letter text rest → ends_in is_digit before ≡ true → IsWrong before text rest
-  stray : (b : ℕ) → text ≡ b ∷ [] → IsStray b → IsWrong before text rest
+pub data IsWrongToken (before text rest : List ℕ) : Type 0 where
+  number_behind_word : IsByteRun is_digit text rest → ends_in is_letter before ≡ true → IsWrongToken before text rest
+  word_behind_number : IsByteRun is_letter text rest → ends_in is_digit before ≡ true → IsWrongToken before text rest
+  stray : (b : ℕ) → text ≡ b ∷ [] → IsStray b → IsWrongToken before text rest
 
 abbrev pub IsToken : List ℕ → Sign → List ℕ → List ℕ → Type 0
 IsToken before (Number n) text rest =
-    IsRun is_digit text rest × (n ≡ decimal_value text) × (ends_in is_letter before ≡ false)
+    IsByteRun is_digit text rest × (n ≡ decimal_value text) × (ends_in is_letter before ≡ false)
 IsToken before (Word letters) text rest =
-    IsRun is_letter text rest × (letters ≡ text) × (ends_in is_digit before ≡ false)
+    IsByteRun is_letter text rest × (letters ≡ text) × (ends_in is_digit before ≡ false)
 IsToken before (Name inner) text rest = (text ≡ 34 ∷ (inner ++ 34 ∷ [])) × AllOf is_unquoted inner
 IsToken before Comma text rest = text ≡ 44 ∷ []
 IsToken before Semicolon text rest = text ≡ 59 ∷ []
 IsToken before OpenName text rest = (inner : List ℕ) × (text ≡ 34 ∷ inner) × AllOf is_unquoted inner × (rest ≡ [])
-IsToken before Wrong text rest = IsWrong before text rest
+IsToken before Wrong text rest = IsWrongToken before text rest
 
 abbrev pub AreGameTokens : List ℕ → Stream Sign → Type 0
 AreGameTokens text stream = AreTokens (λ b. is_blank b ≡ true) IsToken text stream

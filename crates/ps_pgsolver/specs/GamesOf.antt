@@ -9,11 +9,11 @@ use Rattle.ps_pgsolver.specs.Nodes.{NodeData, ids_of, names_of}
 abbrev pub vertex_made : ℕ → ℕ → List ℕ → VertexData
 vertex_made owner priority successors = record { owner = owner; priority = priority; successors = successors }
 
-abbrev pub vertex_of : List ℕ → NodeData → VertexData
-vertex_of ids node = vertex_made node.owner node.priority (map (place_of ids) node.successors)
+abbrev pub vertex_of_node : List ℕ → NodeData → VertexData
+vertex_of_node ids node = vertex_made node.owner node.priority (map (place_of ids) node.successors)
 
 abbrev pub draft_of : List ℕ → List NodeData → ParityGame
-draft_of ids nodes = map (vertex_of ids) nodes
+draft_of ids nodes = map (vertex_of_node ids) nodes
 
 abbrev pub game_of : List NodeData → ParityGame
 game_of nodes = without_repeats (draft_of (ids_of nodes) nodes)

@@ -55,12 +55,12 @@ pub record IsNumberTaken (number : ℕ) (old new : Stream Sign) : Type 0 where
   pub rest : new ≡ tail old
 
 -- either the next sign was the given one and was read, or nothing was read
-abbrev pub IsTaken : Sign → Stream Sign → Bool → Stream Sign → Type 0
-IsTaken sign old true new = (next_of old ≡ Some sign) × (new ≡ tail old)
-IsTaken sign old false new = new ≡ old
+abbrev pub TakesIfNext : Sign → Stream Sign → Bool → Stream Sign → Type 0
+TakesIfNext sign old true new = (next_of old ≡ Some sign) × (new ≡ tail old)
+TakesIfNext sign old false new = new ≡ old
 
 -- the token was read from a text, and the tokens after it begin at the offset `behind`
-pub record IsAhead (text : List ℕ) (token : Token) (behind : ℕ) : Type 0 where
+pub record IsNextToken (text : List ℕ) (token : Token) (behind : ℕ) : Type 0 where
   pub head : IsHead token (stream_from text token.start)
   pub plain : IsPlain token.kind
   pub rest : stream_from text behind ≡ tail (stream_from text token.start)

@@ -25,8 +25,8 @@ name_sign behind = if is_closed behind then Name (take_while is_unquoted behind)
 abbrev pub name_size : List ℕ → ℕ
 name_size behind = if is_closed behind then prefix_len is_unquoted behind + 2 else prefix_len is_unquoted behind + 1
 
-abbrev pub mark_sign : ℕ → Sign
-mark_sign b = if b == 44 then Comma else (if b == 59 then Semicolon else Wrong)
+abbrev pub punctuation_sign : ℕ → Sign
+punctuation_sign b = if b == 44 then Comma else (if b == 59 then Semicolon else Wrong)
 
 -- the first sign of a text that follows the bytes `before`
 unfoldable pub first_sign : List ℕ → List ℕ → Sign
@@ -35,7 +35,7 @@ first_sign before (b ∷ bs) =
     if is_digit b then number_sign before (b ∷ bs)
     else (if is_letter b then word_sign before (b ∷ bs)
     else (if b == 34 then name_sign bs
-    else mark_sign b))
+    else punctuation_sign b))
 
 -- the number of bytes of the first sign
 unfoldable pub first_size : List ℕ → ℕ

@@ -21,7 +21,7 @@ abbrev pub is_member : List ℕ → ℕ → Bool
 is_member ids n = list_any (λ id. n == id) ids
 
 -- the properties of each node that was read
-pub record IsNode (node : NodeData) : Type 0 where
+pub record IsReadNode (node : NodeData) : Type 0 where
   pub owner : node.owner < 2
   pub successor : 0 < length node.successors
   pub name : HasNoQuote node.name
@@ -32,12 +32,12 @@ IsDistinct xs = AllPairs (λ x y. x ≢ y) xs
 -- nodes with different ids
 pub record AreNodes (nodes : List NodeData) : Type 0 where
   pub distinct : IsDistinct (ids_of nodes)
-  pub each : All IsNode nodes
+  pub each : All IsReadNode nodes
 
 -- a node with a new id
 pub record IsNewNode (ids : List ℕ) (node : NodeData) : Type 0 where
   pub new : ¬ Contains ids node.id
-  pub is_node : IsNode node
+  pub is_node : IsReadNode node
 
 -- Each item of a list is one of the given ids. The next two definitions state this property of the successors of one
 -- node, and of the successors of all nodes.

@@ -5,7 +5,7 @@ ghost use Rattle.std.specs.Prelude.{length, map, vec_len, vec_capacity};
 ghost use Rattle.ps_game.specs.Names.{name_bytes, with_none};
 ghost use Rattle.ps_pgsolver.specs.GamesOf.{named_game_of};
 ghost use Rattle.ps_pgsolver.specs.Inner.Kept.{AreKept, nodes_kept, node_with, names_with};
-ghost use Rattle.ps_pgsolver.specs.Nodes.{NodeData, IsNode, AreNodes, KnowsAll, ids_of, is_member, knows_all};
+ghost use Rattle.ps_pgsolver.specs.Nodes.{NodeData, IsReadNode, AreNodes, KnowsAll, ids_of, is_member, knows_all};
 
 use ps_game::{NamedGame, Vertices};
 use ps_ids::Ids;
@@ -80,7 +80,7 @@ impl Nodes {
     /// Appends a node with a new id and the given successors.
     pub fn push(&mut self, node: Node, successors: &[usize]) -> Result<(), AllocError>
         requires new { ¬ Contains (ids_of self.old) node.id }
-        requires node { IsNode (node_with node successors.now) }
+        requires node { IsReadNode (node_with node successors.now) }
         ensures { OnOk result (self.new ≡ self.old ++ node_with node successors.now ∷ []) }
     {
         let count = self.vertices.len();

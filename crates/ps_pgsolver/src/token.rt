@@ -9,9 +9,9 @@ ghost use Rattle.ps_text.specs.Cursors.{in_class};
 ghost use Rattle.ps_text.specs.Answers.{Stream};
 ghost use Rattle.ps_text.specs.Digits.{decimal_value};
 ghost use Rattle.ps_pgsolver.specs.Signs.{Sign, Number};
-ghost use Rattle.ps_pgsolver.specs.Heads.{sign_of, IsPlain, IsAhead};
+ghost use Rattle.ps_pgsolver.specs.Heads.{sign_of, IsPlain, IsNextToken};
 ghost use Rattle.ps_pgsolver.specs.Lexer.{stream_of, stream_from, first_sign, first_size, number_sign, word_sign};
-ghost use Rattle.ps_pgsolver.specs.Lexer.{name_sign, name_size, mark_sign};
+ghost use Rattle.ps_pgsolver.specs.Lexer.{name_sign, name_size, punctuation_sign};
 
 use ps_text::cursor::{Class, run_length};
 use ps_text::numbers::{LeadingNumber, leading_number};
@@ -71,7 +71,7 @@ impl<'a> Tokens<'a> {
     ghost use Rattle.std.specs.Prelude.{◌↔◌, IsTrue, IfSome, IfNone, option_copied};
     ghost use Rattle.ps_text.specs.Answers.{next_of, offset_of};
     ghost use Rattle.ps_text.specs.Readers.{tail};
-    ghost use Rattle.ps_pgsolver.specs.Heads.{IsHead, IsNumberTaken, IsTaken, is_number, is_comma, name_of};
+    ghost use Rattle.ps_pgsolver.specs.Heads.{IsHead, IsNumberTaken, TakesIfNext, is_number, is_comma, name_of};
     ghost use Rattle.ps_text.specs.Bytes.{is_unquoted};
     ghost use Rattle.ps_pgsolver.specs.Signs.{Word, Comma, Semicolon};
 
@@ -134,7 +134,7 @@ impl<'a> Tokens<'a> {
     /// Reads the next token if it is a comma.
     #[inline(always)]
     pub fn take_comma(&mut self) -> bool
-        ensures { IsTaken Comma self.old result self.new }
+        ensures { TakesIfNext Comma self.old result self.new }
     {
         let start = next_start(self.text, self.at);
         let (_, rest) = self.text.split_at(start);
@@ -148,7 +148,7 @@ impl<'a> Tokens<'a> {
     /// Reads the next token if it is a semicolon.
     #[inline(always)]
     pub fn take_semicolon(&mut self) -> bool
-        ensures { IsTaken Semicolon self.old result self.new }
+        ensures { TakesIfNext Semicolon self.old result self.new }
     {
         let start = next_start(self.text, self.at);
         let (_, rest) = self.text.split_at(start);
@@ -205,7 +205,7 @@ impl<'a> Tokens<'a> {
 #[inline(always)]
 fn token_from<'a>(text: &'a [u8], at: usize) -> (Token<'a>, usize)
     requires { at ≤ length text.now }
-    ensures ahead { IsAhead text.now result.0 result.1 }
+    ensures ahead { IsNextToken text.now result.0 result.1 }
     ensures blanks { stream_from text.now at ≡ stream_from text.now result.0.start }
 {
     let start = next_start(text, at);
@@ -243,7 +243,7 @@ fn token_at<'a>(before: &[u8], rest: &'a [u8]) -> (Kind<'a>, usize)
     } else if *first == b'"' {
         name_at(behind)
     } else {
-        (mark(*first), 1)
+        (punctuation(*first), 1)
     }
 }
 
@@ -338,8 +338,8 @@ fn name_at<'a>(behind: &'a [u8]) -> (Kind<'a>, usize)
 }
 
 /// The token of a byte that is a token on its own, or that is never allowed.
-fn mark<'a>(byte: u8) -> Kind<'a>
-    ensures sign { sign_of result ≡ Some (mark_sign byte) }
+fn punctuation<'a>(byte: u8) -> Kind<'a>
+    ensures sign { sign_of result ≡ Some (punctuation_sign byte) }
     ensures plain { IsPlain result }
 {
     match byte {

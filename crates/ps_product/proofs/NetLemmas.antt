@@ -13,7 +13,7 @@ use Rattle.ps_circuit.specs.Values.{AreValues, bit_of, value_of}
 use Rattle.ps_product.specs.Inner.Nets.{IsBelow, IsGateAt, front_of, read_at, sides_of, value_at}
 use Rattle.ps_product.specs.Truths.{bits_at}
 use Rattle.ps_simulate.specs.declared.plan.Wire.{Wire}
-use Rattle.ps_simulate.specs.Plans.{no_gate, variables, place_of, wire_of}
+use Rattle.ps_simulate.specs.Plans.{no_gate, variables, place_of_variable, wire_of}
 use Rattle.ps_simulate.proofs.PlacesLemmas.{place_known, sides_known, variables_at}
 use Rattle.ps_simulate.proofs.RowLemmas.{definitions_gate, definitions_input, definitions_latch, length-definitions}
 use Rattle.ps_simulate.proofs.RowLemmas.{length-variables, no_latch}
@@ -68,10 +68,10 @@ module _ {c : CircuitData} (is : IsCircuit c) where
   -- the places that a gate reads are below the gate's place
   lies_below : (i place literal : ℕ) → place ≡ front_of c + i → i < length c.gates → IsKnown (definitions c) literal →
       (variable (gate i).first ≡ variable literal) ⊎ (variable (gate i).second ≡ variable literal) →
-      IsBelow c place (place_of c (variable literal))
+      IsBelow c place (place_of_variable c (variable literal))
   lies_below i place literal at lt known side =
       let there = place_known is literal known in
-      let lower = place_of c (variable literal) in
+      let lower = place_of_variable c (variable literal) in
       record {
         behind = omega arith;
         within = there.0;

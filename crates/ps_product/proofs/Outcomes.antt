@@ -10,7 +10,7 @@ use Rattle.ps_circuit.specs.Circuits.{CircuitData, IsCircuit, IsKnown, definitio
 use Rattle.ps_diagram.specs.Table.{Table, Keeps}
 use Rattle.ps_diagram.proofs.Distinct.{at_last}
 use Rattle.ps_product.specs.Inner.Knowing.{AreTruthsAlong, IsTruthAlong, IsTruthAt}
-use Rattle.ps_product.specs.Truths.{AreTruthsOf, IsTruth, truth_at, wired}
+use Rattle.ps_product.specs.Truths.{AreTruthsOf, IsTruth, truth_at, bit_by_wire}
 use Rattle.ps_product.specs.declared.site.Site.{Site}
 use Rattle.ps_product.specs.declared.truth.Truth.{Truth}
 use Rattle.ps_product.proofs.NetLemmas.{read_is}
@@ -23,13 +23,13 @@ use Rattle.ps_simulate.proofs.RowLemmas.{no_latch}
 -- the truth of the literal that a wire reads, given the truth at its place
 pub truth_along : (s : Site) {t u : Table} (w : Wire) (truth made : Truth) → Keeps t u → IsTruthAt s t w.place truth →
     IsTruth u made →
-    ((letter : ℕ) → letter < 2 ^ t.propositions → truth_at u made letter ≡ wired w (truth_at t truth letter)) →
+    ((letter : ℕ) → letter < 2 ^ t.propositions → truth_at u made letter ≡ bit_by_wire w (truth_at t truth letter)) →
     IsTruthAlong s u w made
 truth_along s {t} w truth made k at is wire = record {
   is_truth = is;
   holds = λ letter values lt are.
       let low : letter < 2 ^ t.propositions = rw k.propositions at lt in
-      wire letter low ∙ ap (wired w) (at.holds letter values low are);
+      wire letter low ∙ ap (bit_by_wire w) (at.holds letter values low are);
 }
 
 pub along_kept : (s : Site) {t u : Table} (ws : List Wire) (ms : List Truth) → Keeps t u → AreTruthsAlong s t ws ms →

@@ -33,8 +33,8 @@ IsTruth t Always = Unit {0}
 IsTruth t (Sometimes node) = IsVarying t node
 
 -- the bit that a wire reads, given the bit at its place
-abbrev pub wired : Wire → Bool → Bool
-wired w b = if w.is_negated then not b else b
+abbrev pub bit_by_wire : Wire → Bool → Bool
+bit_by_wire w b = if w.is_negated then not b else b
 
 abbrev pub bits_at : List ℕ → ℕ → List Bool
 bits_at propositions letter = map (λ p. is_in p letter) propositions

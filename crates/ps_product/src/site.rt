@@ -6,7 +6,7 @@ ghost use Rattle.std.specs.Prelude.{false};
 ghost use Rattle.ps_diagram.specs.Table.{Keeps, Table};
 ghost use Rattle.ps_product.specs.Inner.Knowing.{IsSite, IsStep, IsTruthAt, Knows};
 ghost use Rattle.ps_product.specs.Inner.Nets.{IsGateAt, front_of};
-ghost use Rattle.ps_product.specs.Truths.{IsTruth, truth_at, wired};
+ghost use Rattle.ps_product.specs.Truths.{IsTruth, truth_at, bit_by_wire};
 ghost use Rattle.ps_simulate.specs.Plans.{variables};
 
 use crate::known::Known;
@@ -142,7 +142,8 @@ fn conjunction(
     ensures is_truth { IfOk result (λ made. IsTruth truths.new made) }
     ensures truth { IfOk result (λ made. (letter : ℕ) → letter < 2 ^ truths.old.propositions →
         truth_at truths.new made letter ≡
-        (wired sides.first (truth_at truths.old one letter) && wired sides.second (truth_at truths.old other letter))) }
+        (bit_by_wire sides.first (truth_at truths.old one letter) &&
+        bit_by_wire sides.second (truth_at truths.old other letter))) }
 {
     let one = truths.along(one, sides.first)?;
     let other = truths.along(other, sides.second)?;

@@ -4,7 +4,7 @@ ghost use Rattle.std.specs.Prelude.{◌≡◌, ℕ, ◌^◌, ◌<◌, ◌≤◌,
 ghost use Rattle.ps_label.specs.Truth.{is_in};
 ghost use Rattle.ps_diagram.specs.Labels.{IsOneOrNone};
 ghost use Rattle.ps_diagram.specs.Table.{IsNode, Keeps, Table, leaf_of};
-ghost use Rattle.ps_product.specs.Truths.{IsTruth, truth_at, wired};
+ghost use Rattle.ps_product.specs.Truths.{IsTruth, truth_at, bit_by_wire};
 
 use ps_diagram::{Node, Store};
 use ps_simulate::Wire;
@@ -137,7 +137,7 @@ impl Truths {
         ensures keeps { Keeps self.old self.new }
         ensures is_truth { IfOk result (λ made. IsTruth self.new made) }
         ensures truth { IfOk result (λ made. (letter : ℕ) → letter < 2 ^ self.old.propositions →
-            truth_at self.new made letter ≡ wired wire (truth_at self.old truth letter)) }
+            truth_at self.new made letter ≡ bit_by_wire wire (truth_at self.old truth letter)) }
     {
         if wire.is_negated {
             return self.negated(truth);

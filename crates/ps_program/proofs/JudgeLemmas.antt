@@ -22,7 +22,8 @@ use Rattle.ps_program.specs.declared.answer.Answer.{Answer}
 use Rattle.ps_program.specs.declared.answer.Refusal.{Refusal}
 use Rattle.ps_program.specs.declared.answer.Refusal.TheVariants as refusal
 use Rattle.ps_program.specs.Faults.{fault_text}
-use Rattle.ps_program.specs.Judging.{ReadsSolutionText, ReadsSolved, Judges, IsRefused, Names, IsTold, HasPlaces, claim}
+use Rattle.ps_program.specs.Judging.{ReadsSolutionText, ReadsSolved, Judges, IsRefusalLine, Names, IsTold, HasPlaces}
+use Rattle.ps_program.specs.Judging.{claim}
 use Rattle.ps_program.specs.Judging.{AnswersJudge, LosesCycle, cycle_text}
 use Rattle.ps_program.specs.Outcomes.{Gives}
 use Rattle.ps_program.specs.Replies.{Reply, reply_of, text_reply}
@@ -133,14 +134,15 @@ NoCycle = (game : ParityGame) (won : List Bool) (first second : List (Option ℕ
 module _ (flaws : OneFlaw) (certificates : OneJudged) (apart : NoFlawAndCycle) (no_flaw : NoFlaw) (no_cycle : NoCycle)
     (named : NamedGameData) (given : SolutionData) where
   not_refused : {line : List ℕ} → IsGame named.game → IsSolution named.game given.won given.moves given.moves →
-      IsRefused named given line → ⊥
+      IsRefusalLine named given line → ⊥
   not_refused is_game s (inl (flaw, first, e)) =
       no_flaw named.game given.won given.moves given.moves flaw is_game s first
   not_refused is_game s (inr (player, cycle, lost, e)) =
       no_cycle named.game given.won given.moves given.moves player cycle s lost
 
   -- a refused solution has only one line, unless a player loses a cycle
-  refused_one : {line other : List ℕ} → IsGame named.game → IsRefused named given line → IsRefused named given other →
+  refused_one : {line other : List ℕ} → IsGame named.game → IsRefusalLine named given line →
+      IsRefusalLine named given other →
       (line ≡ other) ⊎ LosesCycle named given
   refused_one is_game (inl (flaw, first, e)) (inl (flaw', first', e')) =
       inl (e ∙ ap (flaw_text named) (flaws named.game (claim named given) flaw flaw' is_game first first') ∙ sym e')

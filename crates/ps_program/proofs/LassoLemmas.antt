@@ -5,7 +5,7 @@ use Rattle.ps_circuit.specs.Circuits.{CircuitData, IsCircuit}
 use Rattle.ps_automaton.specs.Automata.{AutomatonData, IsBuiltFrom}
 use Rattle.ps_automaton.specs.Chains.{Chain}
 use Rattle.ps_hoa.specs.Files.{FileData}
-use Rattle.ps_simulate.specs.LassoFaults.{HasNoLassoFault, Stands}
+use Rattle.ps_simulate.specs.LassoFaults.{HasNoLassoFault, IsLassoFault}
 use Rattle.ps_simulate.specs.Lassos.{IsVerdictOf}
 use Rattle.ps_simulate.specs.Stimuli.{StimulusData}
 use Rattle.ps_simulate.specs.Symbols.{HasSymbols}
@@ -80,7 +80,7 @@ module _ (role : Role) (file : FileData) (chain : Chain) (a : AutomatonData) (c 
 -- each letter of a stimulus has a bit for each input of the circuit
 pub is_wide : (role : Role) (a : AutomatonData) (c : CircuitData) (s : StimulusData) (stem lap : List (List Bool)) →
     stem ≡ s.stem → lap ≡ s.lap → All (λ letter. length letter ≡ length c.inputs) s.stem
-    → All (λ letter. length letter ≡ length c.inputs) s.lap → Stands role a c stem lap Width → ⊥
+    → All (λ letter. length letter ≡ length c.inputs) s.lap → IsLassoFault role a c stem lap Width → ⊥
 is_wide role a c s stem lap same_stem same_lap in_stem in_lap narrow = narrow (record {
   stem_is =
       subst (λ (ls : List (List Bool)). All (λ letter. length letter ≡ length c.inputs) ls) (sym same_stem) in_stem;

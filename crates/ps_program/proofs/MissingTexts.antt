@@ -15,7 +15,7 @@ use Rattle.ps_program.specs.Lassos.{AnswersLasso, RunsCircuit}
 use Rattle.ps_machine.specs.declared.key.Order.{Order}
 use Rattle.ps_program.specs.Verifying.{AnswersVerify, VerifiesText}
 use Rattle.ps_program.specs.Simulating.{AnswersSim, PrintsTrace}
-use Rattle.ps_program.specs.Cut.{HasFewerMarks}
+use Rattle.ps_program.specs.Cut.{HasFewerSeparators}
 use Rattle.ps_program.specs.Determined.{NeedsItsTexts}
 use Rattle.ps_program.specs.Outcomes.{Then}
 use Rattle.ps_program.specs.Program.{AnswersLine}
@@ -41,10 +41,10 @@ both_fail {V} {W} step next line fails outcome (inl (l, s, e)) =
     e ∙ ap (err_of {V = W}) (ap (err_or {V = V} line) (fails (Err l) s))
 both_fail step next line fails outcome (inr (v, s, n)) = absurd (ok_is_not_err v line (fails (Ok v) s))
 
-two_missing : (texts : List ℕ) → HasFewerMarks 1 texts → Fails (CutsInTwo texts) missing_text
+two_missing : (texts : List ℕ) → HasFewerSeparators 1 texts → Fails (CutsInTwo texts) missing_text
 two_missing texts fewer outcome cuts = cut_one texts outcome (Err missing_text) cuts (fewer, refl)
 
-three_missing : (texts : List ℕ) → HasFewerMarks 2 texts → Fails (CutsInThree texts) missing_text
+three_missing : (texts : List ℕ) → HasFewerSeparators 2 texts → Fails (CutsInThree texts) missing_text
 three_missing texts fewer outcome cuts = cut_three_one texts outcome (Err missing_text) cuts (fewer, refl)
 
 -- the number of texts that `synth` reads: with `--cert` the certificate, too
@@ -54,7 +54,7 @@ synth_count true = 2
 
 synth_missing : (solvers : Solvers) (asked : SynthLine) (cert : Bool) (texts : List ℕ) (outcome : Result Reply (List ℕ))
     →
-    HasFewerMarks (synth_count cert - 1) texts → AnswersBy cert solvers asked texts outcome →
+    HasFewerSeparators (synth_count cert - 1) texts → AnswersBy cert solvers asked texts outcome →
     outcome ≡ Err missing_text
 synth_missing solvers asked false texts outcome fewer answers = absurd fewer
 synth_missing solvers asked true texts outcome fewer answers =
@@ -68,45 +68,46 @@ synth_counted true = refl
 
 -- ---- two texts, and three texts
 
-certified_missing : (texts : List ℕ) → HasFewerMarks 1 texts → Fails (ReadsCertified texts) missing_text
+certified_missing : (texts : List ℕ) → HasFewerSeparators 1 texts → Fails (ReadsCertified texts) missing_text
 certified_missing texts fewer =
     both_fail (CutsInTwo texts) (λ (parts : List ℕ × List ℕ). Then (ReadsGameText parts.0) (λ named.
     Then (ReadsCertificateText named parts.1) (λ given outcome. outcome ≡ Ok (named, given)))) missing_text
     (two_missing texts fewer)
 
-solved_missing : (texts : List ℕ) → HasFewerMarks 1 texts → Fails (ReadsSolved texts) missing_text
+solved_missing : (texts : List ℕ) → HasFewerSeparators 1 texts → Fails (ReadsSolved texts) missing_text
 solved_missing texts fewer =
     both_fail (CutsInTwo texts) (λ (parts : List ℕ × List ℕ). Then (ReadsGameText parts.0) (λ named.
     Then (ReadsSolutionText named parts.1) (λ given outcome. outcome ≡ Ok (named, given)))) missing_text
     (two_missing texts fewer)
 
-simulated_missing : (texts : List ℕ) → HasFewerMarks 1 texts → Fails (ReadsSimulated texts) missing_text
+simulated_missing : (texts : List ℕ) → HasFewerSeparators 1 texts → Fails (ReadsSimulated texts) missing_text
 simulated_missing texts fewer =
     both_fail (CutsInTwo texts) (λ (parts : List ℕ × List ℕ). Then (ReadsCircuitText parts.0) (λ c.
     Then (ReadsStimulusText (length c.inputs) false parts.1) (λ s outcome. outcome ≡ Ok (c, s)))) missing_text
     (two_missing texts fewer)
 
-tests_missing : (IsGood : ParityGame → CertificateData → Type 0) (word texts : List ℕ) → HasFewerMarks 1 texts →
+tests_missing : (IsGood : ParityGame → CertificateData → Type 0) (word texts : List ℕ) → HasFewerSeparators 1 texts →
     Fails (Then (ReadsCertified texts) (λ both. Tests IsGood word both.0 both.1)) missing_text
 tests_missing IsGood word texts fewer = both_fail (ReadsCertified texts) (λ both. Tests IsGood word both.0 both.1)
     missing_text (certified_missing texts fewer)
 
-judge_missing : (compact : Bool) (texts : List ℕ) → HasFewerMarks 1 texts → Fails (AnswersJudge compact texts)
+judge_missing : (compact : Bool) (texts : List ℕ) → HasFewerSeparators 1 texts → Fails (AnswersJudge compact texts)
     missing_text
 judge_missing compact texts fewer = both_fail (ReadsSolved texts) (λ both. Judges compact both.0 both.1) missing_text
     (solved_missing texts fewer)
 
-sim_missing : (texts : List ℕ) → HasFewerMarks 1 texts → Fails (AnswersSim texts) missing_text
+sim_missing : (texts : List ℕ) → HasFewerSeparators 1 texts → Fails (AnswersSim texts) missing_text
 sim_missing texts fewer = both_fail (ReadsSimulated texts) (λ both outcome. IsCircuit both.0
     × ((text : List ℕ) × PrintsTrace both.0 both.1.stem text × (outcome ≡ Ok (text_reply text)))) missing_text
     (simulated_missing texts fewer)
 
-lasso_missing : (role : Role) (texts : List ℕ) → HasFewerMarks 2 texts → Fails (AnswersLasso role texts) missing_text
+lasso_missing : (role : Role) (texts : List ℕ) → HasFewerSeparators 2 texts →
+    Fails (AnswersLasso role texts) missing_text
 lasso_missing role texts fewer = both_fail (CutsInThree texts) (λ (parts : List ℕ × List ℕ × List ℕ).
     Then (ReadsAutomaton parts.0) (λ file. RunsCircuit role file parts.1 parts.2)) missing_text
     (three_missing texts fewer)
 
-verify_missing : (order : Order) (role : Role) (texts : List ℕ) → HasFewerMarks 1 texts →
+verify_missing : (order : Order) (role : Role) (texts : List ℕ) → HasFewerSeparators 1 texts →
     Fails (AnswersVerify order role texts) missing_text
 verify_missing order role texts fewer = both_fail (CutsInTwo texts) (λ (parts : List ℕ × List ℕ).
     Then (ReadsAutomaton parts.0) (λ file. VerifiesText order role file parts.1)) missing_text
@@ -135,7 +136,8 @@ texts_needed solvers = (
                   (
                     λ given texts outcome fewer answers. synth_missing solvers (synth_given given) (given cert_flag)
                         texts outcome
-                        (subst (λ (n : ℕ). HasFewerMarks (n - 1) texts) (synth_counted (given cert_flag)) fewer) answers,
+                        (subst (λ (n : ℕ). HasFewerSeparators (n - 1) texts) (synth_counted (given cert_flag)) fewer)
+                        answers,
                     (λ given texts outcome fewer answers. absurd fewer, tt),
                   ),
                 ),

@@ -18,7 +18,7 @@ use Rattle.ps_program.specs.Checks.{Tests}
 use Rattle.ps_program.specs.CommandLine.{IsLine}
 use Rattle.ps_program.specs.Cut.{first_line, behind_line}
 use Rattle.ps_program.specs.Determined.{Agree, AgreeAsReports, AgreeInWinners, AsksFor, HasAutomaton, HasOneAnswer}
-use Rattle.ps_program.specs.Determined.{IsFault, IsOpen}
+use Rattle.ps_program.specs.Determined.{IsFaultReply, IsUndetermined}
 use Rattle.ps_program.specs.Games.{AnswersCert, AnswersGameText, ReadsGameOf}
 use Rattle.ps_program.specs.Judging.{AnswersJudge, Judges, LosesCycle, ReadsSolved}
 use Rattle.ps_program.specs.Lassos.{AnswersLasso}
@@ -85,9 +85,9 @@ module _ (games : OneGame) (certificates : OneCertificate) (flaws : OneFlaw) (ci
 
   -- two results of a line whose answer is open
   abbrev Alike : (Reply → Reply → Type 0) → Result Reply (List ℕ) → Result Reply (List ℕ) → Type 0
-  Alike agree x y = IsFault (printed x) ⊎ IsFault (printed y) ⊎ agree (printed x) (printed y)
+  Alike agree x y = IsFaultReply (printed x) ⊎ IsFaultReply (printed y) ⊎ agree (printed x) (printed y)
 
-  fault_is : (x : Result Reply (List ℕ)) (l : List ℕ) → x ≡ Err l → IsFault (printed x)
+  fault_is : (x : Result Reply (List ℕ)) (l : List ℕ) → x ≡ Err l → IsFaultReply (printed x)
   fault_is x l e = (l, ap printed e)
 
   alike_as : {P Q : Reply → Reply → Type 0} (x y : Result Reply (List ℕ)) → ((a b : Reply) → P a b → Q a b) →
@@ -105,7 +105,7 @@ module _ (games : OneGame) (certificates : OneCertificate) (flaws : OneFlaw) (ci
 
   judge_one_or : (compact : Bool) (texts : List ℕ) (x y : Result Reply (List ℕ)) → AnswersJudge compact texts x →
       AnswersJudge compact texts y
-      → (x ≡ y) ⊎ (IsOpen (line.Judge compact) texts × Alike (Agree (line.Judge compact) texts) x y)
+      → (x ≡ y) ⊎ (IsUndetermined (line.Judge compact) texts × Alike (Agree (line.Judge compact) texts) x y)
   judge_one_or compact texts x y h k =
       by (then_one_or (ReadsSolved texts) (λ both. Judges compact both.0 both.1)
       (λ both. LosesCycle both.0 both.1 × ((line : List ℕ) × (x ≡ Err line))) (solved_one texts) x y
@@ -113,7 +113,7 @@ module _ (games : OneGame) (certificates : OneCertificate) (flaws : OneFlaw) (ci
     where
       by : (x ≡ y) ⊎ ((both : NamedGameData × SolutionData) × ReadsSolved texts (Ok both) ×
           (LosesCycle both.0 both.1 × ((line : List ℕ) × (x ≡ Err line)))) →
-          (x ≡ y) ⊎ (IsOpen (line.Judge compact) texts × Alike (Agree (line.Judge compact) texts) x y)
+          (x ≡ y) ⊎ (IsUndetermined (line.Judge compact) texts × Alike (Agree (line.Judge compact) texts) x y)
       by (inl same) = inl same
       by (inr (both, reads, (lost, (l, e)))) = inr ((both.0, both.1, reads, lost), inl (fault_is x l e))
 
@@ -123,25 +123,26 @@ module _ (games : OneGame) (certificates : OneCertificate) (flaws : OneFlaw) (ci
 
   verify_or_one : (order : Order) (role : Role) (texts : List ℕ) (x y : Result Reply (List ℕ)) →
       AnswersVerify order role texts x → AnswersVerify order role texts y
-      → (x ≡ y) ⊎ (IsOpen (line.Verify order role) texts × Alike (Agree (line.Verify order role) texts) x y)
-  verify_or_one order role texts x y h k = by (verify_one_or (automaton_one files refusals outcomes) circuit_one not_both
+      → (x ≡ y) ⊎ (IsUndetermined (line.Verify order role) texts × Alike (Agree (line.Verify order role) texts) x y)
+  verify_or_one order role texts x y h k =
+      by (verify_one_or (automaton_one files refusals outcomes) circuit_one not_both
       order role x y texts h k)
     where
       by : (x ≡ y) ⊎ Agree (line.Verify order role) texts (printed x) (printed y) →
-          (x ≡ y) ⊎ (IsOpen (line.Verify order role) texts × Alike (Agree (line.Verify order role) texts) x y)
+          (x ≡ y) ⊎ (IsUndetermined (line.Verify order role) texts × Alike (Agree (line.Verify order role) texts) x y)
       by (inl same) = inl same
       by (inr (file, c, reads, agree)) =
           inr ((file, c, reads, (agree.one, agree.one_loses)), inr (inr (file, c, reads, agree)))
 
   solve_one_or : (solver : SolverData) (compact : Bool) (text : List ℕ) (x y : Result Reply (List ℕ)) →
       AnswersSolve solver compact text x → AnswersSolve solver compact text y
-      → (x ≡ y) ⊎ (IsOpen (line.Solve compact) text × Alike (Agree (line.Solve compact) text) x y)
+      → (x ≡ y) ⊎ (IsUndetermined (line.Solve compact) text × Alike (Agree (line.Solve compact) text) x y)
   solve_one_or solver compact text x y h k =
       by (then_one_or (ReadsGameText text) (AnswersGame solver compact) (λ v. Alike (AgreeInWinners compact v) x y)
       (search (rules, reading_one)) x y (λ v n m. inr (games_alike solver compact v x y n m)) h k)
     where
       by : (x ≡ y) ⊎ ((v : NamedGameData) × ReadsGameText text (Ok v) × Alike (AgreeInWinners compact v) x y) →
-          (x ≡ y) ⊎ (IsOpen (line.Solve compact) text × Alike (Agree (line.Solve compact) text) x y)
+          (x ≡ y) ⊎ (IsUndetermined (line.Solve compact) text × Alike (Agree (line.Solve compact) text) x y)
       by (inl same) = inl same
       by (inr (v, reads, alike)) = inr (
         (v, reads),
@@ -151,13 +152,13 @@ module _ (games : OneGame) (certificates : OneCertificate) (flaws : OneFlaw) (ci
 
   cert_one_or : (solver : SolverData) (order : Order) (compact : Bool) (text : List ℕ) (x y : Result Reply (List ℕ)) →
       AnswersCert solver order compact text x → AnswersCert solver order compact text y
-      → (x ≡ y) ⊎ (IsOpen (line.Cert order compact) text × Alike (Agree (line.Cert order compact) text) x y)
+      → (x ≡ y) ⊎ (IsUndetermined (line.Cert order compact) text × Alike (Agree (line.Cert order compact) text) x y)
   cert_one_or solver order compact text x y h k =
       by (then_one_or (ReadsGameOf order text) (AnswersGame solver compact) (λ v. Alike (AgreeInWinners compact v) x y)
       (game_of_one order text) x y (λ v n m. inr (games_alike solver compact v x y n m)) h k)
     where
       by : (x ≡ y) ⊎ ((v : NamedGameData) × ReadsGameOf order text (Ok v) × Alike (AgreeInWinners compact v) x y) →
-          (x ≡ y) ⊎ (IsOpen (line.Cert order compact) text × Alike (Agree (line.Cert order compact) text) x y)
+          (x ≡ y) ⊎ (IsUndetermined (line.Cert order compact) text × Alike (Agree (line.Cert order compact) text) x y)
       by (inl same) = inl same
       by (inr (v, reads, alike)) =
           inr (
@@ -242,7 +243,7 @@ module _ (games : OneGame) (certificates : OneCertificate) (flaws : OneFlaw) (ci
   -- each line has one result, or it is open and any two results agree
   line_one : (solvers : Solvers) (l : Line) (texts : List ℕ) (x y : Result Reply (List ℕ)) →
       AnswersLine solvers l texts x → AnswersLine solvers l texts y →
-      (x ≡ y) ⊎ (IsOpen l texts × Alike (Agree l texts) x y)
+      (x ≡ y) ⊎ (IsUndetermined l texts × Alike (Agree l texts) x y)
   line_one solvers line.Refused texts x y h k = inl (ended_one _ x y h k)
   line_one solvers line.Help texts x y h k = inl (ended_one _ x y h k)
   line_one solvers line.Closed texts x y h k = inl (search (rules, then_one, certified_one, tests_one))
@@ -258,23 +259,24 @@ module _ (games : OneGame) (certificates : OneCertificate) (flaws : OneFlaw) (ci
 
   answers_one : (solvers : Solvers) (input : List ℕ) (a b : Reply) → AnswersInput solvers input a →
       AnswersInput solvers input b → (a ≡ b) ⊎
-      ((l : Line) × IsLine (first_line input) l × IsOpen l (behind_line input) ×
-      (IsFault a ⊎ IsFault b ⊎ Agree l (behind_line input) a b))
+      ((l : Line) × IsLine (first_line input) l × IsUndetermined l (behind_line input) ×
+      (IsFaultReply a ⊎ IsFaultReply b ⊎ Agree l (behind_line input) a b))
   answers_one solvers input a b (l, is_line, (outcome, answers, e)) (l', is_line', (outcome', answers', e')) =
       by (grind (arith, line_one, same))
     where
       same : l ≡ l'
       same = is_line_one (first_line input) l l' is_line is_line'
 
-      printed_so : IsFault (printed outcome) ⊎ IsFault (printed outcome') ⊎
+      printed_so : IsFaultReply (printed outcome) ⊎ IsFaultReply (printed outcome') ⊎
           Agree l (behind_line input) (printed outcome) (printed outcome') →
-          IsFault a ⊎ IsFault b ⊎ Agree l (behind_line input) a b
+          IsFaultReply a ⊎ IsFaultReply b ⊎ Agree l (behind_line input) a b
       printed_so alike = search rules
 
-      by : (outcome ≡ outcome') ⊎ (IsOpen l (behind_line input) × Alike (Agree l (behind_line input)) outcome outcome')
+      by : (outcome ≡ outcome') ⊎
+          (IsUndetermined l (behind_line input) × Alike (Agree l (behind_line input)) outcome outcome')
           →
-          (a ≡ b) ⊎ ((k : Line) × IsLine (first_line input) k × IsOpen k (behind_line input) ×
-          (IsFault a ⊎ IsFault b ⊎ Agree k (behind_line input) a b))
+          (a ≡ b) ⊎ ((k : Line) × IsLine (first_line input) k × IsUndetermined k (behind_line input) ×
+          (IsFaultReply a ⊎ IsFaultReply b ⊎ Agree k (behind_line input) a b))
       by (inl one) = inl (e ∙ ap printed one ∙ sym e')
       by (inr (choice, alike)) = inr (l, is_line, choice, printed_so alike)
 

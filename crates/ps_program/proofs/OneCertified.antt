@@ -16,7 +16,7 @@ use Rattle.ps_hoa.specs.Files.{FileData}
 use Rattle.ps_machine.specs.Behaviours.{Behaviour}
 use Rattle.ps_machine.specs.FileGames.{IsGameOfFile}
 use Rattle.ps_machine.specs.Solvers.{SolverData, answers_now, once_fed}
-use Rattle.ps_machine.specs.Solving.{IsCertified, Replays, winner}
+use Rattle.ps_machine.specs.Solving.{IsCertified, Replays, winner_at_start}
 use Rattle.ps_machine.specs.declared.fault.SolveFault.{SolveFault}
 use Rattle.ps_machine.specs.declared.fault.SolveFault.TheVariants as solver_fault
 use Rattle.ps_machine.specs.declared.key.Order.{Order}
@@ -99,7 +99,7 @@ module _ (order : Order) (compact full : Bool) where
       circuit : CircuitData
       is_circuit : IsWinnersCircuit order file game is_game c circuit
       realizable : Bool
-      is_realizable : IsTrue realizable ↔ (winner c ≡ 0)
+      is_realizable : IsTrue realizable ↔ (winner_at_start c ≡ 0)
       is_reply : x ≡ Ok (reply_by full realizable (text_of circuit) (game_text game) (text_in compact game c))
 
   record Above (file : FileData) (game : NamedGameData) (c : CertificateData) (x : Result Reply (List ℕ)) : Type 0 where
@@ -130,7 +130,8 @@ module _ (order : Order) (compact full : Bool) where
     reports_one : (file : FileData) (game : NamedGameData) (c : CertificateData) (x y : Result Reply (List ℕ)) →
         Reported file game c x → Reported file game c y → x ≡ y
     reports_one file game c x y a b =
-        let one = tests_agree a.realizable b.realizable (winner c) (winner c) a.is_realizable b.is_realizable refl in
+        let one = tests_agree a.realizable b.realizable (winner_at_start c) (winner_at_start c) a.is_realizable
+        b.is_realizable refl in
         let circuit = circuits order file game a.is_game b.is_game c a.circuit b.circuit a.is_circuit b.is_circuit in
         grind arith
 

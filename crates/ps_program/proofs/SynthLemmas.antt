@@ -6,7 +6,7 @@ use Rattle.ps_machine.specs.declared.key.Order.{Order}
 use Rattle.ps_synthesis.specs.Reports.{IsReport}
 use Rattle.ps_machine.specs.Solvers.{IsKept, MayAnswer, SolverData, answers_now}
 use Rattle.ps_synthesis.specs.Promises.{IsAcceptedText}
-use Rattle.ps_synthesis.specs.SynthFaults.{IsOutcome, IsSynthFault}
+use Rattle.ps_synthesis.specs.SynthFaults.{IsReportOrFault, IsSynthFault}
 use Rattle.ps_synthesis.specs.declared.fault.SynthFault.{SynthFault}
 use Rattle.ps_synthesis.specs.declared.report.Report.{Report}
 use Rattle.ps_synthesis.proofs.Outcomes.{AnswersMore, fault_more, report_more, sure_in}
@@ -24,7 +24,8 @@ use Rattle.ps_program.proofs.SolverLemmas.{unsure}
 -- a sure solver has no fault of its own
 pub unsure_of : (May : MayAnswer) (order : Order) (compact : Bool) (text : List ℕ) (sure : Bool) (fault : SynthFault) →
     IsSynthFault May order text fault
-    → (sure ≡ true → (file : FileData) → IsAcceptedText text file → IsOutcome May order compact text (Err fault)) →
+    → (sure ≡ true → (file : FileData) → IsAcceptedText text file →
+    IsReportOrFault May order compact text (Err fault)) →
     IsOfSolver fault → sure ≡ false
 unsure_of May order compact text sure fault cause surely lies = grind (arith, unsure, sure_in)
 
@@ -33,7 +34,7 @@ pub gives_told : (solver : SolverData) (order : Order) (compact : Bool) (text : 
     (refused : Refusal)
     → IsSynthFault (answers_now solver) order text fault
     → (solver.is_sure ≡ true → (file : FileData) → IsAcceptedText text file →
-    IsOutcome (answers_now solver) order compact text (Err fault))
+    IsReportOrFault (answers_now solver) order compact text (Err fault))
     → IsTold fault refused → Gives (λ (report : Report). report) (Synthesises solver order compact text) (Err refused)
 gives_told solver order compact text fault refused cause surely told = grind (arith, unsure_of)
 

@@ -16,26 +16,26 @@ abbrev pub begins_line : List ℕ → ℕ → Bool
 begins_line text place = place == 0 || slice_index text (place - 1) == 10
 
 -- the text or a line ends at the offset `place`
-abbrev pub ends_line : List ℕ → ℕ → Bool
-ends_line text place = nat_le (length text) place || slice_index text place == 10
+abbrev pub ends_line_at : List ℕ → ℕ → Bool
+ends_line_at text place = nat_le (length text) place || slice_index text place == 10
 
 -- the line `%%` begins at the offset `place`
-abbrev pub is_mark : List ℕ → ℕ → Bool
-is_mark text place = begins_line text place
-    && (slice_index text place == 37 && (slice_index text (place + 1) == 37 && ends_line text (place + 2)))
+abbrev pub is_separator : List ℕ → ℕ → Bool
+is_separator text place = begins_line text place
+    && (slice_index text place == 37 && (slice_index text (place + 1) == 37 && ends_line_at text (place + 2)))
 
 -- no line is `%%`
-abbrev pub HasNoMark : List ℕ → Type 0
-HasNoMark text = (place : ℕ) → place < length text → is_mark text place ≡ false
+abbrev pub HasNoSeparator : List ℕ → Type 0
+HasNoSeparator text = (place : ℕ) → place < length text → is_separator text place ≡ false
 
 -- the text consists of the first text, its first line `%%`, and the second text
 pub record Cuts (text first second : List ℕ) : Type 0 where
-  pub mark : ℕ
-  pub within : mark < length text
-  pub stands : is_mark text mark ≡ true
-  pub none_before : (place : ℕ) → place < mark → is_mark text place ≡ false
-  pub before : first ≡ take mark text
-  pub behind : second ≡ drop (mark + 3) text
+  pub separator : ℕ
+  pub within : separator < length text
+  pub stands : is_separator text separator ≡ true
+  pub none_before : (place : ℕ) → place < separator → is_separator text place ≡ false
+  pub before : first ≡ take separator text
+  pub behind : second ≡ drop (separator + 3) text
 
 -- the texts of an input, separated by the first lines `%%` of the input; further such lines belong to the last text
 abbrev pub AreTexts : List ℕ → List (List ℕ) → Type 0
@@ -44,7 +44,7 @@ AreTexts input (last ∷ []) = last ≡ input
 AreTexts input (first ∷ second ∷ more) = (rest : List ℕ) × Cuts input first rest × AreTexts rest (second ∷ more)
 
 -- the input has fewer lines `%%` than the given number
-abbrev pub HasFewerMarks : ℕ → List ℕ → Type 0
-HasFewerMarks zero input = ⊥
-HasFewerMarks (suc count) input =
-    HasNoMark input ⊎ ((first : List ℕ) × (rest : List ℕ) × Cuts input first rest × HasFewerMarks count rest)
+abbrev pub HasFewerSeparators : ℕ → List ℕ → Type 0
+HasFewerSeparators zero input = ⊥
+HasFewerSeparators (suc count) input =
+    HasNoSeparator input ⊎ ((first : List ℕ) × (rest : List ℕ) × Cuts input first rest × HasFewerSeparators count rest)

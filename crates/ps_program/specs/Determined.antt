@@ -1,6 +1,6 @@
 -- The program's answer is determined, with three exceptions: the lost cycle that `judge` reports, the stimulus that
 -- `verify` reports, and the certificate that a solver chooses. Even these choices are partly determined.
---     IsOpen line texts      the line may have more than one correct answer
+--     IsUndetermined line texts      the line may have more than one correct answer
 --     IsReplaying solver      the solver may only answer the result of parsing the text that it was fed
 --     AgreeAsReports order full text a b      two reports for a text have the same winner and the automaton's game
 --     AgreeInWinners compact game a b      in two certificates of the game, each vertex has the same winner
@@ -31,7 +31,7 @@ use Rattle.ps_pgsolver.specs.Written.{game_text}
 use Rattle.ps_synthesis.specs.Promises.{IsAcceptedText}
 use Rattle.ps_synthesis.specs.declared.report.Report.{Report}
 use Rattle.ps_program.specs.CommandLine.{Usage, IsLine, commands}
-use Rattle.ps_program.specs.Cut.{HasFewerMarks, behind_line, first_line}
+use Rattle.ps_program.specs.Cut.{HasFewerSeparators, behind_line, first_line}
 use Rattle.ps_program.specs.Games.{ReadsGameOf}
 use Rattle.ps_program.specs.Judging.{ReadsSolved, LosesCycle}
 use Rattle.ps_program.specs.Program.{AnswersLine, AnswersWhole}
@@ -54,15 +54,16 @@ AsksFor true texts text = (certificate : List ℕ) × CutsInTwo texts (Ok (text,
 
 -- The answer is open in two cases. If the text of a game or of an automaton is accepted, it is open which winning moves
 -- are printed. If a player loses a cycle, it is open which cycle is reported.
-abbrev pub IsOpen : Line → List ℕ → Type 0
-IsOpen (Judge compact) texts =
+abbrev pub IsUndetermined : Line → List ℕ → Type 0
+IsUndetermined (Judge compact) texts =
     (named : NamedGameData) × (given : SolutionData) × ReadsSolved texts (Ok (named, given)) × LosesCycle named given
-IsOpen (Verify order role) texts =
-    (file : FileData) × (c : CircuitData) × ReadsVerified texts file c × ((s : StimulusData) × IsLosing order role file c s)
-IsOpen (Solve compact) text = (game : NamedGameData) × ReadsGameText text (Ok game)
-IsOpen (Cert order compact) text = HasAutomaton text
-IsOpen (Synth asked) texts = (text : List ℕ) × AsksFor asked.cert texts text × HasAutomaton text
-IsOpen line texts = ⊥
+IsUndetermined (Verify order role) texts =
+    (file : FileData) × (c : CircuitData) × ReadsVerified texts file c ×
+    ((s : StimulusData) × IsLosing order role file c s)
+IsUndetermined (Solve compact) text = (game : NamedGameData) × ReadsGameText text (Ok game)
+IsUndetermined (Cert order compact) text = HasAutomaton text
+IsUndetermined (Synth asked) texts = (text : List ℕ) × AsksFor asked.cert texts text × HasAutomaton text
+IsUndetermined line texts = ⊥
 
 abbrev pub IsReplaying : SolverData → Type 0
 IsReplaying solver = (fed : Option (List ℕ)) (game : NamedGameData) (answer : Result CertificateData SolveFault) →
@@ -113,15 +114,15 @@ Agree (Synth asked) texts a b =
     (text : List ℕ) × AsksFor asked.cert texts text × AgreeAsReports asked.order asked.full text a b
 Agree line texts a b = a ≡ b
 
-abbrev pub IsFault : Reply → Type 0
-IsFault reply = (line : List ℕ) × (reply ≡ fault_reply line)
+abbrev pub IsFaultReply : Reply → Type 0
+IsFaultReply reply = (line : List ℕ) × (reply ≡ fault_reply line)
 
 -- Any two answers to one input are equal, unless the answer to its line is open. In that case the two answers agree, or
 -- one of them is the line of a fault.
 abbrev pub HasOneAnswer : Solvers → Type 0
 HasOneAnswer solvers = (input : List ℕ) (a b : Reply) → AnswersWhole solvers input a → AnswersWhole solvers input b
-    → (a ≡ b) ⊎ ((line : Line) × IsLine (first_line input) line × IsOpen line (behind_line input) ×
-    (IsFault a ⊎ IsFault b ⊎ Agree line (behind_line input) a b))
+    → (a ≡ b) ⊎ ((line : Line) × IsLine (first_line input) line × IsUndetermined line (behind_line input) ×
+    (IsFaultReply a ⊎ IsFaultReply b ⊎ Agree line (behind_line input) a b))
 
 -- if a certificate follows the text and the solver parses that certificate, the whole answer is determined
 abbrev pub HasOneCertified : Solvers → Type 0
@@ -137,5 +138,5 @@ text_count usage given = length usage.texts + length (filter (λ each. given eac
 abbrev pub NeedsItsTexts : Solvers → Type 0
 NeedsItsTexts solvers =
     AllByRecursion (λ usage. (given : Text → Bool) (texts : List ℕ) (outcome : Result Reply (List ℕ)) →
-    HasFewerMarks (text_count usage given - 1) texts → AnswersLine solvers (usage.line given) texts outcome →
+    HasFewerSeparators (text_count usage given - 1) texts → AnswersLine solvers (usage.line given) texts outcome →
     outcome ≡ Err missing_text) commands

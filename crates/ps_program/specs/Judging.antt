@@ -48,8 +48,8 @@ abbrev pub LosesCycle : NamedGameData → SolutionData → Type 0
 LosesCycle named given = (player : ℕ) × (cycle : List ℕ) × Loses named given player cycle
 
 -- the line of the first flaw, or of a cycle that a player loses
-abbrev pub IsRefused : NamedGameData → SolutionData → List ℕ → Type 0
-IsRefused named given line =
+abbrev pub IsRefusalLine : NamedGameData → SolutionData → List ℕ → Type 0
+IsRefusalLine named given line =
     ((flaw : Flaw) × IsFirstFlaw named.game (claim named given) flaw × (line ≡ flaw_text named flaw))
     ⊎ ((player : ℕ) × (cycle : List ℕ) × Loses named given player cycle × (line ≡ cycle_text named cycle))
 
@@ -58,7 +58,7 @@ abbrev pub Judges : Bool → NamedGameData → SolutionData → Result Reply (Li
 Judges compact named given (Ok reply) = IsSolution named.game given.won given.moves given.moves
     × ((certificate : CertificateData) × IsCertificateOf named.game given.won given.moves given.moves certificate ×
     (reply ≡ text_reply (text_in compact named certificate)))
-Judges compact named given (Err line) = IsGame named.game × IsRefused named given line
+Judges compact named given (Err line) = IsGame named.game × IsRefusalLine named given line
 
 abbrev pub AnswersJudge : Bool → List ℕ → Result Reply (List ℕ) → Type 0
 AnswersJudge compact texts = Then (ReadsSolved texts) (λ both. Judges compact both.0 both.1)

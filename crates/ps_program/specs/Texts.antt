@@ -16,7 +16,7 @@ use Rattle.ps_circuit.specs.Texts as circuit_text
 use Rattle.ps_simulate.specs.Faults as stimulus
 use Rattle.ps_simulate.specs.Stimuli.{StimulusData}
 use Rattle.ps_simulate.specs.StimulusTexts as stimulus_text
-use Rattle.ps_program.specs.Cut.{AreTexts, HasFewerMarks}
+use Rattle.ps_program.specs.Cut.{AreTexts, HasFewerSeparators}
 use Rattle.ps_program.specs.Faults.{spaced, choice_text, line_text}
 use Rattle.ps_program.specs.Outcomes.{Then, Reading}
 
@@ -28,12 +28,12 @@ missing_text = line_text 27 (codes "MissingText") []
 -- the two texts of the input, or the line for a missing text
 abbrev pub CutsInTwo : List ℕ → Result (List ℕ × List ℕ) (List ℕ) → Type 0
 CutsInTwo texts (Ok parts) = AreTexts texts (parts.0 ∷ parts.1 ∷ [])
-CutsInTwo texts (Err line) = HasFewerMarks 1 texts × (line ≡ missing_text)
+CutsInTwo texts (Err line) = HasFewerSeparators 1 texts × (line ≡ missing_text)
 
 -- the three texts of the input, or the line for a missing text, even if another text has an error
 abbrev pub CutsInThree : List ℕ → Result (List ℕ × List ℕ × List ℕ) (List ℕ) → Type 0
 CutsInThree texts (Ok parts) = AreTexts texts (parts.0 ∷ parts.1 ∷ parts.2 ∷ [])
-CutsInThree texts (Err line) = HasFewerMarks 2 texts × (line ≡ missing_text)
+CutsInThree texts (Err line) = HasFewerSeparators 2 texts × (line ≡ missing_text)
 
 -- ---- game texts
 

@@ -2,7 +2,7 @@
 
 ghost use Rattle.std.specs.Prelude.{◌≡◌, ◌==◌, ◌≤◌, ◌<◌, length, slice_index, IfSome, IfNone};
 ghost use Rattle.std.specs.List.{before_first, after_first, position_or_len};
-ghost use Rattle.ps_program.specs.Cut.{is_mark, ends_line, Cuts, HasNoMark};
+ghost use Rattle.ps_program.specs.Cut.{is_separator, ends_line_at, Cuts, HasNoSeparator};
 
 /// The first line without its newline, and the rest after the newline.
 pub fn first_line(input: &[u8]) -> (&[u8], &[u8])
@@ -30,21 +30,21 @@ fn line_length(input: &[u8]) -> usize
 /// The part before the first line `%%`, and the part after it.
 pub fn cut(texts: &[u8]) -> Option<(&[u8], &[u8])>
     ensures found { IfSome result (λ parts. Cuts texts.now parts.0.now parts.1.now) }
-    ensures missing { IfNone result (HasNoMark texts.now) }
+    ensures missing { IfNone result (HasNoSeparator texts.now) }
 {
-    for mark in 0..texts.len() {
-        if stands_mark(texts, mark) {
-            let behind = (mark + 3).min(texts.len());
-            return Some((&texts[..mark], &texts[behind..]));
+    for separator in 0..texts.len() {
+        if begins_separator(texts, separator) {
+            let behind = (separator + 3).min(texts.len());
+            return Some((&texts[..separator], &texts[behind..]));
         }
     }
     None
 }
 
 /// Whether the line `%%` begins at `place`.
-fn stands_mark(texts: &[u8], place: usize) -> bool
+fn begins_separator(texts: &[u8], place: usize) -> bool
     requires { place < length texts.now }
-    ensures { result ≡ is_mark texts.now place }
+    ensures { result ≡ is_separator texts.now place }
 {
     let begins = place == 0 || texts[place - 1] == b'\n';
     begins
@@ -63,7 +63,7 @@ fn is_byte(text: &[u8], place: usize, byte: u8) -> bool
 
 /// Whether the text or a line ends at `place`.
 fn is_line_end(text: &[u8], place: usize) -> bool
-    ensures { result ≡ ends_line text.now place }
+    ensures { result ≡ ends_line_at text.now place }
 {
     place >= text.len() || text[place] == b'\n'
 }

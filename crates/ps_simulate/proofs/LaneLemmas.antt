@@ -14,7 +14,7 @@ use Rattle.std.proofs.lemmas.Simd.{get_or-zip2, get_or-replicate}
 use Rattle.ps_circuit.specs.declared.parts.Latch.{Latch}
 use Rattle.ps_simulate.specs.declared.plan.Wire.{Wire}
 use Rattle.ps_simulate.specs.declared.plan.Row.{Row}
-use Rattle.ps_simulate.specs.Lanes.{all_or_none, bit_in, lane_of}
+use Rattle.ps_simulate.specs.Lanes.{all_or_none, lane_bit, lane_of}
 use Rattle.ps_simulate.specs.LanePlans.{wire_in}
 use Rattle.ps_simulate.specs.Plans.{read, work_out}
 use Rattle.ps_simulate.proofs.RowLemmas.{no_latch}
@@ -31,15 +31,15 @@ mask_bit true i lt = bit_at_ones 64 i lt
 mask_bit false i lt = bit_at-zero i
 
 pub bit_in-and : (a b : List ℕ) (lane : ℕ) → lane < 256 → length a ≡ 4 → length b ≡ 4
-    → bit_in (zip2 bit_and a b) lane ≡ (bit_in a lane && bit_in b lane)
+    → lane_bit (zip2 bit_and a b) lane ≡ (lane_bit a lane && lane_bit b lane)
 bit_in-and a b lane lt la lb = search (rules, get_or-zip2, bit_at_and, both, bit_at-lt)
 
-pub bit_in-mask : (b : Bool) (lane : ℕ) → lane < 256 → bit_in (replicate 4 (all_or_none b)) lane ≡ b
+pub bit_in-mask : (b : Bool) (lane : ℕ) → lane < 256 → lane_bit (replicate 4 (all_or_none b)) lane ≡ b
 bit_in-mask b lane lt = search (rules, get_or-replicate, mask_bit)
 
 -- the effect of applying a mask to all words of a value
 bit_in-flipped : (a : List ℕ) (b : Bool) (lane : ℕ) → lane < 256 → length a ≡ 4
-    → bit_in (zip2 bit_xor a (replicate 4 (all_or_none b))) lane ≡ cond b (not (bit_in a lane)) (bit_in a lane)
+    → lane_bit (zip2 bit_xor a (replicate 4 (all_or_none b))) lane ≡ cond b (not (lane_bit a lane)) (lane_bit a lane)
 bit_in-flipped a b lane lt le =
     let word = lane / 64 in
     let i = lane % 64 in
@@ -57,13 +57,13 @@ bit_in-flipped a b lane lt le =
 -- the words of a literal
 pub bit_in-read : (values : List (List ℕ)) (wire : Wire) {m : ℕ} (lane : ℕ) → lane < 256 → wire.place < length values →
     length (get_or values wire.place []) ≡ 4 → m ≡ all_or_none wire.is_negated →
-    bit_in (zip2 bit_xor (get_or values wire.place []) (replicate 4 m)) lane ≡ read (lane_of values lane) wire
+    lane_bit (zip2 bit_xor (get_or values wire.place []) (replicate 4 m)) lane ≡ read (lane_of values lane) wire
 bit_in-read values wire lane lt place four e = search (rules, bit_in-flipped, get_or-map)
 
 -- the evaluation of one row in all lanes
 pub worked_on : (rows : List Row) (values initial : List (List ℕ)) (a b : List ℕ) (k lane : ℕ) → lane < 256 →
-    k < length rows → length a ≡ 4 → length b ≡ 4 → bit_in a lane ≡ read (lane_of values lane)
-    (get_or rows k no_row).first → bit_in b lane ≡ read (lane_of values lane) (get_or rows k no_row).second →
+    k < length rows → length a ≡ 4 → length b ≡ 4 → lane_bit a lane ≡ read (lane_of values lane)
+    (get_or rows k no_row).first → lane_bit b lane ≡ read (lane_of values lane) (get_or rows k no_row).second →
     work_out (drop k rows) (lane_of values lane) ≡ work_out rows (lane_of initial lane) →
     work_out (drop (k + 1) rows) (lane_of (slice_set values (get_or rows k no_row).target (zip2 bit_and a b)) lane) ≡
     work_out rows (lane_of initial lane)
@@ -72,12 +72,12 @@ worked_on rows values initial a b k lane less lt la lb first second before =
 
 -- the values of the first literals, and of one more literal
 pub read_on : (literals : List ℕ) (values table : List (List ℕ)) (words : List ℕ) (k lane : ℕ) → k < length literals →
-    k < length table → bit_in words lane ≡ read (lane_of values lane) (wire_in (get_or literals k 0)) →
+    k < length table → lane_bit words lane ≡ read (lane_of values lane) (wire_in (get_or literals k 0)) →
     take k (lane_of table lane) ≡ map (λ l. read (lane_of values lane) (wire_in l)) (take k literals) →
     take (k + 1) (lane_of (slice_set table k words) lane) ≡ map (λ l. read (lane_of values lane) (wire_in l))
     (take (k + 1) literals)
 read_on literals values table words k lane lt room here before =
-    let f : List ℕ → Bool = λ ws. bit_in ws lane in
+    let f : List ℕ → Bool = λ ws. lane_bit ws lane in
     let bit : ℕ → Bool = λ l. read (lane_of values lane) (wire_in l) in
     grind (
       arith,
@@ -96,7 +96,7 @@ pub reset_on : (latches : List Latch) (words : List (List ℕ)) {more : List (Li
     lane_of words lane ≡ map (λ (l : Latch). l.reset) (take k latches) →
     lane_of more lane ≡ map (λ (l : Latch). l.reset) (take (k + 1) latches)
 reset_on latches words {m} k lane lt room is grown before =
-    let f : List ℕ → Bool = λ ws. bit_in ws lane in
+    let f : List ℕ → Bool = λ ws. lane_bit ws lane in
     let reset : Latch → Bool = λ l. l.reset in
     grind (
       arith,
@@ -112,7 +112,7 @@ pub same_lane : (xs ys : List (List ℕ)) (p q lane : ℕ) → p < length xs →
 same_lane xs ys p q lane hp hq e = search (rules, get_or-map)
 
 pub length-lane : (xs : List (List ℕ)) (lane : ℕ) → length (lane_of xs lane) ≡ length xs
-length-lane xs lane = let f : List ℕ → Bool = λ ws. bit_in ws lane in length-map xs f
+length-lane xs lane = let f : List ℕ → Bool = λ ws. lane_bit ws lane in length-map xs f
 
 -- the lowest bit after a shift
 pub latch_is : (rows : List (List ℕ)) {words : List ℕ} (number lane : ℕ) → number < length rows →

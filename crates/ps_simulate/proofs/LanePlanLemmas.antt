@@ -13,8 +13,8 @@ use Rattle.ps_circuit.specs.Circuits.{CircuitData, IsCircuit}
 use Rattle.ps_simulate.specs.declared.plan.Wire.{Wire}
 use Rattle.ps_simulate.specs.declared.plan.Row.{Row}
 use Rattle.ps_simulate.specs.declared.lane_plan.Operands.{Operands}
-use Rattle.ps_simulate.specs.Lanes.{bit_in, lane_of}
-use Rattle.ps_simulate.specs.Plans.{variables, read, work_out, AreRows, IsWithin}
+use Rattle.ps_simulate.specs.Lanes.{lane_bit, lane_of}
+use Rattle.ps_simulate.specs.Plans.{variables, read, work_out, AreGateRows, IsRowInTable}
 use Rattle.ps_simulate.specs.LanePlans.{wire_in, rows_from, moved, move_wire, move_row, AreKept, AreInOrder, AreOnce}
 use Rattle.ps_simulate.specs.LanePlans.{IsGateRow, AreMoved}
 use Rattle.ps_simulate.proofs.CountLemmas.{few_below}
@@ -22,7 +22,7 @@ use Rattle.ps_simulate.proofs.LaneLemmas.{worked_on}
 use Rattle.ps_simulate.proofs.PlacesLemmas.{variables_once, variables_at}
 use Rattle.ps_simulate.proofs.RowLemmas.{length-variables, gate_within, length-rows, row_of_gate, target_is}
 use Rattle.ps_simulate.proofs.RowLemmas.{IsScheduled-rows}
-use Rattle.ps_simulate.specs.NeededGates.{row, no_row}
+use Rattle.ps_simulate.specs.NeededGates.{numbered_row, no_row}
 
 module _ {c : CircuitData} (is : IsCircuit c) where
   -- each variable of a circuit is at most the circuit's greatest variable
@@ -34,7 +34,7 @@ module _ {c : CircuitData} (is : IsCircuit c) where
       let le : length (variables c) ≤ c.most + 1 = search (rules, few_below, variables_below, variables_once) in
       omega (arith, is.draft.limit)
 
-  module _ (rows : List Row) (are : AreRows c rows) where
+  module _ (rows : List Row) (are : AreGateRows c rows) where
     abbrev pub front : ℕ
     front = 1 + length c.inputs + length c.latches
 
@@ -42,7 +42,7 @@ module _ {c : CircuitData} (is : IsCircuit c) where
     pub few_rows : length rows ≤ length c.gates
     few_rows = grind (arith, few_below, slice_get-get_or, length-rows is are)
 
-    pub gate_row : (k : ℕ) → k < length rows → IsGateRow front (length (variables c)) (row rows k)
+    pub gate_row : (k : ℕ) → k < length rows → IsGateRow front (length (variables c)) (numbered_row rows k)
     gate_row k lt = grind (arith, target_is is are k lt, gate_within is are k lt, length-variables c)
 
     pub gate_rows : All (IsGateRow front (length (variables c))) rows
@@ -51,11 +51,12 @@ module _ {c : CircuitData} (is : IsCircuit c) where
     pub rows_once : AreOnce rows
     rows_once k l d lt within e = grind (arith, IsScheduled-rows is are, at k (omega arith), at l within)
       where
-        at : (k : ℕ) → k < length rows → (row rows k).target ≡ (get_or rows k d).target
+        at : (k : ℕ) → k < length rows → (numbered_row rows k).target ≡ (get_or rows k d).target
         at k lt = ap (λ (r : Row). r.target) (get_or_default rows k no_row d lt)
 
     -- each index of the table is either before the gates, or the index of a row
-    whose : (p : ℕ) → p < length (variables c) → (p < front) ⊎ ((k : ℕ) × (k < length rows) × (p ≡ (row rows k).target))
+    whose : (p : ℕ) → p < length (variables c) →
+        (p < front) ⊎ ((k : ℕ) × (k < length rows) × (p ≡ (numbered_row rows k).target))
     whose p lt = elim (cases_lt p front) [
       | inl less ↦ inl less
       | inr behind ↦ (let there = row_of_gate is are (p - front) (omega (arith, length-variables c)) in
@@ -64,7 +65,7 @@ module _ {c : CircuitData} (is : IsCircuit c) where
 
     module _ (places : List ℕ) (each : length places ≡ length (variables c)) (kept : AreKept front places)
         (in_order : AreInOrder front places rows) where
-      goes : {p : ℕ} (k : ℕ) → k < length rows → p ≡ (row rows k).target → moved places p ≡ front + k
+      goes : {p : ℕ} (k : ℕ) → k < length rows → p ≡ (numbered_row rows k).target → moved places p ≡ front + k
       goes k lt e = ap (moved places) e ∙ in_order k no_row lt
 
       within_table : (p : ℕ) → p < length (variables c) → moved places p < length (variables c)
@@ -168,8 +169,8 @@ module _ (rows : List Row) (places : List ℕ) (front : ℕ) {size : ℕ} (n : �
 -- the evaluation of one gate in all lanes
 pub gate_on : (front : ℕ) (gates : List Operands) (values initial : List (List ℕ)) (a b : List ℕ) (k lane : ℕ) →
     lane < 256 → k < length gates → length a ≡ 4 → length b ≡ 4
-    → bit_in a lane ≡ read (lane_of values lane) (wire_in (get_or gates k no_operands).first) →
-    bit_in b lane ≡ read (lane_of values lane) (wire_in (get_or gates k no_operands).second)
+    → lane_bit a lane ≡ read (lane_of values lane) (wire_in (get_or gates k no_operands).first) →
+    lane_bit b lane ≡ read (lane_of values lane) (wire_in (get_or gates k no_operands).second)
     → work_out (drop k (rows_from front gates)) (lane_of values lane) ≡ work_out (rows_from front gates)
     (lane_of initial lane)
     → work_out (drop (k + 1) (rows_from front gates)) (lane_of (slice_set values (front + k) (zip2 bit_and a b)) lane) ≡
@@ -182,7 +183,7 @@ gate_on front gates values initial a b k lane less lt la lb first second before 
 
 -- the literals of a gate have indices within the table
 pub gate_fits : (front size : ℕ) (gates : List Operands) (k : ℕ) → k < length gates →
-    All (IsWithin size) (rows_from front gates)
+    All (IsRowInTable size) (rows_from front gates)
     → ((get_or gates k no_operands).first / 2 < size) × ((get_or gates k no_operands).second / 2 < size)
 gate_fits front size gates k lt within = grind (arith, length-rows_from front gates, rows_from_at front gates k lt)
 

@@ -10,16 +10,16 @@ use Rattle.ps_circuit.specs.Values.{Steps, resets}
 use Rattle.ps_simulate.specs.declared.plan.Wire.{Wire}
 use Rattle.ps_simulate.specs.declared.plan.Plan.{Plan}
 use Rattle.ps_simulate.specs.declared.lane_plan.LanePlan.{LanePlan}
-use Rattle.ps_simulate.specs.Plans.{IsWithin, IsWorkedOut, variables, read}
+use Rattle.ps_simulate.specs.Plans.{IsRowInTable, IsWorkedOut, variables, read}
 use Rattle.ps_simulate.specs.LanePlans.{wire_in, rows_from, move_wire, move_row, unmoved, AreMoved, IsLanePlan}
-use Rattle.ps_simulate.specs.Lanes.{AreTables, lane_of}
-use Rattle.ps_simulate.specs.Tables.{IsTable}
+use Rattle.ps_simulate.specs.Lanes.{AreLaneTables, lane_of}
+use Rattle.ps_simulate.specs.Tables.{IsValueTable}
 use Rattle.ps_simulate.proofs.LaneLemmas.{length-lane, bit_in-mask}
 use Rattle.ps_simulate.proofs.LanePlanLemmas.{few_rows, gates_end}
 use Rattle.ps_simulate.proofs.MoveLemmas.{IsWorkedOut-unmoved, reads-unmoved, unmoved_at}
 use Rattle.ps_simulate.proofs.RowLemmas.{length-variables}
 use Rattle.ps_simulate.proofs.StepLemmas.{rows_within, outputs_within, nexts_within, Steps-worked_out}
-use Rattle.ps_simulate.proofs.StepLemmas.{IsTable-worked_out}
+use Rattle.ps_simulate.proofs.StepLemmas.{IsValueTable-worked_out}
 use Rattle.ps_simulate.specs.NeededGates.{no_wire}
 
 -- literals that represent renumbered wires have indices within the table
@@ -34,8 +34,8 @@ literals_within {size} {places} literals wires are e within k d lt =
       get_or-map (move_wire places) wires k no_wire no_wire (omega arith),
     )
 
-module _ {c : CircuitData} {p : LanePlan} {values latches : List (List ℕ)} (t : AreTables c p values latches) where
-  first_table : IsTable c t.plan (unmoved t.places (lane_of values 0)) (lane_of latches 0)
+module _ {c : CircuitData} {p : LanePlan} {values latches : List (List ℕ)} (t : AreLaneTables c p values latches) where
+  first_table : IsValueTable c t.plan (unmoved t.places (lane_of values 0)) (lane_of latches 0)
   first_table = t.tables 0 (omega arith)
 
   pub size_is : p.size ≡ length (variables c)
@@ -48,7 +48,7 @@ module _ {c : CircuitData} {p : LanePlan} {values latches : List (List ℕ)} (t 
   pub latches_many : length latches ≡ length c.latches
   latches_many = sym (length-lane latches 0) ∙ first_table.latches_each
 
-  plan_rows : All (IsWithin p.size) t.plan.rows.items
+  plan_rows : All (IsRowInTable p.size) t.plan.rows.items
   plan_rows = rw size_is (rows_within first_table.is_circuit t.is_lane_plan.is_plan)
 
   plan_outputs : All (λ w. w.place < p.size) t.plan.outputs.items
@@ -57,10 +57,10 @@ module _ {c : CircuitData} {p : LanePlan} {values latches : List (List ℕ)} (t 
   plan_nexts : All (λ w. w.place < p.size) t.plan.nexts.items
   plan_nexts = rw size_is (nexts_within first_table.is_circuit t.is_lane_plan.is_plan)
 
-  pub gates_within : All (IsWithin p.size) (rows_from p.front p.gates.items)
+  pub gates_within : All (IsRowInTable p.size) (rows_from p.front p.gates.items)
   gates_within =
       let are = t.is_lane_plan.are_moved in
-      rw t.is_lane_plan.gates_are (All-map (IsWithin p.size) (move_row t.places) t.plan.rows.items (λ k d lt.
+      rw t.is_lane_plan.gates_are (All-map (IsRowInTable p.size) (move_row t.places) t.plan.rows.items (λ k d lt.
       grind (arith, plan_rows)))
 
   pub outputs_in_table : All (λ literal. literal / 2 < p.size) p.outputs.items
@@ -112,17 +112,17 @@ module _ {c : CircuitData} {p : LanePlan} {values latches : List (List ℕ)} (t 
         (outputs_are ∙ reads p.outputs.items t.plan.outputs.items t.is_lane_plan.outputs_are plan_outputs)
         (next_are ∙ reads p.nexts.items t.plan.nexts.items t.is_lane_plan.nexts_are plan_nexts)
 
-    pub IsTable-lane : (next : List (List ℕ)) → length next ≡ length c.latches →
-        IsTable c t.plan table (lane_of next lane)
-    IsTable-lane next each =
-        IsTable-worked_out (lane_of next lane) (t.tables lane lt) in_plan (length-lane next lane ∙ each)
+    pub IsValueTable-lane : (next : List (List ℕ)) → length next ≡ length c.latches →
+        IsValueTable c t.plan table (lane_of next lane)
+    IsValueTable-lane next each =
+        IsValueTable-worked_out (lane_of next lane) (t.tables lane lt) in_plan (length-lane next lane ∙ each)
 
 -- tables of zeros
-pub AreTables-zeros : {c : CircuitData} → IsCircuit c → {p : LanePlan} {plan : Plan} {places : List ℕ} →
+pub AreLaneTables-zeros : {c : CircuitData} → IsCircuit c → {p : LanePlan} {plan : Plan} {places : List ℕ} →
     IsLanePlan c plan places p → {values : List (List ℕ)} (latches : List (List ℕ))
     → values ≡ replicate p.size (replicate 4 0) → ((lane : ℕ) → lane < 256 → lane_of latches lane ≡ resets c) →
-    AreTables c p values latches
-AreTables-zeros {c} is {p} {plan} {places} is_lane_plan {values} latches zeros first = record {
+    AreLaneTables c p values latches
+AreLaneTables-zeros {c} is {p} {plan} {places} is_lane_plan {values} latches zeros first = record {
   plan = plan;
   places = places;
   is_lane_plan = is_lane_plan;

@@ -23,6 +23,7 @@ use Rattle.std.proofs.Math.Bool.{or-false}
 
 -- ## Traces
 
+-- two runs of a circuit, of which one continues the other, form one run
 pub GoesOn-append : (c : CircuitData) (from between to : List Bool) (xs ys : List Moment) → GoesOn c from xs between →
     GoesOn c between ys to → GoesOn c from (xs ++ ys) to
 GoesOn-append c from between to [] ys on rest = rw on rest
@@ -35,12 +36,14 @@ AreLetters-append names c [] ys us vs a b = rw a b
 AreLetters-append names c (m ∷ ms) ys [] vs a b = absurd a
 AreLetters-append names c (m ∷ ms) ys (u ∷ us) vs a b = (a.0, AreLetters-append names c ms ys us vs a.1 b)
 
+-- there is one letter for each moment
 pub length_letters : (names : List (List ℕ)) (c : CircuitData) (ms : List Moment) (ls : List ℕ) →
     AreLetters names c ms ls → length ls ≡ length ms
 length_letters names c [] ls a = ap length a
 length_letters names c (m ∷ ms) [] a = absurd a
 length_letters names c (m ∷ ms) (u ∷ us) a = ap suc (length_letters names c ms us a.1)
 
+-- each letter has only the propositions that have names
 pub few_letters : (names : List (List ℕ)) (c : CircuitData) (ms : List Moment) (ls : List ℕ) →
     AreLetters names c ms ls → (k d : ℕ) → k < length ls → get_or ls k d < 2 ^ length names
 few_letters names c [] ls a k d lt = absurd (let e : length ls ≡ 0 = ap length a in omega arith)

@@ -6,7 +6,7 @@ use Rattle.std.proofs.lemmas.Bool.{cases_eq}
 use Rattle.std.proofs.lemmas.List.{length-map, get_or-map, ext_get_or}
 use Rattle.ps_simulate.specs.declared.plan.Wire.{Wire}
 use Rattle.ps_simulate.specs.declared.plan.Row.{Row}
-use Rattle.ps_simulate.specs.Plans.{IsWithin, IsWorkedOut, read, work_row, work_out}
+use Rattle.ps_simulate.specs.Plans.{IsRowInTable, IsWorkedOut, read, work_row, work_out}
 use Rattle.ps_simulate.specs.LanePlans.{moved, move_wire, move_row, unmoved, AreMoved}
 
 length-unmoved : (places : List ℕ) (values : List Bool) → length (unmoved places values) ≡ length places
@@ -39,18 +39,18 @@ module _ {size front : ℕ} {places : List ℕ} (are : AreMoved size front place
           (slice_set (unmoved places values) t x) k false
       at k less = search (rules, cases_eq, unmoved_at, length-unmoved)
 
-  pub work_out-unmoved : (rows : List Row) (values : List Bool) → length values ≡ size → All (IsWithin size) rows
+  pub work_out-unmoved : (rows : List Row) (values : List Bool) → length values ≡ size → All (IsRowInTable size) rows
       → unmoved places (work_out (map (move_row places) rows) values) ≡ work_out rows (unmoved places values)
   work_out-unmoved [] values many within = refl
   work_out-unmoved (r ∷ rows) values many within =
-      let here : IsWithin size r = within 0 r (omega arith) in
+      let here : IsRowInTable size r = within 0 r (omega arith) in
       let next = work_row values (move_row places r) in
       work_out-unmoved rows next (grind (arith, length-set)) (λ k d lt. within (suc k) d (omega arith))
       ∙ ap (work_out rows) (grind (arith, unmoved-set, read-unmoved))
 
   -- evaluating the renumbered rows gives the same values as evaluating the original rows
   pub IsWorkedOut-unmoved : (rows : List Row) {moved_rows : List Row} {inputs latches values : List Bool} →
-      moved_rows ≡ map (move_row places) rows → All (IsWithin size) rows
+      moved_rows ≡ map (move_row places) rows → All (IsRowInTable size) rows
       → 1 + length inputs + length latches ≤ front → front ≤ size → IsWorkedOut moved_rows inputs latches size values →
       IsWorkedOut rows inputs latches size (unmoved places values)
   IsWorkedOut-unmoved rows {inputs} e within room fit worked =

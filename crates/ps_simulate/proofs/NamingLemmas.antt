@@ -38,6 +38,7 @@ names_differ (x ∷ xs) all zero (suc q) lp lq e = absurd (not_among xs x q (ome
 names_differ (x ∷ xs) all (suc p) zero lp lq e = absurd (not_among xs x p (omega arith) all.1 e)
 names_differ (x ∷ xs) all (suc p) (suc q) lp lq e = ap suc (names_differ xs all.2 p q (omega arith) (omega arith) e)
 
+-- equal options hold equal values
 pub some_same : {X : Type 0} (x y : X) → Some x ≡ Some y → x ≡ y
 some_same x y e = cc
 

@@ -1,5 +1,6 @@
 -- A step may leave out the rows that are not needed.
-use Rattle.std.proofs.Common.{◌≡◌, ◌≢◌, ℕ, suc, ◌<◌, ◌≤◌, ◌⊎◌, ◌&&◌, inl, inr, Bool, true, false, List, [], ◌∷◌, map, length}
+use Rattle.std.proofs.Common.{◌≡◌, ◌≢◌, ℕ, suc, ◌<◌, ◌≤◌, ◌⊎◌, ◌&&◌, inl, inr, Bool, true, false, List, [], ◌∷◌, map}
+use Rattle.std.proofs.Common.{length}
 use Rattle.std.proofs.Common.{get_or, refl, sym, subst, ap, ap₂, ◌∙◌, arith, All, rules, length-set, get_or-set_same}
 use Rattle.std.proofs.Common.{get_or-set_other}
 use Rattle.std.specs.Prelude.{slice_set}
@@ -10,10 +11,11 @@ use Rattle.ps_circuit.specs.Values.{Steps}
 use Rattle.ps_simulate.specs.declared.plan.Wire.{Wire}
 use Rattle.ps_simulate.specs.declared.plan.Row.{Row}
 use Rattle.ps_simulate.specs.declared.plan.Plan.{Plan}
-use Rattle.ps_simulate.specs.NeededGates.{AreNeeded, IsCut, IsScheduled, Needs, NeedsWhatItReads, NeedsWire, needed_rows}
-use Rattle.ps_simulate.specs.NeededGates.{no_row, row}
-use Rattle.ps_simulate.specs.Plans.{IsPlan, IsWithin, IsWorkedOut, read, variables, work_out, work_row}
-use Rattle.ps_simulate.specs.Tables.{IsTable}
+use Rattle.ps_simulate.specs.NeededGates.{AreNeeded, IsPlanOfNeeded, IsScheduled, Needs, NeedsWhatItReads, NeedsWire}
+use Rattle.ps_simulate.specs.NeededGates.{needed_rows}
+use Rattle.ps_simulate.specs.NeededGates.{no_row, numbered_row}
+use Rattle.ps_simulate.specs.Plans.{IsPlan, IsRowInTable, IsWorkedOut, read, variables, work_out, work_row}
+use Rattle.ps_simulate.specs.Tables.{IsValueTable}
 use Rattle.ps_simulate.proofs.StepLemmas.{Steps-worked_out, nexts_within, outputs_within, rows_within}
 use Rattle.ps_simulate.proofs.RowLemmas.{target_is}
 use Rattle.ps_simulate.proofs.WorkLemmas.{length-work_out, read-same, work_out-other}
@@ -36,44 +38,49 @@ needs_less needed q p n = elim (cases_eq p q) [
 abbrev pub with_sides : List Bool → Row → List Bool
 with_sides needed r = slice_set (slice_set needed r.first.place true) r.second.place true
 
-pub needs_sides : (needed : List Bool) (r : Row) → IsWithin (length needed) r → (p : ℕ) → Needs needed p →
+pub needs_sides : (needed : List Bool) (r : Row) → IsRowInTable (length needed) r → (p : ℕ) → Needs needed p →
     Needs (with_sides needed r) p
 needs_sides needed r within p h = needs_more (slice_set needed r.first.place true) r.second.place p
     (omega (arith, length-set needed r.first.place true, within.second))
     (needs_more needed r.first.place p within.first h)
 
 module _ {rows : List Row} (is : IsScheduled rows) (needed : List Bool) (n : ℕ) (lt : n < length rows)
-    (within : IsWithin (length needed) (row rows n)) where
+    (within : IsRowInTable (length needed) (numbered_row rows n)) where
   -- no row reads the target of a later row
-  needed_before : (k : ℕ) → n ≤ k → k < length rows → Needs (with_sides needed (row rows n)) (row rows k).target →
-      Needs needed (row rows k).target
+  needed_before : (k : ℕ) → n ≤ k → k < length rows →
+      Needs (with_sides needed (numbered_row rows n)) (numbered_row rows k).target →
+      Needs needed (numbered_row rows k).target
   needed_before k le less h =
-      elim (needs_less (slice_set needed (row rows n).first.place true) (row rows n).second.place (row rows k).target h) [
+      elim (needs_less (slice_set needed (numbered_row rows n).first.place true) (numbered_row rows n).second.place
+      (numbered_row rows k).target h) [
         | inr same ↦ absurd (let before = is.second_behind n k lt less (sym same) in omega arith)
-        | inl there ↦ elim (needs_less needed (row rows n).first.place (row rows k).target there) [
+        | inl there ↦ elim (needs_less needed (numbered_row rows n).first.place (numbered_row rows k).target there) [
           | inr same ↦ absurd (let before = is.first_behind n k lt less (sym same) in omega arith)
           | inl before ↦ before
         ]
       ]
 
-  sides_needed : NeedsWhatItReads (with_sides needed (row rows n)) (row rows n)
+  sides_needed : NeedsWhatItReads (with_sides needed (numbered_row rows n)) (numbered_row rows n)
   sides_needed = record {
-    first = λ h. needs_more (slice_set needed (row rows n).first.place true) (row rows n).second.place
-        (row rows n).first.place (omega (arith, length-set needed (row rows n).first.place true, within.second))
-        (get_or-set_same needed (row rows n).first.place true false within.first);
-    second = λ h. get_or-set_same (slice_set needed (row rows n).first.place true) (row rows n).second.place true false
-        (omega (arith, length-set needed (row rows n).first.place true, within.second));
+    first = λ h. needs_more (slice_set needed (numbered_row rows n).first.place true) (numbered_row rows n).second.place
+        (numbered_row rows n).first.place
+        (omega (arith, length-set needed (numbered_row rows n).first.place true, within.second))
+        (get_or-set_same needed (numbered_row rows n).first.place true false within.first);
+    second = λ h. get_or-set_same (slice_set needed (numbered_row rows n).first.place true)
+        (numbered_row rows n).second.place true false
+        (omega (arith, length-set needed (numbered_row rows n).first.place true, within.second));
   }
 
-  pub reads_more : ((k : ℕ) → n < k → k < length rows → NeedsWhatItReads needed (row rows k)) → (k : ℕ) → n ≤ k →
-      k < length rows → NeedsWhatItReads (with_sides needed (row rows n)) (row rows k)
+  pub reads_more : ((k : ℕ) → n < k → k < length rows → NeedsWhatItReads needed (numbered_row rows k)) → (k : ℕ) →
+      n ≤ k →
+      k < length rows → NeedsWhatItReads (with_sides needed (numbered_row rows n)) (numbered_row rows k)
   reads_more behind k le less = elim (cases_lt n k) [
     | inl more ↦ (let there = behind k more less in record {
-      first = λ h. needs_sides needed (row rows n) within _ (there.first (needed_before k le less h));
-      second = λ h. needs_sides needed (row rows n) within _ (there.second (needed_before k le less h));
+      first = λ h. needs_sides needed (numbered_row rows n) within _ (there.first (needed_before k le less h));
+      second = λ h. needs_sides needed (numbered_row rows n) within _ (there.second (needed_before k le less h));
     })
     | inr ge ↦ (let same : n ≡ k = omega arith in
-        subst (λ j. NeedsWhatItReads (with_sides needed (row rows n)) (row rows j)) same sides_needed)
+        subst (λ j. NeedsWhatItReads (with_sides needed (numbered_row rows n)) (numbered_row rows j)) same sides_needed)
   ]
 
 -- ---- leaving out rows
@@ -97,7 +104,7 @@ module _ (needed : List Bool) (size : ℕ) where
     | inr differ ↦ agree p n ∙ sym (get_or-set_other b q p y false differ)
   ]
 
-  pub work_out-needed : (rows : List Row) (a b : List Bool) → All (IsWithin size) rows →
+  pub work_out-needed : (rows : List Row) (a b : List Bool) → All (IsRowInTable size) rows →
       All (NeedsWhatItReads needed) rows → length a ≡ size → length b ≡ size → Agree needed a b →
       Agree needed (work_out (needed_rows needed rows) a) (work_out rows b)
   work_out-needed [] a b within reads la lb agree = agree
@@ -109,7 +116,8 @@ module _ (needed : List Bool) (size : ℕ) where
         (λ k d lt. reads (suc k) d (omega arith)) (length-set a r.target _ ∙ la) (length-set b r.target _ ∙ lb)
         (set_both a b r.target _ _ la lb (within 0 r (omega arith)).target (ap₂ ◌&&◌ x y) agree)))
     | inr needless ↦ rw needless (work_out-needed rows a (work_row b r) (λ k d lt. within (suc k) d (omega arith))
-        (λ k d lt. reads (suc k) d (omega arith)) la (length-set b r.target _ ∙ lb) (set_one a b r.target _ needless agree))
+        (λ k d lt. reads (suc k) d (omega arith)) la (length-set b r.target _ ∙ lb)
+        (set_one a b r.target _ needless agree))
   ]
 
   pub reads-needed : (wires : List Wire) (a b : List Bool) → All (NeedsWire needed) wires → Agree needed a b →
@@ -120,50 +128,54 @@ module _ (needed : List Bool) (size : ℕ) where
 
 -- ---- the remaining plan
 
-module _ {c : CircuitData} (is : IsCircuit c) {whole cut : Plan} (p : IsPlan c whole) (left : IsCut whole cut) where
-  pub cut_within : All (IsWithin (length (variables c))) cut.rows.items
-  cut_within = rw left.rows_are (All-filter (λ r. get_or left.needed r.target false) (IsWithin (length (variables c)))
-      whole.rows.items (rows_within is p))
+module _ {c : CircuitData} (is : IsCircuit c) {whole cut : Plan} (p : IsPlan c whole) (left : IsPlanOfNeeded whole cut)
+  where
+    pub cut_within : All (IsRowInTable (length (variables c))) cut.rows.items
+    cut_within =
+        rw left.rows_are (All-filter (λ r. get_or left.needed r.target false) (IsRowInTable (length (variables c)))
+        whole.rows.items (rows_within is p))
 
-  pub cut_outputs_within : All (λ w. w.place < length (variables c)) cut.outputs.items
-  cut_outputs_within = rw left.outputs_are (outputs_within is p)
+    pub cut_outputs_within : All (λ w. w.place < length (variables c)) cut.outputs.items
+    cut_outputs_within = rw left.outputs_are (outputs_within is p)
 
-  pub cut_nexts_within : All (λ w. w.place < length (variables c)) cut.nexts.items
-  cut_nexts_within = rw left.nexts_are (nexts_within is p)
+    pub cut_nexts_within : All (λ w. w.place < length (variables c)) cut.nexts.items
+    cut_nexts_within = rw left.nexts_are (nexts_within is p)
 
-  no_constant : All (λ (r : Row). r.target ≢ 0) cut.rows.items
-  no_constant = rw left.rows_are (All-filter (λ r. get_or left.needed r.target false) (λ (r : Row). r.target ≢ 0)
-      whole.rows.items (All-from_get_or (λ (r : Row). r.target ≢ 0) whole.rows.items no_row
-      (λ k lt e. absurd (omega (arith, target_is is p.rows_are k lt, e)))))
+    no_constant : All (λ (r : Row). r.target ≢ 0) cut.rows.items
+    no_constant = rw left.rows_are (All-filter (λ r. get_or left.needed r.target false) (λ (r : Row). r.target ≢ 0)
+        whole.rows.items (All-from_get_or (λ (r : Row). r.target ≢ 0) whole.rows.items no_row
+        (λ k lt e. absurd (omega (arith, target_is is p.rows_are k lt, e)))))
 
-  module _ {inputs latches values : List Bool}
-      (worked : IsWorkedOut cut.rows.items inputs latches (length (variables c)) values) where
-    abbrev all : List Bool
-    all = work_out whole.rows.items worked.table
+    module _ {inputs latches values : List Bool}
+        (worked : IsWorkedOut cut.rows.items inputs latches (length (variables c)) values) where
+      abbrev all : List Bool
+      all = work_out whole.rows.items worked.table
 
-    all_worked : IsWorkedOut whole.rows.items inputs latches (length (variables c)) all
-    all_worked = record { table = worked.table; each = worked.each; holds = worked.holds; done = refl }
+      all_worked : IsWorkedOut whole.rows.items inputs latches (length (variables c)) all
+      all_worked = record { table = worked.table; each = worked.each; holds = worked.holds; done = refl }
 
-    agree : Agree left.needed values all
-    agree = rw (worked.done, left.rows_are) (work_out-needed left.needed (length (variables c)) whole.rows.items
-        worked.table worked.table (rows_within is p) left.are_needed.by_rows worked.each worked.each (λ q n. refl))
+      agree : Agree left.needed values all
+      agree = rw (worked.done, left.rows_are) (work_out-needed left.needed (length (variables c)) whole.rows.items
+          worked.table worked.table (rows_within is p) left.are_needed.by_rows worked.each worked.each (λ q n. refl))
 
-    pub Steps-cut : {outputs next : List Bool} → length inputs ≡ length c.inputs → length latches ≡ length c.latches →
-        outputs ≡ map (read values) cut.outputs.items → next ≡ map (read values) cut.nexts.items →
-        Steps c latches inputs outputs next
-    Steps-cut many_inputs many_latches outputs_are next_are = Steps-worked_out is p many_inputs many_latches all_worked
-        (outputs_are ∙ ap (map (read values)) left.outputs_are
-        ∙ reads-needed left.needed (length (variables c)) whole.outputs.items values all left.are_needed.by_outputs agree)
-        (next_are ∙ ap (map (read values)) left.nexts_are
-        ∙ reads-needed left.needed (length (variables c)) whole.nexts.items values all left.are_needed.by_nexts agree)
+      pub Steps-cut : {outputs next : List Bool} → length inputs ≡ length c.inputs → length latches ≡ length c.latches →
+          outputs ≡ map (read values) cut.outputs.items → next ≡ map (read values) cut.nexts.items →
+          Steps c latches inputs outputs next
+      Steps-cut many_inputs many_latches outputs_are next_are =
+          Steps-worked_out is p many_inputs many_latches all_worked
+          (outputs_are ∙ ap (map (read values)) left.outputs_are
+          ∙ reads-needed left.needed (length (variables c)) whole.outputs.items values all left.are_needed.by_outputs
+          agree)
+          (next_are ∙ ap (map (read values)) left.nexts_are
+          ∙ reads-needed left.needed (length (variables c)) whole.nexts.items values all left.are_needed.by_nexts agree)
 
-    pub IsTable-cut : {old : List Bool} (next : List Bool) → IsTable c whole old latches →
-        length next ≡ length c.latches → IsTable c whole values next
-    IsTable-cut next t each = record {
-      is_circuit = is;
-      is_plan = p;
-      values_each = ap length worked.done ∙ length-work_out cut.rows.items worked.table ∙ worked.each;
-      constant = ap (λ (xs : List Bool). get_or xs 0 false) worked.done
-          ∙ work_out-other cut.rows.items worked.table 0 (λ k lt. no_constant k no_row lt) ∙ worked.holds.constant;
-      latches_each = each;
-    }
+      pub IsValueTable-cut : {old : List Bool} (next : List Bool) → IsValueTable c whole old latches →
+          length next ≡ length c.latches → IsValueTable c whole values next
+      IsValueTable-cut next t each = record {
+        is_circuit = is;
+        is_plan = p;
+        values_each = ap length worked.done ∙ length-work_out cut.rows.items worked.table ∙ worked.each;
+        constant = ap (λ (xs : List Bool). get_or xs 0 false) worked.done
+            ∙ work_out-other cut.rows.items worked.table 0 (λ k lt. no_constant k no_row lt) ∙ worked.holds.constant;
+        latches_each = each;
+      }

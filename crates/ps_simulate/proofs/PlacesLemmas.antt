@@ -10,7 +10,7 @@ use Rattle.ps_circuit.specs.declared.parts.Latch.{Latch}
 use Rattle.ps_circuit.specs.declared.parts.Gate.{Gate}
 use Rattle.ps_circuit.specs.Circuits.{CircuitData, IsCircuit, IsKnown, definitions, readings}
 use Rattle.ps_circuit.specs.Literals.{variable}
-use Rattle.ps_simulate.specs.Plans.{variables, place_of}
+use Rattle.ps_simulate.specs.Plans.{variables, place_of_variable}
 
 module _ {c : CircuitData} (is : IsCircuit c) where
   pub variables_at : (k d : ℕ) → k < length (definitions c) →
@@ -24,19 +24,19 @@ module _ {c : CircuitData} (is : IsCircuit c) where
   pub variables_once : AllPairs (λ v w. v ≢ w) (variables c)
   variables_once = search (rules, many, variables_at)
 
-  pub place_of-at : (k : ℕ) → k < length (variables c) → place_of c (get_or (variables c) k 0) ≡ k
+  pub place_of-at : (k : ℕ) → k < length (variables c) → place_of_variable c (get_or (variables c) k 0) ≡ k
   place_of-at k lt = position_or_len_is (λ w. nat_eq w (get_or (variables c) k 0)) (variables c) k 0 (omega arith)
       (λ j less. ne_eqb _ _ (λ e. variables_once j k 0 less lt e)) (λ _. eq-eqb _ _ refl)
 
   known_at : (literal k : ℕ) → k < length (variables c) → get_or (variables c) k 0 ≡ variable literal
-      → (place_of c (variable literal) < length (variables c)) ×
-      (get_or (variables c) (place_of c (variable literal)) 0 ≡ variable literal)
+      → (place_of_variable c (variable literal) < length (variables c)) ×
+      (get_or (variables c) (place_of_variable c (variable literal)) 0 ≡ variable literal)
   known_at literal k lt e = search (rules, place_of-at)
 
   -- a literal whose variable is 0 or defined has an index
   pub place_known : (literal : ℕ) → IsKnown (definitions c) literal
-      → (place_of c (variable literal) < length (variables c)) ×
-      (get_or (variables c) (place_of c (variable literal)) 0 ≡ variable literal)
+      → (place_of_variable c (variable literal) < length (variables c)) ×
+      (get_or (variables c) (place_of_variable c (variable literal)) 0 ≡ variable literal)
   place_known literal (inl zero_is) = known_at literal 0 (omega arith) (sym zero_is)
   place_known literal (inr (k, lt, e)) = known_at literal (suc k) (omega arith) (grind (arith, get_or_default))
 
@@ -59,6 +59,7 @@ module _ {c : CircuitData} (is : IsCircuit c) where
   reads_contain (g ∷ gates) zero d lt = ((0, omega arith, refl), (1, omega arith, refl))
   reads_contain (g ∷ gates) (suc i) d lt = search (rules, Contains-append_right, reads_contain gates i d (omega arith))
 
+  -- both literals of each gate are defined
   pub sides_known : (i : ℕ) (d : Gate) → i < length c.gates
       → IsKnown (definitions c) (get_or c.gates i d).first × IsKnown (definitions c) (get_or c.gates i d).second
   sides_known i d lt =

@@ -7,9 +7,9 @@ use Rattle.ps_circuit.specs.declared.parts.Latch.{Latch}
 use Rattle.ps_circuit.specs.Circuits.{CircuitData, IsCircuit, IsKnown, definitions}
 use Rattle.ps_circuit.specs.Literals.{variable}
 use Rattle.ps_simulate.specs.declared.plan.Row.{Row}
-use Rattle.ps_simulate.specs.Plans.{variables, place_of, row_at, no_gate, AreRows, IsWithin}
+use Rattle.ps_simulate.specs.Plans.{variables, place_of_variable, row_at, no_gate, AreGateRows, IsRowInTable}
 use Rattle.ps_simulate.proofs.PlacesLemmas.{variables_at, place_of-at, place_known, gate_known, sides_known}
-use Rattle.ps_simulate.specs.NeededGates.{row, no_row, IsScheduled}
+use Rattle.ps_simulate.specs.NeededGates.{numbered_row, no_row, IsScheduled}
 
 abbrev pub no_latch : Latch
 no_latch = record { literal = 0; next = 0; reset = Rattle.std.proofs.Common.false }
@@ -32,25 +32,27 @@ module _ (c : CircuitData) where
   pub length-definitions : length (definitions c) ≡ length c.inputs + length c.latches + length c.gates
   length-definitions = grind (arith, length-append, length-map)
 
+  -- the variables are the constant, the inputs, the latches and the gates
   pub length-variables : length (variables c) ≡ length c.inputs + length c.latches + length c.gates + 1
   length-variables = omega (arith, length-definitions, length-map (definitions c) variable)
 
 module _ {c : CircuitData} (is : IsCircuit c) where
   pub place_of-definition : (k : ℕ) {literal : ℕ} → k < length (definitions c) → get_or (definitions c) k 0 ≡ literal →
-      place_of c (variable literal) ≡ suc k
-  place_of-definition k lt e = ap (place_of c) (ap variable (sym e) ∙ sym (variables_at is k 0 lt))
+      place_of_variable c (variable literal) ≡ suc k
+  place_of-definition k lt e = ap (place_of_variable c) (ap variable (sym e) ∙ sym (variables_at is k 0 lt))
       ∙ place_of-at is (suc k) (omega (arith, length-map (definitions c) variable))
 
-  pub place_of-gate : (i : ℕ) → i < length c.gates → place_of c (variable (get_or c.gates i no_gate).literal) ≡ suc
+  pub place_of-gate : (i : ℕ) → i < length c.gates →
+      place_of_variable c (variable (get_or c.gates i no_gate).literal) ≡ suc
       (length c.inputs + length c.latches + i)
   place_of-gate i lt = place_of-definition _ (omega (arith, length-definitions c)) (definitions_gate c i lt)
 
   -- two literals with the same index have the same variable
   pub place_of-same : (l m : ℕ) → IsKnown (definitions c) l → IsKnown (definitions c) m →
-      place_of c (variable l) ≡ place_of c (variable m) → variable l ≡ variable m
+      place_of_variable c (variable l) ≡ place_of_variable c (variable m) → variable l ≡ variable m
   place_of-same l m kl km e = search (rules, place_known)
 
-  module _ {rows : List Row} (are : AreRows c rows) where
+  module _ {rows : List Row} (are : AreGateRows c rows) where
     -- the index of a row's gate
     abbrev pub gate_place : ℕ → ℕ
     gate_place k = get_or are.order k 0
@@ -58,7 +60,7 @@ module _ {c : CircuitData} (is : IsCircuit c) where
     pub length-rows : length rows ≡ length are.order
     length-rows = ap length are.each ∙ length-map are.order (row_at c)
 
-    pub row_is : (k : ℕ) → k < length rows → row rows k ≡ row_at c (gate_place k)
+    pub row_is : (k : ℕ) → k < length rows → numbered_row rows k ≡ row_at c (gate_place k)
     row_is k lt = search (rules, no_row, get_or-map, length-rows)
 
     pub gate_within : (k : ℕ) → k < length rows → gate_place k < length c.gates
@@ -69,12 +71,12 @@ module _ {c : CircuitData} (is : IsCircuit c) where
     row_of_gate i lt =
         let there = are.is_order.each i lt in grind (arith, length-rows, slice_get_within, get_or_from_slice_get)
 
-    pub target_is : (k : ℕ) → k < length rows → (row rows k).target ≡ suc
+    pub target_is : (k : ℕ) → k < length rows → (numbered_row rows k).target ≡ suc
         (length c.inputs + length c.latches + gate_place k)
     target_is k lt = ap (λ (r : Row). r.target) (row_is k lt) ∙ place_of-gate (gate_place k) (gate_within k lt)
 
     reads : (k l literal : ℕ) → k < length rows → l < length rows → IsKnown (definitions c) literal
-        → place_of c (variable literal) ≡ (row rows l).target → variable literal ≡ variable
+        → place_of_variable c (variable literal) ≡ (numbered_row rows l).target → variable literal ≡ variable
         (get_or c.gates (gate_place l) no_gate).literal
     reads k l literal hk hl known e = place_of-same literal _ known (gate_known is (gate_place l) no_gate
         (gate_within l hl)) (e ∙ ap (λ (r : Row). r.target) (row_is l hl))
@@ -96,10 +98,10 @@ module _ {c : CircuitData} (is : IsCircuit c) where
     }
 
     -- the indices of a row are within the table
-    pub IsWithin-row : (k : ℕ) → k < length rows → IsWithin (length (variables c)) (row rows k)
-    IsWithin-row k lt =
+    pub IsRowInTable-row : (k : ℕ) → k < length rows → IsRowInTable (length (variables c)) (numbered_row rows k)
+    IsRowInTable-row k lt =
         let sides = sides_known is (gate_place k) no_gate (gate_within k lt) in
-        subst (IsWithin (length (variables c))) (sym (row_is k lt)) (record {
+        subst (IsRowInTable (length (variables c))) (sym (row_is k lt)) (record {
           target = (place_known is _ (gate_known is (gate_place k) no_gate (gate_within k lt))).0;
           first = (place_known is _ sides.0).0;
           second = (place_known is _ sides.1).0;

@@ -7,18 +7,19 @@ use Rattle.ps_circuit.specs.Circuits.{CircuitData, IsCircuit}
 use Rattle.ps_simulate.specs.declared.plan.Wire.{Wire}
 use Rattle.ps_simulate.specs.declared.plan.Plan.{Plan}
 use Rattle.ps_circuit.specs.Values.{Steps, bit_of}
-use Rattle.ps_simulate.specs.Plans.{IsPlan, IsWithin, IsWorkedOut, read, wire_of, variables}
-use Rattle.ps_simulate.specs.Tables.{IsTable}
+use Rattle.ps_simulate.specs.Plans.{IsPlan, IsRowInTable, IsWorkedOut, read, wire_of, variables}
+use Rattle.ps_simulate.specs.Tables.{IsValueTable}
 use Rattle.ps_simulate.proofs.PlacesLemmas.{place_known, output_known, next_known}
-use Rattle.ps_simulate.proofs.RowLemmas.{no_latch, target_is, IsWithin-row}
+use Rattle.ps_simulate.proofs.RowLemmas.{no_latch, target_is, IsRowInTable-row}
 use Rattle.ps_simulate.specs.NeededGates.{no_row}
 use Rattle.ps_simulate.proofs.WorkLemmas.{length-work_out, work_out-other}
 use Rattle.ps_simulate.proofs.ValueLemmas.{values_by, bit_of-values_by, AreValues-work_out}
 
 module _ {c : CircuitData} (is : IsCircuit c) {plan : Plan} (p : IsPlan c plan) where
-  pub rows_within : All (IsWithin (length (variables c))) plan.rows.items
+  pub rows_within : All (IsRowInTable (length (variables c))) plan.rows.items
   rows_within =
-      All-from_get_or (IsWithin (length (variables c))) plan.rows.items no_row (λ k lt. IsWithin-row is p.rows_are k lt)
+      All-from_get_or (IsRowInTable (length (variables c))) plan.rows.items no_row
+      (λ k lt. IsRowInTable-row is p.rows_are k lt)
 
   pub outputs_within : All (λ w. w.place < length (variables c)) plan.outputs.items
   outputs_within = rw p.outputs_are (All-map (λ w. w.place < length (variables c)) (wire_of c) c.outputs
@@ -54,10 +55,11 @@ Steps-worked_out {c} is {plan} p {inputs} {latches} {values} many_inputs many_la
     }
 
 -- a step keeps the invariant of the table
-pub IsTable-worked_out : {c : CircuitData} {plan : Plan} {old latches inputs values : List Bool} (next : List Bool) →
-    IsTable c plan old latches → IsWorkedOut plan.rows.items inputs latches (length (variables c)) values →
-    length next ≡ length c.latches → IsTable c plan values next
-IsTable-worked_out {c} {plan} next t worked each = record {
+pub IsValueTable-worked_out : {c : CircuitData} {plan : Plan} {old latches inputs values : List Bool} (next : List Bool)
+    →
+    IsValueTable c plan old latches → IsWorkedOut plan.rows.items inputs latches (length (variables c)) values →
+    length next ≡ length c.latches → IsValueTable c plan values next
+IsValueTable-worked_out {c} {plan} next t worked each = record {
   is_circuit = t.is_circuit;
   is_plan = t.is_plan;
   values_each = ap length worked.done ∙ length-work_out plan.rows.items worked.table ∙ worked.each;

@@ -12,17 +12,18 @@ use Rattle.ps_circuit.specs.Circuits.{CircuitData, IsCircuit, IsKnown, definitio
 use Rattle.ps_circuit.specs.Literals.{variable}
 use Rattle.ps_simulate.specs.declared.plan.Row.{Row}
 use Rattle.ps_circuit.specs.Values.{AreValues, MeetsGate, value_of, bit_of}
-use Rattle.ps_simulate.specs.Plans.{variables, place_of, wire_of, row_at, no_gate, AreRows, Holds, read, work_out}
+use Rattle.ps_simulate.specs.Plans.{variables, place_of_variable, wire_of, row_at, no_gate, AreGateRows, HasSources}
+use Rattle.ps_simulate.specs.Plans.{read, work_out}
 use Rattle.ps_simulate.proofs.PlacesLemmas.{place_of-at, sides_known}
 use Rattle.ps_simulate.proofs.RowLemmas.{no_latch, length-definitions, length-variables, definitions_input}
 use Rattle.ps_simulate.proofs.RowLemmas.{definitions_latch, definitions_gate, place_of-definition, row_is, row_of_gate}
-use Rattle.ps_simulate.proofs.RowLemmas.{target_is, IsScheduled-rows, IsWithin-row}
-use Rattle.ps_simulate.specs.NeededGates.{row}
+use Rattle.ps_simulate.proofs.RowLemmas.{target_is, IsScheduled-rows, IsRowInTable-row}
+use Rattle.ps_simulate.specs.NeededGates.{numbered_row}
 use Rattle.ps_simulate.proofs.WorkLemmas.{work_out-other, work_out-row}
 
 -- the value of each variable, taken from a table in the order of the indices
 abbrev pub values_by : CircuitData → List Bool → List Bool
-values_by c table = map (λ v. get_or table (place_of c v) false) (range_with_len 0 (c.most + 1))
+values_by c table = map (λ v. get_or table (place_of_variable c v) false) (range_with_len 0 (c.most + 1))
 
 module _ {c : CircuitData} (is : IsCircuit c) where
   variable-le_most : (literal : ℕ) → IsKnown (definitions c) literal → variable literal < c.most + 1
@@ -46,13 +47,14 @@ module _ {c : CircuitData} (is : IsCircuit c) where
   value_at table k {literal} lt e =
       let is_definition = is.draft.defined k 0 lt in
       let small : variable literal < c.most + 1 = omega (arith, is_definition.2, ap variable e) in
-      bit_of-definition (values_by c table) k lt e ∙ get_or-map-range_with_len (λ v. get_or table (place_of c v) false)
+      bit_of-definition (values_by c table) k lt e
+      ∙ get_or-map-range_with_len (λ v. get_or table (place_of_variable c v) false)
       0 (c.most + 1) (variable literal) (variable literal) false small (omega arith)
       ∙ ap (λ p. get_or table p false) (place_of-definition is k lt e)
 
-  module _ {rows : List Row} (are : AreRows c rows) {inputs latches table : List Bool}
+  module _ {rows : List Row} (are : AreGateRows c rows) {inputs latches table : List Bool}
       (each : length table ≡ length (variables c)) (many_inputs : length inputs ≡ length c.inputs)
-      (many_latches : length latches ≡ length c.latches) (holds : Holds inputs latches table) where
+      (many_latches : length latches ≡ length c.latches) (holds : HasSources inputs latches table) where
     -- evaluating the rows does not change the values before those of the gates
     kept : (p : ℕ) → p < suc (length c.inputs + length c.latches) →
         get_or (work_out rows table) p false ≡ get_or table p false
@@ -85,11 +87,12 @@ module _ {c : CircuitData} (is : IsCircuit c) where
         let there = row_of_gate is are i lt in
         let g = get_or c.gates i no_gate in
         let all = work_out rows table in
-        let is_row : row rows there.0 ≡ row_at c i = row_is is are there.0 there.1 ∙ ap (row_at c) there.2 in
-        let work : get_or all (row rows there.0).target false ≡ (read all (row rows there.0).first &&
-        read all (row rows there.0).second) = search (rules, work_out-row, IsScheduled-rows, IsWithin-row) in
+        let is_row : numbered_row rows there.0 ≡ row_at c i = row_is is are there.0 there.1 ∙ ap (row_at c) there.2 in
+        let work : get_or all (numbered_row rows there.0).target false ≡ (read all (numbered_row rows there.0).first &&
+        read all (numbered_row rows there.0).second) =
+        search (rules, work_out-row, IsScheduled-rows, IsRowInTable-row) in
         let P : Row → Type 0 = λ r. get_or all r.target false ≡ (read all r.first && read all r.second) in
-        let work_there : get_or all (place_of c (variable g.literal)) false ≡
+        let work_there : get_or all (place_of_variable c (variable g.literal)) false ≡
         (read all (wire_of c g.first) && read all (wire_of c g.second)) = subst P is_row work in
         let sides = sides_known is i no_gate lt in
         let here = length c.inputs + length c.latches + i in
@@ -106,7 +109,7 @@ module _ {c : CircuitData} (is : IsCircuit c) where
     -- the table after the evaluation of the rows has the circuit's values
     pub AreValues-work_out : AreValues c inputs latches (values_by c (work_out rows table))
     AreValues-work_out = record {
-      each = length-map-range_with_len (λ v. get_or (work_out rows table) (place_of c v) false) 0 (c.most + 1);
+      each = length-map-range_with_len (λ v. get_or (work_out rows table) (place_of_variable c v) false) 0 (c.most + 1);
       constant = search (rules, get_or-map-range_with_len, place_of-at, length-variables, kept);
       inputs_are = inputs_hold;
       latches_are = latches_hold;
@@ -117,6 +120,6 @@ module _ {c : CircuitData} (is : IsCircuit c) where
 abbrev pub first_table : CircuitData → List Bool → List Bool → List Bool
 first_table c inputs latches = false ∷ inputs ++ latches ++ replicate (length c.gates) false
 
-pub Holds-first_table : (c : CircuitData) (inputs latches : List Bool) →
-    Holds inputs latches (first_table c inputs latches)
-Holds-first_table c inputs latches = grind (arith, get_or_append_left, length-append, get_or-append-add)
+pub HasSources-first_table : (c : CircuitData) (inputs latches : List Bool) →
+    HasSources inputs latches (first_table c inputs latches)
+HasSources-first_table c inputs latches = grind (arith, get_or_append_left, length-append, get_or-append-add)

@@ -3,7 +3,7 @@ use Rattle.std.proofs.Common.{◌≡◌, ◌≢◌, ℕ, zero, suc, ◌<◌, ◌
 use Rattle.std.proofs.Common.{refl, sym, ap, ap₂, ◌∙◌, arith, length-set, get_or-set_same, get_or-set_other}
 use Rattle.ps_simulate.specs.declared.plan.Wire.{Wire}
 use Rattle.ps_simulate.specs.declared.plan.Row.{Row}
-use Rattle.ps_simulate.specs.NeededGates.{IsScheduled, row}
+use Rattle.ps_simulate.specs.NeededGates.{IsScheduled, numbered_row}
 use Rattle.ps_simulate.specs.Plans.{read, work_row, work_out}
 
 IsScheduled-tail : {r : Row} {rows : List Row} → IsScheduled (r ∷ rows) → IsScheduled rows
@@ -19,7 +19,7 @@ length-work_out (r ∷ rows) values = length-work_out rows (work_row values r) �
 
 -- a value that is not a target does not change
 pub work_out-other : (rows : List Row) (values : List Bool) (p : ℕ) →
-    ((k : ℕ) → k < length rows → (row rows k).target ≢ p)
+    ((k : ℕ) → k < length rows → (numbered_row rows k).target ≢ p)
     → get_or (work_out rows values) p false ≡ get_or values p false
 work_out-other [] values p none = refl
 work_out-other (r ∷ rows) values p none = work_out-other rows (work_row values r) p (λ k lt. none (suc k) (omega arith))
@@ -31,9 +31,10 @@ read-same values others w e = ap (λ (b : Bool). cond w.is_negated (not b) b) e
 
 -- after the evaluation, the target of each row has the value of the row's gate
 pub work_out-row : (rows : List Row) (values : List Bool) (k : ℕ) → IsScheduled rows →
-    ((l : ℕ) → l < length rows → (row rows l).target < length values)
-    → k < length rows → get_or (work_out rows values) (row rows k).target false ≡
-    (read (work_out rows values) (row rows k).first && read (work_out rows values) (row rows k).second)
+    ((l : ℕ) → l < length rows → (numbered_row rows l).target < length values)
+    → k < length rows → get_or (work_out rows values) (numbered_row rows k).target false ≡
+    (read (work_out rows values) (numbered_row rows k).first &&
+    read (work_out rows values) (numbered_row rows k).second)
 work_out-row [] values k s within lt = absurd (omega arith)
 work_out-row (r ∷ rows) values zero s within lt =
     let all = work_out (r ∷ rows) values in
@@ -46,5 +47,5 @@ work_out-row (r ∷ rows) values zero s within lt =
     absurd (let h : suc l ≡ 0 = s.once (suc l) 0 (omega arith) lt e in omega arith)) in
     kept ∙ get_or-set_same values r.target _ false (within 0 lt) ∙ ap₂ ◌&&◌ (sym first) (sym second)
 work_out-row (r ∷ rows) values (suc k) s within lt = work_out-row rows (work_row values r) k (IsScheduled-tail s)
-    (λ l less. let h : (row rows l).target < length values = within (suc l) (omega arith) in
+    (λ l less. let h : (numbered_row rows l).target < length values = within (suc l) (omega arith) in
     omega (arith, length-set values r.target (read values r.first && read values r.second))) (omega arith)

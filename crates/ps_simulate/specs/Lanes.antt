@@ -6,19 +6,19 @@ use Rattle.ps_circuit.specs.Circuits.{CircuitData}
 use Rattle.ps_simulate.specs.declared.plan.Plan.{Plan}
 use Rattle.ps_simulate.specs.declared.lane_plan.LanePlan.{LanePlan}
 use Rattle.ps_simulate.specs.LanePlans.{IsLanePlan, unmoved}
-use Rattle.ps_simulate.specs.Tables.{IsTable}
+use Rattle.ps_simulate.specs.Tables.{IsValueTable}
 
 -- a word in which all bits are ones, or all are zeros
 abbrev pub all_or_none : Bool → ℕ
 all_or_none is_set = if is_set then 2 ^ 64 - 1 else 0
 
 -- the bit of one lane
-abbrev pub bit_in : List ℕ → ℕ → Bool
-bit_in words lane = bit_at (slice_index words (lane / 64)) (lane % 64) == 1
+abbrev pub lane_bit : List ℕ → ℕ → Bool
+lane_bit words lane = bit_at (slice_index words (lane / 64)) (lane % 64) == 1
 
 -- the bits of one lane, one for each entry of the list
 abbrev pub lane_of : List (List ℕ) → ℕ → List Bool
-lane_of rows lane = map (λ words. bit_in words lane) rows
+lane_of rows lane = map (λ words. lane_bit words lane) rows
 
 -- the abstract value of a simulator: a circuit, and the words of the current value of each latch
 pub record LaneSimulation : Type 0 where
@@ -26,9 +26,10 @@ pub record LaneSimulation : Type 0 where
   pub latches : List (List ℕ)
 
 -- each lane has a table of the plain simulator, with renumbered indices
-pub record AreTables (c : CircuitData) (p : LanePlan) (values latches : List (List ℕ)) : Type 0 where
+pub record AreLaneTables (c : CircuitData) (p : LanePlan) (values latches : List (List ℕ)) : Type 0 where
   pub plan : Plan
   pub places : List ℕ
   pub is_lane_plan : IsLanePlan c plan places p
   pub values_each : length values ≡ p.size
-  pub tables : (lane : ℕ) → lane < 256 → IsTable c plan (unmoved places (lane_of values lane)) (lane_of latches lane)
+  pub tables : (lane : ℕ) → lane < 256 →
+      IsValueTable c plan (unmoved places (lane_of values lane)) (lane_of latches lane)

@@ -1,6 +1,6 @@
 -- Why a lasso has no verdict.
---     Stands role a c stem lap fault      this fault applies, and no earlier one; the order is `Width`, `EmptyLap`,
---               `Symbols`
+--     IsLassoFault role a c stem lap fault      this fault applies, and no earlier one; the order is `Width`,
+--               `EmptyLap`, `Symbols`
 use Rattle.std.specs.Prelude.{◌≡◌, ⊤, ◌<◌, Bool, List, [], length, All}
 use Rattle.ps_circuit.specs.Circuits.{CircuitData}
 use Rattle.ps_automaton.specs.Automata.{AutomatonData}
@@ -22,8 +22,9 @@ pub record HasNoLassoFault (role : Role) (a : AutomatonData) (c : CircuitData) (
     pub symbols : HasSymbols role a.names a.controllable c
 
 -- the fault applies, and no earlier fault does; a call can run out of memory in any case
-abbrev pub Stands : Role → AutomatonData → CircuitData → List (List Bool) → List (List Bool) → LassoFault → Type 0
-Stands role a c stem lap Width = ¬ AreWide c stem lap
-Stands role a c stem lap EmptyLap = AreWide c stem lap × (lap ≡ [])
-Stands role a c stem lap Symbols = AreWide c stem lap × (0 < length lap) × ¬ HasSymbols role a.names a.controllable c
-Stands role a c stem lap OutOfMemory = ⊤
+abbrev pub IsLassoFault : Role → AutomatonData → CircuitData → List (List Bool) → List (List Bool) → LassoFault → Type 0
+IsLassoFault role a c stem lap Width = ¬ AreWide c stem lap
+IsLassoFault role a c stem lap EmptyLap = AreWide c stem lap × (lap ≡ [])
+IsLassoFault role a c stem lap Symbols =
+    AreWide c stem lap × (0 < length lap) × ¬ HasSymbols role a.names a.controllable c
+IsLassoFault role a c stem lap OutOfMemory = ⊤

@@ -8,7 +8,7 @@ use Rattle.std.specs.Ordering.{bool_cmp}
 use Rattle.std.specs.declared.cmp.Ordering.{Ordering}
 use Rattle.ps_circuit.specs.Circuits.{CircuitData}
 use Rattle.ps_circuit.specs.Values.{Moment, GoesOn, resets}
-use Rattle.ps_simulate.specs.Lassos.{AreLetters, Repeats, laps_of, latches_before}
+use Rattle.ps_simulate.specs.Lassos.{AreLetters, RepeatsLatches, laps_of, latches_before}
 
 -- the circuit reads a word, which leads from some latch values to others, and the corresponding letters of the
 -- automaton are appended to the earlier letters
@@ -26,7 +26,7 @@ pub record RepeatsBy (names : List (List ℕ)) (c : CircuitData) (stem lap : Lis
     (letters : List ℕ) : Type 0 where
   pub j : ℕ
   pub trace : List Moment
-  pub repeats : Repeats c stem lap i j trace
+  pub repeats : RepeatsLatches c stem lap i j trace
   pub are_letters : AreLetters names c trace letters
 
 -- The circuit has read one lap for each entry of `seen`. The entries of `seen` are the latch values before each lap, in

@@ -1,7 +1,7 @@
 -- The verdict of an automaton on a circuit, a stem that is read once, and a lap that is read repeatedly.
 --     IsLetterOf names c m letter      the letter of a step: the bit of a proposition is that of the input or output
 --               with its name
---     Repeats c stem lap i j trace      the first repetition: the latches before lap j are those before lap i
+--     RepeatsLatches c stem lap i j trace      the first repetition: the latches before lap j are those before lap i
 --     IsVerdictOf file c stem lap verdict      whether the trace so far is accepted, as a lasso that returns to lap i
 use Rattle.std.specs.Prelude.{◌≡◌, ◌≢◌, ℕ, zero, suc, ◌+◌, ◌-◌, ◌*◌, ◌^◌, ◌<◌, ◌↔◌, Bool, false, IsTrue, List, [], ◌∷◌}
 use Rattle.std.specs.Prelude.{◌++◌, length, map, take, drop, slice_index_or}
@@ -43,7 +43,7 @@ latches_before stem lap trace last k = slice_index_or (latches_along trace last)
 
 -- A trace reads the stem and then j laps, which are not empty. The latch values after the trace are those before lap i,
 -- and the latch values before the j laps are pairwise different.
-pub record Repeats (c : CircuitData) (stem lap : List (List Bool)) (i j : ℕ) (trace : List Moment) : Type 0 where
+pub record RepeatsLatches (c : CircuitData) (stem lap : List (List Bool)) (i j : ℕ) (trace : List Moment) : Type 0 where
   pub has_letter : 0 < length lap
   pub last : List Bool
   pub goes_on : GoesOn c (resets c) trace last
@@ -60,7 +60,7 @@ pub record IsVerdictOf (file : FileData) (c : CircuitData) (stem lap : List (Lis
     pub j : ℕ
     pub trace : List Moment
     pub letters : List ℕ
-    pub repeats : Repeats c stem lap i j trace
+    pub repeats : RepeatsLatches c stem lap i j trace
     pub are_letters : AreLetters file.names c trace letters
     pub stem_is : verdict.stem ≡ length stem + i * length lap
     pub lap_is : verdict.lap ≡ (j - i) * length lap

@@ -12,16 +12,17 @@ no_wire = record { place = 0; is_negated = false }
 abbrev pub no_row : Row
 no_row = record { target = 0; first = no_wire; second = no_wire }
 
-abbrev pub row : List Row → ℕ → Row
-row rows k = slice_index_or rows k no_row
+abbrev pub numbered_row : List Row → ℕ → Row
+numbered_row rows k = slice_index_or rows k no_row
 
 -- no two rows have the same target, and a row reads targets only of earlier rows
 pub record IsScheduled (rows : List Row) : Type 0 where
-  pub once : (k l : ℕ) → k < length rows → l < length rows → (row rows k).target ≡ (row rows l).target → k ≡ l
+  pub once : (k l : ℕ) → k < length rows → l < length rows →
+      (numbered_row rows k).target ≡ (numbered_row rows l).target → k ≡ l
   pub first_behind : (k l : ℕ) → k < length rows → l < length rows →
-      (row rows k).first.place ≡ (row rows l).target → l < k
+      (numbered_row rows k).first.place ≡ (numbered_row rows l).target → l < k
   pub second_behind : (k l : ℕ) → k < length rows → l < length rows →
-      (row rows k).second.place ≡ (row rows l).target → l < k
+      (numbered_row rows k).second.place ≡ (numbered_row rows l).target → l < k
 
 -- the value at this index is needed
 abbrev pub Needs : List Bool → ℕ → Type 0
@@ -46,7 +47,7 @@ abbrev pub needed_rows : List Bool → List Row → List Row
 needed_rows needed rows = filter (λ r. slice_index_or needed r.target false) rows
 
 -- the plan without the rows that are not needed
-pub record IsCut (whole cut : Plan) : Type 0 where
+pub record IsPlanOfNeeded (whole cut : Plan) : Type 0 where
   pub needed : List Bool
   pub are_needed : AreNeeded whole needed
   pub size_is : cut.size ≡ whole.size

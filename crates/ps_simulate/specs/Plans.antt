@@ -15,31 +15,32 @@ use Rattle.ps_simulate.specs.declared.plan.Plan.{Plan}
 abbrev pub variables : CircuitData → List ℕ
 variables c = 0 ∷ map variable (definitions c)
 
-abbrev pub place_of : CircuitData → ℕ → ℕ
-place_of c v = position_or_len (λ w. w == v) (variables c)
+abbrev pub place_of_variable : CircuitData → ℕ → ℕ
+place_of_variable c v = position_or_len (λ w. w == v) (variables c)
 
 abbrev pub wire_of : CircuitData → ℕ → Wire
-wire_of c literal = record { place = place_of c (variable literal); is_negated = is_negated literal }
+wire_of c literal = record { place = place_of_variable c (variable literal); is_negated = is_negated literal }
 
-abbrev pub row_of : CircuitData → Gate → Row
-row_of c g = record { target = place_of c (variable g.literal); first = wire_of c g.first; second = wire_of c g.second }
+abbrev pub gate_row : CircuitData → Gate → Row
+gate_row c g =
+    record { target = place_of_variable c (variable g.literal); first = wire_of c g.first; second = wire_of c g.second }
 
 abbrev pub no_gate : Gate
 no_gate = record { literal = 0; first = 0; second = 0 }
 
 -- the row of the gate with index i
 abbrev pub row_at : CircuitData → ℕ → Row
-row_at c i = row_of c (slice_index_or c.gates i no_gate)
+row_at c i = gate_row c (slice_index_or c.gates i no_gate)
 
 -- the rows are in an order in which each gate comes after the gates that it reads
-pub record AreRows (c : CircuitData) (rows : List Row) : Type 0 where
+pub record AreGateRows (c : CircuitData) (rows : List Row) : Type 0 where
   pub order : List ℕ
   pub is_order : IsOrder (ReadsGate c.gates) (length c.gates) order
   pub each : rows ≡ map (row_at c) order
 
 pub record IsPlan (c : CircuitData) (p : Plan) : Type 0 where
   pub size_is : p.size ≡ length (variables c)
-  pub rows_are : AreRows c p.rows.items
+  pub rows_are : AreGateRows c p.rows.items
   pub outputs_are : p.outputs.items ≡ map (wire_of c) c.outputs
   pub nexts_are : p.nexts.items ≡ map (λ l. wire_of c l.next) c.latches
 
@@ -57,13 +58,13 @@ work_out [] values = values
 work_out (row ∷ rows) values = work_out rows (work_row values row)
 
 -- the indices of the row are within a table of this length
-pub record IsWithin (size : ℕ) (row : Row) : Type 0 where
+pub record IsRowInTable (size : ℕ) (row : Row) : Type 0 where
   pub target : row.target < size
   pub first : row.first.place < size
   pub second : row.second.place < size
 
 -- the values begin with the constant, the inputs and the latches
-pub record Holds (inputs latches values : List Bool) : Type 0 where
+pub record HasSources (inputs latches values : List Bool) : Type 0 where
   pub constant : slice_index_or values 0 false ≡ false
   pub inputs_there : (k : ℕ) → k < length inputs → slice_index_or values (1 + k) false ≡ slice_index_or inputs k false
   pub latches_there : (k : ℕ) → k < length latches → slice_index_or values (1 + length inputs + k) false ≡
@@ -73,5 +74,5 @@ pub record Holds (inputs latches values : List Bool) : Type 0 where
 pub record IsWorkedOut (rows : List Row) (inputs latches : List Bool) (size : ℕ) (values : List Bool) : Type 0 where
   pub table : List Bool
   pub each : length table ≡ size
-  pub holds : Holds inputs latches table
+  pub holds : HasSources inputs latches table
   pub done : values ≡ work_out rows table

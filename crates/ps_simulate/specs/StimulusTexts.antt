@@ -2,9 +2,9 @@
 -- separated, there is one line `-` between them.
 --     lines_of text, start_of lines k      the lines without their newlines; the offset of the first byte of line k
 --     IsStimulus text width split s      the lines spell the letters
---     Stands text width split cause offset      there is an error with this cause at this offset
---     IsFirst S cause offset      this is the first of the errors in S; at the same offset, `Stimulus` comes before
---               `Width`
+--     IsErrorAt text width split cause offset      there is an error with this cause at this offset
+--     IsFirstError S cause offset      this is the first of the errors in S; at the same offset, `Stimulus` comes
+--               before `Width`
 --     ReadsStimulus text width split answer      the stimulus of a text without an error, and otherwise the first error
 use Rattle.std.specs.Prelude.{◌≡◌, ◌≢◌, ℕ, ◌+◌, ◌<◌, ◌≤◌, ◌⊎◌, ◌==◌, Bool, true, false, if◌then◌else◌, List, [], ◌∷◌}
 use Rattle.std.specs.Prelude.{◌++◌, length, map, take, slice_get, sum_by, All, Some, Result, Ok, Err}
@@ -94,20 +94,20 @@ pub record MissesDivider (text : List ℕ) (split : Bool) (cause : StimulusCause
   pub cause_is : cause ≡ Stimulus
   pub offset_is : offset ≡ length text
 
-abbrev pub Stands : List ℕ → ℕ → Bool → StimulusCause → ℕ → Type 0
-Stands text width split cause offset =
+abbrev pub IsErrorAt : List ℕ → ℕ → Bool → StimulusCause → ℕ → Type 0
+IsErrorAt text width split cause offset =
     StandsInLetter text width split cause offset ⊎ MissesDivider text split cause offset
 
 -- ## The answer
 
-pub record IsFirst (S : StimulusCause → ℕ → Type 0) (cause : StimulusCause) (offset : ℕ) : Type 0 where
+pub record IsFirstError (S : StimulusCause → ℕ → Type 0) (cause : StimulusCause) (offset : ℕ) : Type 0 where
   pub stands : S cause offset
   pub least : (other : StimulusCause) (there : ℕ) → S other there →
       (offset < there) ⊎ ((offset ≡ there) × (rank cause ≤ rank other))
 
 abbrev pub ReadsStimulus : List ℕ → ℕ → Bool → Result StimulusData (Found StimulusCause) → Type 0
 ReadsStimulus text width split (Ok s) = IsStimulus text width split s
-ReadsStimulus text width split (Err found) = IsFirst (Stands text width split) found.cause found.offset
+ReadsStimulus text width split (Err found) = IsFirstError (IsErrorAt text width split) found.cause found.offset
 
 -- the result of the parser: the answer to the text, or out of memory
 abbrev pub IsStimulusAnswer : List ℕ → ℕ → Bool → Result StimulusData StimulusFault → Type 0

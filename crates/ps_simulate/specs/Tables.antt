@@ -5,7 +5,7 @@ use Rattle.ps_simulate.specs.declared.plan.Plan.{Plan}
 use Rattle.ps_simulate.specs.Plans.{IsPlan, variables}
 
 -- a table with a value for each index, of which the first is the constant, and a list with a value for each latch
-pub record IsTable (c : CircuitData) (plan : Plan) (values latches : List Bool) : Type 0 where
+pub record IsValueTable (c : CircuitData) (plan : Plan) (values latches : List Bool) : Type 0 where
   pub is_circuit : IsCircuit c
   pub is_plan : IsPlan c plan
   pub values_each : length values ≡ length (variables c)

@@ -3,7 +3,7 @@
 ghost use Rattle.std.specs.Prelude.{◌≡◌, ℕ, ◌+◌, ◌^◌, ◌<◌, ◌≤◌, length, map, All, IfOk};
 ghost use Rattle.ps_simulate.specs.LanePlans.{AreInOrder, AreKept, AreOnce, IsGateRow, move_row, move_wire, rows_from};
 ghost use Rattle.ps_simulate.specs.LanePlans.{wire_in};
-ghost use Rattle.ps_simulate.specs.Plans.{IsWithin};
+ghost use Rattle.ps_simulate.specs.Plans.{IsRowInTable};
 
 use crate::plan::{Plan, Row, Wire};
 use ps_circuit::{Circuit, Literal};
@@ -124,7 +124,7 @@ fn literals(alloc: Global, places: &[usize], wires: &[Wire]) -> Result<Vec<Liter
 /// The operands of some rows after the renumbering. Fails if out of memory.
 fn gates_of(alloc: Global, places: &[usize], rows: &[Row]) -> Result<Vec<Operands>, AllocError>
     requires places { All (λ p. p < 2 ^ 31) places.now }
-    requires within { All (IsWithin (length places.now)) rows.now }
+    requires within { All (IsRowInTable (length places.now)) rows.now }
     ensures { IfOk result (λ gates. (front : ℕ) → AreInOrder front places.now rows.now →
         rows_from front gates.items ≡ map (move_row places.now) rows.now) }
 {

@@ -5,9 +5,9 @@ ghost use Rattle.std.specs.Prelude.{Some, false};
 ghost use Rattle.ps_circuit.specs.Circuits.{IsCircuit};
 ghost use Rattle.ps_circuit.specs.Literals.{variable};
 ghost use Rattle.ps_circuit.specs.Values.{resets};
-ghost use Rattle.ps_simulate.specs.Lanes.{all_or_none, bit_in, lane_of};
+ghost use Rattle.ps_simulate.specs.Lanes.{all_or_none, lane_bit, lane_of};
 ghost use Rattle.ps_simulate.specs.LanePlans.{rows_from, wire_in};
-ghost use Rattle.ps_simulate.specs.Plans.{IsWithin, IsWorkedOut, read, work_out};
+ghost use Rattle.ps_simulate.specs.Plans.{IsRowInTable, IsWorkedOut, read, work_out};
 
 use crate::lane_plan::{LanePlan, Operands};
 use ps_circuit::{Circuit, Literal};
@@ -25,13 +25,13 @@ pub struct LaneSimulator<'a> {
 }
 
 impl<'a> Model for LaneSimulator<'a> {
-    ghost use Rattle.ps_simulate.specs.Lanes.{LaneSimulation, AreTables};
+    ghost use Rattle.ps_simulate.specs.Lanes.{LaneSimulation, AreLaneTables};
 
     ghost Value = { LaneSimulation };
 
     ghost view = { λ s. record { circuit = s.circuit.now; latches = s.latches.items } };
 
-    ghost invariant = { λ s. AreTables s.circuit.now s.plan s.values.items s.latches.items };
+    ghost invariant = { λ s. AreLaneTables s.circuit.now s.plan s.values.items s.latches.items };
 }
 
 impl<'a> LaneSimulator<'a> {
@@ -118,7 +118,7 @@ fn put_words(values: &mut [[u64; 4]], start: usize, words: &[[u64; 4]])
 /// The values of a literal in all runs.
 fn bits(values: &[[u64; 4]], literal: Literal) -> u64x4
     requires { variable literal < length values.now }
-    ensures { (lane : ℕ) → lane < 256 → bit_in result lane ≡ read (lane_of values.now lane) (wire_in literal) }
+    ensures { (lane : ℕ) → lane < 256 → lane_bit result lane ≡ read (lane_of values.now lane) (wire_in literal) }
 {
     let words = u64x4::from_array(values[literal.variable() as usize]);
     words ^ u64x4::splat(mask(literal.is_negated()))
@@ -126,7 +126,7 @@ fn bits(values: &[[u64; 4]], literal: Literal) -> u64x4
 
 /// Evaluates each gate once. The values of the gates are in the table from index `front` on.
 fn work_words(gates: &[Operands], front: usize, values: &mut [[u64; 4]])
-    requires within { All (IsWithin (length values.old)) (rows_from front gates.now) }
+    requires within { All (IsRowInTable (length values.old)) (rows_from front gates.now) }
     requires fit { front + length gates.now ≤ length values.old }
     ensures { (lane : ℕ) → lane < 256 → lane_of values.new lane ≡ work_out (rows_from front gates.now)
         (lane_of values.old lane) }
@@ -145,7 +145,7 @@ fn fill_words(
     latches: &[[u64; 4]],
     values: &mut [[u64; 4]],
 )
-    requires within { All (IsWithin (length values.old)) (rows_from front gates.now) }
+    requires within { All (IsRowInTable (length values.old)) (rows_from front gates.now) }
     requires fit { front + length gates.now ≤ length values.old }
     requires room { 1 + length inputs.now + length latches.now ≤ length values.old }
     requires constant { (lane : ℕ) → lane < 256 → slice_index_or (lane_of values.old lane) 0 false ≡ false }

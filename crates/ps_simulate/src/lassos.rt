@@ -9,7 +9,7 @@ ghost use Rattle.ps_automaton.specs.Automata.{IsBuiltFrom};
 ghost use Rattle.ps_automaton.specs.Chains.{Chain};
 ghost use Rattle.ps_simulate.specs.Stimuli.{letters_of};
 ghost use Rattle.ps_simulate.specs.Lassos.{IsVerdictOf};
-ghost use Rattle.ps_simulate.specs.LassoFaults.{HasNoLassoFault, Stands};
+ghost use Rattle.ps_simulate.specs.LassoFaults.{HasNoLassoFault, IsLassoFault};
 ghost use Rattle.ps_simulate.specs.LassoRuns.{HavePlaces, IsSeen, ReadsWord, RepeatsBy};
 ghost use Rattle.ps_simulate.specs.Inner.Namings.{IsNaming, names_of};
 ghost use Rattle.ps_simulate.specs.declared.lassos.LassoFault.TheVariants.{OutOfMemory};
@@ -108,7 +108,8 @@ pub fn lasso(
         IsVerdictOf file circuit.now (letters_of stem.now) (letters_of lap.now) verdict) }
     ensures sound { IfOk result (λ _. HasNoLassoFault role automaton.now circuit.now (letters_of stem.now)
         (letters_of lap.now)) }
-    ensures fault { IfErr result (Stands role automaton.now circuit.now (letters_of stem.now) (letters_of lap.now)) }
+    ensures fault { IfErr result (IsLassoFault role automaton.now circuit.now (letters_of stem.now)
+        (letters_of lap.now)) }
 {
     let width = circuit.inputs().len();
     if !are_wide(width, stem) || !are_wide(width, lap) {

@@ -1,8 +1,9 @@
 //! The gates that a step needs.
 
 ghost use Rattle.std.specs.Prelude.{◌≡◌, ℕ, ◌<◌, length, All, IfOk};
-ghost use Rattle.ps_simulate.specs.NeededGates.{AreNeeded, IsCut, IsScheduled, Needs, NeedsWhatItReads, NeedsWire};
-ghost use Rattle.ps_simulate.specs.Plans.{IsPlan, IsWithin};
+ghost use Rattle.ps_simulate.specs.NeededGates.{AreNeeded, IsPlanOfNeeded, IsScheduled, Needs, NeedsWhatItReads};
+ghost use Rattle.ps_simulate.specs.NeededGates.{NeedsWire};
+ghost use Rattle.ps_simulate.specs.Plans.{IsPlan, IsRowInTable};
 ghost use Rattle.ps_simulate.specs.declared.plan.Plan.{Plan};
 
 use crate::plan::{Plan, Row, Wire};
@@ -11,7 +12,7 @@ use std::alloc::{AllocError, Global};
 
 /// The plan of a circuit without the gates that no output and no latch needs. Fails if out of memory.
 pub fn plan_of_needed(alloc: Global, circuit: &Circuit) -> Result<Plan, AllocError>
-    ensures { IfOk result (λ cut. (whole : Plan) × IsPlan circuit.now whole × IsCut whole cut) }
+    ensures { IfOk result (λ cut. (whole : Plan) × IsPlan circuit.now whole × IsPlanOfNeeded whole cut) }
 {
     let mut plan = Plan::new(alloc, circuit)?;
     let needed = needed_places(alloc, &plan)?;
@@ -22,7 +23,7 @@ pub fn plan_of_needed(alloc: Global, circuit: &Circuit) -> Result<Plan, AllocErr
 
 /// For each index of the table, whether a step needs its value. Fails if out of memory.
 fn needed_places(alloc: Global, plan: &Plan) -> Result<Vec<bool>, AllocError>
-    requires rows { All (IsWithin plan.now.size) plan.now.rows.items }
+    requires rows { All (IsRowInTable plan.now.size) plan.now.rows.items }
     requires outputs { All (λ w. w.place < plan.now.size) plan.now.outputs.items }
     requires nexts { All (λ w. w.place < plan.now.size) plan.now.nexts.items }
     requires scheduled { IsScheduled plan.now.rows.items }
@@ -48,7 +49,7 @@ fn need_each(wires: &[Wire], needed: &mut [bool])
 
 /// Marks as needed the values that needed rows read, from the last row to the first.
 fn need_what_is_read(rows: &[Row], needed: &mut [bool])
-    requires within { All (IsWithin (length needed.old)) rows.now }
+    requires within { All (IsRowInTable (length needed.old)) rows.now }
     requires scheduled { IsScheduled rows.now }
     ensures needed { All (NeedsWhatItReads needed.new) rows.now }
     ensures kept { (p : ℕ) → Needs needed.old p → Needs needed.new p }

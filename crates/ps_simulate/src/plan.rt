@@ -2,7 +2,7 @@
 
 ghost use Rattle.std.specs.Prelude.{◌≡◌, ◌<◌, length, map, slice_index_or, All, IfOk};
 ghost use Rattle.ps_circuit.specs.Circuits.{IsCircuit};
-ghost use Rattle.ps_simulate.specs.Plans.{AreRows, wire_of};
+ghost use Rattle.ps_simulate.specs.Plans.{AreGateRows, wire_of};
 
 use crate::places::Places;
 use ps_circuit::Circuit;
@@ -75,7 +75,7 @@ impl Plan {
 /// A row for each gate, in an order in which each gate comes after the gates that it reads. Fails if out of memory.
 fn rows_of(alloc: Global, circuit: &Circuit, places: &Places) -> Result<Vec<Row>, AllocError>
     requires { places.now ≡ circuit.now }
-    ensures rows { IfOk result (λ rows. AreRows circuit.now rows.items) }
+    ensures rows { IfOk result (λ rows. AreGateRows circuit.now rows.items) }
     ensures well_formed { IfOk result (λ _. IsCircuit circuit.now) }
 {
     let gates = circuit.gates();

@@ -3,7 +3,7 @@
 ghost use Rattle.std.specs.Prelude.{◌≡◌, ℕ, ◌+◌, ◌<◌, ◌≤◌, ◌⊎◌, length, map, slice_get, slice_index_or, All, IfOk};
 ghost use Rattle.std.specs.Prelude.{Some, false};
 ghost use Rattle.ps_circuit.specs.Circuits.{IsCircuit};
-ghost use Rattle.ps_simulate.specs.Plans.{IsWithin, IsWorkedOut, read, work_out};
+ghost use Rattle.ps_simulate.specs.Plans.{IsRowInTable, IsWorkedOut, read, work_out};
 
 use crate::needed::plan_of_needed;
 use crate::plan::{Plan, Row, Wire};
@@ -25,14 +25,14 @@ impl<'a> Model for Simulator<'a> {
 
     ghost Value = { Simulation };
 
-    ghost use Rattle.ps_simulate.specs.NeededGates.{IsCut};
-    ghost use Rattle.ps_simulate.specs.Tables.{IsTable};
+    ghost use Rattle.ps_simulate.specs.NeededGates.{IsPlanOfNeeded};
+    ghost use Rattle.ps_simulate.specs.Tables.{IsValueTable};
     ghost use Rattle.ps_simulate.specs.declared.plan.Plan.{Plan};
 
     ghost view = { λ s. record { circuit = s.circuit.now; latches = s.latches.items } };
 
-    ghost invariant = { λ s. (whole : Plan) × IsCut whole s.plan
-        × IsTable s.circuit.now whole s.values.items s.latches.items };
+    ghost invariant = { λ s. (whole : Plan) × IsPlanOfNeeded whole s.plan
+        × IsValueTable s.circuit.now whole s.values.items s.latches.items };
 }
 
 impl<'a> Simulator<'a> {
@@ -118,7 +118,7 @@ fn bit(values: &[bool], wire: Wire) -> bool
 
 /// Evaluates each gate once.
 fn work(rows: &[Row], values: &mut [bool])
-    requires { All (IsWithin (length values.old)) rows.now }
+    requires { All (IsRowInTable (length values.old)) rows.now }
     ensures { values.new ≡ work_out rows.now values.old }
 {
     for row in rows {
@@ -130,7 +130,7 @@ fn work(rows: &[Row], values: &mut [bool])
 
 /// Fills the table for a step. The constant 0 is already in the table.
 fn fill(rows: &[Row], inputs: &[bool], latches: &[bool], values: &mut [bool])
-    requires within { All (IsWithin (length values.old)) rows.now }
+    requires within { All (IsRowInTable (length values.old)) rows.now }
     requires room { 1 + length inputs.now + length latches.now ≤ length values.old }
     requires constant { slice_index_or values.old 0 false ≡ false }
     ensures { IsWorkedOut rows.now inputs.now latches.now (length values.old) values.new }

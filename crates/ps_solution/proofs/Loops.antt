@@ -20,7 +20,7 @@ use Rattle.ps_pgsolver.specs.Signs.{Sign, Number, Word}
 use Rattle.ps_pgsolver.proofs.Choices.{number_is, number_avoided}
 use Rattle.ps_pgsolver.proofs.GameLaws.{takes_word}
 use Rattle.ps_solution.specs.Solved.{SolvedData, none_solved, with_entry}
-use Rattle.ps_solution.specs.Texts.{Field, solution_causes, value_in, BadValue, IsOther, IsUnknown, number, vertex}
+use Rattle.ps_solution.specs.Texts.{Field, solution_causes, value_in, BadValue, IsBadVertex, IsUnknown, number, vertex}
 use Rattle.ps_solution.specs.Texts.{winner, successor, semicolon, keyword, value_line, heading, choice, entry, entries}
 use Rattle.ps_solution.specs.Texts.{solution}
 use Rattle.ps_solution.specs.Inner.Answered.{ReadsAs}
@@ -30,6 +30,7 @@ use Rattle.ps_solution.proofs.PartLaws.{joint_entries}
 use Rattle.ps_solution.proofs.PartLaws.{joint_value, joint_solution, entry_end, from_choice, from_winner}
 use Rattle.ps_ids.specs.Ids.{place_of}
 
+-- a function that reports the error at which the part stops has read the part
 pub exit : {V X : Type 0} (view : X → V) (P : Field V) (old new : Stream Sign) (e : CertFault) (r : Result X CertFault)
     → Stops solution_causes P old (found_of e) → IsErrAnd r (λ y. y ≡ e) → ReadsAs view P old r new
 exit view P old new e r s i = exits found_of solution_causes view P old new e r s i
@@ -149,7 +150,7 @@ module _ (ids : List ℕ) where
   entry_entered s old e = let is = number_is (next_of old) e in
       subst (λ there. Enters (entry ids s) there) (sym is.1)
       (enters_then (vertex ids s) (from_winner ids s) (joint_vertex ids s) (Some (Number is.0))
-      (number_enters (place_of ids) (IsOther ids s) is.0))
+      (number_enters (place_of ids) (IsBadVertex ids s) is.0))
 
   abbrev pub Goes : Stream Sign → SolvedData → Stream Sign → Type 0
   Goes start s now = Carries solution_causes (entries ids) start (many (entry ids) s) now

@@ -10,7 +10,7 @@ use Rattle.ps_pgsolver.specs.Lexer.{stream_of}
 use Rattle.ps_pgsolver.specs.Signs.{Sign}
 use Rattle.ps_pgsolver.proofs.GameTokens.{only_tokens}
 use Rattle.ps_solution.specs.Reading.{ReadsSolution, refused, incomplete, meaning}
-use Rattle.ps_solution.specs.Solved.{SolvedData, SolutionData, IsWhole, solution_of}
+use Rattle.ps_solution.specs.Solved.{SolvedData, SolutionData, IsFilled, solution_of}
 use Rattle.ps_solution.specs.Texts.{solution_causes, solution}
 use Rattle.ps_solution.proofs.PartLaws.{laws_solution}
 
@@ -55,8 +55,8 @@ module _ (ids : List ℕ) where
     first : (f : Found CertCause) → PartAnswers solution_causes (solution ids) (stream_of text) (stops_as f) →
         answer ≡ refuses f → Over text answer
     missing : (s : SolvedData) → PartAnswers solution_causes (solution ids) (stream_of text) (read_as s) →
-        ¬ IsWhole s → answer ≡ at_end text → Over text answer
-    whole : (s : SolvedData) → PartAnswers solution_causes (solution ids) (stream_of text) (read_as s) → IsWhole s →
+        ¬ IsFilled s → answer ≡ at_end text → Over text answer
+    whole : (s : SolvedData) → PartAnswers solution_causes (solution ids) (stream_of text) (read_as s) → IsFilled s →
         answer ≡ solves s → Over text answer
 
   over : (text : List ℕ) (a : Answered) → ReadsSolution ids text a → Over text a
@@ -87,11 +87,11 @@ module _ (ids : List ℕ) where
       absurd (not_both s f (same_reading (stream_of text) (read_as s) (stops_as f) p q))
   same_over text (missing s p n e) (missing t q m k) = e ∙ sym k
   same_over text (missing s p n e) (whole t q w k) =
-      absurd (n (subst IsWhole (same_solved (same_reading (stream_of text) (read_as t) (read_as s) q p)) w))
+      absurd (n (subst IsFilled (same_solved (same_reading (stream_of text) (read_as t) (read_as s) q p)) w))
   same_over text (whole s p w e) (first f q k) =
       absurd (not_both s f (same_reading (stream_of text) (read_as s) (stops_as f) p q))
   same_over text (whole s p w e) (missing t q n k) =
-      absurd (n (subst IsWhole (same_solved (same_reading (stream_of text) (read_as s) (read_as t) p q)) w))
+      absurd (n (subst IsFilled (same_solved (same_reading (stream_of text) (read_as s) (read_as t) p q)) w))
   same_over text (whole s p w e) (whole t q v k) =
       e ∙ ap solves (same_solved (same_reading (stream_of text) (read_as s) (read_as t) p q)) ∙ sym k
 

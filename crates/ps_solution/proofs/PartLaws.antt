@@ -15,7 +15,7 @@ use Rattle.ps_pgsolver.specs.Signs.{Sign, Number, Word, Semicolon}
 use Rattle.ps_pgsolver.proofs.GameLaws.{takes_word, same_word}
 use Rattle.ps_pgsolver.proofs.PartLaws.{kind_of, IsKind, Anything, nothing_apart, kinds_apart, same}
 use Rattle.ps_solution.specs.Solved.{SolvedData, none_solved, with_entry}
-use Rattle.ps_solution.specs.Texts.{Field, solution_causes, value_in, BadValue, AnyValue, IsOther, IsNoPlayer}
+use Rattle.ps_solution.specs.Texts.{Field, solution_causes, value_in, BadValue, AnyValue, IsBadVertex, IsNoPlayer}
 use Rattle.ps_solution.specs.Texts.{IsUnknown}
 use Rattle.ps_solution.specs.Texts.{number, vertex, winner, successor, semicolon, keyword, choice, entry, entries}
 use Rattle.ps_solution.specs.Texts.{value_line, heading, solution}
@@ -44,7 +44,7 @@ laws_number = laws_value (λ n. n) AnyValue
 
 pub laws_vertex : (ids : List ℕ) (s : SolvedData) → Laws Odd (vertex ids s) (IsKind 0) Nothing ⊥
 unfolding vertex
-laws_vertex ids s = laws_value (place_of ids) (IsOther ids s)
+laws_vertex ids s = laws_value (place_of ids) (IsBadVertex ids s)
 
 pub laws_winner : Laws Odd winner (IsKind 0) Nothing ⊥
 unfolding winner

@@ -19,7 +19,7 @@ use Rattle.ps_pgsolver.specs.Nodes.{is_member}
 use Rattle.ps_pgsolver.specs.Signs.{Sign, Number, Semicolon}
 use Rattle.ps_pgsolver.proofs.OneSign.{Fits, taken, bad, refused, one_reads}
 use Rattle.ps_solution.specs.Solved.{SolvedData}
-use Rattle.ps_solution.specs.Texts.{value_in, BadValue, AnyValue, IsOther, IsNoPlayer, IsUnknown, number, vertex}
+use Rattle.ps_solution.specs.Texts.{value_in, BadValue, AnyValue, IsBadVertex, IsNoPlayer, IsUnknown, number, vertex}
 use Rattle.ps_solution.specs.Texts.{winner}
 use Rattle.ps_solution.specs.Texts.{successor, semicolon}
 use Rattle.ps_solution.specs.Inner.Answered.{ReadsAs, value_answer, any_of_number, vertex_of_number, winner_of_number}
@@ -60,7 +60,7 @@ true_false : true ≡ false → ⊥
 true_false e = let x : true ≡ false = e in cc
 
 vertex_verdict : (ids : List ℕ) (s : SolvedData) (n at : ℕ) →
-    Verdict (place_of ids) (IsOther ids s) (vertex_of_number ids s) n at
+    Verdict (place_of ids) (IsBadVertex ids s) (vertex_of_number ids s) n at
 vertex_verdict ids s n at = ⊎_elim
     (λ (yes : is_member ids n ≡ true). ⊎_elim
     (λ (old : has s.named (place_of ids n) ≡ true). wrong OtherGame (inr old, refl) (λ g w. w.1) (rw (yes, old) refl))
@@ -109,7 +109,8 @@ module _ (old : Stream Sign) {new : Stream Sign} (rest : new ≡ tail old) where
       ReadsAs (λ n. n) (vertex ids s) old r new
   unfolding vertex
   reads_vertex ids s = one_reads cause_number Syntax (Number 0) refl (value_answer (vertex_of_number ids s))
-      (value_fits (place_of ids) (IsOther ids s) (vertex_of_number ids s) (vertex_verdict ids s)) (λ at. refl) old rest
+      (value_fits (place_of ids) (IsBadVertex ids s) (vertex_of_number ids s) (vertex_verdict ids s)) (λ at. refl) old
+      rest
 
   pub reads_winner : {r : Result ℕ CertFault} →
       r ≡ value_answer winner_of_number (next_of old) (offset_of old.pieces old.end) → ReadsAs (λ n. n) winner old r new

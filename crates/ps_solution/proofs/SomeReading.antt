@@ -21,8 +21,8 @@ use Rattle.ps_pgsolver.specs.Signs.{Sign, Number, Word, Semicolon}
 use Rattle.ps_pgsolver.proofs.GameLaws.{takes_word}
 use Rattle.ps_pgsolver.proofs.GameTokens.{tokens_found}
 use Rattle.ps_solution.specs.Reading.{ReadsSolution, refused, incomplete, meaning}
-use Rattle.ps_solution.specs.Solved.{SolvedData, SolutionData, IsWhole, solution_of}
-use Rattle.ps_solution.specs.Texts.{Field, solution_causes, value_in, BadValue, AnyValue, IsOther, IsNoPlayer}
+use Rattle.ps_solution.specs.Solved.{SolvedData, SolutionData, IsFilled, solution_of}
+use Rattle.ps_solution.specs.Texts.{Field, solution_causes, value_in, BadValue, AnyValue, IsBadVertex, IsNoPlayer}
 use Rattle.ps_solution.specs.Texts.{IsUnknown}
 use Rattle.ps_solution.specs.Texts.{number, vertex, winner, successor, semicolon, keyword, choice, entry, entries}
 use Rattle.ps_solution.specs.Texts.{value_line, heading, solution}
@@ -66,7 +66,7 @@ has_keyword =
 module _ (ids : List ℕ) where
   has_vertex : (s : SolvedData) → Has (vertex ids s)
   unfolding vertex
-  has_vertex s = has_value (IsOther ids s) (λ n. judge_cause cause_number OtherGame
+  has_vertex s = has_value (IsBadVertex ids s) (λ n. judge_cause cause_number OtherGame
       (decide_one (decide_not (decide_in ids n)) (decide_true (has s.named (place_of ids n))))) (place_of ids)
 
   has_successor : Has (successor ids)
@@ -109,7 +109,7 @@ module _ (ids : List ℕ) where
   some_solved = some_answer (laws_solution ids) has_solution
 
 -- whether each vertex has an entry is decidable
-decide_whole : (s : SolvedData) → Decided (IsWhole s)
+decide_whole : (s : SolvedData) → Decided (IsFilled s)
 decide_whole s = up_to (length s.named)
   where
     up_to : (n : ℕ) → Decided ((v : ℕ) → v < n → has s.named v ≡ true)
@@ -127,7 +127,7 @@ pub some_reading : (ids text : List ℕ) →
 some_reading ids text = let one = some_solved ids (stream_of text) in go one.0 one.1
   where
     whole : (s : SolvedData) → PartAnswers solution_causes (solution ids) (stream_of text) (Ok s) →
-        Decided (IsWhole s) → (answer : Result SolutionData (Found CertCause)) × ReadsSolution ids text answer
+        Decided (IsFilled s) → (answer : Result SolutionData (Found CertCause)) × ReadsSolution ids text answer
     whole s p (inl w) = (Ok (solution_of s), meaning (stream_of text) s (tokens_found text) p w refl)
     whole s p (inr n) = (
       Err (record { cause = OtherGame; offset = length text }),

@@ -13,7 +13,7 @@ use Rattle.ps_pgsolver.specs.Lexer.{stream_of}
 use Rattle.ps_pgsolver.specs.Signs.{Sign}
 use Rattle.ps_pgsolver.proofs.GameTokens.{tokens_found}
 use Rattle.ps_solution.specs.Reading.{ReadsSolution, IsSolutionAnswer, refused, incomplete, meaning}
-use Rattle.ps_solution.specs.Solved.{SolvedData, SolutionData, IsWhole, solution_of}
+use Rattle.ps_solution.specs.Solved.{SolvedData, SolutionData, IsFilled, solution_of}
 use Rattle.ps_solution.specs.Texts.{solution_causes, solution}
 use Rattle.ps_solution.specs.Inner.Answered.{TextAnswers, end_answer}
 use Rattle.ps_solution.proofs.PartLaws.{laws_solution}
@@ -71,10 +71,10 @@ module _ (ids : List ℕ) where
       TextAnswers ids (stream_of text) (Err e) → IsErrAnd r (λ y. y ≡ e) → IsSolutionAnswer ids text r
   refused_exit text e r h i = search (rules, err_from_is_err_and, refused_answer)
 
-  pub incomplete_answer : (text : List ℕ) (s : SolvedData) → TextAnswers ids (stream_of text) (Ok s) → ¬ IsWhole s →
+  pub incomplete_answer : (text : List ℕ) (s : SolvedData) → TextAnswers ids (stream_of text) (Ok s) → ¬ IsFilled s →
       IsSolutionAnswer ids text (Err (Text OtherGame (length text)))
   incomplete_answer text s p n = incomplete (stream_of text) s (tokens_found text) p n refl
 
   pub whole_answer : (text : List ℕ) (s : SolvedData) (r : SolutionData) → TextAnswers ids (stream_of text) (Ok s) →
-      IsWhole s → r ≡ solution_of s → IsSolutionAnswer ids text (Ok r)
+      IsFilled s → r ≡ solution_of s → IsSolutionAnswer ids text (Ok r)
   whole_answer text s r p w e = meaning (stream_of text) s (tokens_found text) p w (ap Ok e)

@@ -8,7 +8,7 @@ use Rattle.ps_certificate.specs.declared.fault.CertCause.{CertCause}
 use Rattle.ps_certificate.specs.declared.fault.CertCause.TheVariants.{OtherGame}
 use Rattle.ps_pgsolver.specs.GameTokens.{AreGameTokens}
 use Rattle.ps_pgsolver.specs.Signs.{Sign}
-use Rattle.ps_solution.specs.Solved.{SolvedData, SolutionData, IsWhole, solution_of}
+use Rattle.ps_solution.specs.Solved.{SolvedData, SolutionData, IsFilled, solution_of}
 use Rattle.ps_solution.specs.Texts.{solution_causes, solution}
 
 -- the answer to a text, for a game whose vertices have the given ids
@@ -18,11 +18,11 @@ pub data ReadsSolution (ids text : List ℕ) (answer : Result SolutionData (Foun
       PartAnswers solution_causes (solution ids) stream (Err found) → answer ≡ Err found → ReadsSolution ids text answer
   -- if the text has no other error: some vertex has no entry
   incomplete : (stream : Stream Sign) (solved : SolvedData) → AreGameTokens text stream →
-      PartAnswers solution_causes (solution ids) stream (Ok solved) → ¬ IsWhole solved →
+      PartAnswers solution_causes (solution ids) stream (Ok solved) → ¬ IsFilled solved →
       answer ≡ Err (record { cause = OtherGame; offset = length text }) → ReadsSolution ids text answer
   -- the text has no error
   meaning : (stream : Stream Sign) (solved : SolvedData) → AreGameTokens text stream →
-      PartAnswers solution_causes (solution ids) stream (Ok solved) → IsWhole solved →
+      PartAnswers solution_causes (solution ids) stream (Ok solved) → IsFilled solved →
       answer ≡ Ok (solution_of solved) → ReadsSolution ids text answer
 
 -- what a call returns: the answer to the text, or out of memory

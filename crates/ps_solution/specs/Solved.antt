@@ -40,8 +40,8 @@ with_entry s v winner choice = record {
 }
 
 -- each vertex has an entry
-abbrev pub IsWhole : SolvedData → Type 0
-IsWhole s = (v : ℕ) → v < length s.named → has s.named v ≡ true
+abbrev pub IsFilled : SolvedData → Type 0
+IsFilled s = (v : ℕ) → v < length s.named → has s.named v ≡ true
 
 -- the vertices that player 0 wins, and a move or none for each vertex; player 1 wins all other vertices
 pub record SolutionData : Type 0 where

@@ -43,11 +43,11 @@ unfoldable pub number : Field ℕ
 number = one (value_in (λ n. n)) (BadValue AnyValue)
 
 -- the errors of an entry's vertex: the id is not in the game, or an earlier entry has it
-abbrev pub IsOther : List ℕ → SolvedData → ℕ → CertCause → Type 0
-IsOther ids s n cause = ((¬ Contains ids n) ⊎ (has s.named (place_of ids n) ≡ true)) × (cause ≡ OtherGame)
+abbrev pub IsBadVertex : List ℕ → SolvedData → ℕ → CertCause → Type 0
+IsBadVertex ids s n cause = ((¬ Contains ids n) ⊎ (has s.named (place_of ids n) ≡ true)) × (cause ≡ OtherGame)
 
 unfoldable pub vertex : List ℕ → SolvedData → Field ℕ
-vertex ids s = one (value_in (place_of ids)) (BadValue (IsOther ids s))
+vertex ids s = one (value_in (place_of ids)) (BadValue (IsBadVertex ids s))
 
 -- the error of a winner: it is neither 0 nor 1
 abbrev pub IsNoPlayer : ℕ → CertCause → Type 0

@@ -2,7 +2,7 @@
 
 ghost use Rattle.std.specs.Prelude.{◌≡◌, ◌<◌, ◌↔◌, length, IfOk, IfSome, IsTrue};
 ghost use Rattle.ps_game.specs.Regions.{has};
-ghost use Rattle.ps_solution.specs.Solved.{none_solved, with_entry, AreMoves, IsWhole, solution_of};
+ghost use Rattle.ps_solution.specs.Solved.{none_solved, with_entry, AreMoves, IsFilled, solution_of};
 
 use crate::solution::Solution;
 use ps_game::{Region, Strategy};
@@ -64,7 +64,7 @@ impl Solved {
 
     /// Whether each vertex has an entry.
     pub(crate) fn is_whole(&self) -> bool
-        ensures { IsTrue result ↔ IsWhole self.now }
+        ensures { IsTrue result ↔ IsFilled self.now }
     {
         for vertex in 0..self.named.places() {
             if !self.named.contains(vertex) {

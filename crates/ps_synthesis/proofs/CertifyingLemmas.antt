@@ -7,7 +7,7 @@ use Rattle.ps_machine.specs.Solvers.{Answered, MayAnswer, SolverData, answers_no
 use Rattle.ps_machine.specs.Solving.{AnswersSurely, NamesVertices}
 use Rattle.ps_machine.specs.declared.fault.SolveFault.{SolveFault}
 use Rattle.ps_machine.specs.declared.fault.SolveFault.TheVariants as solver
-use Rattle.ps_synthesis.specs.Stages.{IsRefusedAs, IsSolverFault}
+use Rattle.ps_synthesis.specs.Stages.{IsFaultFor, IsSolverFault}
 use Rattle.ps_synthesis.specs.declared.fault.SynthFault.{SynthFault}
 use Rattle.ps_synthesis.specs.declared.fault.SynthFault.TheVariants.{Text, Automaton, BadCycle, Certificate}
 use Rattle.ps_synthesis.specs.declared.fault.SynthFault.TheVariants.{NotCertified, CircuitTooLarge, OutOfMemory}
@@ -19,7 +19,7 @@ where_ok P (Ok value) ok stands same is = stands
 where_ok P (Err fault) ok stands same is = cc
 
 memory_of : (named : NamedGameData) (fault : SolveFault) (given : SynthFault) → AnswersSurely named (Err fault) →
-    IsRefusedAs named fault given → given ≡ OutOfMemory
+    IsFaultFor named fault given → given ≡ OutOfMemory
 memory_of named fault given surely refused = grind arith
 
 of_memory : (May : MayAnswer) (named : NamedGameData) (given : SynthFault) → given ≡ OutOfMemory →
@@ -27,7 +27,7 @@ of_memory : (May : MayAnswer) (named : NamedGameData) (given : SynthFault) → g
 of_memory May named given is = subst (λ (f : SynthFault). IsSolverFault May named f) (sym is) tt
 
 refused_as : (May : MayAnswer) (named : NamedGameData) (fault : SolveFault) (given : SynthFault) → May named (Err fault)
-    → NamesVertices named (Err fault) → IsRefusedAs named fault given → IsSolverFault May named given
+    → NamesVertices named (Err fault) → IsFaultFor named fault given → IsSolverFault May named given
 refused_as May named (solver.BadCycle cycle) (BadCycle ids) may names refused = record {
   fault = solver.BadCycle cycle;
   answered = may;
@@ -49,7 +49,7 @@ refused_as May named solver.OutOfMemory given may names refused = of_memory May 
 -- the fault of synthesis is the one for the fault that the solver returned
 pub solver_fault : (May : MayAnswer) (named : NamedGameData) (answer : Result CertificateData SolveFault)
     (fault : SolveFault) (given : SynthFault) → May named answer → NamesVertices named answer → answer ≡ Err fault →
-    IsRefusedAs named fault given → IsSolverFault May named given
+    IsFaultFor named fault given → IsSolverFault May named given
 solver_fault May named answer fault given may names is refused = grind (arith, refused_as)
 
 -- a fault for an answer that the solver gave is a fault for an answer that the solver may give

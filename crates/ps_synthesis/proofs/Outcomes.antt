@@ -10,7 +10,8 @@ use Rattle.ps_machine.specs.declared.key.Order.{Order}
 use Rattle.ps_machine.specs.Solvers.{MayAnswer}
 use Rattle.ps_synthesis.specs.Promises.{KeepsPromise}
 use Rattle.ps_synthesis.specs.Reports.{IsReport}
-use Rattle.ps_synthesis.specs.SynthFaults.{IsOutcome, Reported, TooLarge, LacksMemory, IsSynthFault, IsTooLarge, OfGame}
+use Rattle.ps_synthesis.specs.SynthFaults.{IsReportOrFault, Reported, TooLarge, LacksMemory, IsSynthFault, IsTooLarge}
+use Rattle.ps_synthesis.specs.SynthFaults.{OfGame}
 use Rattle.ps_synthesis.specs.declared.fault.SynthFault.{SynthFault}
 use Rattle.ps_synthesis.specs.declared.fault.SynthFault.TheVariants.{Text, Automaton, BadCycle, Certificate}
 use Rattle.ps_synthesis.specs.declared.fault.SynthFault.TheVariants.{NotCertified, CircuitTooLarge, OutOfMemory}
@@ -63,8 +64,9 @@ module _ (May Other : MayAnswer) (more : AnswersMore May Other) (order : Order) 
   fault_more CircuitTooLarge h = too_large_more h
   fault_more OutOfMemory h = h
 
-  pub outcome_more : (compact : Bool) (answer : Result Report SynthFault) → IsOutcome May order compact text answer →
-      IsOutcome Other order compact text answer
+  pub outcome_more : (compact : Bool) (answer : Result Report SynthFault) →
+      IsReportOrFault May order compact text answer →
+      IsReportOrFault Other order compact text answer
   outcome_more compact answer (Reported report e is) = Reported report e (report_more compact report is)
   outcome_more compact answer (TooLarge e is) = TooLarge e (too_large_more is)
   outcome_more compact answer (LacksMemory e) = LacksMemory e
@@ -79,7 +81,8 @@ IsSureFault fault = ⊥
 
 module _ (May : MayAnswer) (order : Order) (compact : Bool) (text : List ℕ) where
   pub outcome : (answer : Result Report SynthFault) → IfOk answer (IsReport May order compact text) →
-      IfErr answer (IsSynthFault May order text) → IfErr answer IsSureFault → IsOutcome May order compact text answer
+      IfErr answer (IsSynthFault May order text) → IfErr answer IsSureFault →
+      IsReportOrFault May order compact text answer
   outcome (Ok report) is cause sure = Reported report refl is
   outcome (Err CircuitTooLarge) is cause sure = TooLarge refl cause
   outcome (Err OutOfMemory) is cause sure = LacksMemory refl
@@ -89,7 +92,7 @@ module _ (May : MayAnswer) (order : Order) (compact : Bool) (text : List ℕ) wh
   outcome (Err (Certificate c offset)) is cause sure = absurd sure
   outcome (Err NotCertified) is cause sure = absurd sure
 
-  pub report_in : (answer : Result Report SynthFault) → IsOutcome May order compact text answer →
+  pub report_in : (answer : Result Report SynthFault) → IsReportOrFault May order compact text answer →
       IfOk answer (IsReport May order compact text)
   report_in answer (Reported report e is) =
       subst (λ (a : Result Report SynthFault). IfOk a (IsReport May order compact text)) (sym e) is
@@ -98,7 +101,7 @@ module _ (May : MayAnswer) (order : Order) (compact : Bool) (text : List ℕ) wh
   report_in answer (LacksMemory e) =
       subst (λ (a : Result Report SynthFault). IfOk a (IsReport May order compact text)) (sym e) tt
 
-  pub cause_in : (answer : Result Report SynthFault) → IsOutcome May order compact text answer →
+  pub cause_in : (answer : Result Report SynthFault) → IsReportOrFault May order compact text answer →
       IfErr answer (IsSynthFault May order text)
   cause_in answer (Reported report e is) =
       subst (λ (a : Result Report SynthFault). IfErr a (IsSynthFault May order text)) (sym e) tt
@@ -107,5 +110,6 @@ module _ (May : MayAnswer) (order : Order) (compact : Bool) (text : List ℕ) wh
   cause_in answer (LacksMemory e) =
       subst (λ (a : Result Report SynthFault). IfErr a (IsSynthFault May order text)) (sym e) tt
 
-  pub sure_in : (answer : Result Report SynthFault) → IsOutcome May order compact text answer → IfErr answer IsSureFault
+  pub sure_in : (answer : Result Report SynthFault) → IsReportOrFault May order compact text answer →
+      IfErr answer IsSureFault
   sure_in answer h = grind arith

@@ -11,7 +11,7 @@ use Rattle.ps_game.specs.Games.{NamedGameData}
 use Rattle.ps_hoa.specs.Files.{FileData}
 use Rattle.ps_machine.specs.Boards.{Board, IsGameOf}
 use Rattle.ps_machine.specs.BuiltBoards.{board_of}
-use Rattle.ps_machine.specs.Solving.{winner, IsCertified}
+use Rattle.ps_machine.specs.Solving.{winner_at_start, IsCertified}
 use Rattle.ps_machine.specs.FileGames.{IsGameOfFile, board_of_file}
 use Rattle.ps_machine.specs.KeyNames.{AreNamed}
 use Rattle.ps_machine.specs.Keys.{mover_of}
@@ -19,12 +19,12 @@ use Rattle.ps_machine.specs.Behaviours.{Behaviour}
 use Rattle.ps_machine.specs.declared.key.Key.{Key}
 use Rattle.ps_machine.specs.declared.key.Order.{Order}
 use Rattle.ps_synthesis.specs.Printing.{PrintsCertificate, PrintsCircuit, PrintsGame}
-use Rattle.ps_synthesis.specs.Problems.{Gives, IsProblem, IsProblemOf, ProblemData}
+use Rattle.ps_synthesis.specs.Problems.{ReturnsOnly, IsProblem, IsProblemOf, ProblemData}
 use Rattle.ps_synthesis.specs.Reports.{IsReport, IsWinners, IsWinnersCircuit}
 use Rattle.ps_machine.specs.Solvers.{MayAnswer}
 use Rattle.ps_synthesis.specs.Promises.{KeepsPromise}
 use Rattle.ps_synthesis.specs.Stages.{IsAutomatonOf, IsCircuitFault, IsCircuitOf, IsExtracted}
-use Rattle.ps_synthesis.specs.SynthFaults.{IsOutcome, IsSynthFault}
+use Rattle.ps_synthesis.specs.SynthFaults.{IsReportOrFault, IsSynthFault}
 use Rattle.ps_synthesis.specs.declared.fault.SynthFault.{SynthFault}
 use Rattle.ps_synthesis.specs.declared.fault.SynthFault.TheVariants.{Text, Automaton, BadCycle, Certificate}
 use Rattle.ps_synthesis.specs.declared.fault.SynthFault.TheVariants.{NotCertified, CircuitTooLarge, OutOfMemory}
@@ -58,8 +58,9 @@ module _ (order : Order) (text : List ℕ) (a : AutomatonData) (keys : List Key)
       (report : Report) → May game (Ok certificate) → IsCertified game certificate
       → BothHold game.game certificate → NoneWinsOutside game.game certificate
       → ((file : FileData) (chain : Chain) → IsBuiltFrom file chain a →
-      IsWitness order file (winner certificate) circuit)
-      → (IsTrue report.realizable ↔ (winner certificate ≡ 0)) → PrintsCircuit report.circuit_text.items circuit →
+      IsWitness order file (winner_at_start certificate) circuit)
+      → (IsTrue report.realizable ↔ (winner_at_start certificate ≡ 0)) →
+      PrintsCircuit report.circuit_text.items circuit →
       PrintsGame report.game_text.items game → PrintsCertificate compact report.certificate_text.items
       game certificate
       → KeepsPromise May order compact text report
@@ -91,11 +92,11 @@ module _ (order : Order) (text : List ℕ) (a : AutomatonData) (keys : List Key)
   reports : (May : MayAnswer) (compact : Bool) (certificate : CertificateData) (result : Result Report SynthFault) →
       May game (Ok certificate) → IsCertified game certificate → BothHold game.game certificate
       → NoneWinsOutside game.game certificate → IfOk result (λ report.
-      IsTrue report.realizable ↔ (winner certificate ≡ 0))
+      IsTrue report.realizable ↔ (winner_at_start certificate ≡ 0))
       → IfOk result (λ report. (circuit : CircuitData) × PrintsCircuit report.circuit_text.items circuit ×
       IsCircuitOf order a game.game certificate circuit
       × ((file : FileData) (chain : Chain) → IsBuiltFrom file chain a →
-      IsWitness order file (winner certificate) circuit))
+      IsWitness order file (winner_at_start certificate) circuit))
       → IfOk result (λ report. PrintsGame report.game_text.items game) →
       IfOk result (λ report. PrintsCertificate compact report.certificate_text.items game certificate)
       → IfOk result (IsReport May order compact text)
@@ -136,11 +137,11 @@ module _ (order : Order) (text : List ℕ) (a : AutomatonData) (keys : List Key)
 -- what is known about the report of a problem
 pub record IsMade (p : ProblemData) (certificate : CertificateData) (compact : Bool)
     (result : Result Report SynthFault) : Type 0 where
-  pub realizable : IfOk result (λ report. IsTrue report.realizable ↔ (winner certificate ≡ 0))
+  pub realizable : IfOk result (λ report. IsTrue report.realizable ↔ (winner_at_start certificate ≡ 0))
   pub circuit : IfOk result (λ report. (circuit : CircuitData) × PrintsCircuit report.circuit_text.items circuit ×
       IsCircuitOf p.order p.automaton p.game.game certificate circuit
       × ((file : FileData) (chain : Chain) → IsBuiltFrom file chain p.automaton →
-      IsWitness p.order file (winner certificate) circuit))
+      IsWitness p.order file (winner_at_start certificate) circuit))
   pub game : IfOk result (λ report. PrintsGame report.game_text.items p.game)
   pub certificate_text : IfOk result (λ report. PrintsCertificate compact report.certificate_text.items
       p.game certificate)
@@ -159,8 +160,9 @@ module _ (p : ProblemData) (is : IsProblem p) (certificate : CertificateData) (c
     (certified : IsCertified p.game certificate)
     (order : Order) (text : List ℕ) (of : IsProblemOf order text p) where
   pub problem_outcome : BothHold p.game.game certificate → NoneWinsOutside p.game.game certificate →
-      IsOutcome (Gives p.game certificate) order compact text result
-  problem_outcome hold outside = subst (λ (o : Order). IsOutcome (Gives p.game certificate) o compact text result)
+      IsReportOrFault (ReturnsOnly p.game certificate) order compact text result
+  problem_outcome hold outside =
+      subst (λ (o : Order). IsReportOrFault (ReturnsOnly p.game certificate) o compact text result)
       of.order_is (search (rules, outcome, reports, circuit_causes, sure_circuits))
 
 -- ## A certificate that was checked

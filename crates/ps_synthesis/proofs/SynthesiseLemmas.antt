@@ -5,22 +5,24 @@ use Rattle.ps_certificate.specs.Certificates.{CertificateData}
 use Rattle.ps_game.specs.Games.{NamedGameData}
 use Rattle.ps_hoa.specs.Files.{FileData}
 use Rattle.ps_machine.specs.declared.key.Order.{Order}
-use Rattle.ps_synthesis.specs.Problems.{Gives, IsProblemOf, ProblemData}
+use Rattle.ps_synthesis.specs.Problems.{ReturnsOnly, IsProblemOf, ProblemData}
 use Rattle.ps_machine.specs.Solvers.{MayAnswer}
 use Rattle.ps_synthesis.specs.Stages.{IsSolverFault}
-use Rattle.ps_synthesis.specs.SynthFaults.{IsOutcome, IsSynthFault, OfGame}
+use Rattle.ps_synthesis.specs.SynthFaults.{IsReportOrFault, IsSynthFault, OfGame}
 use Rattle.ps_synthesis.specs.declared.fault.SynthFault.{SynthFault}
 use Rattle.ps_synthesis.specs.declared.report.Report.{Report}
 use Rattle.ps_synthesis.proofs.Outcomes.{AnswersMore, outcome_more}
 
 module _ (May : MayAnswer) (game : NamedGameData) (certificate : CertificateData) (may : May game (Ok certificate))
   where
-    too : AnswersMore (Gives game certificate) May
+    too : AnswersMore (ReturnsOnly game certificate) May
     too asked answer given = grind arith
 
     pub outcome_by : (order : Order) (text : List ℕ) (compact : Bool) (result : Result Report SynthFault) →
-        IsOutcome (Gives game certificate) order compact text result → IsOutcome May order compact text result
-    outcome_by order text compact result is = outcome_more (Gives game certificate) May too order text compact result is
+        IsReportOrFault (ReturnsOnly game certificate) order compact text result →
+        IsReportOrFault May order compact text result
+    outcome_by order text compact result is =
+        outcome_more (ReturnsOnly game certificate) May too order text compact result is
 
 -- the errors of a solver's answer, for the game of a text
 module _ (May : MayAnswer) (order : Order) (text : List ℕ) (p : ProblemData) (of : IsProblemOf order text p) where

@@ -2,7 +2,8 @@
 --     ProblemData      a problem, with the key of each vertex of the game
 --     IsProblem p      the game is that of the automaton in the problem's order of moves
 --     IsProblemOf order text p      the automaton is that of the text
---     Gives game certificate      the possible answers of a solver that only returns this certificate, for this game
+--     ReturnsOnly game certificate      the possible answers of a solver that only returns this certificate, for this
+--               game
 --     IsReportFault p certificate fault      why a certificate of a problem gives no report
 use Rattle.std.specs.Prelude.{◌≡◌, ℕ, ◌<◌, List, Ok}
 use Rattle.ps_automaton.specs.Automata.{AutomatonData}
@@ -37,8 +38,8 @@ pub record IsProblemOf (order : Order) (text : List ℕ) (p : ProblemData) : Typ
   pub automaton_of : IsAutomatonOf text p.automaton
   pub game_of : IsGameOfFile order automaton_of.file p.game
 
-abbrev pub Gives : NamedGameData → CertificateData → MayAnswer
-Gives game certificate asked answer = (asked ≡ game) × (answer ≡ Ok certificate)
+abbrev pub ReturnsOnly : NamedGameData → CertificateData → MayAnswer
+ReturnsOnly game certificate asked answer = (asked ≡ game) × (answer ≡ Ok certificate)
 
 abbrev pub IsReportFault : ProblemData → CertificateData → SynthFault → Type 0
 IsReportFault p certificate NotCertified = ¬ IsCertified p.game certificate

@@ -13,7 +13,7 @@ use Rattle.ps_hoa.specs.Files.{FileData}
 use Rattle.ps_hoa.specs.Texts.{ReadsFile}
 use Rattle.ps_machine.specs.FileGames.{IsGameOfFile}
 use Rattle.ps_machine.specs.Solvers.{MayAnswer}
-use Rattle.ps_machine.specs.Solving.{IsCertified, winner}
+use Rattle.ps_machine.specs.Solving.{IsCertified, winner_at_start}
 use Rattle.ps_machine.specs.declared.key.Order.{Order}
 use Rattle.ps_traces.specs.Answers.{IsWitness}
 use Rattle.ps_synthesis.specs.Printing.{PrintsGame, PrintsCertificate, PrintsCircuit}
@@ -41,7 +41,7 @@ pub record KeepsPromise (May : MayAnswer) (order : Order) (compact : Bool) (text
     pub both_hold : BothHold game.game certificate
     pub none_wins_outside : NoneWinsOutside game.game certificate
     -- the printed circuit: a controller if player 0 wins vertex 0, and otherwise an environment
-    pub realizable : IsTrue report.realizable ↔ (winner certificate ≡ 0)
+    pub realizable : IsTrue report.realizable ↔ (winner_at_start certificate ≡ 0)
     pub circuit : CircuitData
     pub circuit_text : PrintsCircuit report.circuit_text.items circuit
-    pub answers : IsWitness order file (winner certificate) circuit
+    pub answers : IsWitness order file (winner_at_start certificate) circuit

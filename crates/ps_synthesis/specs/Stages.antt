@@ -2,7 +2,7 @@
 --     IsAutomatonOf text a      the automaton of the file of an accepted text
 --     IsTextFault text fault      why a text has no automaton
 --     IsSolverFault May game fault      why a solver's answer is not a valid certificate
---     IsRefusedAs game given fault      the fault of synthesis that a solver's fault becomes, or out of memory
+--     IsFaultFor game given fault      the fault of synthesis that a solver's fault becomes, or out of memory
 --     IsCircuitOf order a game certificate circuit      the circuit of the machine of the certificate
 --     HasNoCircuit order a game certificate      the circuit of the certificate's machine needs more variables than
 --               there are literals
@@ -59,10 +59,10 @@ IsSolverFault May game NotCertified = IsNotCertified May game
 IsSolverFault May game OutOfMemory = Unit {0}
 IsSolverFault May game fault = ⊥
 
-abbrev pub IsRefusedAs : NamedGameData → SolveFault → SynthFault → Type 0
-IsRefusedAs game (solver.BadCycle cycle) (BadCycle ids) = ids.items ≡ map (λ v. slice_index game.ids v) cycle.items
-IsRefusedAs game (solver.Text cause offset) fault = fault ≡ Certificate cause offset
-IsRefusedAs game given fault = fault ≡ OutOfMemory
+abbrev pub IsFaultFor : NamedGameData → SolveFault → SynthFault → Type 0
+IsFaultFor game (solver.BadCycle cycle) (BadCycle ids) = ids.items ≡ map (λ v. slice_index game.ids v) cycle.items
+IsFaultFor game (solver.Text cause offset) fault = fault ≡ Certificate cause offset
+IsFaultFor game given fault = fault ≡ OutOfMemory
 
 -- the winner's machine, which a certificate of the automaton's game determines
 pub record IsExtracted (order : Order) (a : AutomatonData) (game : ParityGame) (certificate : CertificateData)

@@ -6,7 +6,7 @@
 --     IsTooLarge May order file game      the circuit of a valid certificate's machine needs more variables than there
 --               are literals
 --     IsSynthFault May order text fault      the reason for a fault
---     IsOutcome May order compact text answer      the result for an accepted text, if the solver is sure
+--     IsReportOrFault May order compact text answer      the result for an accepted text, if the solver is sure
 use Rattle.std.specs.Prelude.{◌≡◌, ◌≢◌, ℕ, ◌<◌, Bool, List, length, map, slice_index, Option, None, Some, Result, Ok}
 use Rattle.std.specs.Prelude.{Err}
 use Rattle.std.specs.List.{All}
@@ -84,10 +84,10 @@ IsSynthFault May order text CircuitTooLarge = OfGame order text (IsTooLarge May 
 IsSynthFault May order text OutOfMemory = Unit {0}
 
 -- a report; or the circuit is too large, or out of memory
-pub data IsOutcome (May : MayAnswer) (order : Order) (compact : Bool) (text : List ℕ)
+pub data IsReportOrFault (May : MayAnswer) (order : Order) (compact : Bool) (text : List ℕ)
     (answer : Result Report SynthFault) : Type 0 where
   Reported : (report : Report) → answer ≡ Ok report → IsReport May order compact text report →
-      IsOutcome May order compact text answer
+      IsReportOrFault May order compact text answer
   TooLarge : answer ≡ Err CircuitTooLarge → OfGame order text (IsTooLarge May order) →
-      IsOutcome May order compact text answer
-  LacksMemory : answer ≡ Err OutOfMemory → IsOutcome May order compact text answer
+      IsReportOrFault May order compact text answer
+  LacksMemory : answer ≡ Err OutOfMemory → IsReportOrFault May order compact text answer

@@ -5,7 +5,7 @@ ghost use Rattle.ps_certificate.specs.Regions.{BothHold, NoneWinsOutside};
 ghost use Rattle.ps_game.specs.Games.{vertex_count};
 ghost use Rattle.ps_machine.specs.Solvers.{Answered, IsKept};
 ghost use Rattle.ps_machine.specs.Solving.{IsCertified, NamesVertices};
-ghost use Rattle.ps_synthesis.specs.Stages.{IsRefusedAs, IsSolverFault};
+ghost use Rattle.ps_synthesis.specs.Stages.{IsFaultFor, IsSolverFault};
 ghost use Rattle.ps_synthesis.specs.declared.fault.SynthFault.TheVariants.{OutOfMemory};
 
 use crate::fault::SynthFault;
@@ -53,7 +53,7 @@ pub fn is_certified(game: &NamedGame, certificate: &Certificate) -> bool
 /// The fault that synthesis returns for a solver's fault. Vertices are named by their ids.
 fn refused(alloc: Global, game: &NamedGame, fault: SolveFault) -> SynthFault
     requires { NamesVertices game.now (Err fault) }
-    ensures { IsRefusedAs game.now fault result }
+    ensures { IsFaultFor game.now fault result }
 {
     match fault {
         SolveFault::BadCycle(cycle) => match ids_of(alloc, game, &cycle) {

@@ -7,7 +7,7 @@ ghost use Rattle.ps_hoa.specs.Files.{FileData};
 ghost use Rattle.ps_machine.specs.Boards.{IsGameOf};
 ghost use Rattle.ps_machine.specs.BuiltBoards.{board_of};
 ghost use Rattle.ps_machine.specs.Dividing.{HasClasses};
-ghost use Rattle.ps_machine.specs.Solving.{winner};
+ghost use Rattle.ps_machine.specs.Solving.{winner_at_start};
 ghost use Rattle.ps_machine.specs.Keys.{mover_of};
 ghost use Rattle.ps_machine.specs.Solving.{IsCertified};
 ghost use Rattle.ps_synthesis.specs.Stages.{IsCircuitFault, IsCircuitOf};
@@ -38,7 +38,7 @@ pub fn circuit_of_certificate(
     requires certified { IsCertified game.now.game certificate.now }
     ensures made { IfOk result (IsCircuitOf order automaton.now game.now.game.game certificate.now) }
     ensures answers { IfOk result (λ circuit. (file : FileData) (chain : Chain) → IsBuiltFrom file chain automaton.now →
-        IsWitness order file (winner certificate.now) circuit) }
+        IsWitness order file (winner_at_start certificate.now) circuit) }
     ensures refused { IfErr result (IsCircuitFault order automaton.now game.now.game.game certificate.now) }
 {
     one_game();

@@ -10,16 +10,16 @@ ghost use Rattle.ps_hoa.specs.Files.{FileData};
 ghost use Rattle.ps_machine.specs.Boards.{IsGameOf};
 ghost use Rattle.ps_machine.specs.BuiltBoards.{board_of};
 ghost use Rattle.ps_machine.specs.Dividing.{HasClasses};
-ghost use Rattle.ps_machine.specs.Solving.{winner};
+ghost use Rattle.ps_machine.specs.Solving.{winner_at_start};
 ghost use Rattle.ps_machine.specs.Keys.{mover_of};
 ghost use Rattle.ps_machine.specs.Solving.{IsCertified};
 ghost use Rattle.ps_machine.specs.declared.key.Order.{Order};
 ghost use Rattle.ps_synthesis.specs.Printing.{PrintsCertificate, PrintsCircuit, PrintsGame};
-ghost use Rattle.ps_synthesis.specs.Problems.{Gives, IsProblem, IsProblemOf, IsReportFault};
+ghost use Rattle.ps_synthesis.specs.Problems.{ReturnsOnly, IsProblem, IsProblemOf, IsReportFault};
 ghost use Rattle.ps_synthesis.specs.Reports.{IsReport};
 ghost use Rattle.ps_synthesis.specs.Promises.{IsAcceptedText};
 ghost use Rattle.ps_synthesis.specs.Stages.{IsCircuitFault, IsCircuitOf, IsTextFault};
-ghost use Rattle.ps_synthesis.specs.SynthFaults.{IsOutcome};
+ghost use Rattle.ps_synthesis.specs.SynthFaults.{IsReportOrFault};
 ghost use Rattle.ps_synthesis.specs.declared.fault.SynthFault.TheVariants.{NotCertified, OutOfMemory};
 ghost use Rattle.ps_traces.specs.Answers.{IsWitness};
 
@@ -111,12 +111,12 @@ impl Problem {
         compact: bool,
     ) -> Result<Report, SynthFault>
         ensures report { (order : Order) (text : List ℕ) → IsProblemOf order text self.now →
-            IfOk result (IsReport (Gives self.now.game certificate.now) order compact text) }
+            IfOk result (IsReport (ReturnsOnly self.now.game certificate.now) order compact text) }
         ensures refused { IfErr result (IsReportFault self.now certificate.now) }
         ensures not_certified { ¬ IsCertified self.now.game certificate.now →
             IsErrAnd result (λ fault. fault ≡ NotCertified) }
         ensures outcome { IsCertified self.now.game certificate.now → (order : Order) (text : List ℕ) →
-            IsProblemOf order text self.now → IsOutcome (Gives self.now.game certificate.now) order
+            IsProblemOf order text self.now → IsReportOrFault (ReturnsOnly self.now.game certificate.now) order
             compact text result }
     {
         if !is_certified(self.game(), certificate) {
@@ -138,7 +138,7 @@ impl Problem {
     ) -> Result<Report, SynthFault>
         requires { IsCertified self.now.game certificate.now }
         ensures outcome { (order : Order) (text : List ℕ) → IsProblemOf order text self.now →
-            IsOutcome (Gives self.now.game certificate.now) order compact text result }
+            IsReportOrFault (ReturnsOnly self.now.game certificate.now) order compact text result }
         ensures cause { IfErr result (IsCircuitFault self.now.order self.now.automaton self.now.game.game
             certificate.now) }
     {
@@ -170,12 +170,12 @@ fn report_of_certificate(
     requires classes { HasClasses order automaton.now game.now }
     requires some { 0 < vertex_count game.now.game.game }
     requires certified { IsCertified game.now.game certificate.now }
-    ensures realizable { IfOk result (λ report. IsTrue report.realizable ↔ (winner certificate.now ≡ 0)) }
+    ensures realizable { IfOk result (λ report. IsTrue report.realizable ↔ (winner_at_start certificate.now ≡ 0)) }
     ensures circuit { IfOk result (λ report. (circuit : CircuitData)
         × PrintsCircuit report.circuit_text.items circuit
         × IsCircuitOf order automaton.now game.now.game.game certificate.now circuit
         × ((file : FileData) (chain : Chain) → IsBuiltFrom file chain automaton.now →
-        IsWitness order file (winner certificate.now) circuit)) }
+        IsWitness order file (winner_at_start certificate.now) circuit)) }
     ensures game { IfOk result (λ report. PrintsGame report.game_text.items game.now.game) }
     ensures certificate { IfOk result (λ report. PrintsCertificate compact report.certificate_text.items game.now.game
         certificate.now) }

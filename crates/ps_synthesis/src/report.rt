@@ -3,7 +3,7 @@
 ghost use Rattle.std.specs.Prelude.{◌≡◌, ◌<◌, ◌↔◌, IsTrue, IfOk};
 ghost use Rattle.ps_certificate.specs.Certificates.{Fits};
 ghost use Rattle.ps_game.specs.Games.{vertex_count};
-ghost use Rattle.ps_machine.specs.Solving.{winner};
+ghost use Rattle.ps_machine.specs.Solving.{winner_at_start};
 ghost use Rattle.ps_synthesis.specs.Printing.{PrintsCertificate, PrintsCircuit, PrintsGame};
 
 use ps_aiger::Circuit;
@@ -35,7 +35,7 @@ pub fn report_of(
 ) -> Result<Report, AllocError>
     requires some { 0 < vertex_count game.now.game }
     requires fits { Fits game.now.game certificate.now }
-    ensures realizable { IfOk result (λ report. IsTrue report.realizable ↔ (winner certificate.now ≡ 0)) }
+    ensures realizable { IfOk result (λ report. IsTrue report.realizable ↔ (winner_at_start certificate.now ≡ 0)) }
     ensures circuit { IfOk result (λ report. PrintsCircuit report.circuit_text.items circuit.now) }
     ensures game { IfOk result (λ report. PrintsGame report.game_text.items game.now) }
     ensures certificate { IfOk result (λ report. PrintsCertificate compact report.certificate_text.items game.now

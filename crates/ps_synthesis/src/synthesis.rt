@@ -7,7 +7,7 @@ ghost use Rattle.ps_machine.specs.declared.key.Order.{Order};
 ghost use Rattle.ps_synthesis.specs.Problems.{IsProblemOf};
 ghost use Rattle.ps_synthesis.specs.Promises.{IsAcceptedText};
 ghost use Rattle.ps_synthesis.specs.Reports.{IsReport};
-ghost use Rattle.ps_synthesis.specs.SynthFaults.{IsOutcome, IsSynthFault};
+ghost use Rattle.ps_synthesis.specs.SynthFaults.{IsReportOrFault, IsSynthFault};
 
 use crate::certifying::certified;
 use crate::fault::SynthFault;
@@ -39,7 +39,7 @@ pub fn synthesise_by<S: Solver>(
         text.now) }
     // With a sure solver, an accepted text gets a report, unless out of memory or the circuit is too large.
     ensures sure { (S.known solver.old).is_sure ≡ true → (file : FileData) → IsAcceptedText text.now file →
-        IsOutcome (Answered (S.known solver.old) (S.known solver.new)) order compact text.now result }
+        IsReportOrFault (Answered (S.known solver.old) (S.known solver.new)) order compact text.now result }
     // After the call, the solver is as sure as before, has the same fed text, and has no additional possible answers.
     ensures kept { IsKept (S.known solver.old) (S.known solver.new) }
 {
@@ -62,7 +62,7 @@ fn report_by<S: Solver>(
         IfErr result (IsSynthFault (Answered (S.known solver.old) (S.known solver.new)) order text) }
     ensures sure { (S.known solver.old).is_sure ≡ true → (order : Order) (text : List ℕ) →
         IsProblemOf order text problem.now →
-        IsOutcome (Answered (S.known solver.old) (S.known solver.new)) order compact text result }
+        IsReportOrFault (Answered (S.known solver.old) (S.known solver.new)) order compact text result }
     ensures kept { IsKept (S.known solver.old) (S.known solver.new) }
 {
     let certificate = certified(alloc, problem.game(), solver)?;

@@ -29,16 +29,19 @@ enters_read {T} P all rest v some p = go p.text p.split p.is_text
     go [] e h = absurd (some v h)
     go (t ∷ text) e h = search rules
 
+-- a sequence of two parts can begin with each sign with which its first part can begin
 pub enters_then : {T A B F : Type 0} (P : Part T A F) (Q : A → Part T B F) (j : Joint P Q) (there : Option T) →
     Enters P there → Enters (then_by P Q) there
 enters_then P Q j there e = search (rules, begins_left)
 
+-- a part whose value is mapped can begin with the same signs as the part itself
 pub enters_mapped : {T A B F : Type 0} (h : A → B) (P : Part T A F) (there : Option T) → Enters P there →
     Enters (mapped h P) there
 enters_mapped h P None e = e
 enters_mapped h P (Some t) (inl b) = inl (record { more = b.more; value = h b.value; is_text = grind arith })
 enters_mapped h P (Some t) (inr c) = inr c
 
+-- a part of one token can begin with each sign that it takes, or for which it has an error
 pub enters_one : {T V F : Type 0} (take : T → Option V) (Bad : T → F → Type 0) (t : T) →
     (((v : V) × (take t ≡ Some v)) ⊎ ((f : F) × Bad t f)) → Enters (one take Bad) (Some t)
 enters_one take Bad t (inl h) = inl (record { more = []; value = h.0; is_text = (t, refl, h.1) })

@@ -41,6 +41,7 @@ same_first {T} {F} number IsCause numbered stream f g h k =
     rests = (same_split h.front h.rest k.front k.rest
         (sym h.split ∙ k.split) (sym (lengths h.front) ∙ ties.0 ∙ lengths k.front)).1
 
+-- if each text has one meaning and different errors have different numbers, each text has one answer
 pub has_one_answer : {T V F : Type 0} (IsText : List T → V → Type 0) (IsCause : List T → Option T → F → Type 0)
     (number : F → ℕ) → HasOneMeaning IsText → AreNumbered number → HasOneAnswer IsText IsCause number
 has_one_answer IsText IsCause number m n stream (Ok v) (Ok w) a b = ap Ok (m (signs stream.pieces) v w a.0 b.0)

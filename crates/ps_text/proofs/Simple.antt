@@ -16,9 +16,11 @@ use Rattle.ps_text.proofs.Laws.{Laws, Nothing, Or, When, Apart}
 use Rattle.ps_text.proofs.InPlace.{stops_by, stops_at, quiet_by, fault_from}
 use Rattle.ps_text.proofs.Joined.{GoesOn, begins_left, begins_right, joint, text_behind, cause_behind}
 
+-- equal options hold equal values
 pub same_some : {T : Type 0} (u t : T) → Some u ≡ Some t → u ≡ t
 same_some u t e = cc
 
+-- nothing is not some value
 pub none_is_some : {T : Type 0} (t : T) → None ≡ Some t → ⊥
 none_is_some {T} t e = let y : None ≡ Some t = e in cc
 

@@ -15,6 +15,7 @@ pub data Compared {T : Type 0} (a b c d : List T) : Type 0 where
   same : a ≡ c → b ≡ d → Compared a b c d
   longer : (t : T) (middle : List T) → a ≡ c ++ t ∷ middle → d ≡ t ∷ (middle ++ b) → Compared a b c d
 
+-- equal lists have equal first entries
 pub same_head : {T : Type 0} (s t : T) (xs ys : List T) → s ∷ xs ≡ t ∷ ys → s ≡ t
 same_head s t xs ys e = cc
 

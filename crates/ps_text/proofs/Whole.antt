@@ -7,7 +7,8 @@
 use Rattle.std.proofs.Common.{rules, ◌≡◌, ◌<◌, ◌≤◌, ◌⊎◌, List, [], ◌∷◌, ◌++◌, length, Option, None, Some, Ok, Err}
 use Rattle.std.proofs.Common.{refl, sym, ap, subst, inl, inr, ◌∙◌, append_assoc, append-nil, arith, length-append, drop}
 use Rattle.std.proofs.lemmas.List.{append_cancel_right}
-use Rattle.ps_text.specs.Answers.{Begins, Piece, Stream, Found, IsRefused, IsClean, IsFirst, first_of, offset_of, signs}
+use Rattle.ps_text.specs.Answers.{Begins, Piece, Stream, Found, IsUnexpected, IsClean, IsFirst, first_of, offset_of}
+use Rattle.ps_text.specs.Answers.{signs}
 use Rattle.ps_text.specs.Parts.{Part, Causes, IsWrong, by_part, by_sign, by_grammar, PartAnswers, IsRead, IsBroken}
 use Rattle.ps_text.specs.Parts.{IsFault, IsFaultAt, is_cause, is_refusal, CleanUpTo, NoCauseAt, refusal_of}
 use Rattle.ps_text.specs.Readers.{IsSuffix, StopsWith}
@@ -22,7 +23,7 @@ abbrev pub Own : {T F : Type 0} → Causes T F → T → Type 0
 Own {T} {F} causes t = (f : F) × (causes.own t ≡ Some f)
 
 broken_refused : {T V F : Type 0} {part : Part T V F} (front : List T) (there : Option T) → IsBroken part front there →
-    IsRefused part.IsText front there
+    IsUnexpected part.IsText front there
 broken_refused front there b = search rules
 
 module _ {T V F : Type 0} {causes : Causes T F} {part : Part T V F} {First More : T → Type 0} {Null : Type 0}
@@ -78,7 +79,7 @@ module _ {T V F : Type 0} {causes : Causes T F} {part : Part T V F} {First More 
       IsWrong causes part front there g → causes.number (refusal_of causes there) ≤ causes.number g
   refusal_least there front g n cases = search (rules, quiet_at)
 
-  refusal_stands : (there : Option T) (front : List T) → IsRefused part.IsText front there →
+  refusal_stands : (there : Option T) (front : List T) → IsUnexpected part.IsText front there →
       NoCauseAt part front there → IsWrong causes part front there (refusal_of causes there)
   refusal_stands None front r n = by_grammar r (λ t g e c. none_is_some t e) (λ t e. absurd (none_is_some t e)) refl
   refusal_stands (Some t) front r n = go (causes.own t) refl

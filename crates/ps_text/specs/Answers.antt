@@ -4,8 +4,8 @@
 --     Begins IsText front      some text of the grammar begins with the signs `front`
 --     NoneGoesOn IsText front there      no text begins with `front` and then the sign `there`; for None: `front` is
 --               not a text
---     IsRefused IsText front there      some text begins with `front`, but the grammar does not allow the sign `there`
---               (or the end) after `front`
+--     IsUnexpected IsText front there      some text begins with `front`, but the grammar does not allow the sign
+--               `there` (or the end) after `front`
 --     IsClean IsCause all      the text has no error
 --     IsFirst number IsCause front rest f      f is an error between `front` and `rest`, and no other error precedes it
 --     IsFirstAt number IsCause stream found      as `IsFirst`, for signs with offsets
@@ -63,7 +63,7 @@ NoneGoesOn {T} {V} IsText front None = (v : V) → IsText front v → ⊥
 NoneGoesOn IsText front (Some t) = Begins IsText (front ++ t ∷ []) → ⊥
 
 -- some text of the grammar begins with `front`, but none with `front` and then `there`; for None: `front` is not a text
-pub record IsRefused {T V : Type 0} (IsText : List T → V → Type 0) (front : List T) (there : Option T) : Type 0 where
+pub record IsUnexpected {T V : Type 0} (IsText : List T → V → Type 0) (front : List T) (there : Option T) : Type 0 where
   pub before : Begins IsText front
   pub none : NoneGoesOn IsText front there
 

@@ -34,11 +34,11 @@ ends_line (b ∷ []) = b == 10
 ends_line (b ∷ c ∷ bytes) = ends_line (c ∷ bytes)
 
 -- the text, with a newline added if its last line has none
-abbrev pub closed : List ℕ → List ℕ
-closed text = if ends_line text then text else text ++ 10 ∷ []
+abbrev pub with_newline : List ℕ → List ℕ
+with_newline text = if ends_line text then text else text ++ 10 ∷ []
 
 abbrev pub stream_of : List ℕ → Stream Seen
-stream_of text = record { pieces = pieces_at 0 (closed text); end = length text }
+stream_of text = record { pieces = pieces_at 0 (with_newline text); end = length text }
 
 abbrev pub bytes_of : List Seen → List ℕ
 bytes_of signs = map (λ s. s.byte) signs
@@ -78,13 +78,13 @@ pub record IsBadRun {C : Type 0} (p : ℕ → Bool) (Bad : List ℕ → C → Ty
   pub begins : BeginsRun p run (s.byte ∷ s.behind)
   pub bad : Bad run f
 
-pub record IsRun {V : Type 0} (p : ℕ → Bool) (see : ℕ → List ℕ → V) (text : List Seen) (v : V) : Type 0 where
+pub record IsByteRun {V : Type 0} (p : ℕ → Bool) (see : ℕ → List ℕ → V) (text : List Seen) (v : V) : Type 0 where
   pub some : 0 < length text
   pub all : AllOf p (bytes_of text)
   pub value : v ≡ see (first_at text) (bytes_of text)
 
 abbrev pub run : {V C : Type 0} → (ℕ → Bool) → (ℕ → List ℕ → V) → (List ℕ → C → Type 0) → Part Seen V C
-run p see Bad = record { IsText = IsRun p see; IsCause = λ front s f. (front ≡ []) × IsBadRun p Bad s f }
+run p see Bad = record { IsText = IsByteRun p see; IsCause = λ front s f. (front ≡ []) × IsBadRun p Bad s f }
 
 abbrev pub NoBadRun : {C : Type 0} → List ℕ → C → Type 0
 NoBadRun run f = ⊥

@@ -1,5 +1,5 @@
 -- A cursor over bytes as clauses see it: the signs that are still unread.
---     next_byte stream, place_of stream      the next byte; its offset, or the offset of the end
+--     next_byte stream, stream_offset stream      the next byte; its offset, or the offset of the end
 --     IsAhead stream      each sign carries the bytes that follow it
 --     Passes p old new run      the cursor moved past `run`, the longest run of bytes that pass p, which may be empty
 use Rattle.std.specs.Prelude.{◌≡◌, ℕ, ◌+◌, Bool, true, false, List, [], ◌∷◌, ◌++◌, length, Option, ◌==◌}
@@ -12,15 +12,15 @@ use Rattle.ps_text.specs.declared.cursor.Class.TheVariants.{Digit, Letter, Blank
 use Rattle.ps_text.specs.declared.cursor.Class.TheVariants.{Semicolon}
 
 -- the unread bytes, with a newline at the end if the last line has none
-abbrev pub ended : Bool → List ℕ → List ℕ
-ended true rest = rest ++ 10 ∷ []
-ended false rest = rest
+abbrev pub rest_with_newline : Bool → List ℕ → List ℕ
+rest_with_newline true rest = rest ++ 10 ∷ []
+rest_with_newline false rest = rest
 
 abbrev pub next_byte : Stream Seen → Option ℕ
 next_byte stream = option_map (λ s. s.byte) (next_of stream)
 
-abbrev pub place_of : Stream Seen → ℕ
-place_of stream = offset_of stream.pieces stream.end
+abbrev pub stream_offset : Stream Seen → ℕ
+stream_offset stream = offset_of stream.pieces stream.end
 
 abbrev pub IsAhead : Stream Seen → Type 0
 IsAhead stream = (at : ℕ) × (bytes : List ℕ) × (stream.pieces ≡ pieces_at at bytes)
@@ -42,6 +42,6 @@ pub record Passes (p : ℕ → Bool) (old new : Stream Seen) (run : List ℕ) : 
   pub old_is : old.pieces ≡ pieces_at at (run ++ rest)
   pub new_is : new.pieces ≡ pieces_at (at + length run) rest
   pub end : new.end ≡ old.end
-  pub place : at ≡ place_of old
+  pub place : at ≡ stream_offset old
   pub all : AllOf p run
   pub longest : StopsBefore p rest

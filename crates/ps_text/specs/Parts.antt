@@ -29,7 +29,7 @@
 use Rattle.std.specs.Prelude.{◌≡◌, ℕ, zero, suc, ◌+◌, ◌<◌, ◌≤◌, ◌⊎◌, List, [], ◌∷◌, ◌++◌, length, Option, None, Some}
 use Rattle.std.specs.Prelude.{Result}
 use Rattle.std.specs.Option.{unwrap_or}
-use Rattle.ps_text.specs.Answers.{Begins, IsRefused, Stream, Found, Answers, first_of}
+use Rattle.ps_text.specs.Answers.{Begins, IsUnexpected, Stream, Found, Answers, first_of}
 
 pub record Part (T V F : Type 0) : Type 1 where
   pub IsText : List T → V → Type 0
@@ -51,7 +51,7 @@ pub data IsWrong {T V F : Type 0} (causes : Causes T F) (part : Part T V F) (fro
     (f : F) : Type 0 where
   by_part : (t : T) → there ≡ Some t → part.IsCause front t f → IsWrong causes part front there f
   by_sign : (t : T) → there ≡ Some t → causes.own t ≡ Some f → IsWrong causes part front there f
-  by_grammar : IsRefused part.IsText front there → ((t : T) (g : F) → there ≡ Some t → part.IsCause front t g → ⊥)
+  by_grammar : IsUnexpected part.IsText front there → ((t : T) (g : F) → there ≡ Some t → part.IsCause front t g → ⊥)
       → ((t : T) → there ≡ Some t → causes.own t ≡ None) → f ≡ causes.syntax → IsWrong causes part front there f
 
 -- the answer to a text whose grammar is one part

@@ -4,7 +4,7 @@
 --               value to the value of the grammar. `found` maps an error to the error of the text, or to None if the
 --               program is out of memory. For Ok x the contract is `Reads part old (view x) new`, for Err e it is
 --               `Stops causes part old (found e)`
---     Goes causes part old result new      the contract `Meets`, if the values and errors are those of the grammar
+--     Parses causes part old result new      the contract `Meets`, if the values and errors are those of the grammar
 --     Carries causes whole start rest now      the invariant of a loop: the result of parsing `rest` from `now` is also
 --               the result of parsing `whole` from `start`
 --     tail stream      the stream without its next piece
@@ -55,11 +55,11 @@ Meets found causes view part old (Ok x) new = Reads part old (view x) new
 Meets found causes view part old (Err e) new = Stops causes part old (found e)
 
 -- the part was parsed, or its first fault was found; the value is that of the grammar
-abbrev pub Goes : {T V F : Type 0} → Causes T F → Part T V F → Stream T → Result V (Option (Found F)) →
+abbrev pub Parses : {T V F : Type 0} → Causes T F → Part T V F → Stream T → Result V (Option (Found F)) →
     Stream T → Type 0
-Goes causes part old (Ok v) new = Reads part old v new
-Goes causes part old (Err o) new = Stops causes part old o
+Parses causes part old (Ok v) new = Reads part old v new
+Parses causes part old (Err o) new = Stops causes part old o
 
 abbrev pub Carries : {T V F : Type 0} → Causes T F → Part T V F → Stream T → Part T V F → Stream T → Type 0
 Carries {T} {V} {F} causes whole start rest now = (result : Result V (Option (Found F))) (new : Stream T) →
-    Goes causes rest now result new → Goes causes whole start result new
+    Parses causes rest now result new → Parses causes whole start result new

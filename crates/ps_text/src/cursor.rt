@@ -11,7 +11,7 @@ ghost use Rattle.ps_text.specs.Readers.{tail, Meets};
 ghost use Rattle.ps_text.specs.Digits.{decimal_value};
 ghost use Rattle.ps_text.specs.Bytes as parts;
 ghost use Rattle.ps_text.specs.Bytes.{stream_at, stream_of, byte_causes, ends_line, is_digit};
-ghost use Rattle.ps_text.specs.Cursors.{next_byte, place_of, in_class, IsAhead, Passes};
+ghost use Rattle.ps_text.specs.Cursors.{next_byte, stream_offset, in_class, IsAhead, Passes};
 
 use crate::faults::{Cause, Fault};
 use crate::numbers::leading_number;
@@ -111,12 +111,12 @@ impl<'a> Model for Cursor<'a> {
     ghost use Rattle.std.specs.Prelude.{◌+◌, ◌^◌, ◌<◌, length};
     ghost use Rattle.ps_text.specs.Answers.{Stream};
     ghost use Rattle.ps_text.specs.Bytes.{Seen, pieces_at};
-    ghost use Rattle.ps_text.specs.Cursors.{ended};
+    ghost use Rattle.ps_text.specs.Cursors.{rest_with_newline};
 
     ghost Value = { Stream Seen };
 
     ghost view = { λ c. record {
-      pieces = pieces_at c.at (ended c.unended c.rest.now);
+      pieces = pieces_at c.at (rest_with_newline c.unended c.rest.now);
       end = c.at + length c.rest.now;
     } };
 
@@ -173,14 +173,14 @@ impl<'a> Cursor<'a> {
 
     /// The offset of the next byte, or of the end.
     pub fn offset(&self) -> usize
-        ensures { result ≡ place_of self.now }
+        ensures { result ≡ stream_offset self.now }
     {
         self.at
     }
 
     /// The fault with the given cause at the next byte, or at the end.
     pub fn refusal<C>(&self, cause: C) -> Fault<C>
-        ensures { result ≡ faults.Text cause (place_of self.now) }
+        ensures { result ≡ faults.Text cause (stream_offset self.now) }
     {
         Fault::Text {
             cause,

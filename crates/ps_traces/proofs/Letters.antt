@@ -55,6 +55,7 @@ module _ {role : Role} {names : List (List ℕ)} {controllable : List ℕ} {c : 
   letters [] = ([], refl)
   letters (m ∷ ms) = let rest = letters ms in (letter m ∷ rest.0, (letter_of_moment m, rest.1))
 
+  -- each list of moments spells a list of letters
   pub has_letters : (ms : List Moment) → HasLetters names c ms
   has_letters ms = let found = letters ms in
       grind (arith, letters, one_letters)

@@ -9,8 +9,9 @@ use Rattle.ps_circuit.specs.Values.{Moment, HasOneValues, Steps, resets}
 use Rattle.ps_machine.specs.declared.key.Order.{Order}
 use Rattle.ps_machine.specs.declared.key.Order.TheVariants.{Mealy, Moore}
 use Rattle.ps_simulate.specs.declared.role.Role.TheVariants.{Environment}
-use Rattle.ps_traces.specs.Shapes.{IsInTimeWhereReached, IsReached}
-use Rattle.ps_traces.specs.Meetings.{FiniteController, IsController, IsRead, AnswersMoments, GoesJointly, IsMeeting}
+use Rattle.ps_traces.specs.Shapes.{IsInTimeWhereReached, IsReachedByTrace}
+use Rattle.ps_traces.specs.Meetings.{FiniteController, IsController, HasInputWidth, AnswersMoments, GoesJointly}
+use Rattle.ps_traces.specs.Meetings.{IsMeeting}
 use Rattle.ps_traces.specs.Meetings.{MeetsInLasso}
 use Rattle.ps_simulate.proofs.CountLemmas.{code, code_lt, code_same}
 use Rattle.ps_simulate.proofs.LassoLemmas.{GoesOn-append}
@@ -30,7 +31,7 @@ pub record JointStep (c : CircuitData) (k : FiniteController) (latches : List Bo
 -- if inputs come before outputs, the circuit's outputs don't depend on its inputs
 joint_mealy : (c : CircuitData) (k : FiniteController) → HasOneValues c → IsInTimeWhereReached Mealy Environment c →
     IsController Mealy c k → (latches : List Bool) (memory : ℕ)
-    → IsReached c latches → length latches ≡ length c.latches → memory < k.size → JointStep c k latches memory
+    → IsReachedByTrace c latches → length latches ≡ length c.latches → memory < k.size → JointStep c k latches memory
 joint_mealy c k one in_time is latches memory reached held within =
     let before =
     step c one latches (replicate (length c.inputs) false) held (length-replicate (length c.inputs) false) in
@@ -45,13 +46,13 @@ joint_moore : (c : CircuitData) (k : FiniteController) → HasOneValues c → Is
     → length latches ≡ length c.latches → memory < k.size → JointStep c k latches memory
 joint_moore c k one is latches memory held within =
     let any = replicate (length c.outputs) false in
-    let any_wide : IsRead c any = length-replicate (length c.outputs) false in
+    let any_wide : HasInputWidth c any = length-replicate (length c.outputs) false in
     let inputs = k.plays memory any in
     grind (arith, step c one latches inputs held (is.plays_wide memory any within any_wide))
 
 pub joint_step : (order : Order) (c : CircuitData) (k : FiniteController) → HasOneValues c →
     IsInTimeWhereReached order Environment c → IsController order c k → (latches : List Bool) (memory : ℕ)
-    → IsReached c latches → length latches ≡ length c.latches → memory < k.size → JointStep c k latches memory
+    → IsReachedByTrace c latches → length latches ≡ length c.latches → memory < k.size → JointStep c k latches memory
 joint_step Mealy c k one in_time is latches memory reached held within =
     joint_mealy c k one in_time is latches memory reached held within
 joint_step Moore c k one in_time is latches memory reached held within =
@@ -63,7 +64,7 @@ module _ (order : Order) (c : CircuitData) (k : FiniteController) (one : HasOneV
   record Place : Type 0 where
     latches : List Bool
     memory : ℕ
-    reached : IsReached c latches
+    reached : IsReachedByTrace c latches
     held : length latches ≡ length c.latches
     within : memory < k.size
 

@@ -6,7 +6,7 @@ use Rattle.ps_circuit.specs.Values.{Moment, GoesOn, HasOneValues, Steps, bit_of}
 use Rattle.ps_machine.specs.declared.key.Order.{Order}
 use Rattle.ps_machine.specs.declared.key.Order.TheVariants.{Mealy, Moore}
 use Rattle.ps_simulate.specs.declared.role.Role.TheVariants.{Environment}
-use Rattle.ps_traces.specs.Shapes.{IsInTimeWhereReached, IsReached}
+use Rattle.ps_traces.specs.Shapes.{IsInTimeWhereReached, IsReachedByTrace}
 use Rattle.ps_traces.specs.Meetings.{FiniteController, IsController, AnswersMoments, IsOneMeeting}
 use Rattle.ps_traces.proofs.Meetings.{meeting_of}
 use Rattle.ps_traces.proofs.Runs.{next_reached, resets_reached}
@@ -20,7 +20,7 @@ module _ (c : CircuitData) (is_circuit : IsCircuit c) (one : HasOneValues c) whe
   -- two answers of the controller at the same latches and the same memory state are equal
   same_inputs : (order : Order) (k : FiniteController) → IsInTimeWhereReached order Environment c →
       IsController order c k →
-      (memory : ℕ) {latches inputs outputs next inputs' outputs' next' : List Bool} → IsReached c latches →
+      (memory : ℕ) {latches inputs outputs next inputs' outputs' next' : List Bool} → IsReachedByTrace c latches →
       memory < k.size →
       Steps c latches inputs outputs next → Steps c latches inputs' outputs' next' →
       inputs ≡ k.plays memory outputs → inputs' ≡ k.plays memory outputs' → inputs ≡ inputs'
@@ -34,7 +34,8 @@ module _ (c : CircuitData) (is_circuit : IsCircuit c) (one : HasOneValues c) whe
   module _ (order : Order) (k : FiniteController) (in_time : IsInTimeWhereReached order Environment c)
       (is : IsController order c k)
     where
-      one_way : (latches to to' : List Bool) (memory last last' : ℕ) (ms ns : List Moment) → IsReached c latches →
+      one_way : (latches to to' : List Bool) (memory last last' : ℕ) (ms ns : List Moment) →
+          IsReachedByTrace c latches →
           memory < k.size → length ms ≡ length ns → GoesOn c latches ms to → AnswersMoments k memory ms last →
           GoesOn c latches ns to' →
           AnswersMoments k memory ns last' → ms ≡ ns

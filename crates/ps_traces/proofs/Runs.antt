@@ -6,7 +6,7 @@ use Rattle.ps_circuit.specs.Circuits.{CircuitData}
 use Rattle.ps_circuit.specs.Values.{Moment, GoesOn, HasOneValues, Steps, bit_of, resets}
 use Rattle.ps_simulate.proofs.LassoLemmas.{GoesOn-append}
 use Rattle.ps_traces.specs.Inputs.{inputs_of}
-use Rattle.ps_traces.specs.Shapes.{IsReached}
+use Rattle.ps_traces.specs.Shapes.{IsReachedByTrace}
 
 -- a step of the circuit with the given latches and inputs
 pub record Step (c : CircuitData) (latches inputs : List Bool) : Type 0 where
@@ -55,11 +55,11 @@ run c one from (x ∷ xs) held wide =
 
 -- ## Latches that traces reach
 
-pub resets_reached : (c : CircuitData) → IsReached c (resets c)
+pub resets_reached : (c : CircuitData) → IsReachedByTrace c (resets c)
 resets_reached c = ([], refl)
 
-pub next_reached : {c : CircuitData} {latches inputs outputs next : List Bool} → IsReached c latches →
-    Steps c latches inputs outputs next → IsReached c next
+pub next_reached : {c : CircuitData} {latches inputs outputs next : List Bool} → IsReachedByTrace c latches →
+    Steps c latches inputs outputs next → IsReachedByTrace c next
 next_reached {c} {latches} {inputs} {outputs} {next} r s =
     let last = record { latches = latches; inputs = inputs; outputs = outputs } ∷ [] in
     (r.0 ++ last, GoesOn-append c (resets c) latches next r.0 last r.1 (next, refl, s, refl))

@@ -10,7 +10,7 @@ use Rattle.ps_diagram.proofs.Letters.{no_bit}
 use Rattle.ps_hoa.specs.Files.{FileData, is_among}
 use Rattle.ps_circuit.specs.Circuits.{CircuitData}
 use Rattle.ps_circuit.specs.Values.{Moment, GoesOn, Steps, resets}
-use Rattle.ps_aiger.specs.Encoded.{Encodes, StepsAs, number_of, memory_of, letter_over, symbols_of}
+use Rattle.ps_aiger.specs.Encoded.{Encodes, StepsAs, number_of_bits, memory_of, letter_over, symbols_of}
 use Rattle.ps_machine.specs.Behaviours.{Behaviour, IsMachine, IsOutput, IsLasso, LassosWon, Makes}
 use Rattle.ps_simulate.specs.Symbols.{IsSymbol}
 use Rattle.ps_simulate.specs.Lassos.{IsLetterOf, AreLetters, latches_along}
@@ -42,7 +42,7 @@ at_each names c P each from to (m ∷ ms) (l ∷ ls) (next, at, step, on) a (suc
 
 -- ## Steps of a machine
 
-none_number : (bits : List Bool) → All (λ bit. bit ≡ false) bits → number_of bits ≡ 0
+none_number : (bits : List Bool) → All (λ bit. bit ≡ false) bits → number_of_bits bits ≡ 0
 none_number [] h = refl
 none_number (b ∷ bs) h = grind (
   arith,
@@ -54,7 +54,7 @@ module _ (m : Behaviour) (is : IsMachine m) where
   pub memory_below : (latches : List Bool) → memory_of m latches < m.memories
   memory_below latches = grind (arith, is.some)
 
-  code_is : (latches : List Bool) (memory : ℕ) → number_of latches ≡ memory → memory < m.memories →
+  code_is : (latches : List Bool) (memory : ℕ) → number_of_bits latches ≡ memory → memory < m.memories →
       memory_of m latches ≡ memory
   code_is latches memory e lt = grind arith
 

@@ -25,21 +25,21 @@ pub record FiniteController : Type 0 where
   pub plays : ℕ → List Bool → List Bool
 
 -- the width of the letters that the controller reads
-abbrev pub IsRead : CircuitData → List Bool → Type 0
-IsRead c letter = length letter ≡ length c.outputs
+abbrev pub HasInputWidth : CircuitData → List Bool → Type 0
+HasInputWidth c letter = length letter ≡ length c.outputs
 
 -- if outputs come before inputs, the controller's letter depends only on its memory state
 abbrev pub IsTimely : Order → CircuitData → FiniteController → Type 0
 IsTimely Mealy c k = Unit {0}
 IsTimely Moore c k =
-    (memory : ℕ) (letter other : List Bool) → memory < k.size → IsRead c letter → IsRead c other →
+    (memory : ℕ) (letter other : List Bool) → memory < k.size → HasInputWidth c letter → HasInputWidth c other →
     k.plays memory letter ≡ k.plays memory other
 
 pub record IsController (order : Order) (c : CircuitData) (k : FiniteController) : Type 0 where
   pub first_within : k.first < k.size
-  pub next_within : (memory : ℕ) (letter : List Bool) → memory < k.size → IsRead c letter →
+  pub next_within : (memory : ℕ) (letter : List Bool) → memory < k.size → HasInputWidth c letter →
       k.next memory letter < k.size
-  pub plays_wide : (memory : ℕ) (letter : List Bool) → memory < k.size → IsRead c letter →
+  pub plays_wide : (memory : ℕ) (letter : List Bool) → memory < k.size → HasInputWidth c letter →
       length (k.plays memory letter) ≡ length c.inputs
   pub timely : IsTimely order c k
 

@@ -31,12 +31,12 @@ pub record HasShape (order : Order) (role : Role) (file : FileData) (c : Circuit
 -- ## Latches that traces reach
 
 -- some trace reaches these values of the latches
-abbrev pub IsReached : CircuitData → List Bool → Type 0
-IsReached c latches = (moments : List Moment) × GoesOn c (resets c) moments latches
+abbrev pub IsReachedByTrace : CircuitData → List Bool → Type 0
+IsReachedByTrace c latches = (moments : List Moment) × GoesOn c (resets c) moments latches
 
 abbrev pub SeesNoInputWhereReached : CircuitData → Type 0
 SeesNoInputWhereReached c =
-    (latches inputs others outputs other_outputs next other_next : List Bool) → IsReached c latches →
+    (latches inputs others outputs other_outputs next other_next : List Bool) → IsReachedByTrace c latches →
     Steps c latches inputs outputs next → Steps c latches others other_outputs other_next → outputs ≡ other_outputs
 
 abbrev pub IsInTimeWhereReached : Order → Role → CircuitData → Type 0

@@ -15,7 +15,7 @@ ghost use Rattle.ps_machine.specs.Behaviours.{Behaviour, IsMachine, IsLasso, Las
 ghost use Rattle.ps_machine.specs.Boards.{IsGameOf};
 ghost use Rattle.ps_machine.specs.BuiltBoards.{board_of};
 ghost use Rattle.ps_machine.specs.Extracting.{HasPropositions, IsMachineOf};
-ghost use Rattle.ps_machine.specs.Solving.{winner};
+ghost use Rattle.ps_machine.specs.Solving.{winner_at_start};
 ghost use Rattle.ps_machine.specs.Keys.{mover_of};
 ghost use Rattle.ps_machine.specs.declared.key.Key.{Key};
 ghost use Rattle.ps_machine.specs.declared.key.Order.{Order};
@@ -136,7 +136,7 @@ pub fn certified_circuit_answers()
         IsValid game certificate →
         IsMachine m → HasPropositions a.names (board_of order a) m →
         IsMachineOf (board_of order a) (mover_of order) keys game certificate m →
-        Encodes m c → IsWitness order file (winner certificate) c }
+        Encodes m c → IsWitness order file (winner_at_start certificate) c }
 {
     lassos_won();
     circuit_has_one_values();

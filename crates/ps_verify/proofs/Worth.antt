@@ -11,7 +11,7 @@ use Rattle.ps_automaton.specs.Acceptance.{IsAccepted}
 use Rattle.ps_circuit.specs.Circuits.{CircuitData, IsCircuit}
 use Rattle.ps_circuit.specs.Values.{Moment, GoesOn, HasOneValues, bit_of, resets}
 use Rattle.ps_machine.specs.declared.key.Order.{Order}
-use Rattle.ps_simulate.specs.Lassos.{IsVerdictOf, Repeats}
+use Rattle.ps_simulate.specs.Lassos.{IsVerdictOf, RepeatsLatches}
 use Rattle.ps_simulate.specs.Symbols.{HasSymbols}
 use Rattle.ps_simulate.specs.declared.lassos.Verdict.{Verdict}
 use Rattle.ps_simulate.specs.declared.role.Role.{Role}
@@ -53,7 +53,7 @@ module _ (file : FileData) {c : CircuitData} {stem lap : List ℕ} (word : IsLas
   many_behind : length (inputs_of behind) ≡ length behind
   many_behind = length-map behind (λ (m : Moment). m.inputs)
 
-  repeats : Repeats c (inputs_of before) (inputs_of behind) 0 1 (before ++ behind)
+  repeats : RepeatsLatches c (inputs_of before) (inputs_of behind) 0 1 (before ++ behind)
   repeats = record {
     has_letter = omega (arith, many_behind, word.trace.some);
     last = back;

@@ -6,7 +6,7 @@ use Rattle.std.specs.Prelude.{IsTrue}
 use Rattle.std.proofs.lemmas.Bool.{cases_lt, cases_eq, false≢true}
 use Rattle.ps_game.specs.Games.{vertex_count, priority_of}
 use Rattle.ps_attractor.specs.Tables.{level_of, moves_of}
-use Rattle.ps_attractor.specs.Aims.{IsPosed, IsTaken, IsAttracted, IsPlaced, rank_of}
+use Rattle.ps_attractor.specs.Aims.{IsPosed, IsSetOfPlaced, IsAttracted, IsPlaced, rank_of}
 use Rattle.ps_attractor.proofs.Placing.{stands_after, stands_longer}
 use Rattle.ps_zielonka.specs.declared.level.TheConstants.{UNPLACED}
 use Rattle.ps_zielonka.specs.declared.frame.Frame.{Frame}
@@ -49,7 +49,7 @@ module _ (b : Begun) where
     only_target = λ j after within. placed_tops b (b.placed.grown.behind j (omega arith) within);
   }
 
-  taken : IsTaken b.aim b.new (undecided b) (pulled b)
+  taken : IsSetOfPlaced b.aim b.new (undecided b) (pulled b)
   taken = record {
     within = λ v there. (placed_from b b.new v there).0;
     placed = λ v there is_free. (placed_from b b.new v there).1 (is_free ∙ b.free);
@@ -185,7 +185,7 @@ module _ (b : Begun) where
           | inl less ↦
               let at = agrees_at (a + 2) (agrees b) (omega arith) (get_or b.old.trail j 0) in
               rw (grown.front j less) (at.up (waits.segment.above j after less))
-          | inr more ↦ let placed = grown.behind j more within in omega (arith, placed.level, b.mark)
+          | inr more ↦ let placed = grown.behind j more within in omega (arith, placed.level, b.level)
         ];
         stands = λ v high low. elim (grown.each v) [
           | inl same ↦
@@ -204,7 +204,7 @@ module _ (b : Begun) where
   sound_now : IsSoundBoard b.game b.new b.winner_now b.order
   sound_now = sound_on b.new b.sound b.fits b.winners (λ v. elim ((grown_all b).each v) [
     | inl same ↦ inl same.level
-    | inr placed ↦ inr (omega (arith, placed.level, b.mark), omega (arith, placed.level, b.mark, low b))
+    | inr placed ↦ inr (omega (arith, placed.level, b.level), omega (arith, placed.level, b.level, low b))
   ])
 
   pub begun_nest : (frames : List Frame) (solved : Bool) → length frames ≡ b.depth → solved ≡ false

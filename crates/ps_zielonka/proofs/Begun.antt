@@ -6,7 +6,7 @@ use Rattle.std.proofs.lemmas.Bool.{cases_lt, false≢true, eq-eqb, ne_eqb, and_p
 use Rattle.ps_game.specs.Games.{ParityGame, vertex_count, priority_of}
 use Rattle.ps_attractor.specs.declared.aim.Aim.{Aim}
 use Rattle.ps_attractor.specs.Tables.{TablesData, FitsGame, level_of, moves_of}
-use Rattle.ps_attractor.specs.Aims.{StandsFrom, IsPosed, IsTaken, IsAttracted, IsPlaced, IsGrown, rank_of}
+use Rattle.ps_attractor.specs.Aims.{StandsFrom, IsPosed, IsSetOfPlaced, IsAttracted, IsPlaced, IsGrown, rank_of}
 use Rattle.ps_zielonka.specs.declared.level.TheConstants.{UNPLACED}
 use Rattle.ps_zielonka.specs.Inner.Nests.{from, Searches, IsSoundBoard, ArePlaced, IsGiven}
 use Rattle.ps_zielonka.proofs.Sets.{AgreesAt, from_at, to_from}
@@ -32,7 +32,7 @@ pub record Begun : Type 0 where
   pub searches : Searches game old winner order (2 * depth) start
   pub player : aim.player ≡ priority_of game (get_or order cursor 0) % 2
   pub begin : aim.begin ≡ length old.trail
-  pub mark : aim.mark ≡ 2 * depth + 2
+  pub level : aim.level ≡ 2 * depth + 2
   pub free : aim.free ≡ UNPLACED
   pub within : cursor < length order
   pub unplaced : level_of old (get_or order cursor 0) ≡ UNPLACED
@@ -44,7 +44,8 @@ pub record Begun : Type 0 where
   pub fits : FitsGame game new
   pub winners : length winner_now ≡ vertex_count game
   pub grown : IsGrown aim mid new
-  pub attracted : (subgame target set : ℕ → Bool) → IsPosed game aim mid subgame target → IsTaken aim new subgame set →
+  pub attracted : (subgame target set : ℕ → Bool) → IsPosed game aim mid subgame target →
+      IsSetOfPlaced aim new subgame set →
       IsAttracted game subgame aim.player target set (moves_of new) (rank_of aim new)
   pub given : IsGiven aim.player aim.begin new winner winner_now
 
@@ -71,7 +72,7 @@ module _ (b : Begun) where
   pub low : 2 * b.depth + 4 ≤ UNPLACED
   low = omega arith
 
-  pub differ : b.aim.mark ≢ b.aim.free
+  pub differ : b.aim.level ≢ b.aim.free
   differ same = omega arith
 
   pub grown_all : IsGrown b.aim b.old b.new

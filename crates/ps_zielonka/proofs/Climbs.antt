@@ -8,7 +8,7 @@ use Rattle.ps_game.specs.Games.{ParityGame, IsGame, vertex_count, owner_of}
 use Rattle.ps_game.specs.Subgames.{IsWithin}
 use Rattle.ps_attractor.specs.declared.aim.Aim.{Aim}
 use Rattle.ps_attractor.specs.Tables.{TablesData, level_of, moves_of}
-use Rattle.ps_attractor.specs.Aims.{StandsFrom, IsPosed, IsTaken, IsAttracted, IsGrown, rank_of}
+use Rattle.ps_attractor.specs.Aims.{StandsFrom, IsPosed, IsSetOfPlaced, IsAttracted, IsGrown, rank_of}
 use Rattle.ps_attractor.proofs.Placing.{stands_after, stands_longer}
 use Rattle.ps_zielonka.specs.declared.level.TheConstants.{UNPLACED}
 use Rattle.ps_zielonka.specs.declared.frame.Frame.{Frame}
@@ -22,7 +22,7 @@ use Rattle.ps_zielonka.proofs.Forms.{frame_goes_on}
 
 -- the aim of the other player, who attracts to the vertices that it won in a call of depth a / 2
 abbrev pub on_aim : ℕ → Frame → Aim
-on_aim a frame = record { player = 1 - frame.player; begin = frame.turn; mark = a + 1; free = UNPLACED }
+on_aim a frame = record { player = 1 - frame.player; begin = frame.turn; level = a + 1; free = UNPLACED }
 
 pub record Going (game : ParityGame) (a : ℕ) (frame : Frame) (old mid new : TablesData)
     (winner winner_now order : List ℕ) : Type 0 where
@@ -36,7 +36,8 @@ pub record Going (game : ParityGame) (a : ℕ) (frame : Frame) (old mid new : Ta
   pub grown : IsGrown (on_aim a frame) mid new
   pub given : IsGiven (1 - frame.player) frame.turn new winner winner_now
   pub attracted : (subgame target set : ℕ → Bool) → IsPosed game (on_aim a frame) mid subgame target →
-      IsTaken (on_aim a frame) new subgame set → IsAttracted game subgame (1 - frame.player) target set (moves_of new)
+      IsSetOfPlaced (on_aim a frame) new subgame set →
+      IsAttracted game subgame (1 - frame.player) target set (moves_of new)
       (rank_of (on_aim a frame) new)
 
 module _ {game : ParityGame} {a : ℕ} {frame : Frame} {old mid new : TablesData} {winner winner_now order : List ℕ}
@@ -158,7 +159,7 @@ module _ {game : ParityGame} {a : ℕ} {frame : Frame} {old mid new : TablesData
         is_lost (get_or mid.trail j 0) (was_open behind.0) behind.1);
   }
 
-  going_taken : IsTaken (on_aim a frame) new open_then the_gone
+  going_taken : IsSetOfPlaced (on_aim a frame) new open_then the_gone
   going_taken = search (rules, gone_is, going_open, from_at)
 
   -- ## The call continues with the open vertices

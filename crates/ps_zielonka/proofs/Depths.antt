@@ -8,7 +8,7 @@ use Rattle.std.proofs.lemmas.Bool.{ltb-true, lt-ltb}
 use Rattle.std.proofs.lemmas.List.{get_or_default}
 use Rattle.ps_game.specs.Games.{ParityGame, vertex_count, priority_of}
 use Rattle.ps_game.specs.Subgames.{IsWithin, LeadsInto}
-use Rattle.ps_game.specs.Attractors.{IsClosed}
+use Rattle.ps_game.specs.Attractors.{IsClosedUnderAttraction}
 use Rattle.ps_attractor.proofs.Least.{falls_least}
 use Rattle.ps_zielonka.specs.Inner.Turns.{IsTurned}
 use Rattle.ps_zielonka.specs.Depths.{is_vertex, HasPriorities, IsClosedToTops}
@@ -85,7 +85,7 @@ left_out {game} {whole} {set} {player} {table} v all only turned just tops below
     let there : LeadsInto game (is_vertex game) u w = grind (arith, lt-ltb) in there) in
     let to_whole = λ (u w : ℕ) (leads : LeadsInto game (is_vertex game) u w). (
     let there : LeadsInto game whole u w = grind (arith, ltb-true) in there) in
-    let closed : IsClosed game whole player turned.tops set = record {
+    let closed : IsClosedUnderAttraction game whole player turned.tops set = record {
       holds = search rules;
       own = search (rules, lt-ltb);
       other = λ u inside others leads. tops.closed.other u (lt-ltb u (vertex_count game) (only u inside))

@@ -8,7 +8,7 @@ use Rattle.ps_game.specs.Plays.{Holds}
 use Rattle.ps_game.specs.Regions.{has, move_at}
 use Rattle.ps_game.proofs.OnPaths.{Holds-HoldsWithin}
 use Rattle.ps_zielonka.specs.Inner.Turns.{Solved}
-use Rattle.ps_zielonka.specs.Answers.{others, IsRegionTo, AreMovesTo, MovesAt, MovesWithin}
+use Rattle.ps_zielonka.specs.Answers.{others, IsWonRegionTo, AreWinningMovesTo, MovesAt, MovesWithin}
 use Rattle.ps_attractor.specs.Tables.{TablesData}
 use Rattle.ps_zielonka.specs.Inner.Nests.{from}
 use Rattle.ps_zielonka.specs.Inner.Stacks.{IsSolvedBy}
@@ -30,7 +30,8 @@ pub record IsSolved (game : ParityGame) (winner moves : List ℕ) (whole : ℕ �
   pub solved : Solved game whole (λ v. get_or winner v 0) (λ v. Some (get_or moves v 0))
 
 holds_won : {game : ParityGame} {winner moves : List ℕ} {whole : ℕ → Bool} {player : ℕ} {strategy : List (Option ℕ)} →
-    IsSolved game winner moves whole → player < 2 → AreMovesTo game moves winner player (vertex_count game) strategy →
+    IsSolved game winner moves whole → player < 2 →
+    AreWinningMovesTo game moves winner player (vertex_count game) strategy →
     Holds game player (won_by whole (λ v. get_or winner v 0) player) (move_at strategy)
 holds_won {game} {winner} {whole} {player} {strategy} is_solved is_player given =
     let win : ℕ → ℕ = λ v. get_or winner v 0 in
@@ -46,7 +47,7 @@ IsSolved-tables {game} {tables} solved_by = search (rules, to_from, cases_lt, ge
 
 -- a player who has a move at a vertex wins and owns the vertex
 move_is_given : {game : ParityGame} {moves winner : List ℕ} {player n : ℕ} (v : ℕ) {strategy : List (Option ℕ)} →
-    AreMovesTo game moves winner player n strategy → IsSome (move_at strategy v) →
+    AreWinningMovesTo game moves winner player n strategy → IsSome (move_at strategy v) →
     (v < n) × MovesAt game winner player v
 move_is_given {game} {winner} {player} {n} v {strategy} given some = search (rules, cases_lt, cases_eq, false≢true)
 
@@ -58,15 +59,15 @@ pub record IsPlayed (game : ParityGame) (player : ℕ) (set : ℕ → Bool) (str
 -- the winners and the region that the code reads at the end
 module _ {game : ParityGame} {tables : TablesData} {winner read again : List ℕ} {region : List Bool}
     (same : read ≡ winner) (same_again : again ≡ winner) (solved_by : IsSolvedBy game tables winner)
-    (is_region : IsRegionTo read (length read) region) where
-  whole : IsRegionTo winner (vertex_count game) region
+    (is_region : IsWonRegionTo read (length read) region) where
+  whole : IsWonRegionTo winner (vertex_count game) region
   whole = rw (same, solved_by.winners) at is_region
 
   -- the set has exactly the vertices that the player wins
   played : {player : ℕ} (set : ℕ → Bool) {strategy : List (Option ℕ)} → player < 2 →
       ((v : ℕ) → v < vertex_count game → IsTrue (set v) → get_or winner v 0 ≡ player) →
       ((v : ℕ) → v < vertex_count game → get_or winner v 0 ≡ player → IsTrue (set v)) →
-      AreMovesTo game tables.moves again player (vertex_count game) strategy → IsPlayed game player set strategy
+      AreWinningMovesTo game tables.moves again player (vertex_count game) strategy → IsPlayed game player set strategy
   played {player = player} set {strategy = strategy} is_player wins all given =
       let is_solved = IsSolved-tables solved_by in
       let won = IsWon-won_by (from tables.level 1) (λ v. get_or winner v 0) player in
@@ -79,12 +80,13 @@ module _ {game : ParityGame} {tables : TablesData} {winner read again : List ℕ
 
   -- player 0 holds the region
   pub played_first : {strategy : List (Option ℕ)} →
-      AreMovesTo game tables.moves again 0 (vertex_count game) strategy → IsPlayed game 0 (has region) strategy
+      AreWinningMovesTo game tables.moves again 0 (vertex_count game) strategy → IsPlayed game 0 (has region) strategy
   played_first given = played (has region) (omega arith) whole.won whole.all given
 
   -- player 1 holds all other vertices
   pub played_second : {strategy : List (Option ℕ)} →
-      AreMovesTo game tables.moves again 1 (vertex_count game) strategy → IsPlayed game 1 (others region) strategy
+      AreWinningMovesTo game tables.moves again 1 (vertex_count game) strategy →
+      IsPlayed game 1 (others region) strategy
   played_second given = played (others region) (omega arith) (λ v is_vertex inside. grind (
     arith,
     IsSolved-tables,

@@ -6,7 +6,7 @@ use Rattle.std.proofs.lemmas.List.Elements.{All-get_or, All-from_get_or}
 use Rattle.ps_game.specs.Games.{ParityGame, vertex_count}
 use Rattle.ps_attractor.specs.declared.aim.Aim.{Aim}
 use Rattle.ps_attractor.specs.Tables.{TablesData, FitsGame, level_of, moves_of}
-use Rattle.ps_attractor.specs.Aims.{StandsFrom, IsPosed, IsTaken, IsAttracted, IsGrown, rank_of}
+use Rattle.ps_attractor.specs.Aims.{StandsFrom, IsPosed, IsSetOfPlaced, IsAttracted, IsGrown, rank_of}
 use Rattle.ps_zielonka.specs.declared.frame.Frame.{Frame}
 use Rattle.ps_zielonka.specs.Inner.Nests.{StandsBetween, IsNest, IsLostAt, IsReopened, IsGiven, steps_left}
 use Rattle.ps_zielonka.proofs.Measure.{falls_on}
@@ -59,14 +59,15 @@ on_nest {game} {old} {mid} {new} {winner} {winner_now} {order} frames {frame} {c
       done = λ solved_now. absurd (false≢true solved_now);
     }
 
--- the tables after vertices are taken back and the opponent has attracted others; a mark gives the level of decided
+-- the tables after vertices are taken back and the opponent has attracted others; a code gives the level of decided
 -- vertices
 pub record Reached (game : ParityGame) (level : ℕ) (aim : Aim) (frame : Frame) (old mid new : TablesData)
     (winner winner_now : List ℕ) : Type 0 where
   pub reopened : IsReopened winner frame.player level frame.turn (StandsFrom old frame.turn) old mid
   pub grown : IsGrown aim mid new
   pub given : IsGiven aim.player aim.begin new winner winner_now
-  pub attracted : (subgame target set : ℕ → Bool) → IsPosed game aim mid subgame target → IsTaken aim new subgame set →
+  pub attracted : (subgame target set : ℕ → Bool) → IsPosed game aim mid subgame target →
+      IsSetOfPlaced aim new subgame set →
       IsAttracted game subgame aim.player target set (moves_of new) (rank_of aim new)
 
 pub going_on : {game : ParityGame} {level : ℕ} {aim : Aim} {old mid new : TablesData} {winner winner_now order : List ℕ}

@@ -8,14 +8,14 @@ use Rattle.ps_attractor.proofs.Placing.{stands_after, stands_longer}
 
 -- ## Vertices that are placed in one of two steps
 
-pub later_placed : {aim : Aim} {old mid new : TablesData} {v : ℕ} → aim.mark ≢ aim.free → IsGrown aim mid new →
+pub later_placed : {aim : Aim} {old mid new : TablesData} {v : ℕ} → aim.level ≢ aim.free → IsGrown aim mid new →
     IsPlaced aim old mid v → IsPlaced aim old new v
 later_placed {v = v} differ grown placed = search (rules, stands_longer)
 
-sooner_placed : {aim : Aim} {old mid new : TablesData} {v : ℕ} → aim.mark ≢ aim.free → IsGrown aim old mid →
+sooner_placed : {aim : Aim} {old mid new : TablesData} {v : ℕ} → aim.level ≢ aim.free → IsGrown aim old mid →
     IsPlaced aim mid new v → IsPlaced aim old new v
 sooner_placed {v = v} differ grown placed = search (rules, stands_after)
 
-pub IsGrown-both : {aim : Aim} {old mid new : TablesData} → aim.mark ≢ aim.free → IsGrown aim old mid →
+pub IsGrown-both : {aim : Aim} {old mid new : TablesData} → aim.level ≢ aim.free → IsGrown aim old mid →
     IsGrown aim mid new → IsGrown aim old new
 IsGrown-both {aim} {old} {mid} {new} differ first second = search (rules, later_placed, sooner_placed, cases_lt)

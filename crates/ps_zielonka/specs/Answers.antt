@@ -26,7 +26,7 @@ pub record IsAnswer (game : ParityGame) (region : List Bool) (first second : Lis
   pub second_moves : MovesWithin game 1 (others region) second
 
 -- of the vertices less than n, the region has exactly those that player 0 wins
-pub record IsRegionTo (winner : List ℕ) (n : ℕ) (region : List Bool) : Type 0 where
+pub record IsWonRegionTo (winner : List ℕ) (n : ℕ) (region : List Bool) : Type 0 where
   pub won : (v : ℕ) → v < n → IsTrue (has region v) → slice_index winner v ≡ 0
   pub all : (v : ℕ) → v < n → slice_index winner v ≡ 0 → IsTrue (has region v)
   pub later : (v : ℕ) → n ≤ v → has region v ≡ false
@@ -37,7 +37,8 @@ pub record MovesAt (game : ParityGame) (winner : List ℕ) (player v : ℕ) : Ty
   pub owns : owner_of game v ≡ player
 
 -- of the vertices less than n, exactly those that the player wins and owns have a move
-pub record AreMovesTo (game : ParityGame) (moves winner : List ℕ) (player n : ℕ) (strategy : List (Option ℕ)) : Type 0
+pub record AreWinningMovesTo (game : ParityGame) (moves winner : List ℕ) (player n : ℕ) (strategy : List (Option ℕ)) :
+    Type 0
   where
     pub given : (v : ℕ) → v < n → MovesAt game winner player v → move_at strategy v ≡ Some (slice_index moves v)
     pub only : (v : ℕ) → v < n → ¬ MovesAt game winner player v → move_at strategy v ≡ None

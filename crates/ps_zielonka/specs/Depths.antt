@@ -3,7 +3,7 @@
 use Rattle.std.specs.Prelude.{◌≡◌, ◌↔◌, ℕ, ◌%◌, ◌<◌, ◌≤◌, List, length, Bool, IsTrue, nat_lt}
 use Rattle.std.specs.List.{Contains}
 use Rattle.ps_game.specs.Games.{ParityGame, vertex_count, priority_of}
-use Rattle.ps_game.specs.Attractors.{IsClosed}
+use Rattle.ps_game.specs.Attractors.{IsClosedUnderAttraction}
 
 -- the set of all vertices
 abbrev pub is_vertex : ParityGame → ℕ → Bool
@@ -25,7 +25,7 @@ pub record IsClosedToTops (game : ParityGame) (set : ℕ → Bool) : Type 0 wher
   pub is_greatest : IsGreatest game greatest
   pub target : ℕ → Bool
   pub is_target : (v : ℕ) → v < vertex_count game → IsTrue (target v) ↔ (priority_of game v ≡ greatest)
-  pub closed : IsClosed game (is_vertex game) (greatest % 2) target set
+  pub closed : IsClosedUnderAttraction game (is_vertex game) (greatest % 2) target set
 
 -- the maximal number of pending calls: at most the number of distinct priorities, at least 1 if there is a vertex, and
 -- at least 2 if a set that satisfies `IsClosedToTops` leaves a vertex out

@@ -2,7 +2,7 @@
 
 ghost use Rattle.std.specs.Prelude.{◌≡◌, IfOk, length};
 ghost use Rattle.ps_game.specs.Games.{vertex_count};
-ghost use Rattle.ps_zielonka.specs.Answers.{IsRegionTo, AreMovesTo};
+ghost use Rattle.ps_zielonka.specs.Answers.{IsWonRegionTo, AreWinningMovesTo};
 
 use ps_attractor::Tables;
 use ps_game::{Arena, Player, Region, Strategy, Width};
@@ -11,7 +11,7 @@ use std::alloc::{AllocError, Global};
 /// The set of the vertices that player 0 wins. Fails if out of memory.
 pub fn region_of(alloc: Global, winner: &[Player]) -> Result<Region, AllocError>
     ensures places { IfOk result (λ region. length region ≡ length winner.now) }
-    ensures won { IfOk result (IsRegionTo winner.now (length winner.now)) }
+    ensures won { IfOk result (IsWonRegionTo winner.now (length winner.now)) }
 {
     let mut region = Region::empty(alloc, winner.len())?;
     for (vertex, player) in winner.iter().enumerate() {
@@ -33,7 +33,7 @@ pub fn strategy_of<A: Arena, W: Width>(
     requires moves { length tables.now.moves ≡ vertex_count (A.game arena.now) }
     requires winners { length winner.now ≡ vertex_count (A.game arena.now) }
     ensures places { IfOk result (λ strategy. length strategy ≡ vertex_count (A.game arena.now)) }
-    ensures given { IfOk result (AreMovesTo (A.game arena.now) tables.now.moves winner.now player
+    ensures given { IfOk result (AreWinningMovesTo (A.game arena.now) tables.now.moves winner.now player
         (vertex_count (A.game arena.now))) }
 {
     let count = arena.count();

@@ -1,7 +1,7 @@
 //! Attractions, which compute a player's attractor to vertices of the trail.
 
 ghost use Rattle.std.specs.Prelude.{◌≡◌, ◌<◌};
-ghost use Rattle.ps_zielonka.specs.Inner.Levels.{mark_of, aim_of};
+ghost use Rattle.ps_zielonka.specs.Inner.Levels.{code_of, aim_of};
 
 use crate::level::Level;
 use ps_attractor::Aim;
@@ -21,14 +21,14 @@ pub struct Attraction {
 impl Attraction {
     /// The aim for the tables. The free vertices are those that are not placed.
     pub fn aim(&self) -> Aim
-        requires { mark_of self.now.level < mark_of Level.Unplaced }
+        requires { code_of self.now.level < code_of Level.Unplaced }
         ensures { result ≡ aim_of self.now }
     {
         Aim {
             player: self.player.number(),
             begin: self.begin,
-            mark: self.level.mark(),
-            free: Level::Unplaced.mark(),
+            level: self.level.code(),
+            free: Level::Unplaced.code(),
         }
     }
 }

@@ -6,8 +6,8 @@ ghost use Rattle.std.specs.Prelude.{take, slice_index, replicate, IfOk, []};
 ghost use Rattle.ps_game.specs.Games.{IsGame, vertex_count, HasEdge};
 ghost use Rattle.ps_attractor.specs.Sources.{IsSourcesOf};
 ghost use Rattle.ps_attractor.specs.Tables.{FitsGame, level_of, moves_of};
-ghost use Rattle.ps_attractor.specs.Aims.{IsPosed, IsTaken, IsAttracted, IsGrown, StandsFrom, rank_of};
-ghost use Rattle.ps_zielonka.specs.Inner.Levels.{mark_of, aim_of};
+ghost use Rattle.ps_attractor.specs.Aims.{IsPosed, IsSetOfPlaced, IsAttracted, IsGrown, StandsFrom, rank_of};
+ghost use Rattle.ps_zielonka.specs.Inner.Levels.{code_of, aim_of};
 ghost use Rattle.ps_zielonka.specs.Inner.Nests.{IsGiven, IsWonStep, IsKeptAt, IsLostAt, IsMoved, StandsBetween};
 ghost use Rattle.ps_zielonka.specs.Inner.Nests.{IsTakenOff};
 ghost use Rattle.ps_zielonka.specs.Inner.Nests.{IsReopened};
@@ -34,13 +34,13 @@ impl<W: Width> Board<W> {
     /// A board on which none of `count` vertices is decided. Fails if out of memory.
     pub fn undecided(alloc: Global, count: usize) -> Result<Board<W>, AllocError>
         requires { count ≤ W.LIMIT }
-        ensures levels { IfOk result (λ board. board.tables.level ≡ replicate count (mark_of Level.Unplaced)) }
+        ensures levels { IfOk result (λ board. board.tables.level ≡ replicate count (code_of Level.Unplaced)) }
         ensures moves { IfOk result (λ board. board.tables.moves ≡ replicate count 0) }
         ensures trail { IfOk result (λ board. board.tables.trail ≡ []) }
         ensures winners { IfOk result (λ board. board.winner.items ≡ replicate count 0) }
     {
         Ok(Board {
-            tables: Tables::new(alloc, count, Level::Unplaced.mark())?,
+            tables: Tables::new(alloc, count, Level::Unplaced.code())?,
             winner: vec![in alloc; Player::EVEN; count]?,
             spare: Numbers::with_capacity(alloc, 0)?,
         })
@@ -58,15 +58,15 @@ impl<W: Width> Board<W> {
         requires sources { IsSourcesOf (A.game arena.now) sources.now }
         requires fits { FitsGame (A.game arena.now) self.old.tables }
         requires winners { length self.old.winner.items ≡ vertex_count (A.game arena.now) }
-        requires placed { mark_of attraction.now.level < mark_of Level.Unplaced }
-        requires fits_width { mark_of attraction.now.level < W.LIMIT }
+        requires placed { code_of attraction.now.level < code_of Level.Unplaced }
+        requires fits_width { code_of attraction.now.level < W.LIMIT }
         requires begin { attraction.now.begin ≤ length self.old.tables.trail }
         ensures fits { OnOk result (FitsGame (A.game arena.now) self.new.tables) }
         ensures winners { OnOk result (length self.new.winner.items ≡ vertex_count (A.game arena.now)) }
         ensures grown { OnOk result (IsGrown (aim_of attraction.now) self.old.tables self.new.tables) }
         ensures attracted { OnOk result ((subgame target set : ℕ → Bool) →
             IsPosed (A.game arena.now) (aim_of attraction.now) self.old.tables subgame target →
-            IsTaken (aim_of attraction.now) self.new.tables subgame set →
+            IsSetOfPlaced (aim_of attraction.now) self.new.tables subgame set →
             IsAttracted (A.game arena.now) subgame attraction.now.player target set (moves_of self.new.tables)
             (rank_of (aim_of attraction.now) self.new.tables)) }
         ensures given { OnOk result (IsGiven attraction.now.player attraction.now.begin self.new.tables
@@ -98,16 +98,16 @@ impl<W: Width> Board<W> {
         requires fits { FitsGame (A.game arena.now) self.old.tables }
         requires winners { length self.old.winner.items ≡ vertex_count (A.game arena.now) }
         requires end { frame.now.top ≤ length self.old.tables.trail }
-        requires placed { mark_of level < mark_of Level.Unplaced }
+        requires placed { code_of level < code_of Level.Unplaced }
         ensures moved { IsMoved self.old.tables self.new.tables
             (StandsBetween self.old.tables frame.now.turn frame.now.top) }
         ensures winner { self.new.winner.items ≡ self.old.winner.items }
         ensures fits { FitsGame (A.game arena.now) self.new.tables }
         ensures kept { IsTrue result → (v : ℕ) → StandsBetween self.old.tables frame.now.turn frame.now.top v →
-            IsKeptAt (A.game arena.now) self.new.tables self.old.winner.items (mark_of level) frame.now.player
+            IsKeptAt (A.game arena.now) self.new.tables self.old.winner.items (code_of level) frame.now.player
             (1 - frame.now.player) v }
         ensures lost { result ≡ false → (v : ℕ) × StandsBetween self.old.tables frame.now.turn frame.now.top v ×
-            IsLostAt (A.game arena.now) self.old.tables self.old.winner.items (mark_of level) frame.now.player
+            IsLostAt (A.game arena.now) self.old.tables self.old.winner.items (code_of level) frame.now.player
             (1 - frame.now.player) v }
     {
         for place in frame.turn..frame.top {
@@ -126,14 +126,14 @@ impl<W: Width> Board<W> {
         requires fits { FitsGame (A.game arena.now) self.old.tables }
         requires winners { length self.old.winner.items ≡ vertex_count (A.game arena.now) }
         requires vertex { vertex < vertex_count (A.game arena.now) }
-        requires placed { mark_of level < mark_of Level.Unplaced }
+        requires placed { code_of level < code_of Level.Unplaced }
         ensures moved { IsMoved self.old.tables self.new.tables (λ v. v ≡ vertex) }
         ensures winner { self.new.winner.items ≡ self.old.winner.items }
         ensures fits { FitsGame (A.game arena.now) self.new.tables }
-        ensures kept { IsTrue result → IsKeptAt (A.game arena.now) self.new.tables self.old.winner.items (mark_of level)
+        ensures kept { IsTrue result → IsKeptAt (A.game arena.now) self.new.tables self.old.winner.items (code_of level)
             player (1 - player) vertex }
         ensures lost { result ≡ false → IsLostAt (A.game arena.now) self.old.tables self.old.winner.items
-            (mark_of level) player (1 - player) vertex }
+            (code_of level) player (1 - player) vertex }
     {
         if !player.owns(arena, vertex) {
             return self
@@ -161,15 +161,15 @@ impl<W: Width> Board<W> {
         requires fits { FitsGame (A.game arena.now) self.now.tables }
         requires winners { length self.now.winner.items ≡ vertex_count (A.game arena.now) }
         requires vertex { vertex < vertex_count (A.game arena.now) }
-        requires placed { mark_of level < mark_of Level.Unplaced }
-        ensures some { IfSome result (IsWonStep (A.game arena.now) self.now.tables self.now.winner.items (mark_of level)
+        requires placed { code_of level < code_of Level.Unplaced }
+        ensures some { IfSome result (IsWonStep (A.game arena.now) self.now.tables self.now.winner.items (code_of level)
             player vertex) }
         ensures none { IfNone result ((w : ℕ) → HasEdge (A.game arena.now) vertex w →
-            mark_of level < level_of self.now.tables w → slice_index self.now.winner.items w ≢ player) }
+            code_of level < level_of self.now.tables w → slice_index self.now.winner.items w ≢ player) }
     {
         for number in 0..arena.degree(vertex) {
             let successor = arena.successor(vertex, number);
-            if self.tables.level(successor) > level.mark() && self.winner[successor] == player {
+            if self.tables.level(successor) > level.code() && self.winner[successor] == player {
                 return Some(successor);
             }
         }
@@ -183,20 +183,20 @@ impl<W: Width> Board<W> {
             slice_index self.old.tables.trail j < length self.old.tables.level }
         requires winners { length self.old.winner.items ≡ length self.old.tables.level }
         requires turn { frame.now.turn ≤ length self.old.tables.trail }
-        requires placed { mark_of level < mark_of Level.Unplaced }
+        requires placed { code_of level < code_of Level.Unplaced }
         requires room { length self.old.tables.level ≤ W.LIMIT }
-        requires fits_width { mark_of level < W.LIMIT }
+        requires fits_width { code_of level < W.LIMIT }
         ensures winner { self.new.winner.items ≡ self.old.winner.items }
-        ensures reopened { OnOk result (IsReopened self.old.winner.items frame.now.player (mark_of level) frame.now.turn
+        ensures reopened { OnOk result (IsReopened self.old.winner.items frame.now.player (code_of level) frame.now.turn
             (StandsFrom self.old.tables frame.now.turn) self.old.tables self.new.tables) }
     {
         self.take_off(frame.turn)?;
         for place in 0..self.spare.len() {
             let vertex = self.spare.at(place);
             if self.winner[vertex] == frame.player {
-                self.tables.set_level(vertex, Level::Unplaced.mark());
+                self.tables.set_level(vertex, Level::Unplaced.code());
             } else {
-                self.tables.place(vertex, level.mark())?;
+                self.tables.place(vertex, level.code())?;
             }
         }
         Ok(())

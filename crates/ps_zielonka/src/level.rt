@@ -1,9 +1,9 @@
 //! The state of a vertex in the nested calls.
 
 ghost use Rattle.std.specs.Prelude.{◌≡◌, ◌≤◌};
-ghost use Rattle.ps_zielonka.specs.Inner.Levels.{mark_of};
+ghost use Rattle.ps_zielonka.specs.Inner.Levels.{code_of};
 
-/// The mark of each vertex that is currently not placed.
+/// The code of each vertex that is currently not placed.
 const UNPLACED: usize = usize::MAX;
 
 /// The state of a vertex in the nested calls. The depth of a call is the number of calls that are pending when it runs.
@@ -25,9 +25,9 @@ pub enum Level {
 
 impl Level {
     /// The number that represents the level in the tables.
-    pub fn mark(self) -> usize
-        requires { mark_of self ≤ usize.MAX }
-        ensures { result ≡ mark_of self }
+    pub fn code(self) -> usize
+        requires { code_of self ≤ usize.MAX }
+        ensures { result ≡ code_of self }
     {
         match self {
             Level::Decided { depth } => 2 * depth + 1,

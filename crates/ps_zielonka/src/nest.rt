@@ -7,7 +7,7 @@ ghost use Rattle.ps_attractor.specs.Room.{HasRoom};
 ghost use Rattle.ps_attractor.specs.Sources.{IsSourcesOf};
 ghost use Rattle.ps_attractor.specs.Tables.{FitsGame, level_of, moves_of};
 ghost use Rattle.ps_zielonka.specs.Depths.{IsDepth};
-ghost use Rattle.ps_zielonka.specs.Inner.Levels.{mark_of};
+ghost use Rattle.ps_zielonka.specs.Inner.Levels.{code_of};
 ghost use Rattle.ps_zielonka.specs.Inner.Stacks.{IsStack, IsDeep, IsSolvedBy, steps_of};
 ghost use Rattle.ps_zielonka.specs.Inner.Nests.{IsNest, IsLostAt, StandsBetween, steps_left};
 
@@ -148,9 +148,9 @@ impl<W: Width> Nest<W> {
         requires searches { self.old.solved ≡ false }
         requires within { cursor < length self.old.order }
         requires unplaced { level_of self.old.board.tables (slice_index self.old.order cursor) ≡
-            mark_of Level.Unplaced }
+            code_of Level.Unplaced }
         requires first { (j : ℕ) → j < cursor → level_of self.old.board.tables (slice_index self.old.order j) ≢
-            mark_of Level.Unplaced }
+            code_of Level.Unplaced }
         ensures stack { OnOk result (IsStack (A.game arena.now) self.new) }
         ensures falls { OnOk result (steps_of self.new < steps_of self.old) }
         ensures deep { OnOk result (IsDeep (A.game arena.now) self.old → IsDeep (A.game arena.now) self.new) }
@@ -224,7 +224,7 @@ impl<W: Width> Nest<W> {
             (self.old.frames.items ++ frame ∷ []) self.old.cursor true }
         requires level { level ≡ Level.Decided (length self.old.frames.items) }
         requires lost { (v : ℕ) × StandsBetween self.old.board.tables frame.turn frame.top v ×
-            IsLostAt (A.game arena.now) self.old.board.tables self.old.board.winner.items (mark_of level) frame.player
+            IsLostAt (A.game arena.now) self.old.board.tables self.old.board.winner.items (code_of level) frame.player
             (1 - frame.player) v }
         ensures stack { OnOk result (IsStack (A.game arena.now) self.new) }
         ensures falls { OnOk result (steps_of self.new <

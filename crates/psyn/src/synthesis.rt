@@ -5,7 +5,7 @@ ghost use Rattle.ps_hoa.specs.Files.{FileData};
 ghost use Rattle.ps_machine.specs.Solvers.{Answered, IsKept};
 ghost use Rattle.ps_synthesis.specs.Promises.{IsAcceptedText};
 ghost use Rattle.ps_synthesis.specs.Reports.{IsReport};
-ghost use Rattle.ps_synthesis.specs.SynthFaults.{IsOutcome, IsSynthFault};
+ghost use Rattle.ps_synthesis.specs.SynthFaults.{IsReportOrFault, IsSynthFault};
 
 use ps_machine::{Order, Solver};
 use ps_synthesis::{Report, SynthFault, synthesise_by};
@@ -33,7 +33,7 @@ pub fn synthesise(
     ensures refused { IfErr result (IsSynthFault (Answered (known solver.old) (known solver.new)) order text.now) }
     // If the solver is sure, every accepted text gets a report, unless memory runs out or the circuit is too large.
     ensures sure { (known solver.old).is_sure ≡ true → (file : FileData) → IsAcceptedText text.now file →
-        IsOutcome (Answered (known solver.old) (known solver.new)) order compact text.now result }
+        IsReportOrFault (Answered (known solver.old) (known solver.new)) order compact text.now result }
     // The solver is the same after the call.
     ensures kept { IsKept (known solver.old) (known solver.new) }
 {

@@ -13,7 +13,7 @@ use Rattle.ps_label.specs.Truth.{is_in}
 use Rattle.ps_diagram.specs.Table.{leaf_of}
 use Rattle.ps_machine.specs.declared.machine.Row.{Row}
 use Rattle.ps_machine.specs.Behaviours.{Behaviour}
-use Rattle.ps_machine.specs.Machines.{MachineData, behaviour, row_of}
+use Rattle.ps_machine.specs.Machines.{MachineData, behaviour, row_at_leaf}
 use Rattle.ps_aiger.specs.declared.functions.Wanted.{Wanted}
 use Rattle.ps_aiger.specs.declared.functions.Wanted.TheVariants.{Next, Output}
 use Rattle.ps_aiger.specs.Encoded.{letter_over}
@@ -32,7 +32,7 @@ wanted_place (Output p) = p
 
 -- the row to which a node leads at an input letter
 abbrev pub row_by : MachineData → ℕ → ℕ → Row
-row_by m node x = row_of m (unwrap_or (leaf_of m.store node x) (length m.rows))
+row_by m node x = row_at_leaf m (unwrap_or (leaf_of m.store node x) (length m.rows))
 
 -- the literal of the bit w of the row to which a node leads, as a function of the input letter
 unfoldable pub node_made : MachineData → Wanted → ℕ → Drafted → Made

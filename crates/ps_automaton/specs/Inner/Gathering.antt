@@ -1,6 +1,6 @@
 -- How the links of a condition are appended to earlier links. (For private functions.)
 use Rattle.std.specs.Prelude.{◌≡◌, ◌<◌, Bool, not, List, length, map, Option, None, Some, option_map, HoldsAt}
-use Rattle.ps_hoa.specs.Conditions.{row_of}
+use Rattle.ps_hoa.specs.Conditions.{operands_in}
 use Rattle.ps_hoa.specs.Values.{condition_of}
 use Rattle.ps_hoa.specs.declared.condition.Cond.{Cond}
 use Rattle.ps_automaton.specs.Chains.{Chain, chain_of, chain_of_all, in_front}
@@ -15,7 +15,7 @@ with_base links base = option_map (λ b. record { links = map link_data links; b
 -- the chain of the operands, after the given earlier links
 abbrev pub whole : Bool → List Cond → List Link → Option Chain
 whole accepts operands before =
-    in_front (Some (map link_data before)) (chain_of_all accepts (row_of (map condition_of operands)))
+    in_front (Some (map link_data before)) (chain_of_all accepts (operands_in (map condition_of operands)))
 
 abbrev pub IsGathered : Bool → List Cond → List Link → List Link → Gathered → Type 0
 IsGathered accepts operands before after All = whole accepts operands before ≡ with_base after (Some (not accepts))

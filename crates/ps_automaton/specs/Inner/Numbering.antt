@@ -1,9 +1,9 @@
 -- The table of a chain's numbers. (For private functions.)
 use Rattle.std.specs.Prelude.{◌≡◌, ℕ, ◌<◌, List, nat_eq, length, slice_index, slice_index_or}
-use Rattle.ps_automaton.specs.Chains.{Chain, Link, base_number, level_by}
+use Rattle.ps_automaton.specs.Chains.{Chain, ChainLink, base_number, level_by}
 
-abbrev pub AreSetsBelow : ℕ → List Link → Type 0
-AreSetsBelow count links = (k : ℕ) (d : Link) → k < length links → (slice_index_or links k d).colour < count
+abbrev pub AreSetsBelow : ℕ → List ChainLink → Type 0
+AreSetsBelow count links = (k : ℕ) (d : ChainLink) → k < length links → (slice_index_or links k d).colour < count
 
 -- the number of an edge without sets, and the numbers of edges with one set each
 pub record IsTable (chain : Chain) (base : ℕ) (by_set : List ℕ) : Type 0 where

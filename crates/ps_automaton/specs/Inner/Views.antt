@@ -4,7 +4,7 @@ use Rattle.ps_automaton.specs.Chains as chains
 use Rattle.ps_automaton.specs.declared.chain.Link.{Link}
 use Rattle.ps_automaton.specs.declared.chain.Chain.{Chain}
 
-abbrev pub link_data : Link → chains.Link
+abbrev pub link_data : Link → chains.ChainLink
 link_data l = record { colour = l.set; accepts = l.accepts }
 
 abbrev pub chain_data : Chain → chains.Chain

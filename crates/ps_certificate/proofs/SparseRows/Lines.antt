@@ -7,8 +7,8 @@ use Rattle.std.proofs.lemmas.List.{map-append, get_or-map, length-map}
 use Rattle.std.proofs.lemmas.List.Elements.{All-nil, All-cons, All-append, All-head, All-tail, All-get_or}
 use Rattle.std.proofs.lemmas.Slice.Zip.{length-zip, get_or-zip}
 use Rattle.ps_certificate.specs.Certificates.{EntryData, no_entry}
-use Rattle.ps_certificate.specs.Lines.{entry_in, entries_in, part_of, IsWithin, AreLines}
-use Rattle.ps_certificate.specs.Sparse.{row_of}
+use Rattle.ps_certificate.specs.Lines.{entry_in, entries_in, part_of, IsRowWithin, AreLines}
+use Rattle.ps_certificate.specs.Sparse.{dense_row}
 use Rattle.ps_certificate.specs.declared.entries.Line.{Line}
 use Rattle.ps_certificate.specs.declared.row.PlacedCount.{PlacedCount}
 
@@ -24,21 +24,23 @@ zip_push (a ∷ ws) [] w l h = absurd (omega arith)
 zip_push (a ∷ ws) (b ∷ ls) w l h = ap (λ rest. (a, b) ∷ rest) (zip_push ws ls w l (omega arith))
 
 -- entries and lines do not change when more is appended to the shared list
-entries_kept : (ws : List ℕ) (ls : List Line) {cs : List PlacedCount} (more : List PlacedCount) → All (IsWithin cs) ls
+entries_kept : (ws : List ℕ) (ls : List Line) {cs : List PlacedCount} (more : List PlacedCount) →
+    All (IsRowWithin cs) ls
     → entries_in ws ls (cs ++ more) ≡ entries_in ws ls cs
 entries_kept [] ls more h = refl
 entries_kept (a ∷ ws) [] more h = refl
 entries_kept (a ∷ ws) (b ∷ ls) {cs} more h =
-    search (rules, range_kept, All-head, All-tail, entries_kept ws ls more (All-tail (IsWithin cs) b ls h))
+    search (rules, range_kept, All-head, All-tail, entries_kept ws ls more (All-tail (IsRowWithin cs) b ls h))
 
-within_kept : {cs : List PlacedCount} (more : List PlacedCount) {l : Line} → IsWithin cs l → IsWithin (cs ++ more) l
+within_kept : {cs : List PlacedCount} (more : List PlacedCount) {l : Line} → IsRowWithin cs l →
+    IsRowWithin (cs ++ more) l
 within_kept {cs} more {l} h = grind (arith, common_steps, range_kept)
 
-all_kept : (ls : List Line) {cs : List PlacedCount} (more : List PlacedCount) → All (IsWithin cs) ls →
-    All (IsWithin (cs ++ more)) ls
-all_kept [] {cs} more h = All-nil (IsWithin (cs ++ more))
-all_kept (a ∷ ls) {cs} more h = All-cons (IsWithin (cs ++ more)) a ls
-    (within_kept more (All-head (IsWithin cs) a ls h)) (all_kept ls more (All-tail (IsWithin cs) a ls h))
+all_kept : (ls : List Line) {cs : List PlacedCount} (more : List PlacedCount) → All (IsRowWithin cs) ls →
+    All (IsRowWithin (cs ++ more)) ls
+all_kept [] {cs} more h = All-nil (IsRowWithin (cs ++ more))
+all_kept (a ∷ ls) {cs} more h = All-cons (IsRowWithin (cs ++ more)) a ls
+    (within_kept more (All-head (IsRowWithin cs) a ls h)) (all_kept ls more (All-tail (IsRowWithin cs) a ls h))
 
 -- one list begins with another
 begins : {X : Type 0} (xs ys : List X) → take (length xs) ys ≡ xs → (more : List X) × (ys ≡ xs ++ more)
@@ -57,17 +59,17 @@ module _ (ws : List ℕ) (ls : List Line) (cs new : List PlacedCount) (are : Are
   }
 
   module _ (w : ℕ) (line : Line) where
-    pub entries_push : {row : List ℕ} → row_of line.width (part_of new line) ≡ row → entries_in (ws ++ w ∷ [])
+    pub entries_push : {row : List ℕ} → dense_row line.width (part_of new line) ≡ row → entries_in (ws ++ w ∷ [])
         (ls ++ line ∷ []) new ≡ entries_in ws ls cs ++ record { winner = w; choice = line.choice; counts = row } ∷ []
     entries_push is = search (rules, zip_push, map-append, entries_same)
 
     -- one more line, whose counts are in the list
-    pub lines_push : IsWithin new line → AreLines (ws ++ w ∷ []) (ls ++ line ∷ []) new
+    pub lines_push : IsRowWithin new line → AreLines (ws ++ w ∷ []) (ls ++ line ∷ []) new
     lines_push is = grind (
       arith,
       common_steps,
-      All-append (IsWithin new) ls (line ∷ []) lines_same.within
-          (All-cons (IsWithin new) line [] is (All-nil (IsWithin new))),
+      All-append (IsRowWithin new) ls (line ∷ []) lines_same.within
+          (All-cons (IsRowWithin new) line [] is (All-nil (IsRowWithin new))),
     )
 
 pub length-entries : {ws : List ℕ} {ls : List Line} {cs : List PlacedCount} → AreLines ws ls cs
@@ -97,8 +99,9 @@ module _ (ws : List ℕ) (ls : List Line) (cs : List PlacedCount) (v : ℕ) (are
     pub choice_at : line.choice ≡ (get_or (entries_in ws ls cs) v no_entry).choice
     choice_at = ap (λ (l : Line). l.choice) is ∙ sym (ap (λ (e : EntryData). e.choice) (at 0 line))
 
-    pub counts_at : row_of line.width (part_of cs line) ≡ (get_or (entries_in ws ls cs) v no_entry).counts
-    counts_at = ap (λ (l : Line). row_of l.width (part_of cs l)) is ∙ sym (ap (λ (e : EntryData). e.counts) (at 0 line))
+    pub counts_at : dense_row line.width (part_of cs line) ≡ (get_or (entries_in ws ls cs) v no_entry).counts
+    counts_at = ap (λ (l : Line). dense_row l.width (part_of cs l)) is
+        ∙ sym (ap (λ (e : EntryData). e.counts) (at 0 line))
 
-    pub line_within : IsWithin cs line
-    line_within = subst (IsWithin cs) (sym is) (All-get_or (IsWithin cs) ls v line has_line are.within)
+    pub line_within : IsRowWithin cs line
+    line_within = subst (IsRowWithin cs) (sym is) (All-get_or (IsRowWithin cs) ls v line has_line are.within)

@@ -3,7 +3,7 @@ use Rattle.std.proofs.Common.{◌≡◌, ℕ, ◌+◌, ◌-◌, ◌<◌, ◌≤�
 use Rattle.std.proofs.Common.{take, inl, inr, rules}
 use Rattle.std.proofs.lemmas.Bool.{cases_order, cases_lt}
 use Rattle.std.proofs.lemmas.List.{length-append, length-replicate, take_all}
-use Rattle.ps_certificate.specs.Sparse.{count_at, row_of, IsRow, place_at, AreRising, IsFirstFrom, AreAtMost}
+use Rattle.ps_certificate.specs.Sparse.{count_at, dense_row, IsRow, place_at, AreRising, IsFirstFrom, AreAtMost}
 use Rattle.ps_certificate.specs.Sparse.{IsFirstAbove}
 use Rattle.ps_certificate.specs.declared.row.PlacedCount.{PlacedCount}
 use Rattle.ps_certificate.proofs.SparseRows.Sparse.{number_at, count_missing, count_here, row_at, row_to, row_next}
@@ -24,7 +24,8 @@ module _ (own other : List PlacedCount) (from number : ℕ) where
   not_above_start first = search (rules, count_missing, cases_lt)
 
   module _ (so_far : AreNotAbove own other from number) where
-    pub not_above_end : (width : ℕ) → length own ≤ number → AreAtMost (row_of width own) (row_of width other) from width
+    pub not_above_end : (width : ℕ) → length own ≤ number →
+        AreAtMost (dense_row width own) (dense_row width other) from width
     not_above_end width all k late within = search (rules, row_at)
 
     module _ (rises : AreRising own) (within : number < length own) where
@@ -33,14 +34,14 @@ module _ (own other : List PlacedCount) (from number : ℕ) where
       not_above_next at_most = search (rules, cases_order, number_at, count_here, count_missing)
 
       pub above_here : (width : ℕ) → IsRow width own → count_at other (place_at own number) < number_at own number →
-          IsFirstAbove (row_of width own) (row_of width other) from (place_at own number)
+          IsFirstAbove (dense_row width own) (dense_row width other) from (place_at own number)
       above_here width is_row above = grind (arith, place_within, count_here, length-counts_from, row_at, cases_order)
 
 -- ## Copying
 
 -- the list has the counts up to its length, and these include the first `number` stored counts
 pub record IsFilled (width : ℕ) (placed : List PlacedCount) (list : List ℕ) (number : ℕ) : Type 0 where
-  pub list_is : list ≡ row_of (length list) placed
+  pub list_is : list ≡ dense_row (length list) placed
   pub long : length list ≤ width
   pub before : (i : ℕ) → i < number → place_at placed i < length list
   pub behind : (i : ℕ) → number ≤ i → i < length placed → length list ≤ place_at placed i
@@ -53,14 +54,14 @@ resized list n long is more = search (rules, take_all)
 module _ (width : ℕ) (placed : List PlacedCount) (list : List ℕ) (number : ℕ)
     (so_far : IsFilled width placed list number) where
   up_to : (to : ℕ) → length list ≤ to → ((i : ℕ) → number ≤ i → i < length placed → to ≤ place_at placed i) →
-      list ++ replicate (to - length list) 0 ≡ row_of to placed
+      list ++ replicate (to - length list) 0 ≡ dense_row to placed
   up_to to far next = search (rules, row_to, cases_lt)
 
-  pub filled_end : length placed ≤ number → list ++ replicate (width - length list) 0 ≡ row_of width placed
+  pub filled_end : length placed ≤ number → list ++ replicate (width - length list) 0 ≡ dense_row width placed
   filled_end all = up_to width so_far.long (λ i late within. absurd (omega (arith, late, within, all)))
 
   zeros_next : IsRow width placed → number < length placed →
-      list ++ replicate (place_at placed number - length list) 0 ≡ row_of (place_at placed number) placed
+      list ++ replicate (place_at placed number - length list) 0 ≡ dense_row (place_at placed number) placed
   zeros_next is_row within = up_to (place_at placed number) (so_far.behind number (omega arith) within)
       (λ i late i_within. elim (cases_order i number) [
         | inl at ↦ omega (arith, ap (place_at placed) at)

@@ -5,12 +5,13 @@ use Rattle.std.proofs.Math.Seq.{drop-cons}
 use Rattle.std.proofs.lemmas.List.{take-append-drop, drop-drop}
 use Rattle.std.proofs.lemmas.Bool.{cases_order, cases_eq, eq-eqb, ne_eqb}
 use Rattle.std.specs.Prelude.{slice_index}
-use Rattle.ps_certificate.specs.Sparse.{count_at, counts_from, row_of, Rises, IsRow, gathered, place_at, AreRising}
+use Rattle.ps_certificate.specs.Sparse.{count_at, counts_from, dense_row, Rises, IsRow, gathered, place_at, AreRising}
 use Rattle.ps_certificate.specs.Sparse.{IsFirstFrom}
 use Rattle.ps_certificate.specs.declared.row.PlacedCount.{PlacedCount}
 
 -- ## The counts of a row
 
+-- the list has n counts
 pub length-counts_from : (ps : List PlacedCount) (n k : ℕ) → length (counts_from ps n k) ≡ n
 length-counts_from ps zero k = refl
 length-counts_from ps (suc n) k = ap suc (length-counts_from ps n (suc k))
@@ -20,7 +21,7 @@ counts_from_at ps zero k i h = absurd (omega (arith, h))
 counts_from_at ps (suc n) k zero h = let here : k ≡ k + 0 = omega arith in ap (count_at ps) here
 counts_from_at ps (suc n) k (suc i) h = grind (arith, counts_from_at ps n (suc k) i (omega (arith, h)))
 
-pub row_at : (ps : List PlacedCount) (n i : ℕ) → i < n → slice_index (row_of n ps) i ≡ count_at ps i
+pub row_at : (ps : List PlacedCount) (n i : ℕ) → i < n → slice_index (dense_row n ps) i ≡ count_at ps i
 row_at ps n i h = let same : 0 + i ≡ i = omega arith in counts_from_at ps n 0 i h ∙ ap (count_at ps) same
 
 counts_from_more : (ps : List PlacedCount) (n m k : ℕ) →
@@ -82,7 +83,7 @@ module _ (ps : List PlacedCount) (k n : ℕ) (rises : AreRising ps) (first : IsF
 
 -- ## Appending counts
 
-pub row_next : (ps : List PlacedCount) (n : ℕ) → row_of (n + 1) ps ≡ row_of n ps ++ count_at ps n ∷ []
+pub row_next : (ps : List PlacedCount) (n : ℕ) → dense_row (n + 1) ps ≡ dense_row n ps ++ count_at ps n ∷ []
 row_next ps n = search (rules, counts_from_more)
 
 zeros_from : (ps : List PlacedCount) (n k : ℕ) → ((i : ℕ) → i < length ps → k ≤ place_at ps i → k + n ≤ place_at ps i) →
@@ -93,7 +94,7 @@ zeros_from ps (suc n) k h = ap (λ c. c ∷ counts_from ps n (suc k)) (grind (ar
 
 -- a row up to the next stored index is the row so far with zeros appended
 pub row_to : (ps : List PlacedCount) (from to : ℕ) → from ≤ to → ((i : ℕ) → i < length ps →
-    from ≤ place_at ps i → to ≤ place_at ps i) → row_of to ps ≡ row_of from ps ++ replicate (to - from) 0
+    from ≤ place_at ps i → to ≤ place_at ps i) → dense_row to ps ≡ dense_row from ps ++ replicate (to - from) 0
 row_to ps from to h next = let long : to ≡ from + (to - from) = omega (arith, h) in
     grind (arith, counts_from_more, zeros_from)
 
@@ -165,5 +166,5 @@ gathered_counts k (c ∷ cs) = elim (cases_eq c 0) [
       place_within (suc k) (suc k + length cs) (gathered (suc k) cs) i (gathered_rises (suc k) cs (omega arith)) within,
     ))
 
-pub row_gathered : {cs : List ℕ} → row_of (length cs) (gathered 0 cs) ≡ cs
+pub row_gathered : {cs : List ℕ} → dense_row (length cs) (gathered 0 cs) ≡ cs
 row_gathered {cs} = gathered_counts 0 cs

@@ -5,7 +5,7 @@ use Rattle.std.specs.List.{Contains}
 use Rattle.ps_game.specs.Games.{ParityGame, vertex_count, priority_of, successors_of}
 use Rattle.ps_certificate.specs.declared.flaw.Flaw.{Flaw}
 use Rattle.ps_certificate.specs.declared.flaw.Flaw.TheVariants.{Move, Escape, Rank}
-use Rattle.ps_certificate.specs.Certificates.{CertificateData, Remains, HasRightMove, IsFlaw, Precedes, StandsBefore}
+use Rattle.ps_certificate.specs.Certificates.{CertificateData, Remains, HasRightMove, IsFlaw, Precedes, OccursBefore}
 use Rattle.ps_certificate.specs.Certificates.{winner_of, choice_of, counts_of, opposing, KeepsCount, opposing_at}
 
 -- each remaining edge of a vertex leads to a vertex with the same winner
@@ -26,7 +26,7 @@ pub record Leaves (game : ParityGame) (certificate : CertificateData) (v w : ℕ
 -- the vertex's first remaining edge that leaves its winner's region
 pub record IsFirstEscape (game : ParityGame) (certificate : CertificateData) (v w : ℕ) : Type 0 where
   pub leaves : Leaves game certificate v w
-  pub first : (other : ℕ) → Leaves game certificate v other → (w ≡ other) ⊎ StandsBefore (successors_of game v) w other
+  pub first : (other : ℕ) → Leaves game certificate v other → (w ≡ other) ⊎ OccursBefore (successors_of game v) w other
 
 -- the stage of the check that reports a flaw: the first stage reports wrong moves and escapes, and the second reports
 -- flaws in counts

@@ -19,7 +19,7 @@ use Rattle.ps_certificate.specs.Faults.{CertFault}
 use Rattle.ps_certificate.specs.Certificates.{EntryData, CertificateData}
 use Rattle.ps_certificate.specs.Pairs.{Pairs}
 use Rattle.ps_text.specs.Bytes.{Seen, pieces_at, stream_at, byte}
-use Rattle.ps_text.specs.Cursors.{place_of}
+use Rattle.ps_text.specs.Cursors.{stream_offset}
 use Rattle.ps_certificate.specs.Texts.{Field, causes, judged, WrongPriority, entries, certificate}
 
 abbrev pub Tells : {V X : Type 0} → (X → V) → Field V → Stream Seen → Result X CertFault → Stream Seen → Type 0
@@ -50,7 +50,7 @@ pub record IsNumberRead (old new : Stream Seen) (n : ℕ) : Type 0 where
   pub old_is : old.pieces ≡ pieces_at at (digits ++ rest)
   pub new_is : new.pieces ≡ pieces_at (at + length digits) rest
   pub end : new.end ≡ old.end
-  pub place : at ≡ place_of old
+  pub place : at ≡ stream_offset old
   pub whole : numeral (digits ++ rest) ≡ digits
   pub some : 0 < length digits
   pub value : n ≡ decimal_value digits
@@ -65,7 +65,7 @@ pub record HasNoNumber (old : Stream Seen) : Type 0 where
 
 abbrev pub TellsNumber : Stream Seen → Result ℕ CertFault → Stream Seen → Type 0
 TellsNumber old (Ok n) new = IsNumberRead old new n
-TellsNumber old (Err e) new = (e ≡ Text Syntax (place_of old)) × HasNoNumber old
+TellsNumber old (Err e) new = (e ≡ Text Syntax (stream_offset old)) × HasNoNumber old
 
 -- the number is greater than the last priority, if there is one
 abbrev pub rises : Option ℕ → ℕ → Bool

@@ -24,7 +24,7 @@ use Rattle.ps_circuit.specs.declared.fault.AigCause.{AigCause}
 use Rattle.ps_text.specs.Bytes.{Seen, pieces_at, take_byte, byte, word, is_digit, is_space, NoBadRun, run}
 use Rattle.ps_circuit.specs.Signs.{Field, number, gap, newline, line_end, more}
 use Rattle.ps_circuit.specs.Texts.{field}
-use Rattle.ps_text.specs.Cursors.{Passes, place_of}
+use Rattle.ps_text.specs.Cursors.{Passes, stream_offset}
 use Rattle.ps_circuit.proofs.Lawful.{Odd, Judges, Chain}
 use Rattle.ps_text.proofs.Bytes.Runs.{run_reads}
 use Rattle.ps_circuit.proofs.TextLaws.{chain_field}
@@ -86,7 +86,7 @@ AnyValue v = Unit {0}
 
 -- ## Runs
 
-place_is : (e : ℕ) {at : ℕ} (run rest : List ℕ) → 0 < length run → at ≡ place_of (from e at (run ++ rest))
+place_is : (e : ℕ) {at : ℕ} (run rest : List ℕ) → 0 < length run → at ≡ stream_offset (from e at (run ++ rest))
 place_is e [] rest some = absurd (omega arith)
 place_is e (b ∷ run) rest some = refl
 

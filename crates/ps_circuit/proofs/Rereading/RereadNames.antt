@@ -14,7 +14,7 @@ use Rattle.ps_text.proofs.Laws.{Laws, Nothing}
 use Rattle.ps_text.proofs.Simple.{none_is_some, laws_give}
 use Rattle.ps_text.proofs.Exits.{reads_next}
 use Rattle.ps_text.proofs.Branches.{right_otherwise, many_reads, many_ends}
-use Rattle.ps_circuit.specs.Circuits.{IsName}
+use Rattle.ps_circuit.specs.Circuits.{IsSymbolName}
 use Rattle.ps_text.specs.Bytes.{Seen, is_inner}
 use Rattle.ps_circuit.specs.Signs.{rest_of_line}
 use Rattle.ps_circuit.specs.Texts.{Kind, OfInput, OfLatch, OfOutput, NamesData, no_names, names_of, put_names, add_name}
@@ -126,16 +126,18 @@ put_there : (names : NamesData) (kind : Kind) {list : List (Option (List ℕ))} 
 put_there names kind = search rules
 
 pub reread_names : (kind : Kind) (Good : NamesData → Type 0) (text rest : List ℕ) (ns before : List (Option (List ℕ)))
-    (k : ℕ) (names : NamesData) → names_of names kind ≡ before ++ no_names ns → length before ≡ k → All IsName ns →
+    (k : ℕ) (names : NamesData) → names_of names kind ≡ before ++ no_names ns → length before ≡ k →
+    All IsSymbolName ns →
     k + length ns < 2 ^ 64 → Rereads (many symbol_line (put_names names kind (before ++ ns))) Good text rest →
     Rereads (many symbol_line names) Good (symbol_lines (letter_of kind) k ns ++ text) rest
 reread_names kind Good text rest [] before k names free size named small next = search (rules, Rereads, put_same)
 reread_names kind Good text rest (None ∷ ns) before k names free size named small next = reread_names kind Good text
     rest ns (before ++ None ∷ []) (k + 1) names (grind (arith, append_assoc before (None ∷ []) (no_names ns)))
-    (omega (arith, size, length-append before (None ∷ []))) (grind (arith, All-tail IsName None ns named)) (omega arith)
+    (omega (arith, size, length-append before (None ∷ []))) (grind (arith, All-tail IsSymbolName None ns named))
+    (omega arith)
     (grind (arith, append_assoc))
 reread_names kind Good text rest (Some name ∷ ns) before k names free size named small next =
-    let is_name : IsName (Some name) = All-head IsName (Some name) ns named in
+    let is_name : IsSymbolName (Some name) = All-head IsSymbolName (Some name) ns named in
     let there : slice_get (names_of names kind) k ≡ Some None = grind (arith, seam_get) in
     let put : names_of (add_name names kind k name) kind ≡ (before ++ Some name ∷ []) ++ no_names ns =
     grind (arith, put_there, set-append_seam, append_assoc) in
@@ -143,7 +145,8 @@ reread_names kind Good text rest (Some name ∷ ns) before k names free size nam
     reread_as (grind (arith, append_assoc, symbol_is))
     (reread_many (reread_symbol names kind k (omega arith) there name is_name.0 is_name.1 (behind ++ text))
     (reread_names kind Good text rest ns (before ++ Some name ∷ []) (k + 1) (add_name names kind k name) put
-    (omega (arith, size, length-append before (Some name ∷ []))) (All-tail IsName (Some name) ns named) (omega arith)
+    (omega (arith, size, length-append before (Some name ∷ []))) (All-tail IsSymbolName (Some name) ns named)
+    (omega arith)
     (subst (λ z. Rereads (many symbol_line z) Good text rest) (grind (arith, put_again, append_assoc)) next)))
 
 -- ## The end

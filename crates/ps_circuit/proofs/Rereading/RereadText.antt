@@ -15,7 +15,7 @@ use Rattle.ps_circuit.specs.declared.parts.Latch.{Latch}
 use Rattle.ps_circuit.specs.declared.parts.Gate.{Gate}
 use Rattle.ps_circuit.specs.Circuits.{CircuitData, definitions, readings, IsCircuit}
 use Rattle.ps_circuit.specs.Literals.{variable}
-use Rattle.ps_text.specs.Bytes.{stream_of, ends_line, closed, pieces_at}
+use Rattle.ps_text.specs.Bytes.{stream_of, ends_line, with_newline, pieces_at}
 use Rattle.ps_circuit.specs.Signs.{aig_causes}
 use Rattle.ps_circuit.specs.Texts.{Lines, no_lines, OfInput, OfLatch, OfOutput, NamesData, no_names, symbol_line}
 use Rattle.ps_circuit.specs.Texts.{DraftData, draft_of, symbols, body, circuit_text, IsDefined, ReadsCircuit, meaning}
@@ -177,7 +177,7 @@ reads_again {c} circuit i l o a = meaning d answers known (search (rules, circui
     is : IsDraftOf c d
     is = again.good
 
-    closes : closed (text_of c) ≡ text_of c
+    closes : with_newline (text_of c) ≡ text_of c
     closes = ap (λ (b : Bool). if b then text_of c else text_of c ++ 10 ∷ []) (text_ends c)
 
     answers : PartAnswers aig_causes circuit_text (stream_of (text_of c)) (Ok d)

@@ -6,7 +6,7 @@ use Rattle.ps_text.specs.Answers.{Stream}
 use Rattle.ps_text.specs.Readers.{Meets}
 use Rattle.ps_text.specs.Faults.{found_of}
 use Rattle.ps_text.specs.Bytes.{Seen, is_digit}
-use Rattle.ps_text.specs.Cursors.{place_of, Passes}
+use Rattle.ps_text.specs.Cursors.{stream_offset, Passes}
 use Rattle.ps_text.specs.Digits.{decimal_value}
 use Rattle.ps_circuit.specs.Signs.{Field, aig_causes}
 use Rattle.ps_circuit.specs.declared.number.Number.{Number}
@@ -27,8 +27,8 @@ pub record NumberIs (old new : Stream Seen) (n : Number) : Type 0 where
   pub passes : Passes is_digit old new run
   pub some : 0 < length run
   pub value : n.value ≡ saturated (decimal_value run)
-  pub offset : n.offset ≡ place_of old
+  pub offset : n.offset ≡ stream_offset old
 
 abbrev pub TellsNumber : Stream Seen → Result Number AigFault → Stream Seen → Type 0
 TellsNumber old (Ok n) new = NumberIs old new n
-TellsNumber old (Err e) new = Passes is_digit old new [] × (e ≡ Text Syntax (place_of old))
+TellsNumber old (Err e) new = Passes is_digit old new [] × (e ≡ Text Syntax (stream_offset old))

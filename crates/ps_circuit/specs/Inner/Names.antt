@@ -7,8 +7,8 @@ use Rattle.ps_circuit.specs.Causes.{AigFault}
 use Rattle.ps_text.specs.declared.faults.Fault.TheVariants.{Text}
 use Rattle.ps_circuit.specs.declared.fault.AigCause.TheVariants.{Syntax}
 use Rattle.ps_circuit.specs.declared.names.Names.{Names}
-use Rattle.ps_circuit.specs.Circuits.{IsName}
-use Rattle.ps_text.specs.Cursors.{next_byte, place_of}
+use Rattle.ps_circuit.specs.Circuits.{IsSymbolName}
+use Rattle.ps_text.specs.Cursors.{next_byte, stream_offset}
 use Rattle.ps_circuit.specs.Drafts.{name_bytes}
 use Rattle.ps_text.specs.Bytes.{Seen}
 use Rattle.ps_circuit.specs.Texts.{NamesData, comment}
@@ -26,9 +26,9 @@ pub record AreNames (n : Names) (inputs latches outputs : ℕ) : Type 0 where
   pub inputs_each : vec_len n.inputs ≡ inputs
   pub latches_each : vec_len n.latches ≡ latches
   pub outputs_each : vec_len n.outputs ≡ outputs
-  pub inputs_named : All IsName (map name_bytes n.inputs.items)
-  pub latches_named : All IsName (map name_bytes n.latches.items)
-  pub outputs_named : All IsName (map name_bytes n.outputs.items)
+  pub inputs_named : All IsSymbolName (map name_bytes n.inputs.items)
+  pub latches_named : All IsSymbolName (map name_bytes n.latches.items)
+  pub outputs_named : All IsSymbolName (map name_bytes n.outputs.items)
 
 -- no input, latch or output has a name
 pub record AreNone (names : NamesData) (inputs latches outputs : ℕ) : Type 0 where
@@ -44,4 +44,4 @@ is_kind (Some b) = (b == 105) || (b == 108) || (b == 111)
 -- either the parser skipped the rest of the text after the names, or there is a byte that does not begin a comment
 abbrev pub TellsComment : Stream Seen → Result (Unit {0}) AigFault → Stream Seen → Type 0
 TellsComment old (Ok u) new = Reads comment old tt new × (new.pieces ≡ [])
-TellsComment old (Err e) new = (b : ℕ) × (next_byte old ≡ Some b) × (b ≡ 99 → ⊥) × (e ≡ Text Syntax (place_of old))
+TellsComment old (Err e) new = (b : ℕ) × (next_byte old ≡ Some b) × (b ≡ 99 → ⊥) × (e ≡ Text Syntax (stream_offset old))

@@ -8,7 +8,7 @@ use Rattle.std.specs.Prelude.{◌≡◌, ◌≢◌, ℕ, ◌-◌, ◌<◌, ◌�
 use Rattle.std.specs.Prelude.{map, All, AllPairs, Contains, Option, None, Some, Result, Ok, Err}
 use Rattle.ps_text.specs.Answers.{Stream, Found}
 use Rattle.ps_text.specs.Parts.{PartAnswers, times}
-use Rattle.ps_text.specs.Readers.{Reads as ReadsPart, Stops, Goes}
+use Rattle.ps_text.specs.Readers.{Reads as ReadsPart, Stops, Parses}
 use Rattle.ps_components.specs.Orders.{IsFirstOnCycle}
 use Rattle.ps_circuit.specs.Circuits.{IsDefinition, IsDraft, ReadsGate}
 use Rattle.ps_circuit.specs.Literals.{variable}
@@ -104,7 +104,7 @@ pub record IsRow {C : Type 0} (line : C → Field C) : Type 0 where
   pub takes : (c d : C) (old new : Stream Seen) → ReadsPart (line c) old d new → length new.pieces < length old.pieces
   pub goes_on : (n : ℕ) (c d : C) (old mid new : Stream Seen) (r : Result C (Option (Found AigCause))) → 0 < n →
       ReadsPart (line c) old d mid →
-      Goes aig_causes (times (n - 1) line d) mid r new → Goes aig_causes (times n line c) old r new
+      Parses aig_causes (times (n - 1) line d) mid r new → Parses aig_causes (times n line c) old r new
   pub fails : (n : ℕ) (c : C) (old : Stream Seen) (o : Option (Found AigCause)) → 0 < n →
       Stops aig_causes (line c) old o → Stops aig_causes (times n line c) old o
 

@@ -1,6 +1,6 @@
 -- The invariants of the search for a trail.
 use Rattle.std.specs.Prelude.{◌≡◌, ℕ, ◌<◌, List, [], ◌∷◌, length, slice_get, Bool, true, false, Some, suc}
-use Rattle.ps_components.specs.Graphs.{Digraph, Link, IsWithin}
+use Rattle.ps_components.specs.Graphs.{Digraph, Link, LinksStayWithin}
 use Rattle.ps_components.specs.declared.trail.Step.{Step}
 
 -- each step except the first is reached by a link from an earlier step
@@ -15,7 +15,7 @@ AreApart steps =
 
 -- the vertices of the steps are those that were seen, and the targets of all steps before index `place` were seen
 pub record IsSpread (g : Digraph) (seen : List Bool) (steps : List Step) (place : ℕ) : Type 0 where
-  pub within : IsWithin g
+  pub within : LinksStayWithin g
   pub counted : length seen ≡ g.count
   pub back : ComeBack g steps
   pub apart : AreApart steps

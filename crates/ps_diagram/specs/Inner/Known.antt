@@ -2,7 +2,7 @@
 use Rattle.std.specs.Prelude.{◌≡◌, ◌≢◌, ℕ, Bool, ◌&&◌, nat_eq, Option, Some}
 use Rattle.ps_diagram.specs.declared.fault.OverlayError.{OverlayError}
 use Rattle.ps_diagram.specs.declared.fault.OverlayError.TheVariants.{Clash, OutOfMemory}
-use Rattle.ps_diagram.specs.Leaves.{joined, AreAlike}
+use Rattle.ps_diagram.specs.Leaves.{either_leaf, AreCompatible}
 use Rattle.ps_diagram.specs.Tree.{Tree, leaf_at}
 use Rattle.ps_diagram.specs.Table.{Table, IsNode, tree_of}
 
@@ -27,7 +27,7 @@ IsMapped rule t u = (f : ℕ → Bool) → leaf_at u f ≡ rule (leaf_at t f)
 -- the first two trees never have different leaves at one letter, and the third tree has the leaves of both
 abbrev pub IsOverlay : Tree → Tree → Tree → Type 0
 IsOverlay a b c =
-    (f : ℕ → Bool) → AreAlike (leaf_at a f) (leaf_at b f) × (leaf_at c f ≡ joined (leaf_at a f) (leaf_at b f))
+    (f : ℕ → Bool) → AreCompatible (leaf_at a f) (leaf_at b f) × (leaf_at c f ≡ either_leaf (leaf_at a f) (leaf_at b f))
 
 -- a clash reports two different leaves that the two trees have at one letter
 abbrev pub IsClash : Tree → Tree → OverlayError → Type 0

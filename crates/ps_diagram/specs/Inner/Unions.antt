@@ -1,13 +1,13 @@
 -- Truth diagrams, in which each leaf is 1, and their unions. (For private functions.)
 use Rattle.std.specs.Prelude.{ℕ, List, [], ◌∷◌, Option, None, map}
 use Rattle.ps_diagram.specs.Labels.{IsOneOrNone}
-use Rattle.ps_diagram.specs.Leaves.{joined}
+use Rattle.ps_diagram.specs.Leaves.{either_leaf}
 use Rattle.ps_diagram.specs.Table.{Table, IsNode, leaf_of}
 
 -- the first leaf in the list, if any
 abbrev pub first_leaf : List (Option ℕ) → Option ℕ
 first_leaf [] = None
-first_leaf (leaf ∷ leaves) = joined leaf (first_leaf leaves)
+first_leaf (leaf ∷ leaves) = either_leaf leaf (first_leaf leaves)
 
 -- the leaves of nodes at a letter
 abbrev pub leaves_of : Table → List ℕ → ℕ → List (Option ℕ)

@@ -16,20 +16,20 @@ use Rattle.ps_text.proofs.Combined.{both_within, wider_first, laws_forms, laws_o
 use Rattle.ps_text.proofs.Simple.{laws_give, laws_mapped, laws_then}
 use Rattle.ps_text.proofs.Barred.{Bar}
 use Rattle.ps_hoa.specs.Tokens.{Sign}
-use Rattle.ps_hoa.specs.Operands.{nesting_limit, is_and, mark}
+use Rattle.ps_hoa.specs.Operands.{nesting_limit, is_and, expect}
 use Rattle.ps_hoa.specs.Labels.{label}
 use Rattle.ps_hoa.specs.Files.{RowData}
 use Rattle.ps_hoa.specs.Header.{HeaderData, int_in, IsAlternating}
 use Rattle.ps_hoa.specs.Body.{IsBadState, IsBadSet, BadIn, sets_of, is_left_brace, is_right_brace, set_number, closing}
 use Rattle.ps_hoa.specs.Body.{sets, marks, is_left_bracket, is_right_bracket, body_scope, some_label, label_in_brackets}
 use Rattle.ps_hoa.specs.Body.{state_label, is_bracket, IsBadBracket, labelled_target, IsBadPlainTarget, plain_target}
-use Rattle.ps_hoa.specs.Body.{with_edge, labelled_edge, plain_edge, edge}
+use Rattle.ps_hoa.specs.Body.{row_with_edge, labelled_edge, plain_edge, edge}
 use Rattle.ps_hoa.specs.Inner.Ahead.{begins_edge}
 use Rattle.ps_hoa.specs.declared.fault.HoaCause.{HoaCause}
 use Rattle.ps_hoa.specs.declared.tokens.Kind.{Kind}
 use Rattle.ps_hoa.specs.declared.tokens.Kind.TheVariants.{Int, LeftBracket, RightBracket, LeftBrace, RightBrace}
 use Rattle.ps_hoa.proofs.Grammar.ConditionLaws.{is_int}
-use Rattle.ps_hoa.proofs.Grammar.KindSets.{union, within, within_both, apart, laws_sign, laws_value, laws_mark}
+use Rattle.ps_hoa.proofs.Grammar.KindSets.{union, within, within_both, apart, laws_sign, laws_value, laws_expect}
 use Rattle.ps_hoa.proofs.Grammar.OperandLaws.{Odd, Of, Known, Tight}
 use Rattle.ps_hoa.proofs.Grammar.InfixLaws.{is_start}
 use Rattle.ps_hoa.proofs.Grammar.LabelLaws.{laws_label}
@@ -46,7 +46,7 @@ laws_target_number Bad = laws_value is_int Int [] _ refl (λ _. refl) (λ t f b.
 -- ## Sets
 
 laws_closing : (ns : List ℕ) → Tight (closing ns) is_right_brace
-laws_closing ns = laws_mapped _ _ (laws_mark is_right_brace RightBrace refl (λ _. refl))
+laws_closing ns = laws_mapped _ _ (laws_expect is_right_brace RightBrace refl (λ _. refl))
 
 module _ (count : ℕ) where
   pub laws_set_number : (ns : List ℕ) → Tight (set_number count ns) is_int
@@ -62,11 +62,11 @@ module _ (count : ℕ) where
       Nothing ⊥
   laws_in_braces = laws_last laws_set_numbers laws_closing (apart is_int is_right_brace refl)
 
-  pub joint_braces : Joint (mark is_left_brace) (λ _. then_by (many (set_number count) []) closing)
-  joint_braces = joint_tight (laws_mark is_left_brace LeftBrace refl (λ _. refl)) (λ _. laws_in_braces)
+  pub joint_braces : Joint (expect is_left_brace) (λ _. then_by (many (set_number count) []) closing)
+  joint_braces = joint_tight (laws_expect is_left_brace LeftBrace refl (λ _. refl)) (λ _. laws_in_braces)
 
   pub laws_sets : Tight (sets count) is_left_brace
-  laws_sets = laws_tight (laws_mark is_left_brace LeftBrace refl (λ _. refl)) (λ _. laws_in_braces)
+  laws_sets = laws_tight (laws_expect is_left_brace LeftBrace refl (λ _. refl)) (λ _. laws_in_braces)
 
 pub laws_no_sets : Laws Odd (give {T = Sign} {V = List ℕ} {F = HoaCause} []) Nothing Nothing (Unit {0})
 laws_no_sets = laws_give Odd []
@@ -76,24 +76,24 @@ laws_marks h = laws_option (laws_sets (sets_of h)) []
 
 -- ## Labels between brackets
 
-laws_after_label : (e : Expression) → Tight (mapped (some_label e) (mark is_right_bracket)) is_right_bracket
-laws_after_label e = laws_mapped _ _ (laws_mark is_right_bracket RightBracket refl (λ _. refl))
+laws_after_label : (e : Expression) → Tight (mapped (some_label e) (expect is_right_bracket)) is_right_bracket
+laws_after_label e = laws_mapped _ _ (laws_expect is_right_bracket RightBracket refl (λ _. refl))
 
 pub laws_no_label : Laws Odd (give {T = Sign} {V = Option Expression} {F = HoaCause} None) Nothing Nothing (Unit {0})
 laws_no_label = laws_give Odd None
 
 module _ (h : HeaderData) where
-  pub joint_label : Joint (label (body_scope h) nesting_limit) (λ e. mapped (some_label e) (mark is_right_bracket))
+  pub joint_label : Joint (label (body_scope h) nesting_limit) (λ e. mapped (some_label e) (expect is_right_bracket))
   joint_label = joint (laws_label (body_scope h) nesting_limit) laws_after_label (grind (arith, apart))
 
   pub laws_label_in_brackets : Tight (label_in_brackets h) is_start
   laws_label_in_brackets = laws_next (laws_label (body_scope h) nesting_limit) laws_after_label (grind (arith, apart))
 
-  pub joint_bracket : Joint (mark is_left_bracket) (λ _. label_in_brackets h)
-  joint_bracket = joint_tight (laws_mark is_left_bracket LeftBracket refl (λ _. refl)) (λ _. laws_label_in_brackets)
+  pub joint_bracket : Joint (expect is_left_bracket) (λ _. label_in_brackets h)
+  joint_bracket = joint_tight (laws_expect is_left_bracket LeftBracket refl (λ _. refl)) (λ _. laws_label_in_brackets)
 
-  pub laws_bracketed : Tight (then_by (mark is_left_bracket) (λ _. label_in_brackets h)) is_left_bracket
-  laws_bracketed = laws_tight (laws_mark is_left_bracket LeftBracket refl (λ _. refl)) (λ _. laws_label_in_brackets)
+  pub laws_bracketed : Tight (then_by (expect is_left_bracket) (λ _. label_in_brackets h)) is_left_bracket
+  laws_bracketed = laws_tight (laws_expect is_left_bracket LeftBracket refl (λ _. refl)) (λ _. laws_label_in_brackets)
 
   pub laws_state_label : Known (state_label h) is_left_bracket is_left_bracket (Unit {0})
   laws_state_label = laws_option laws_bracketed None
@@ -109,9 +109,9 @@ module _ (h : HeaderData) (row : RowData) (label : Option Expression) (Bad : ℕ
   target = barred (one int_in (BadIn Bad)) IsAlternating
 
   abbrev from_target : Part Sign RowData HoaCause
-  from_target = then_by target (λ n. mapped (with_edge row label n) (marks h))
+  from_target = then_by target (λ n. mapped (row_with_edge row label n) (marks h))
 
-  joint_target_marks : Joint target (λ n. mapped (with_edge row label n) (marks h))
+  joint_target_marks : Joint target (λ n. mapped (row_with_edge row label n) (marks h))
   joint_target_marks = joint (laws_alternating (laws_target_number Bad)) (λ n. laws_mapped _ _ (laws_marks h))
       (apart is_and is_left_brace refl)
 
@@ -125,7 +125,7 @@ module _ (h : HeaderData) (before : ℕ) (row : RowData) where
   from_edge_label = then_by (label_in_brackets h) (λ label. from_target h row label (IsBadState h.states))
 
   pub joint_edge_marks : (label : Option Expression) → Joint (labelled_target h)
-      (λ n. mapped (with_edge row label n) (marks h))
+      (λ n. mapped (row_with_edge row label n) (marks h))
   joint_edge_marks label = joint_target_marks h row label (IsBadState h.states)
 
   pub joint_edge_target : Joint (label_in_brackets h) (λ label. from_target h row label (IsBadState h.states))
@@ -145,7 +145,7 @@ module _ (h : HeaderData) (before : ℕ) (row : RowData) where
   pub laws_labelled_edge : Known (labelled_edge h before row) is_left_bracket lengthens_edge ⊥
   laws_labelled_edge = laws_tight laws_edge_bracket (λ _. laws_from_edge_label)
 
-  pub joint_plain_marks : Joint (plain_target h before row) (λ n. mapped (with_edge row None n) (marks h))
+  pub joint_plain_marks : Joint (plain_target h before row) (λ n. mapped (row_with_edge row None n) (marks h))
   joint_plain_marks = joint_target_marks h row None (IsBadPlainTarget h.states before row)
 
   pub laws_plain_edge : Known (plain_edge h before row) is_int lengthens_edge ⊥

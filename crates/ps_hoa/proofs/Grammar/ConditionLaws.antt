@@ -8,8 +8,9 @@ use Rattle.ps_text.proofs.Combined.{both_within, wider_first, laws_first, laws_f
 use Rattle.ps_text.proofs.Simple.{Taken, none_is_some, laws_mapped}
 use Rattle.ps_hoa.specs.Inner.Signs.{is_single, IsLeaf}
 use Rattle.ps_hoa.specs.Tokens.{Sign}
-use Rattle.ps_hoa.specs.Operands.{is_not, is_left, mark}
-use Rattle.ps_hoa.specs.Conditions.{Condition, constant_in, often_in, IsBadSet, set, any_set, closed_set, often_or_not}
+use Rattle.ps_hoa.specs.Operands.{is_not, is_left, expect}
+use Rattle.ps_hoa.specs.Conditions.{Condition, constant_in, often_in, IsTooLargeSet, set, any_set, closed_set}
+use Rattle.ps_hoa.specs.Conditions.{often_or_not}
 use Rattle.ps_hoa.specs.Conditions.{visit, atom, together, grammar, operand, condition}
 use Rattle.ps_hoa.specs.declared.fault.HoaCause.{HoaCause}
 use Rattle.ps_hoa.specs.declared.tokens.Kind.{Kind}
@@ -33,7 +34,7 @@ word_constant = taken is_word constant_in (λ _. refl)
 word_often : Within (Taken often_in) (Of is_word)
 word_often = taken is_word often_in (λ _. refl)
 
-int_bad : (kind : Kind) (text : List ℕ) (f : HoaCause) → IsBadSet kind text f → is_int kind ≡ true
+int_bad : (kind : Kind) (text : List ℕ) (f : HoaCause) → IsTooLargeSet kind text f → is_int kind ≡ true
 int_bad kind text f h = grind arith
 
 -- ## Sets
@@ -44,7 +45,7 @@ laws_set complemented = laws_sign is_int Int [] _ refl (λ _. refl) (λ t h. int
 pub not_int : Apart (Of is_not) (Of is_int)
 not_int = apart is_not is_int refl
 
-pub laws_complement : Tight (then_by (mark is_not) (λ _. set true)) is_not
+pub laws_complement : Tight (then_by (expect is_not) (λ _. set true)) is_not
 laws_complement = laws_behind is_not laws_not (laws_set true)
 
 pub laws_any_set : Laws Odd any_set (Or (Of is_not) (Of is_int)) Nothing ⊥
@@ -64,7 +65,7 @@ module _ (often : Bool) where
   joint_closed_set = joint_tight laws_any_set (λ s. laws_mapped _ _ laws_right)
 
 abbrev pub behind_often : Bool → Part Sign Condition HoaCause
-behind_often often = then_by (mark is_left) (λ _. then_by any_set (closed_set often))
+behind_often often = then_by (expect is_left) (λ _. then_by any_set (closed_set often))
 
 pub laws_behind_often : (often : Bool) → Tight (behind_often often) is_left
 laws_behind_often often = laws_behind is_left laws_left (laws_closed_set often)

@@ -1,6 +1,6 @@
 -- The parts of a header that consist of a single token.
 --     reads_token      if a function returns the result for the next token, it has parsed the part of this token
---     signs_mark, .., signs_body      some token is taken, and the end of the text is neither taken nor an error
+--     signs_expect, .., signs_body      some token is taken, and the end of the text is neither taken nor an error
 --     takes_refused, takes_bad      the result for a token that is not allowed here, and for a token with an error
 use Rattle.std.proofs.Common.{◌≡◌, ℕ, ◌≤◌, Bool, cond, List, [], codes, Option, None, Some, Result, Err}
 use Rattle.std.proofs.Common.{refl, sym, ap, inl, inr, arith}
@@ -13,7 +13,7 @@ use Rattle.ps_hoa.specs.ItemNames.{item_named}
 use Rattle.ps_hoa.specs.Header.{HeaderData, item_in, IsBadItem, int_in, IsAbove, string_in, IsBadName}
 use Rattle.ps_hoa.specs.Header.{IsBadAlias, IsBadBody}
 use Rattle.ps_hoa.specs.Inner.Items.{alias_name_in, read_over_in}
-use Rattle.ps_hoa.specs.Operands.{mark_in, number_limit}
+use Rattle.ps_hoa.specs.Operands.{expect_in, number_limit}
 use Rattle.ps_hoa.specs.Inner.Reads.{Takes}
 use Rattle.ps_hoa.specs.Scan.{next_of, behind_next}
 use Rattle.ps_hoa.specs.Inner.Signs.{IsTestOf}
@@ -32,9 +32,9 @@ pub reads_token : {V X : Type 0} (view : X → V) {take : Sign → Option V} {Ba
 reads_token view {take} {Bad} o piece old new r t e n = grind (arith, reads_one)
 
 -- a token of another kind is not taken
-pub mark_none : (test : Kind → Bool) (kind : Kind) (sign : Sign) → IsTestOf test kind → (sign.kind ≡ kind → ⊥) →
-    mark_in test sign ≡ None
-mark_none test kind sign is differs = grind arith
+pub expect_none : (test : Kind → Bool) (kind : Kind) (sign : Sign) → IsTestOf test kind → (sign.kind ≡ kind → ⊥) →
+    expect_in test sign ≡ None
+expect_none test kind sign is differs = grind arith
 
 -- some token is taken, given by its kind, its text and its value
 signs : {V : Type 0} {take : Sign → Option V} {Bad : Sign → HoaCause → Type 0} (kind : Kind) (text : List ℕ) (v : V) →
@@ -43,10 +43,10 @@ signs : {V : Type 0} {take : Sign → Option V} {Bad : Sign → HoaCause → Typ
 signs kind text v e n g = record { sign = record { kind = kind; text = text }; value = v; taken = e; end = n; good = g }
 
 -- the end of the text does not pass the test for another kind
-pub signs_mark : (test : Kind → Bool) (kind : Kind) → IsTestOf test kind → (kind ≡ Finish → ⊥) →
-    IsOfSigns (mark_in test) NoBad
-signs_mark test kind is differs = signs kind [] tt (ap (λ (b : Bool). cond b (Some tt) None) is.0)
-    (mark_none test kind (record { kind = Finish; text = [] }) is (λ e. differs (sym e))) (λ f b. b)
+pub signs_expect : (test : Kind → Bool) (kind : Kind) → IsTestOf test kind → (kind ≡ Finish → ⊥) →
+    IsOfSigns (expect_in test) NoBad
+signs_expect test kind is differs = signs kind [] tt (ap (λ (b : Bool). cond b (Some tt) None) is.0)
+    (expect_none test kind (record { kind = Finish; text = [] }) is (λ e. differs (sym e))) (λ f b. b)
 
 pub signs_item : (h : HeaderData) → IsOfSigns item_in (IsBadItem h)
 unfolding item_named

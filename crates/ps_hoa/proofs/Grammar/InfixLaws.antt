@@ -14,14 +14,14 @@ use Rattle.ps_text.proofs.Combined.{both_within, wider_first, wider_more, laws_f
 use Rattle.ps_text.proofs.Simple.{laws_give, laws_mapped, laws_then}
 use Rattle.ps_hoa.specs.Inner.Signs.{is_single, IsLeaf}
 use Rattle.ps_hoa.specs.Tokens.{Sign}
-use Rattle.ps_hoa.specs.Operands.{is_not, is_and, is_or, is_left, is_right, mark, inner, rows, InfixGrammar, negation}
+use Rattle.ps_hoa.specs.Operands.{is_not, is_and, is_or, is_left, is_right, expect, inner, rows, InfixGrammar, negation}
 use Rattle.ps_hoa.specs.Operands.{holds, IsTooDeep, bar, holding, operand}
 use Rattle.ps_hoa.specs.declared.infix.Connective.{Connective}
 use Rattle.ps_hoa.specs.declared.infix.Connective.TheVariants as connectives
 use Rattle.ps_hoa.specs.declared.fault.HoaCause.{HoaCause}
 use Rattle.ps_hoa.specs.declared.tokens.Kind.{Kind}
 use Rattle.ps_hoa.specs.declared.tokens.Kind.TheVariants.{Not, And, Or as OrSign, LeftParen, RightParen}
-use Rattle.ps_hoa.proofs.Grammar.KindSets.{union, within, within_both, apart, plain, laws_mark}
+use Rattle.ps_hoa.proofs.Grammar.KindSets.{union, within, within_both, apart, plain, laws_expect}
 use Rattle.ps_hoa.proofs.Grammar.OperandLaws.{Odd, Of, nothing_apart, laws_behind, laws_held, laws_row, Known, Tight}
 
 -- the tokens that begin an operand which contains another operand, the tokens that begin any operand, and the tokens
@@ -35,20 +35,21 @@ is_start = union is_single nests
 abbrev pub is_connective : Kind → Bool
 is_connective = union is_and is_or
 
-pub laws_not : Tight (mark is_not) is_not
-laws_not = laws_mark is_not Not refl (λ _. refl)
+pub laws_not : Tight (expect is_not) is_not
+laws_not = laws_expect is_not Not refl (λ _. refl)
 
-pub laws_and : Tight (mark is_and) is_and
-laws_and = laws_mark is_and And refl (λ _. refl)
+pub laws_and : Tight (expect is_and) is_and
+laws_and = laws_expect is_and And refl (λ _. refl)
 
-pub laws_or : Tight (mark is_or) is_or
-laws_or = laws_mark is_or OrSign refl (λ _. refl)
+pub laws_or : Tight (expect is_or) is_or
+laws_or = laws_expect is_or OrSign refl (λ _. refl)
 
-pub laws_left : Tight (mark is_left) is_left
-laws_left = laws_mark is_left LeftParen refl (λ _. refl)
+-- the laws of a left parenthesis
+pub laws_left : Tight (expect is_left) is_left
+laws_left = laws_expect is_left LeftParen refl (λ _. refl)
 
-pub laws_right : Tight (mark is_right) is_right
-laws_right = laws_mark is_right RightParen refl (λ _. refl)
+pub laws_right : Tight (expect is_right) is_right
+laws_right = laws_expect is_right RightParen refl (λ _. refl)
 
 pub not_left : Apart (Of is_not) (Of is_left)
 not_left = apart is_not is_left refl

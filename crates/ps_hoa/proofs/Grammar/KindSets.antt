@@ -3,7 +3,7 @@
 --     within, within_both, apart      a set, or two sets, are within another set; two sets have no common kind
 --     test_of      a set has exactly one kind
 --     plain      no kind of the set is an error by itself
---     laws_sign, laws_value, laws_mark      the laws of a token whose kind is in a set: any token; a token that can
+--     laws_sign, laws_value, laws_expect      the laws of a token whose kind is in a set: any token; a token that can
 --               have an error only if it has a value; a token without a value
 --     laws_behind_option      a part that follows a part which may be empty
 use Rattle.std.proofs.Common.{rules, ◌≡◌, ℕ, zero, suc, ◌<◌, Bool, true, not, cond, List, [], ◌∷◌, length, get_or}
@@ -17,7 +17,7 @@ use Rattle.ps_text.proofs.Combined.{both_within, laws_first}
 use Rattle.ps_text.proofs.Simple.{Taken, BadSign, none_is_some, laws_then}
 use Rattle.ps_hoa.specs.Causes.{own_cause}
 use Rattle.ps_hoa.specs.Inner.Signs.{IsTestOf}
-use Rattle.ps_hoa.specs.Operands.{mark_in, mark}
+use Rattle.ps_hoa.specs.Operands.{expect_in, expect}
 use Rattle.ps_hoa.specs.Tokens.{Sign}
 use Rattle.ps_hoa.specs.contracts.tokens.Kind.{the_type}
 use Rattle.ps_hoa.specs.declared.fault.HoaCause.{HoaCause}
@@ -127,5 +127,5 @@ pub laws_behind_option : {A V : Type 0} {P : Part Sign A HoaCause} {Q : A → Pa
 laws_behind_option p q m l r e f = weaker (laws_then l r (apart p q e)) (grind (arith, both_within, or_left, or_right))
     (both_within (λ t h. h) (λ t h. within p m f t h.1)) (λ n. n.1)
 
-pub laws_mark : (p : Kind → Bool) (kind : Kind) → p kind ≡ true → AreSigns p (mark_in p) → Tight (mark p) p
-laws_mark p kind e are = laws_sign p kind [] tt (ap (λ (b : Bool). cond b (Some tt) None) e) are (λ t h. absurd h.1)
+pub laws_expect : (p : Kind → Bool) (kind : Kind) → p kind ≡ true → AreSigns p (expect_in p) → Tight (expect p) p
+laws_expect p kind e are = laws_sign p kind [] tt (ap (λ (b : Bool). cond b (Some tt) None) e) are (λ t h. absurd h.1)

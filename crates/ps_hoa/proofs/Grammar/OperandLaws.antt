@@ -2,7 +2,7 @@
 -- parses a row: its invariant, and each way in which the function can return.
 --     Known, Tight      the laws of a part, stated with sets of kinds
 --     laws_behind, laws_held, laws_row      the laws
---     joint_mark, joint_closed, joint_operands      what follows a token, a `)` after a part, further operands after
+--     joint_expect, joint_closed, joint_operands      what follows a token, a `)` after a part, further operands after
 --               the first operand
 --     row_fails, row_alone, row_begins, row_goes_on, row_stops, row_ends      the lemmas for the loop
 use Rattle.std.proofs.Common.{arith, ◌≡◌, Bool, true, false, cond, List, Option, None, Some, inl}
@@ -22,7 +22,8 @@ use Rattle.ps_text.proofs.Branches.{many_ends, many_fails, carries_many}
 use Rattle.ps_text.proofs.Whole.{Own}
 use Rattle.ps_hoa.specs.Tokens.{Sign}
 use Rattle.ps_hoa.specs.Causes.{hoa_causes}
-use Rattle.ps_hoa.specs.Operands.{is_right, mark_in, mark, closed, single, with_last, joined, further, operands, row}
+use Rattle.ps_hoa.specs.Operands.{is_right, expect_in, expect, closed, single, with_last, joined, further, operands}
+use Rattle.ps_hoa.specs.Operands.{row}
 use Rattle.ps_hoa.specs.declared.fault.HoaCause.{HoaCause}
 use Rattle.ps_hoa.specs.declared.tokens.Kind.{Kind}
 
@@ -41,29 +42,31 @@ Known part first more null = Laws Odd part (Of first) (Of more) null
 abbrev pub Tight : {V : Type 0} → Part Sign V HoaCause → (Kind → Bool) → Type 0
 Tight part first = Laws Odd part (Of first) Nothing ⊥
 
+-- false is not true
 pub false_true : false ≡ true → ⊥
 false_true e = let x : false ≡ true = e in cc
 
 pub was_true : (b : Bool) (v : Unit {0}) → cond b (Some tt) None ≡ Some v → b ≡ true
 was_true b v e = grind (arith, none_is_some)
 
-pub taken_mark : (test : Kind → Bool) (sign : Sign) (v : Unit {0}) → mark_in test sign ≡ Some v → Of test sign
-taken_mark test sign v e = was_true (test sign.kind) v e
+pub taken_expect : (test : Kind → Bool) (sign : Sign) (v : Unit {0}) → expect_in test sign ≡ Some v → Of test sign
+taken_expect test sign v e = was_true (test sign.kind) v e
 
+-- no sign is in both sets if one of them is empty
 pub nothing_apart : (A : Sign → Type 0) → Apart Nothing A
 nothing_apart A t h k = h
 
 -- a token followed by a part, and a part followed by `)`
 module _ {V : Type 0} (test : Kind → Bool) {P : Part Sign V HoaCause} {First More : Sign → Type 0}
-    (m : Tight (mark test) test) where
-  pub joint_mark : {Null : Type 0} → Laws Odd P First More Null → Joint (mark test) (λ _. P)
-  joint_mark l = joint_tight m (λ _. l)
+    (m : Tight (expect test) test) where
+  pub joint_expect : {Null : Type 0} → Laws Odd P First More Null → Joint (expect test) (λ _. P)
+  joint_expect l = joint_tight m (λ _. l)
 
-  pub laws_behind : Laws Odd P First More ⊥ → Laws Odd (then_by (mark test) (λ _. P)) (Of test) More ⊥
+  pub laws_behind : Laws Odd P First More ⊥ → Laws Odd (then_by (expect test) (λ _. P)) (Of test) More ⊥
   laws_behind l = laws_tight m (λ _. l)
 
 module _ {V : Type 0} {P : Part Sign V HoaCause} {First More : Sign → Type 0}
-    (r : Tight (mark is_right) is_right) where
+    (r : Tight (expect is_right) is_right) where
   pub joint_closed : {Null : Type 0} → Laws Odd P First More Null → Apart More (Of is_right) → Joint P (λ v. closed v)
   joint_closed l a = joint l (λ v. laws_mapped _ _ r) a
 
@@ -72,7 +75,7 @@ module _ {V : Type 0} {P : Part Sign V HoaCause} {First More : Sign → Type 0}
   laws_held l a = laws_next l (λ v. laws_mapped _ _ r) a
 
 module _ {V : Type 0} (sign : Kind → Bool) (operand : Part Sign V HoaCause) {First More : Sign → Type 0}
-    (m : Tight (mark sign) sign) (l : Laws Odd operand First More ⊥) (apart : Apart More (Of sign)) where
+    (m : Tight (expect sign) sign) (l : Laws Odd operand First More ⊥) (apart : Apart More (Of sign)) where
   abbrev item : List V → Part Sign (List V) HoaCause
   item vs = further sign operand vs
 
@@ -105,22 +108,22 @@ module _ {V : Type 0} (sign : Kind → Bool) (operand : Part Sign V HoaCause) {F
   row_begins {old = old} r = carries_then hoa_causes joint_operands
       (carries_start hoa_causes (operands sign operand) old) (reads_mapped single r)
 
-  joint_item : (vs : List V) → Joint (mark sign) (λ _. mapped (with_last vs) operand)
-  joint_item vs = joint_mark sign m (laws_mapped _ _ l)
+  joint_item : (vs : List V) → Joint (expect sign) (λ _. mapped (with_last vs) operand)
+  joint_item vs = joint_expect sign m (laws_mapped _ _ l)
 
   pub row_goes_on : {old now mid new : Stream Sign} {vs : List V} {v : V} → InRow old vs now →
-      Reads (mark sign) now tt mid → Reads operand mid v new → InRow old (with_last vs v) new
+      Reads (expect sign) now tt mid → Reads operand mid v new → InRow old (with_last vs v) new
   row_goes_on {vs = vs} k r n =
       carries_many item laws_item apart hoa_causes k (reads_then (joint_item vs) r (reads_mapped (with_last vs) n))
 
   -- a further operand fails
   pub row_stops : (join : List V → V) {old now mid : Stream Sign} {vs : List V} (o : Option (Found HoaCause)) →
-      InRow old vs now → Reads (mark sign) now tt mid → Stops hoa_causes operand mid o →
+      InRow old vs now → Reads (expect sign) now tt mid → Stops hoa_causes operand mid o →
       Stops hoa_causes (row sign join operand) old o
   row_stops join {old} {now} {mid} {vs} o k r s = stops_mapped hoa_causes (joined join) (operands sign operand) old o
       (carries_stops hoa_causes (operands sign operand) (many item vs) old now o k (many_fails item laws_item apart
-      hoa_causes vs now o (enters_then (mark sign) (λ _. mapped (with_last vs) operand) (joint_item vs) (next_of now)
-      (enters_read (mark sign) (signs now.pieces) (signs mid.pieces) tt (λ w h. m.null w h) r.1))
+      hoa_causes vs now o (enters_then (expect sign) (λ _. mapped (with_last vs) operand) (joint_item vs) (next_of now)
+      (enters_read (expect sign) (signs now.pieces) (signs mid.pieces) tt (λ w h. m.null w h) r.1))
       (stops_behind hoa_causes (joint_item vs) r o (stops_mapped hoa_causes (with_last vs) operand mid o s))))
 
   -- no further operand follows

@@ -13,7 +13,7 @@ use Rattle.ps_text.proofs.Joined.{joint}
 use Rattle.ps_text.proofs.Laws.{Laws, Joint, Nothing, Or, Apart}
 use Rattle.ps_text.proofs.Repeated.{laws_many}
 use Rattle.ps_text.proofs.Simple.{Taken}
-use Rattle.ps_hoa.specs.Header.{HeaderData, no_items, item_in, IsBadItem, item_name, behind_name, item, body_mark}
+use Rattle.ps_hoa.specs.Header.{HeaderData, no_items, item_in, IsBadItem, item_name, behind_name, item, body_token}
 use Rattle.ps_hoa.specs.Header.{header}
 use Rattle.ps_hoa.specs.Scan.{next_of}
 use Rattle.ps_hoa.specs.Tokens.{Sign}
@@ -23,7 +23,7 @@ use Rattle.ps_hoa.proofs.Grammar.OperandLaws.{Odd, Of, Tight, false_true}
 use Rattle.ps_hoa.proofs.Grammar.SignLaws.{header_apart, item_header, item_there, laws_item_name, is_body}
 use Rattle.ps_hoa.proofs.ItemForms.{is_argument, ItemMore, form}
 use Rattle.ps_hoa.proofs.Reading.Exits.{Loop}
-use Rattle.ps_hoa.proofs.Reading.MarkReading.{sign_begins}
+use Rattle.ps_hoa.proofs.Reading.ExpectReading.{sign_begins}
 use Rattle.ps_hoa.proofs.Reading.NextSign.{next_same}
 
 -- ## Any item
@@ -63,8 +63,8 @@ module _ (s : Stream Sign) where
 laws_items : (h : HeaderData) → Laws Odd (many item h) ItemFirst (Or ItemMore ItemFirst) (Unit {0})
 laws_items h = laws_many item laws_item item_apart h
 
-laws_body_mark : (h : HeaderData) → Tight (body_mark h) is_body
-laws_body_mark h = laws_sign is_body Body [] h refl (λ _. refl) (λ t k. ap is_body k.1.0)
+laws_body_token : (h : HeaderData) → Tight (body_token h) is_body
+laws_body_token h = laws_sign is_body Body [] h refl (λ _. refl) (λ t k. ap is_body k.1.0)
 
 item_body : Apart (Or ItemMore ItemFirst) (Of is_body)
 item_body = both_within (apart is_argument is_body refl) (λ t h. header_apart is_body refl t (item_header t h))
@@ -73,7 +73,7 @@ abbrev pub HeaderFirst : Sign → Type 0
 HeaderFirst = Or ItemFirst (Of is_body)
 
 pub laws_header : Laws Odd header HeaderFirst Nothing ⊥
-laws_header = laws_last (laws_items no_items) laws_body_mark item_body
+laws_header = laws_last (laws_items no_items) laws_body_token item_body
 
-pub joint_header : Joint (many item no_items) body_mark
-joint_header = joint (laws_items no_items) laws_body_mark item_body
+pub joint_header : Joint (many item no_items) body_token
+joint_header = joint (laws_items no_items) laws_body_token item_body

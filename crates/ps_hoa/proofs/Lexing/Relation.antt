@@ -9,9 +9,10 @@ use Rattle.std.proofs.lemmas.List.{take-append-drop, length-take-le, drop-drop}
 use Rattle.std.proofs.Math.Seq.{take-append_seam, drop-append_seam}
 use Rattle.ps_text.specs.Answers.{Piece}
 use Rattle.ps_hoa.specs.Bytes.{class_of}
-use Rattle.ps_hoa.specs.Tokens.{Sign, AreTokens, IsBlankPart, IsBlankRun, no_blank, blank, Stands, IsToken, IsNext}
+use Rattle.ps_hoa.specs.Tokens.{Sign, AreTokens, IsBlankPart, IsBlankRun, no_blank, blank, IsLongestToken, IsToken}
+use Rattle.ps_hoa.specs.Tokens.{IsNext}
 use Rattle.ps_hoa.specs.Spans.{AreBlanks}
-use Rattle.ps_hoa.specs.Scan.{IsNoBlank, comment_len, step_of, comment_by, lex}
+use Rattle.ps_hoa.specs.Scan.{IsNoBlank, comment_len, scan_step, comment_by, lex}
 use Rattle.ps_hoa.specs.declared.tokens.Kind.{Kind}
 use Rattle.ps_hoa.specs.declared.tokens.Kind.TheVariants.{OpenComment, Odd}
 use Rattle.ps_hoa.specs.declared.tokens.Class.TheVariants.{Blank, Slash}
@@ -29,8 +30,8 @@ whole n bytes = sym (take-append-drop n bytes)
 
 -- the step at a token
 token_is : (kind : Kind) (text rest : List ℕ) → IsToken kind text rest →
-    (step_of (text ++ rest) ≡ Found kind (length text)) × (0 < length text)
-token_is Odd text rest i = rw i.text_is (go (step_of (i.byte ∷ rest)) (sound i.byte rest), omega arith)
+    (scan_step (text ++ rest) ≡ Found kind (length text)) × (0 < length text)
+token_is Odd text rest i = rw i.text_is (go (scan_step (i.byte ∷ rest)) (sound i.byte rest), omega arith)
   where
     bytes : List ℕ
     bytes = i.byte ∷ rest
@@ -39,7 +40,7 @@ token_is Odd text rest i = rw i.text_is (go (step_of (i.byte ∷ rest)) (sound i
     no_comment n more e = i.no_comment (more ++ drop n bytes) (ap (λ (xs : List ℕ). xs ++ rest) i.text_is
         ∙ whole n bytes ∙ ap (λ (xs : List ℕ). xs ++ drop n bytes) e)
 
-    no_token : (kind : Kind) (n : ℕ) → Stands kind (take n bytes) (drop n bytes) → ⊥
+    no_token : (kind : Kind) (n : ℕ) → IsLongestToken kind (take n bytes) (drop n bytes) → ⊥
     no_token kind n stands =
         i.no_token kind (take n bytes) (drop n bytes) (ap (λ (xs : List ℕ). xs ++ rest) i.text_is ∙ whole n bytes)
         stands
@@ -65,7 +66,7 @@ token_is OpenComment text rest i =
         (take n rest, refl, (comment_sound (length rest) rest 0 n (omega arith) is).0))
 token_is kind text rest stands = stand_step kind text rest stands
 
-pub part_is : (part more : List ℕ) → IsBlankPart part → (step_of (part ++ more) ≡ Skip (length part)) ×
+pub part_is : (part more : List ℕ) → IsBlankPart part → (scan_step (part ++ more) ≡ Skip (length part)) ×
     (0 < length part)
 part_is part more (inl b) = rw b.1 (by_class b.0 more Blank b.2, omega arith)
 part_is part more (inr c) = grind (arith, by_class 47 (42 ∷ c.0 ++ more) Slash class_47, comment_found more c.2)
@@ -119,7 +120,7 @@ pub some_tokens : (fuel at : ℕ) (bytes : List ℕ) → length bytes ≤ fuel �
 some_tokens fuel at [] short = (let none : List (Piece Sign) = [] in none, no_blank)
 some_tokens zero at (b ∷ bs) short = absurd (let s : suc (length bs) ≤ 0 = short in omega arith)
 some_tokens (suc fuel) at (b ∷ bs) short =
-    go (λ at' n h. some_tokens fuel at' (drop n (b ∷ bs)) h) (step_of (b ∷ bs)) (sound b bs)
+    go (λ at' n h. some_tokens fuel at' (drop n (b ∷ bs)) h) (scan_step (b ∷ bs)) (sound b bs)
   where
     less : (n : ℕ) → 0 < n → length (drop n (b ∷ bs)) ≤ fuel
     less n some = let s : suc (length bs) ≤ suc fuel = short in rw length-drop (omega arith)
@@ -147,7 +148,7 @@ some_tokens (suc fuel) at (b ∷ bs) short =
 
 -- ## Blanks between two offsets
 
-pub skip_sound : (bytes : List ℕ) (n : ℕ) → step_of bytes ≡ Skip n → Sound bytes (Skip n)
+pub skip_sound : (bytes : List ℕ) (n : ℕ) → scan_step bytes ≡ Skip n → Sound bytes (Skip n)
 skip_sound [] n is = absurd (nothing_begins n is)
 skip_sound (b ∷ bs) n is = subst (λ (s : Step). Sound (b ∷ bs) s) is (sound b bs)
 
@@ -159,7 +160,7 @@ run_append part (blank {part = first} {rest} here run all split) is = blank here
 pub no_blanks : (source : List ℕ) (from : ℕ) → AreBlanks source from from
 no_blanks source from = record { blanks = []; run = no_blank; split = refl; end = grind arith }
 
-pub more_blanks : (source : List ℕ) (from at n : ℕ) → AreBlanks source from at → step_of (drop at source) ≡ Skip n →
+pub more_blanks : (source : List ℕ) (from at n : ℕ) → AreBlanks source from at → scan_step (drop at source) ≡ Skip n →
     AreBlanks source from (at + n)
 more_blanks source from at n before is =
     let bytes = drop at source in
@@ -178,6 +179,6 @@ more_blanks source from at n before is =
     }
 
 -- no blank begins at a token or at the end of the text
-pub no_blank_begins : (bytes : List ℕ) → IsNoBlank (step_of bytes) → (part more : List ℕ) → bytes ≡ part ++ more →
+pub no_blank_begins : (bytes : List ℕ) → IsNoBlank (scan_step bytes) → (part more : List ℕ) → bytes ≡ part ++ more →
     IsBlankPart part → ⊥
-no_blank_begins bytes h part more e is = subst (λ (s : Step). IsNoBlank s) (ap step_of e ∙ (part_is part more is).0) h
+no_blank_begins bytes h part more e is = subst (λ (s : Step). IsNoBlank s) (ap scan_step e ∙ (part_is part more is).0) h

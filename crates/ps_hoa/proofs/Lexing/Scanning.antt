@@ -10,7 +10,7 @@ use Rattle.ps_hoa.specs.declared.tokens.Kind.{Kind}
 use Rattle.ps_hoa.specs.declared.tokens.Step.{Step}
 use Rattle.ps_hoa.specs.declared.tokens.Step.TheVariants.{Skip, Found}
 use Rattle.ps_hoa.proofs.Lexing.TokenSteps.{differ}
-use Rattle.ps_hoa.specs.Scan.{plus, one_more, quoted_len, comment_len, head_or_zero, lex, lex_behind, step_of}
+use Rattle.ps_hoa.specs.Scan.{plus, one_more, quoted_len, comment_len, head_or_zero, lex, lex_behind, scan_step}
 
 pub plus-one_more : (k : ℕ) (o : Option ℕ) → plus k (one_more o) ≡ plus (k + 1) o
 plus-one_more k o = search rules
@@ -112,12 +112,12 @@ lex_by b bs at s = elim s [
       (n - 1) (at + 1)
 ]
 
-lex_is : (b : ℕ) (bs : List ℕ) (at : ℕ) → lex at (b ∷ bs) ≡ lex_by b bs at (step_of (b ∷ bs))
+lex_is : (b : ℕ) (bs : List ℕ) (at : ℕ) → lex at (b ∷ bs) ≡ lex_by b bs at (scan_step (b ∷ bs))
 unfolding lex_behind
 lex_is b bs at = refl
 
-pub nothing_begins : (n : ℕ) → step_of [] ≡ Skip n → ⊥
-unfolding step_of
+pub nothing_begins : (n : ℕ) → scan_step [] ≡ Skip n → ⊥
+unfolding scan_step
 nothing_begins n is = cc
 
 pub lex_nothing : (at : ℕ) → lex at [] ≡ []
@@ -125,16 +125,17 @@ unfolding lex_behind
 lex_nothing at = refl
 
 -- skipping blanks does not change the tokens
-pub lex_skip : (bytes : List ℕ) (n at : ℕ) → step_of bytes ≡ Skip n → 0 < n → lex at bytes ≡ lex (at + n) (drop n bytes)
+pub lex_skip : (bytes : List ℕ) (n at : ℕ) → scan_step bytes ≡ Skip n → 0 < n →
+    lex at bytes ≡ lex (at + n) (drop n bytes)
 lex_skip bytes n at h k = search (rules, nothing_begins, lex_is, lex_skips)
 
-pub lex_token : (bytes : List ℕ) (kind : Kind) (n at : ℕ) → 0 < length bytes → step_of bytes ≡ Found kind n → 0 < n →
+pub lex_token : (bytes : List ℕ) (kind : Kind) (n at : ℕ) → 0 < length bytes → scan_step bytes ≡ Found kind n → 0 < n →
     lex at bytes ≡ record { sign = record { kind = kind; text = take n bytes }; start = at } ∷ lex
     (at + n) (drop n bytes)
 lex_token bytes kind n at h k m = search (rules, lex_is, lex_skips)
 
 -- one iteration of a loop over blanks
-pub lex_step : (source : List ℕ) (from at n : ℕ) → step_of (drop at source) ≡ Skip n → 0 < n →
+pub lex_step : (source : List ℕ) (from at n : ℕ) → scan_step (drop at source) ≡ Skip n → 0 < n →
     lex at (drop at source) ≡ lex from (drop from source) → lex (at + n) (drop (at + n) source) ≡ lex from
     (drop from source)
 lex_step source from at n is some so_far = grind (arith, drop-drop n at source, lex_skip (drop at source) n at is some)

@@ -11,8 +11,8 @@ use Rattle.std.proofs.lemmas.Slice.Eq.{bytes_eq-Decides}
 use Rattle.std.proofs.lemmas.List.Folds.{length-prefix_len}
 use Rattle.ps_hoa.specs.Bytes.{class_of, is_digit, is_name_byte}
 use Rattle.ps_hoa.specs.Tokens.{IsBlankPart, lengthens, StopsBefore, IsToken}
-use Rattle.ps_hoa.specs.Scan.{comment_len, quoted_len, head_or_zero, step_of, class_step, name_step, text_by}
-use Rattle.ps_hoa.specs.Scan.{comment_by, mark_step, begins_with, comment_step, alias_step, text_step}
+use Rattle.ps_hoa.specs.Scan.{comment_len, quoted_len, head_or_zero, scan_step, class_step, name_step, text_by}
+use Rattle.ps_hoa.specs.Scan.{comment_by, dash_step, begins_with, comment_step, alias_step, text_step}
 use Rattle.ps_hoa.specs.Scan.{is_finish}
 use Rattle.ps_hoa.specs.declared.tokens.Kind.{Kind}
 use Rattle.ps_hoa.specs.declared.tokens.Kind.TheVariants.{Header, Word, Not, And, Or, LeftParen, RightParen}
@@ -60,14 +60,14 @@ Sound bytes (Skip n) = IsBlankPart (take n bytes) × (n ≤ length bytes) × (0 
 Sound bytes (Found kind n) = IsToken kind (take n bytes) (drop n bytes) × (n ≤ length bytes) × (0 < n)
 
 -- a byte that begins nothing
-odd_here : (b : ℕ) (bs : List ℕ) → step_of (b ∷ bs) ≡ Found Odd 1 → Sound (b ∷ bs) (Found Odd 1)
+odd_here : (b : ℕ) (bs : List ℕ) → scan_step (b ∷ bs) ≡ Found Odd 1 → Sound (b ∷ bs) (Found Odd 1)
 odd_here b bs is = (
   record {
     byte = b;
     text_is = refl;
     no_blank = λ e. not_skip 1 (sym (by_class b bs Blank e) ∙ is);
     no_comment = λ more e. not_comment (comment_len more false 0) (sym (by_class 47 (42 ∷ more) Slash class_47)
-        ∙ ap step_of (sym e) ∙ is);
+        ∙ ap scan_step (sym e) ∙ is);
     no_token = search (rules, stand_step);
   },
   omega arith,
@@ -149,8 +149,8 @@ pub begins_is : (bs word : List ℕ) → begins_with bs word ≡ true →
     (take (length word) bs ≡ word) × (length word ≤ length bs)
 begins_is bs word t = grind (arith, bytes_eq-Decides, length-take)
 
-mark_sound : (b : ℕ) (bs : List ℕ) → class_of b ≡ Dash → Sound (b ∷ bs) (mark_step bs)
-mark_sound b bs e = let dash : b ≡ 45 = tells_of b Dash e in
+expect_sound : (b : ℕ) (bs : List ℕ) → class_of b ≡ Dash → Sound (b ∷ bs) (dash_step bs)
+expect_sound b bs e = let dash : b ≡ 45 = tells_of b Dash e in
     cond_sound (b ∷ bs) (begins_with bs (codes "-BODY--")) _ _ (λ t. let w = begins_is bs (codes "-BODY--") t in
     grind arith) (λ t1. cond_sound (b ∷ bs) (begins_with bs (codes "-END--")) _ _ (λ t. let w = begins_is bs
     (codes "-END--") t in grind arith) (λ t2. cond_sound (b ∷ bs) (begins_with bs (codes "-ABORT--")) _ _
@@ -183,7 +183,7 @@ sign_sound kind b bs h k = search (rules, stops_never)
 other_sound : (b : ℕ) (bs : List ℕ) → class_of b ≡ Other → Sound (b ∷ bs) (Found Odd 1)
 other_sound b bs e = odd_here b bs (by_class b bs Other e)
 
-pub sound : (b : ℕ) (bs : List ℕ) → Sound (b ∷ bs) (step_of (b ∷ bs))
+pub sound : (b : ℕ) (bs : List ℕ) → Sound (b ∷ bs) (scan_step (b ∷ bs))
 sound b bs = subst (λ (s : Step). Sound (b ∷ bs) s) (sym (step_is b bs)) (go (class_of b) refl)
   where
     go : (c : Class) → class_of b ≡ c → Sound (b ∷ bs) (class_step c b bs)
@@ -192,24 +192,24 @@ sound b bs = subst (λ (s : Step). Sound (b ∷ bs) s) (sym (step_is b bs)) (go 
     go Letter e = name_sound b bs e
     go At e = alias_sound b bs e
     go Quote e = text_sound b bs e
-    go Dash e = mark_sound b bs e
+    go Dash e = expect_sound b bs e
     go Slash e = slash_sound b bs e
     go (SignOf kind) e = sign_sound kind b bs e (tells_of b (SignOf kind) e)
     go Other e = other_sound b bs e
 
 -- ## How far a step goes
 
-pub skip_within : (bytes : List ℕ) {n : ℕ} → Skip n ≡ step_of bytes → (n ≤ length bytes) × (0 < n)
-unfolding step_of
+pub skip_within : (bytes : List ℕ) {n : ℕ} → Skip n ≡ scan_step bytes → (n ≤ length bytes) × (0 < n)
+unfolding scan_step
 skip_within [] e = absurd (let no : Skip _ ≡ Found Finish 0 = e in cc)
 skip_within (b ∷ bs) e = let s = subst (λ (x : Step). Sound (b ∷ bs) x) (sym e) (sound b bs) in (s.1, s.2)
 
 no_finish : (kind : Kind) (text rest : List ℕ) → IsToken kind text rest → is_finish kind ≡ false
 no_finish kind text rest t = search rules
 
-pub found_within : (bytes : List ℕ) {kind : Kind} {n : ℕ} → Found kind n ≡ step_of bytes → (n ≤ length bytes) ×
+pub found_within : (bytes : List ℕ) {kind : Kind} {n : ℕ} → Found kind n ≡ scan_step bytes → (n ≤ length bytes) ×
     (0 < length bytes → (0 < n) × (is_finish kind ≡ false))
-unfolding step_of
+unfolding scan_step
 found_within [] {kind} {n} e =
     let none : n ≡ 0 = let is : Found kind n ≡ Found Finish 0 = e in cc in
     (omega arith, λ lt. absurd (omega arith))

@@ -5,49 +5,49 @@ use Rattle.std.specs.List.{slice_range}
 use Rattle.std.proofs.lemmas.List.{drop_all, drop-drop}
 use Rattle.std.proofs.Math.Decide.{dec_lt}
 use Rattle.ps_text.specs.Answers.{Piece, Stream}
-use Rattle.ps_hoa.specs.Tokens.{Sign, marked, marks_after, kind_here}
+use Rattle.ps_hoa.specs.Tokens.{Sign, in_context, history_after, kind_here}
 use Rattle.ps_hoa.specs.declared.tokens.Kind.{Kind}
 use Rattle.ps_hoa.specs.declared.tokens.Kind.TheVariants.{Behind, Finish}
-use Rattle.ps_hoa.specs.Spans.{IsKept, IsSpan, piece_of}
+use Rattle.ps_hoa.specs.Spans.{IsOwnKind, IsSpan, piece_of}
 use Rattle.ps_hoa.specs.declared.tokens.Lexeme.{Lexeme}
 use Rattle.ps_hoa.specs.declared.tokens.Token.{Token}
-use Rattle.ps_hoa.specs.declared.tokens.Marks.{Marks}
+use Rattle.ps_hoa.specs.declared.tokens.History.{History}
 use Rattle.ps_hoa.specs.declared.tokens.Step.TheVariants.{Found}
-use Rattle.ps_hoa.specs.Scan.{lex, step_of, IsLexeme, Reading, stream_of, next_of, behind_next, is_finish, fresh}
+use Rattle.ps_hoa.specs.Scan.{lex, scan_step, IsLexeme, ScanState, stream_of, next_of, behind_next, is_finish, fresh}
 use Rattle.ps_hoa.proofs.Lexing.Scanning.{lex_token, lex_nothing}
 
-abbrev before : List ℕ → Lexeme → Marks → Reading
-before source l marks = record { source = source; at = l.start; marks = marks }
+abbrev before : List ℕ → Lexeme → History → ScanState
+before source l history = record { source = source; at = l.start; history = history }
 
-abbrev pub token_piece : List ℕ → Lexeme → Marks → Piece Sign
-token_piece source l marks =
+abbrev pub token_piece : List ℕ → Lexeme → History → Piece Sign
+token_piece source l history =
     record {
       sign = record {
-        kind = kind_here marks l.kind (slice_range source l.start l.stop);
+        kind = kind_here history l.kind (slice_range source l.start l.stop);
         text = slice_range source l.start l.stop;
       };
       start = l.start;
     }
 
-abbrev pub marks_behind : List ℕ → Lexeme → Marks → Marks
-marks_behind source l marks = marks_after marks l.kind (slice_range source l.start l.stop)
+abbrev pub history_behind : List ℕ → Lexeme → History → History
+history_behind source l history = history_after history l.kind (slice_range source l.start l.stop)
 
 -- no token follows the end of the text
-pub pieces_none : (r : Reading) → length r.source ≤ r.at → (stream_of r).pieces ≡ []
+pub pieces_none : (r : ScanState) → length r.source ≤ r.at → (stream_of r).pieces ≡ []
 unfolding stream_of
 pieces_none r done = search (rules, drop_all, lex_nothing)
 
-pub end_is : (r : Reading) → (stream_of r).end ≡ length r.source
+pub end_is : (r : ScanState) → (stream_of r).end ≡ length r.source
 unfolding stream_of
 end_is r = refl
 
-step_nothing : (kind : Kind) (n : ℕ) → step_of [] ≡ Found kind n → (kind ≡ Finish) × (n ≡ 0)
-unfolding step_of
+step_nothing : (kind : Kind) (n : ℕ) → scan_step [] ≡ Found kind n → (kind ≡ Finish) × (n ≡ 0)
+unfolding scan_step
 step_nothing kind n is = (cc, cc)
 
 -- the kind at the end of the text
-pub finish_here : (r : Reading) (kind : Kind) (n : ℕ) → length r.source ≤ r.at →
-    step_of (drop r.at r.source) ≡ Found kind n → (kind ≡ Finish) × (n ≡ 0)
+pub finish_here : (r : ScanState) (kind : Kind) (n : ℕ) → length r.source ≤ r.at →
+    scan_step (drop r.at r.source) ≡ Found kind n → (kind ≡ Finish) × (n ≡ 0)
 finish_here r kind n done is = step_nothing kind n (rw (drop_all r.at r.source done) at is)
 
 -- the next piece is the first piece of the list
@@ -69,12 +69,12 @@ take_nothing : (n : ℕ) → take n (let none : List ℕ = [] in none) ≡ []
 take_nothing n = search rules
 
 -- a stream is given by its list of pieces and its end
-shown : (r : Reading) (ps : List (Piece Sign)) (end : ℕ) → marked r.marks (lex r.at (drop r.at r.source)) ≡ ps →
+shown : (r : ScanState) (ps : List (Piece Sign)) (end : ℕ) → in_context r.history (lex r.at (drop r.at r.source)) ≡ ps →
     length r.source ≡ end → stream_of r ≡ record { pieces = ps; end = end }
 unfolding stream_of
 shown r ps end e f = λ i. record { pieces = e i; end = f i }
 
-stream_none : (r : Reading) → length r.source ≤ r.at → stream_of r ≡ record { pieces = []; end = length r.source }
+stream_none : (r : ScanState) → length r.source ≤ r.at → stream_of r ≡ record { pieces = []; end = length r.source }
 stream_none r done = search (rules, shown, drop_all, lex_nothing)
 
 no_piece : (p : Piece Sign) (ps : List (Piece Sign)) → p ∷ ps ≡ [] → ⊥
@@ -84,20 +84,21 @@ other : (a : Bool) (kind : Kind) → is_finish kind ≡ false → cond a Behind 
 other a kind h k = search rules
 
 -- a token is never the end of the text
-never : (m : Marks) (kind : Kind) (text : List ℕ) → is_finish kind ≡ false → kind_here m kind text ≡ Finish → ⊥
+never : (m : History) (kind : Kind) (text : List ℕ) → is_finish kind ≡ false → kind_here m kind text ≡ Finish → ⊥
 never m kind text h k = search (rules, other)
 
-module _ (source : List ℕ) (l : Lexeme) (marks : Marks) (h : IsLexeme source l) where
+module _ (source : List ℕ) (l : Lexeme) (history : History) (h : IsLexeme source l) where
   -- the stream begins with this token
   found : l.start < length source →
-      (stream_of (before source l marks)).pieces ≡ token_piece source l marks ∷ marked (marks_behind source l marks)
+      (stream_of (before source l history)).pieces ≡ token_piece source l history ∷ in_context
+      (history_behind source l history)
       (lex l.stop (drop l.stop source))
   unfolding stream_of
   found some = grind (arith, length-drop, drop-drop, lex_token)
 
-  pub next_is : next_of (stream_of (before source l marks)) ≡ token_piece source l marks
-  next_is = let r = before source l marks in
-      (elim (dec_lt l.start (length source)) as (λ _. next_of (stream_of r) ≡ token_piece source l marks) [
+  pub next_is : next_of (stream_of (before source l history)) ≡ token_piece source l history
+  next_is = let r = before source l history in
+      (elim (dec_lt l.start (length source)) as (λ _. next_of (stream_of r) ≡ token_piece source l history) [
         | yes some ↦ next_at (stream_of r) _ _ (found some)
         | no none ↦
             let done : length source ≤ l.start = omega arith in
@@ -106,14 +107,16 @@ module _ (source : List ℕ) (l : Lexeme) (marks : Marks) (h : IsLexeme source l
       ])
 
   pub rest_is : (at : ℕ) → l.stop ≤ at → lex at (drop at source) ≡ lex l.stop (drop l.stop source) →
-      stream_of (record { source = source; at = at; marks = marks_behind source l marks }) ≡ behind_next (stream_of
-      (before source l marks))
+      stream_of (record { source = source; at = at; history = history_behind source l history }) ≡ behind_next
+      (stream_of
+      (before source l history))
   rest_is at on same = search (rules, dec_lt, shown, behind_at, found, end_is, stream_none, behind_at_end, pieces_none)
 
   -- the kind is `Finish` exactly if no token remains
-  pub finish_iff : ((token_piece source l marks).sign.kind ≡ Finish) ↔ ((stream_of (before source l marks)).pieces ≡ [])
-  finish_iff = let r = before source l marks in
-      (elim (dec_lt l.start (length source)) as (λ _. ((token_piece source l marks).sign.kind ≡ Finish) ↔
+  pub finish_iff : ((token_piece source l history).sign.kind ≡ Finish) ↔
+      ((stream_of (before source l history)).pieces ≡ [])
+  finish_iff = let r = before source l history in
+      (elim (dec_lt l.start (length source)) as (λ _. ((token_piece source l history).sign.kind ≡ Finish) ↔
       ((stream_of r).pieces ≡ [])) [
         | yes some ↦ search (rules, never, no_piece, found)
         | no none ↦
@@ -122,29 +125,32 @@ module _ (source : List ℕ) (l : Lexeme) (marks : Marks) (h : IsLexeme source l
       ])
 
 -- the state of the tokenizer, given the token that it stores
-module _ {source : List ℕ} {marks : Marks} {kind : Kind} {token : Token} (k : IsKept source marks kind token)
-    {r : Reading} (at : (let now : Reading = record { source = source; at = token.start; marks = marks } in now) ≡ r)
+module _ {source : List ℕ} {history : History} {kind : Kind} {token : Token} (k : IsOwnKind source history kind token)
+    {r : ScanState}
+    (at : (let now : ScanState = record { source = source; at = token.start; history = history } in now) ≡ r)
   where
-    here : token.kind ≡ kind_here marks kind (slice_range source token.start token.stop)
-    here = k.here ∙ ap (kind_here marks kind) k.text
+    here : token.kind ≡ kind_here history kind (slice_range source token.start token.stop)
+    here = k.here ∙ ap (kind_here history kind) k.text
 
     pub kept_next : piece_of token ≡ next_of (stream_of r)
-    kept_next = grind (arith, next_is source _ marks k.lexeme)
+    kept_next = grind (arith, next_is source _ history k.lexeme)
 
     pub kept_finish : (token.kind ≡ Finish) ↔ ((stream_of r).pieces ≡ [])
-    kept_finish = grind (arith, finish_iff source _ marks k.lexeme, here)
+    kept_finish = grind (arith, finish_iff source _ history k.lexeme, here)
 
     pub kept_span : IsSpan r.source token
     kept_span = search rules
 
-    pub kept_rest : {start next : ℕ} {behind : Marks} → start ≡ next → behind ≡ marks_after marks kind token.text.now →
+    pub kept_rest : {start next : ℕ} {behind : History} → start ≡ next →
+        behind ≡ history_after history kind token.text.now →
         token.stop ≤ next → lex next (drop next source) ≡ lex token.stop (drop token.stop source) →
-        stream_of (record { source = source; at = start; marks = behind }) ≡ behind_next (stream_of r)
-    kept_rest {next = next} e f on same = grind (arith, rest_is source _ marks k.lexeme next on same)
+        stream_of (record { source = source; at = start; history = behind }) ≡ behind_next (stream_of r)
+    kept_rest {next = next} e f on same = grind (arith, rest_is source _ history k.lexeme next on same)
 
 -- the remaining tokens from an offset on, by their relation to the bytes
-pub pieces_new : (source : List ℕ) (from at start : ℕ) (marks : Marks) (pieces : List (Piece Sign)) → marks ≡ fresh →
+pub pieces_new : (source : List ℕ) (from at start : ℕ) (history : History) (pieces : List (Piece Sign)) →
+    history ≡ fresh →
     start ≡ at → lex at (drop at source) ≡ lex from (drop from source) → lex from (drop from source) ≡ pieces →
-    (stream_of (record { source = source; at = start; marks = marks })).pieces ≡ marked fresh pieces
+    (stream_of (record { source = source; at = start; history = history })).pieces ≡ in_context fresh pieces
 unfolding stream_of
-pieces_new source from at start marks pieces e f same is = search rules
+pieces_new source from at start history pieces e f same is = search rules

@@ -10,8 +10,8 @@ use Rattle.std.proofs.lemmas.Bool.Decides.{eqb_tells}
 use Rattle.std.proofs.Math.Seq.{drop-append_seam}
 use Rattle.ps_hoa.specs.Bytes.{class_of, is_digit, is_name_byte, goes_on as names}
 use Rattle.ps_hoa.specs.Tokens.{Ends, closes_last, closes, opens, goes_on, AllBytes, IsName, IsQuoted, nothing, plain}
-use Rattle.ps_hoa.specs.Tokens.{escaped, lengthens, StopsBefore, Stands}
-use Rattle.ps_hoa.specs.Scan.{one_more, comment_len, quoted_len, step_of, class_step}
+use Rattle.ps_hoa.specs.Tokens.{escaped, lengthens, StopsBefore, IsLongestToken}
+use Rattle.ps_hoa.specs.Scan.{one_more, comment_len, quoted_len, scan_step, class_step}
 use Rattle.ps_hoa.specs.declared.tokens.Kind.{Kind}
 use Rattle.ps_hoa.specs.declared.tokens.Kind.TheVariants.{Header, HeaderAgain, Word, AliasName, Int, ZeroRun, Text}
 use Rattle.ps_hoa.specs.declared.tokens.Kind.TheVariants.{Body, End, Abort, OpenComment, Odd, Behind, Finish}
@@ -41,12 +41,12 @@ class_34 : class_of 34 ≡ Quote
 unfolding class_of
 class_34 = refl
 
-pub step_is : (b : ℕ) (bs : List ℕ) → step_of (b ∷ bs) ≡ class_step (class_of b) b bs
-unfolding step_of
+pub step_is : (b : ℕ) (bs : List ℕ) → scan_step (b ∷ bs) ≡ class_step (class_of b) b bs
+unfolding scan_step
 step_is b bs = refl
 
 -- the step, by the class of the first byte
-pub by_class : (b : ℕ) (bs : List ℕ) (c : Class) → class_of b ≡ c → step_of (b ∷ bs) ≡ class_step c b bs
+pub by_class : (b : ℕ) (bs : List ℕ) (c : Class) → class_of b ≡ c → scan_step (b ∷ bs) ≡ class_step c b bs
 by_class b bs c e = step_is b bs ∙ ap (λ (k : Class). class_step k b bs) e
 
 digit_class : (b : ℕ) → is_digit b ≡ true → class_of b ≡ Digit
@@ -111,7 +111,7 @@ name_58 : is_name_byte 58 ≡ false
 name_58 = ap names class_58
 
 header_step : (b : ℕ) (bs rest : List ℕ) → class_of b ≡ Letter → AllBytes is_name_byte bs →
-    step_of (((b ∷ bs) ++ 58 ∷ []) ++ rest) ≡ Found Header (length ((b ∷ bs) ++ 58 ∷ []))
+    scan_step (((b ∷ bs) ++ 58 ∷ []) ++ rest) ≡ Found Header (length ((b ∷ bs) ++ 58 ∷ []))
 header_step b bs rest e all =
     let split : (bs ++ 58 ∷ []) ++ rest ≡ bs ++ 58 ∷ rest = append_assoc bs (58 ∷ []) rest in
     let n : prefix_len is_name_byte (bs ++ 58 ∷ rest) ≡ length bs = run_len is_name_byte bs (58 ∷ rest) all name_58 in
@@ -119,7 +119,7 @@ header_step b bs rest e all =
     grind (arith, by_class b ((bs ++ 58 ∷ []) ++ rest) Letter e, drop-append_seam bs (58 ∷ rest))
 
 word_step : (b : ℕ) (bs rest : List ℕ) → class_of b ≡ Letter → AllBytes is_name_byte bs →
-    StopsBefore (lengthens Word) rest → step_of ((b ∷ bs) ++ rest) ≡ Found Word (length (b ∷ bs))
+    StopsBefore (lengthens Word) rest → scan_step ((b ∷ bs) ++ rest) ≡ Found Word (length (b ∷ bs))
 word_step b bs [] e all stops =
     let n : prefix_len is_name_byte (bs ++ []) ≡ length bs = run_len is_name_byte bs [] all tt in
     let len : 1 + length bs ≡ suc (length bs) = omega arith in
@@ -137,17 +137,17 @@ word_step b bs (c ∷ rest) e all stops =
     neither p q h = grind arith
 
 alias_found : (bs rest : List ℕ) → 0 < length bs → AllBytes is_name_byte bs → StopsBefore is_name_byte rest →
-    step_of ((64 ∷ bs) ++ rest) ≡ Found AliasName (length (let all : List ℕ = 64 ∷ bs in all))
+    scan_step ((64 ∷ bs) ++ rest) ≡ Found AliasName (length (let all : List ℕ = 64 ∷ bs in all))
 alias_found bs rest some all stops =
     grind (arith, run_len is_name_byte bs rest all stops, by_class 64 (bs ++ rest) At class_64)
 
 number_found : (t : Bool) (b : ℕ) (bs rest : List ℕ) → AllBytes is_digit (b ∷ bs) → StopsBefore is_digit rest →
-    (nat_eq b 48 && nat_lt 0 (length bs)) ≡ t → step_of ((b ∷ bs) ++ rest) ≡ cond t (Found ZeroRun (length (b ∷ bs)))
+    (nat_eq b 48 && nat_lt 0 (length bs)) ≡ t → scan_step ((b ∷ bs) ++ rest) ≡ cond t (Found ZeroRun (length (b ∷ bs)))
     (Found Int (length (b ∷ bs)))
 number_found t b bs rest all stops is =
     grind (arith, run_len is_digit bs rest all.1 stops, by_class b (bs ++ rest) Digit (digit_class b all.0))
 
-text_found : (inside rest : List ℕ) → IsQuoted inside → step_of ((34 ∷ inside ++ 34 ∷ []) ++ rest) ≡ Found Text
+text_found : (inside rest : List ℕ) → IsQuoted inside → scan_step ((34 ∷ inside ++ 34 ∷ []) ++ rest) ≡ Found Text
     (length (34 ∷ inside ++ 34 ∷ []))
 text_found inside rest q =
     let split : (inside ++ 34 ∷ []) ++ rest ≡ inside ++ 34 ∷ rest = append_assoc inside (34 ∷ []) rest in
@@ -160,8 +160,8 @@ plain_test b n h = search (rules, eqb_tells)
 pub zero_test : (b n : ℕ) → b ≡ 48 → 1 < suc n → (nat_eq b 48 && nat_lt 0 n) ≡ true
 zero_test b n h k = search rules
 
-pub stand_step : (kind : Kind) (text rest : List ℕ) → Stands kind text rest →
-    (step_of (text ++ rest) ≡ Found kind (length text)) × (0 < length text)
+pub stand_step : (kind : Kind) (text rest : List ℕ) → IsLongestToken kind text rest →
+    (scan_step (text ++ rest) ≡ Found kind (length text)) × (0 < length text)
 stand_step Header text rest s = search (rules, text_of_name, header_step)
 stand_step Word text rest s = search (rules, text_of_name, word_step)
 stand_step AliasName text rest s = let f = s.form in rw f.3 (alias_found f.0 rest f.1 f.2 s.longest, omega arith)

@@ -1,7 +1,7 @@
 -- The flaws of a header at `--BODY--`: either there is a flaw with the smallest number, or the header has no flaw.
 --     no_acceptance_least, .., none_is_sound      a flaw is the least if those with smaller numbers are absent
 --     judge_header      the least flaw of a header
---     judge_body_mark      the least error at the token
+--     judge_body_token      the least error at the token
 --     said_none, .., is_said_some      what the code's tests for `None` imply
 use Rattle.std.proofs.Common.{◌≡◌, ℕ, Bool, not, true, false, List, [], ◌∷◌, Option, None, Some, is_some, inl, inr}
 use Rattle.std.proofs.Common.{rules}
@@ -118,8 +118,8 @@ module _ (h : HeaderData) where
   judge_header : Judged cause_number (IsBadHeader h)
   judge_header = search (rules, by_flaw, decide_none, start_large, range_broken)
 
-pub judge_body_mark : (h : HeaderData) → JudgesAll (IsBadBody h)
-judge_body_mark h t = judge_also cause_number (search (rules, decide_kind, test_of)) (judge_header h)
+pub judge_body_token : (h : HeaderData) → JudgesAll (IsBadBody h)
+judge_body_token h t = judge_also cause_number (search (rules, decide_kind, test_of)) (judge_header h)
 
 -- ## The tests of the code
 

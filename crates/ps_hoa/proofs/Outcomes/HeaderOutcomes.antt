@@ -5,7 +5,7 @@ use Rattle.ps_hoa.specs.Header.{HeaderData, no_items, item, header}
 use Rattle.ps_hoa.proofs.Grammar.HeaderSigns.{signs_item, signs_body}
 use Rattle.ps_hoa.proofs.Grammar.WholeHeader.{joint_item, item_loop, joint_header}
 use Rattle.ps_hoa.proofs.ItemForms.{form, judge_item}
-use Rattle.ps_hoa.proofs.Outcomes.HeaderFlaws.{judge_body_mark}
+use Rattle.ps_hoa.proofs.Outcomes.HeaderFlaws.{judge_body_token}
 use Rattle.ps_hoa.proofs.Outcomes.LabelOutcomes.{Has, has_signs, has_loop}
 
 has_item : (h : HeaderData) → Has (item h)
@@ -13,4 +13,4 @@ has_item h = has_then hoa_causes (joint_item h) (has_signs (signs_item h) (judge
 
 pub has_header : Has header
 has_header = has_then hoa_causes joint_header (has_loop item_loop has_item no_items)
-    (λ h. has_signs (signs_body h) (judge_body_mark h))
+    (λ h. has_signs (signs_body h) (judge_body_token h))

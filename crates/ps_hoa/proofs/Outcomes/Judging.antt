@@ -67,7 +67,7 @@ judge_leaf scope t = go t.kind t.text
 pub judge_set : JudgesAll conditions.BadSet
 judge_set t = go t.kind t.text
   where
-    go : (kind : Kind) (text : List ℕ) → Judged cause_number (conditions.IsBadSet kind text)
+    go : (kind : Kind) (text : List ℕ) → Judged cause_number (conditions.IsTooLargeSet kind text)
     go Int text = large number_limit (decimal_value text)
     go kind text = judge_none cause_number
 
@@ -94,8 +94,8 @@ pub judge_state : (states : Option ℕ) → JudgesAll (IsBadState states)
 judge_state (Some states) n = search (rules, judge_one, large, judge_cause, decide_below)
 judge_state None n = judge_cause cause_number causes.Limit (decide_below state_limit n)
 
-pub judge_mark : (sets : ℕ) → JudgesAll (IsBadSet sets)
-judge_mark sets n = search (rules, judge_one, large, judge_cause, decide_below)
+pub judge_expect : (sets : ℕ) → JudgesAll (IsBadSet sets)
+judge_expect sets n = search (rules, judge_one, large, judge_cause, decide_below)
 
 may_have_no_label : (l : Labelling) → Decided (MayHaveNoLabel l)
 may_have_no_label l = search rules

@@ -16,8 +16,8 @@ use Rattle.ps_hoa.specs.Tokens.{Sign}
 use Rattle.ps_hoa.specs.declared.infix.Connective.{Connective}
 use Rattle.ps_hoa.specs.declared.infix.Connective.TheVariants.{And, Or}
 use Rattle.ps_hoa.specs.declared.fault.HoaCause.{HoaCause}
-use Rattle.ps_hoa.proofs.Grammar.OperandLaws.{taken_mark}
-use Rattle.ps_hoa.proofs.Reading.NestedRows.{mark_taken, Rest, rest_none, rest_more, row_text, rest_of}
+use Rattle.ps_hoa.proofs.Grammar.OperandLaws.{taken_expect}
+use Rattle.ps_hoa.proofs.Reading.NestedRows.{expect_taken, Rest, rest_none, rest_more, row_text, rest_of}
 
 -- a `!` and an operand after it
 abbrev Negation : {V : Type 0} → Grammar V → Part Sign V HoaCause → List Sign → V → Type 0
@@ -55,14 +55,14 @@ module _ {V : Type 0} (g : Grammar V) (part : ℕ → Part Sign V HoaCause) (is 
       right = rest ++ b ∷ [];
       value = tt;
       split = refl;
-      is_left = (a, refl, mark_taken is_left a e);
+      is_left = (a, refl, expect_taken is_left a e);
       is_right = record {
         left = rest;
         right = b ∷ [];
         value = w;
         split = refl;
         is_left = to_row room Or d rest w n (omega (arith, l));
-        is_right = (tt, (b, refl, mark_taken is_right b f), refl);
+        is_right = (tt, (b, refl, expect_taken is_right b f), refl);
       };
     })
 
@@ -133,8 +133,8 @@ module _ {V : Type 0} (g : Grammar V) (part : ℕ → Part Sign V HoaCause) (is 
       (subst (λ z. Within (suc room) (IsOperand g) (l ∷ m.left ++ r ∷ []) z) (sym m.is_right.2) (
         suc q.0,
         omega (arith, q.1),
-        in_parentheses l r q.0 m.left m.value (taken_mark is_left l tt i.is_left.2)
-            (taken_mark is_right r tt m.is_right.1.2) q.2,
+        in_parentheses l r q.0 m.left m.value (taken_expect is_left l tt i.is_left.2)
+            (taken_expect is_right r tt m.is_right.1.2) q.2,
       ))
 
   of_operand : (room : ℕ) (text : List Sign) (v : V) → (part room).IsText text v → Within room (IsOperand g) text v
@@ -176,13 +176,13 @@ label_operands scope = record {
       right = rest;
       value = tt;
       split = e;
-      is_left = (t, refl, mark_taken is_not t n);
+      is_left = (t, refl, expect_taken is_not t n);
       is_right = (w, o, k);
     }))
 
     some : (room : ℕ) (text : List Sign) (v : Expression) → (label_operand scope (suc room)).IsText text v →
         Form (label_grammar scope.names) (label_operand scope room) text v
-    some room text v h = grind (arith, taken_mark)
+    some room text v h = grind (arith, taken_expect)
 
 pub label_nesting : (scope : ScopeData) (room : ℕ) (text : List Sign) (v : Expression) →
     (label scope room).IsText text v ↔ Within room (IsLabel scope.names) text v

@@ -11,10 +11,10 @@ use Rattle.ps_text.proofs.OneAnswer.{has_one_answer}
 use Rattle.ps_text.proofs.Splits.{same_split}
 use Rattle.ps_hoa.specs.Causes.{cause_number, hoa_causes}
 use Rattle.ps_hoa.specs.Files.{FileData}
-use Rattle.ps_hoa.specs.Scan.{fresh, step_of}
+use Rattle.ps_hoa.specs.Scan.{fresh, scan_step}
 use Rattle.ps_hoa.specs.Texts.{IsBehindBlanks, IsVersion, at_offset, file, ReadsFile, too_long, not_hoa, other_version}
 use Rattle.ps_hoa.specs.Texts.{by_tokens}
-use Rattle.ps_hoa.specs.Tokens.{Sign, IsBlankPart, IsBlankRun, no_blank, blank, AreTokens, marked}
+use Rattle.ps_hoa.specs.Tokens.{Sign, IsBlankPart, IsBlankRun, no_blank, blank, AreTokens, in_context}
 use Rattle.ps_hoa.specs.declared.fault.HoaCause.{HoaCause}
 use Rattle.ps_hoa.specs.declared.fault.HoaCause.TheVariants as causes
 use Rattle.ps_hoa.specs.declared.tokens.Step.TheVariants.{Skip}
@@ -53,7 +53,7 @@ same_skip m n e = cc
 -- two blank parts that begin at the same offset are equal
 one_part : (p q more rest : List ℕ) → IsBlankPart p → IsBlankPart q → p ++ more ≡ q ++ rest → (p ≡ q) × (more ≡ rest)
 one_part p q more rest h k e = same_split p more q rest e (same_skip (length p) (length q)
-    (sym (part_is p more h).0 ∙ ap step_of e ∙ (part_is q rest k).0))
+    (sym (part_is p more h).0 ∙ ap scan_step e ∙ (part_is q rest k).0))
 
 pub one_behind : {a b : List ℕ} → IsBlankRun a → IsBlankRun b → (x y : List ℕ) → a ++ x ≡ b ++ y → NoBlankBegins x →
     NoBlankBegins y → (a ≡ b) × (x ≡ y)
@@ -84,10 +84,10 @@ abbrev Answer : Type 0
 Answer = Result FileData (Found HoaCause)
 
 same_meaning : (end : ℕ) (ps qs : List (Piece Sign)) (a b : Answer) → ps ≡ qs →
-    PartAnswers hoa_causes file (record { pieces = marked fresh ps; end = end }) a →
-    PartAnswers hoa_causes file (record { pieces = marked fresh qs; end = end }) b → a ≡ b
+    PartAnswers hoa_causes file (record { pieces = in_context fresh ps; end = end }) a →
+    PartAnswers hoa_causes file (record { pieces = in_context fresh qs; end = end }) b → a ≡ b
 same_meaning end ps qs a b e h k = has_one_answer file.IsText (IsWrong hoa_causes file) cause_number laws_file.one_value
-    numbered (record { pieces = marked fresh qs; end = end }) a b (grind arith) k
+    numbered (record { pieces = in_context fresh qs; end = end }) a b (grind arith) k
 
 -- the lengths of the parts before the version, the version itself, and the rest of the text are unique
 place : (bytes a b m n f g x y t u v w : List ℕ) → IsBehindBlanks bytes a (codes "HOA:" ++ m) →

@@ -10,10 +10,10 @@ use Rattle.std.proofs.lemmas.Bool.{cases_lt}
 use Rattle.ps_text.specs.Answers.{Stream, Found}
 use Rattle.ps_text.proofs.Outcomes.{some_answer}
 use Rattle.ps_hoa.specs.Files.{FileData}
-use Rattle.ps_hoa.specs.Scan.{IsNoBlank, step_of, begins_with, fresh}
+use Rattle.ps_hoa.specs.Scan.{IsNoBlank, scan_step, begins_with, fresh}
 use Rattle.ps_hoa.specs.Spans.{AreBlanks}
 use Rattle.ps_hoa.specs.Texts.{is_version_byte, text_limit, at_offset, ReadsFile, too_long}
-use Rattle.ps_hoa.specs.Tokens.{Sign, marked}
+use Rattle.ps_hoa.specs.Tokens.{Sign, in_context}
 use Rattle.ps_hoa.specs.declared.fault.HoaCause.{HoaCause}
 use Rattle.ps_hoa.specs.declared.fault.HoaCause.TheVariants as causes
 use Rattle.ps_hoa.specs.declared.tokens.Step.{Step}
@@ -31,16 +31,17 @@ module _ (text : List ℕ) where
   record PastBlanks (from : ℕ) : Type 0 where
     at : ℕ
     blanks : AreBlanks text from at
-    end : IsNoBlank (step_of (drop at text))
+    end : IsNoBlank (scan_step (drop at text))
 
   -- the offset after all blanks, by recursion on the number of remaining bytes
   past_blanks : (fuel from at : ℕ) → length text ≤ at + fuel → AreBlanks text from at → PastBlanks from
   past_blanks zero from at left before = grind (arith, skip_sound, length-drop)
   past_blanks (suc fuel) from at left before =
-      go (λ n some more. past_blanks fuel from (at + n) (omega (arith, some, left)) more) (step_of (drop at text)) refl
+      go (λ n some more. past_blanks fuel from (at + n) (omega (arith, some, left)) more) (scan_step (drop at text))
+      refl
     where
       go : ((n : ℕ) → 0 < n → AreBlanks text from (at + n) → PastBlanks from) → (s : Step) →
-          step_of (drop at text) ≡ s → PastBlanks from
+          scan_step (drop at text) ≡ s → PastBlanks from
       go next (Skip n) e = next n (skip_sound (drop at text) n e).2 (more_blanks text from at n before e)
       go next (FoundToken kind n) e = record { at = at; blanks = before; end = subst IsNoBlank (sym e) tt }
 
@@ -56,11 +57,11 @@ module _ (text : List ℕ) where
     by_version first second o true e =
         let stop = second + prefix_len is_version_byte (drop second text) in
         let found = some_tokens (length (drop stop text)) stop (drop stop text) (omega arith) in
-        let stream : Stream Sign = record { pieces = marked fresh found.0; end = length text } in
+        let stream : Stream Sign = record { pieces = in_context fresh found.0; end = length text } in
         let read = some_answer laws_file has_file stream in (
           read.0,
           with_version text first second o stream stop refl e
-              (λ pieces are. ap (marked fresh) (only_lex stop (drop stop text) found.0 found.1
+              (λ pieces are. ap (in_context fresh) (only_lex stop (drop stop text) found.0 found.1
               ∙ sym (only_lex stop (drop stop text) pieces are))) refl read.0 read.1,
         )
 

@@ -34,8 +34,8 @@ use Rattle.ps_hoa.proofs.Grammar.HeaderSigns.{reads_token, least_same}
 use Rattle.ps_hoa.proofs.Grammar.BodyLaws.{laws_target_number, number_barred, laws_sets, laws_no_sets, joint_braces}
 use Rattle.ps_hoa.proofs.Grammar.BodyLaws.{joint_edge_label, joint_plain_marks, laws_labelled_edge, laws_plain_edge}
 use Rattle.ps_hoa.proofs.Reading.Exits.{Serves, serves_as, entered}
-use Rattle.ps_hoa.proofs.Reading.MarkReading.{tests_and, tests_int, tests_left_brace, tests_left_bracket, sign_begins}
-use Rattle.ps_hoa.proofs.Reading.MarkReading.{taken_there, mark_begins, mark_elsewhere, enters_left, enters_right}
+use Rattle.ps_hoa.proofs.Reading.ExpectReading.{tests_and, tests_int, tests_left_brace, tests_left_bracket, sign_begins}
+use Rattle.ps_hoa.proofs.Reading.ExpectReading.{taken_there, expect_begins, expect_elsewhere, enters_left, enters_right}
 use Rattle.ps_hoa.proofs.Reading.NextSign.{next_there, next_same, start_there}
 use Rattle.ps_hoa.proofs.Reading.SingleSigns.{IsOfSigns, signs_of}
 
@@ -93,22 +93,22 @@ module _ (h : HeaderData) (before : ℕ) (row : RowData) (s : Stream Sign) where
 
   pub bracket_serves : (next_of s).sign.kind ≡ LeftBracket → Serves s (labelled_edge h before row) (edge h before row)
   bracket_serves e = serves_as s (left_otherwise (laws_labelled_edge h before row) (laws_plain_edge h before row)
-      (there_of s) (mark_elsewhere tests_int s (λ k. let x = sym e ∙ k in cc)) (λ k. k))
+      (there_of s) (expect_elsewhere tests_int s (λ k. let x = sym e ∙ k in cc)) (λ k. k))
 
   pub int_serves : ((next_of s).sign.kind ≡ LeftBracket → ⊥) → Serves s (plain_edge h before row) (edge h before row)
   int_serves differs = serves_as s (right_otherwise (laws_labelled_edge h before row) (laws_plain_edge h before row)
-      (there_of s) (mark_elsewhere tests_left_bracket s differs) (λ k. k))
+      (there_of s) (expect_elsewhere tests_left_bracket s differs) (λ k. k))
 
 -- ## Marks
 
 module _ (h : HeaderData) (s : Stream Sign) where
   pub braces_serve : (next_of s).sign.kind ≡ LeftBrace → Serves s (sets (sets_of h)) (marks h)
   braces_serve e = serves_as s (left_entered (laws_sets (sets_of h)) laws_no_sets (there_of s) (λ t a b. b)
-      (entered (joint_braces (sets_of h)) s (mark_begins tests_left_brace s e)))
+      (entered (joint_braces (sets_of h)) s (expect_begins tests_left_brace s e)))
 
   pub no_braces_serve : ((next_of s).sign.kind ≡ LeftBrace → ⊥) → Serves s (give []) (marks h)
   no_braces_serve differs = serves_as s (right_otherwise (laws_sets (sets_of h)) laws_no_sets (there_of s)
-      (mark_elsewhere tests_left_brace s differs) (λ k. k))
+      (expect_elsewhere tests_left_brace s differs) (λ k. k))
 
 -- the edges of a row after an edge is appended
 pub pushed_edge : (es new : List Edge) (e : Edge) → new ≡ es ++ e ∷ [] →

@@ -16,7 +16,7 @@ use Rattle.ps_text.proofs.Exits.{reads_give, reads_then, reads_mapped, stops_fir
 use Rattle.ps_text.proofs.Branches.{left_otherwise, right_otherwise}
 use Rattle.ps_hoa.specs.Causes.{hoa_causes}
 use Rattle.ps_hoa.specs.Inner.Signs.{is_single, IsLeaf}
-use Rattle.ps_hoa.specs.Operands.{is_not, is_right, mark, inner, kind_of, is_sign_of, between, rows}
+use Rattle.ps_hoa.specs.Operands.{is_not, is_right, expect, inner, kind_of, is_sign_of, between, rows}
 use Rattle.ps_hoa.specs.Operands.{InfixGrammar, holds, IsTooDeep, bar, negation, holding, operand}
 use Rattle.ps_hoa.specs.Scan.{next_of, behind_next}
 use Rattle.ps_hoa.specs.Tokens.{Sign}
@@ -27,16 +27,16 @@ use Rattle.ps_hoa.specs.declared.fault.HoaCause.TheVariants.{Limit}
 use Rattle.ps_hoa.specs.declared.tokens.Kind.{Kind}
 use Rattle.ps_hoa.specs.declared.tokens.Kind.TheVariants.{Not, LeftParen}
 use Rattle.ps_hoa.proofs.Grammar.HeaderSigns.{least_same}
-use Rattle.ps_hoa.proofs.Grammar.OperandLaws.{Odd, Of, false_true, nothing_apart, joint_mark}
+use Rattle.ps_hoa.proofs.Grammar.OperandLaws.{Odd, Of, false_true, nothing_apart, joint_expect}
 use Rattle.ps_hoa.proofs.Grammar.InfixLaws.{is_start, AndMore, AndOrMore, joint_bar, laws_not, laws_and, laws_or}
 use Rattle.ps_hoa.proofs.Grammar.InfixLaws.{laws_both, laws_rows, laws_nested, laws_negation, laws_holding}
 use Rattle.ps_hoa.proofs.Grammar.InfixLaws.{laws_operand}
 use Rattle.ps_hoa.proofs.Grammar.InfixLaws.{single_holds, apart_or, apart_right}
 use Rattle.ps_hoa.proofs.Reading.Exits.{Serves, serves_as, itself, serves_both, Leads, behind, under, instead}
 use Rattle.ps_hoa.proofs.Reading.Exits.{value_is}
-use Rattle.ps_hoa.proofs.Reading.MarkReading.{avoids_kind, tests_not, tests_and, tests_or, tests_left, mark_read}
-use Rattle.ps_hoa.proofs.Reading.MarkReading.{inner_reads}
-use Rattle.ps_hoa.proofs.Reading.MarkReading.{mark_elsewhere, inner_fails, inner_stays_open}
+use Rattle.ps_hoa.proofs.Reading.ExpectReading.{avoids_kind, tests_not, tests_and, tests_or, tests_left, expect_read}
+use Rattle.ps_hoa.proofs.Reading.ExpectReading.{inner_reads}
+use Rattle.ps_hoa.proofs.Reading.ExpectReading.{expect_elsewhere, inner_fails, inner_stays_open}
 use Rattle.ps_hoa.proofs.Reading.NextSign.{next_there, next_same}
 use Rattle.ps_hoa.proofs.Reading.RowReading.{Row}
 
@@ -57,30 +57,30 @@ held together P = inner (rows together connectives.Or P)
 
 module _ {V : Type 0} (P : Part Sign V HoaCause) (together : Connective → List V → V)
     (l : Laws Odd P (Of is_start) Nothing ⊥) where
-  joint_not : (negated : V → V) → Joint (mark is_not) (λ _. mapped negated P)
-  joint_not negated = joint_mark is_not laws_not (laws_mapped negated P l)
+  joint_not : (negated : V → V) → Joint (expect is_not) (λ _. mapped negated P)
+  joint_not negated = joint_expect is_not laws_not (laws_mapped negated P l)
 
   paren_serves : {old : Stream Sign} (n : Option (V → V)) → (next_of old).sign.kind ≡ LeftParen →
       Serves old (held together P) (holding n P (held together P))
   paren_serves None e = itself
   paren_serves {old} (Some negated) e = serves_as old (right_otherwise (laws_negation P together l negated)
-      (laws_nested P together l) (there_of old) (mark_elsewhere tests_not old (λ k. cc)) (λ b. b))
+      (laws_nested P together l) (there_of old) (expect_elsewhere tests_not old (λ k. cc)) (λ b. b))
 
   module _ {old mid : Stream Sign} (e : (next_of old).sign.kind ≡ Not) (n : mid ≡ behind_next old) where
     not_serves : (negated : V → V) → Serves old (negation negated P) (either (negation negated P) (held together P))
     not_serves negated = serves_as old (left_otherwise (laws_negation P together l negated)
-        (laws_nested P together l) (there_of old) (mark_elsewhere tests_left old (λ k. cc)) (λ b. b))
+        (laws_nested P together l) (there_of old) (expect_elsewhere tests_left old (λ k. cc)) (λ b. b))
 
     holding_reads : (h : Option (V → V)) → is_some h ≡ true → {new : Stream Sign} {v w : V} → Reads P mid v new →
         IfSome h (λ negated. w ≡ negated v) → Reads (holding h P (held together P)) old w new
     holding_reads None s m is = absurd (false_true s)
     holding_reads (Some negated) s m is = value_is (sym is) ((not_serves negated).reads _ _
-        (reads_then (joint_not negated) (mark_read tests_not e n) (reads_mapped negated m)))
+        (reads_then (joint_not negated) (expect_read tests_not e n) (reads_mapped negated m)))
 
     holding_fails : (h : Option (V → V)) → is_some h ≡ true → Leads (holding h P (held together P)) old P mid
     holding_fails None s = absurd (false_true s)
     holding_fails (Some negated) s = instead (not_serves negated)
-        (behind (joint_not negated) (mark_read tests_not e n) (under negated P))
+        (behind (joint_not negated) (expect_read tests_not e n) (under negated P))
 
 -- ## The operands of a grammar
 
@@ -170,15 +170,15 @@ module _ {V : Type 0} (g : InfixGrammar V) (is : IsLeaf g.leaf) where
 
           pub paren_reads : {next new : Stream Sign} {v : V} →
               Reads (rows g.together connectives.Or (operand g (room - 1))) mid v next →
-              Reads (mark is_right) next tt new → Reads (operand g room) old v new
+              Reads (expect is_right) next tt new → Reads (operand g room) old v new
           paren_reads m q =
-              served.reads _ _ (inner_reads (row_laws (room - 1)) apart_right (mark_read tests_left e n) m q)
+              served.reads _ _ (inner_reads (row_laws (room - 1)) apart_right (expect_read tests_left e n) m q)
 
           pub paren_fails : Leads (operand g room) old (rows g.together connectives.Or (operand g (room - 1))) mid
-          paren_fails = instead served (inner_fails (row_laws (room - 1)) apart_right (mark_read tests_left e n))
+          paren_fails = instead served (inner_fails (row_laws (room - 1)) apart_right (expect_read tests_left e n))
 
           pub paren_stays_open : {next : Stream Sign} {v : V} →
               Reads (rows g.together connectives.Or (operand g (room - 1))) mid v next →
-              Leads (operand g room) old (mark is_right) next
+              Leads (operand g room) old (expect is_right) next
           paren_stays_open m =
-              instead served (inner_stays_open (row_laws (room - 1)) apart_right (mark_read tests_left e n) m)
+              instead served (inner_stays_open (row_laws (room - 1)) apart_right (expect_read tests_left e n) m)

@@ -3,14 +3,14 @@
 use Rattle.std.proofs.Common.{rules, arith, ◌≡◌, ℕ, zero, suc, Bool, true, cond, List, [], ◌∷◌, ◌++◌, None, Some, refl}
 use Rattle.std.proofs.Common.{sym, ap, subst, ◌∙◌, append_assoc, append-nil}
 use Rattle.ps_text.specs.Parts.{Part, times}
-use Rattle.ps_hoa.specs.Operands.{mark_in, single, with_last, joined, further, row}
+use Rattle.ps_hoa.specs.Operands.{expect_in, single, with_last, joined, further, row}
 use Rattle.ps_hoa.specs.Tokens.{Sign}
 use Rattle.ps_hoa.specs.declared.fault.HoaCause.{HoaCause}
 use Rattle.ps_hoa.specs.declared.tokens.Kind.{Kind}
-use Rattle.ps_hoa.proofs.Grammar.OperandLaws.{taken_mark}
+use Rattle.ps_hoa.proofs.Grammar.OperandLaws.{taken_expect}
 
-pub mark_taken : (test : Kind → Bool) (t : Sign) → test t.kind ≡ true → mark_in test t ≡ Some tt
-mark_taken test t e = ap (λ (b : Bool). cond b (Some tt) None) e
+pub expect_taken : (test : Kind → Bool) (t : Sign) → test t.kind ≡ true → expect_in test t ≡ Some tt
+expect_taken test t e = ap (λ (b : Bool). cond b (Some tt) None) e
 
 -- ## Rows
 
@@ -36,7 +36,7 @@ module _ {V : Type 0} (sign : Kind → Bool) (P : Part Sign V HoaCause) where
         right = text;
         value = tt;
         split = refl;
-        is_left = (t, refl, mark_taken sign t e);
+        is_left = (t, refl, expect_taken sign t e);
         is_right = (v, p, refl);
       };
       is_right = grind (arith, append_assoc ws (v ∷ []) vs);
@@ -65,4 +65,4 @@ module _ {V : Type 0} (sign : Kind → Bool) (P : Part Sign V HoaCause) where
     pub rest_of : (k : ℕ) (ws us : List V) (text : List Sign) → (times k (λ us. further sign P us) ws).IsText text us →
         (vs : List V) × (us ≡ ws ++ vs) × More text vs
     rest_of zero ws us text i = ([], i.1 ∙ sym (append-nil ws), subst (λ z. More z []) (sym i.0) none)
-    rest_of (suc k) ws us text i = search (rules, append_assoc, taken_mark, rest_of k i.value us i.right i.is_right)
+    rest_of (suc k) ws us text i = search (rules, append_assoc, taken_expect, rest_of k i.value us i.right i.is_right)

@@ -11,9 +11,9 @@ use Rattle.ps_text.specs.Answers.{Piece, Stream, Found}
 use Rattle.ps_text.specs.Parts.{PartAnswers}
 use Rattle.ps_hoa.specs.Causes.{hoa_causes}
 use Rattle.ps_hoa.specs.Files.{FileData}
-use Rattle.ps_hoa.specs.Scan.{IsNoBlank, step_of, begins_with, fresh}
+use Rattle.ps_hoa.specs.Scan.{IsNoBlank, scan_step, begins_with, fresh}
 use Rattle.ps_hoa.specs.Spans.{AreBlanks}
-use Rattle.ps_hoa.specs.Tokens.{Sign, AreTokens, marked}
+use Rattle.ps_hoa.specs.Tokens.{Sign, AreTokens, in_context}
 use Rattle.ps_hoa.specs.Texts.{IsBehindBlanks, IsVersion, is_version_byte, ReadsFile, not_hoa, other_version, by_tokens}
 use Rattle.ps_hoa.specs.Texts.{at_offset, text_limit, file}
 use Rattle.ps_hoa.specs.declared.fault.HoaCause.{HoaCause}
@@ -35,13 +35,13 @@ word_stands rest word h = search (rules, whole, begins_is)
 word_missing : (rest word : List ℕ) → begins_with rest word ≡ false → (more : List ℕ) → rest ≡ word ++ more → ⊥
 word_missing rest word h more e = search (rules, bytes_eq-Decides, take-append_seam)
 
-behind : (text : List ℕ) (from at : ℕ) (b : AreBlanks text from at) → IsNoBlank (step_of (drop at text)) →
+behind : (text : List ℕ) (from at : ℕ) (b : AreBlanks text from at) → IsNoBlank (scan_step (drop at text)) →
     IsBehindBlanks (drop from text) b.blanks (drop at text)
 behind text from at b h = record { split = b.split; are_blanks = b.run; all = no_blank_begins (drop at text) h }
 
 -- `HOA:` is missing
 pub without_hoa : (text : List ℕ) (first : ℕ) → length text ≤ text_limit → AreBlanks text 0 first →
-    IsNoBlank (step_of (drop first text)) →
+    IsNoBlank (scan_step (drop first text)) →
     begins_with (drop first text) (codes "HOA:") ≡ false → ReadsFile text (at_offset causes.NotHoa first)
 without_hoa text first short b h none = let e : length b.blanks ≡ first = omega arith in
     subst (λ (k : ℕ). ReadsFile text (at_offset causes.NotHoa k)) e
@@ -51,10 +51,10 @@ without_hoa text first short b h none = let e : length b.blanks ≡ first = omeg
 pub record Opens (text : List ℕ) (first second : ℕ) : Type 0 where
   pub short : length text ≤ text_limit
   pub before : AreBlanks text 0 first
-  pub first_end : IsNoBlank (step_of (drop first text))
+  pub first_end : IsNoBlank (scan_step (drop first text))
   pub word : begins_with (drop first text) (codes "HOA:") ≡ true
   pub further : AreBlanks text (first + 4) second
-  pub second_end : IsNoBlank (step_of (drop second text))
+  pub second_end : IsNoBlank (scan_step (drop second text))
 
 -- whether `HOA:` is at an offset, as the code tests it
 pub told_word : (text : List ℕ) (first : ℕ) {b : Bool} → begins_with (to_its_end text first) (codes "HOA:") ≡ b →
@@ -62,8 +62,8 @@ pub told_word : (text : List ℕ) (first : ℕ) {b : Bool} → begins_with (to_i
 told_word text first e = ap (λ (xs : List ℕ). begins_with xs (codes "HOA:")) (sym (to_end text first)) ∙ e
 
 pub opens : {text : List ℕ} {first second : ℕ} → length text ≤ text_limit → AreBlanks text 0 first →
-    IsNoBlank (step_of (drop first text)) → begins_with (to_its_end text first) (codes "HOA:") ≡ true →
-    AreBlanks text (first + 4) second → IsNoBlank (step_of (drop second text)) → Opens text first second
+    IsNoBlank (scan_step (drop first text)) → begins_with (to_its_end text first) (codes "HOA:") ≡ true →
+    AreBlanks text (first + 4) second → IsNoBlank (scan_step (drop second text)) → Opens text first second
 opens {text} {first} short before first_end word further second_end = search (rules, told_word)
 
 module _ (text : List ℕ) (first second : ℕ) (o : Opens text first second) where
@@ -103,7 +103,8 @@ module _ (text : List ℕ) (first second : ℕ) (o : Opens text first second) wh
 
   pub with_version : (stream : Stream Sign) (stop : ℕ) → stop ≡ second + prefix_len is_version_byte (drop second text) →
       bytes_eq (take (prefix_len is_version_byte (drop second text)) (drop second text)) (codes "v1") ≡ true →
-      ((pieces : List (Piece Sign)) → AreTokens stop (drop stop text) pieces → stream.pieces ≡ marked fresh pieces) →
+      ((pieces : List (Piece Sign)) → AreTokens stop (drop stop text) pieces → stream.pieces ≡ in_context fresh pieces)
+      →
       stream.end ≡ length text →
       (answer : Result FileData (Found HoaCause)) → PartAnswers hoa_causes file stream answer → ReadsFile text answer
   with_version stream stop is same pieces_are end_is answer a =
@@ -116,7 +117,7 @@ module _ (text : List ℕ) (first second : ℕ) (o : Opens text first second) wh
       let found = some_tokens (length (drop stop text)) stop (drop stop text) (omega arith) in
       let version = subst (λ (v : List ℕ). IsVersion (drop second text) v (drop k (drop second text))) v1 version_is in
       let tokens = subst (λ (n : ℕ). AreTokens n (drop k (drop second text)) found.0) at (grind arith) in
-      let whole_stream : stream ≡ record { pieces = marked fresh found.0; end = length text } = grind arith in
+      let whole_stream : stream ≡ record { pieces = in_context fresh found.0; end = length text } = grind arith in
       by_tokens found.0 o.short hoa_stands version_stands version tokens (grind arith)
 
 -- the length of the version, as the code computes it

@@ -14,7 +14,7 @@ use Rattle.ps_text.specs.Readers.{Reads, Carries}
 use Rattle.ps_text.proofs.Laws.{Laws, Nothing, Apart}
 use Rattle.ps_text.proofs.Branches.{reads_shrinks}
 use Rattle.ps_hoa.specs.Causes.{hoa_causes}
-use Rattle.ps_hoa.specs.Operands.{mark, single, with_last, joined, further, operands, row}
+use Rattle.ps_hoa.specs.Operands.{expect, single, with_last, joined, further, operands, row}
 use Rattle.ps_hoa.specs.Scan.{next_of, behind_next}
 use Rattle.ps_hoa.specs.Tokens.{Sign}
 use Rattle.ps_hoa.specs.declared.infix.Connective.{Connective}
@@ -24,7 +24,7 @@ use Rattle.ps_hoa.specs.declared.tokens.Kind.{Kind}
 use Rattle.ps_hoa.proofs.Grammar.OperandLaws as rows
 use Rattle.ps_hoa.proofs.Grammar.OperandLaws.{Odd, Of, row_alone, row_begins, row_goes_on, row_stops, row_ends}
 use Rattle.ps_hoa.proofs.Reading.Exits.{Leads}
-use Rattle.ps_hoa.proofs.Reading.MarkReading.{Tests, mark_read, mark_elsewhere, behind_shrinks}
+use Rattle.ps_hoa.proofs.Reading.ExpectReading.{Tests, expect_read, expect_elsewhere, behind_shrinks}
 
 -- the part of the recursion's measure that depends on the connective
 abbrev pub binding : Connective → ℕ
@@ -39,7 +39,7 @@ last_value view x some e = ap (map view) e ∙ map-append view some (x ∷ [])
 pub record Row {V : Type 0} (sign : Kind → Bool) (kind : Kind) (operand : Part Sign V HoaCause)
     (First More : Sign → Type 0) : Type 0 where
   pub tests : Tests sign kind
-  pub mark_laws : Laws Odd (mark sign) (Of sign) Nothing ⊥
+  pub expect_laws : Laws Odd (expect sign) (Of sign) Nothing ⊥
   pub laws : Laws Odd operand First More ⊥
   pub apart : Apart More (Of sign)
 
@@ -52,23 +52,23 @@ pub record IsRow {V : Type 0} (sign : Kind → Bool) (operand : Part Sign V HoaC
 module _ {V : Type 0} {sign : Kind → Bool} {kind : Kind} {operand : Part Sign V HoaCause} {First More : Sign → Type 0}
     (w : Row sign kind operand First More) where
   pub first_fails : (join : List V → V) {old : Stream Sign} → Leads (row sign join operand) old operand old
-  first_fails join {old} = record { stops = rows.row_fails sign operand w.mark_laws w.laws w.apart join old }
+  first_fails join {old} = record { stops = rows.row_fails sign operand w.expect_laws w.laws w.apart join old }
 
   pub first_alone : (join : List V → V) {old now : Stream Sign} {v : V} → Reads operand old v now →
       ((next_of now).sign.kind ≡ kind → ⊥) → Reads (row sign join operand) old v now
-  first_alone join {now = now} r differs = search (rules, row_alone, mark_elsewhere)
+  first_alone join {now = now} r differs = search (rules, row_alone, expect_elsewhere)
 
   pub row_starts : {old now : Stream Sign} {v : V} {vs : List V} → Reads operand old v now →
       (next_of now).sign.kind ≡ kind → vs ≡ single v → IsRow sign operand old vs now
   row_starts {old} {now} r e is = subst (λ us. IsRow sign operand old us now) (sym is)
-      (grind (arith, row_begins sign operand w.mark_laws w.laws w.apart r))
+      (grind (arith, row_begins sign operand w.expect_laws w.laws w.apart r))
 
   module _ {old now : Stream Sign} {vs : List V} (i : IsRow sign operand old vs now) where
     pub row_done : (join : List V → V) → ((next_of now).sign.kind ≡ kind → ⊥) →
         Reads (row sign join operand) old (join vs) now
     row_done join differs = subst (λ v. Reads (row sign join operand) old v now) (all vs
         (λ one. differs (w.tests.is.1 _ (i.several one))))
-        (row_ends sign operand w.mark_laws w.laws w.apart join i.carries (mark_elsewhere w.tests now differs))
+        (row_ends sign operand w.expect_laws w.laws w.apart join i.carries (expect_elsewhere w.tests now differs))
       where
         all : (us : List V) → (length us ≡ 1 → ⊥) → joined join us ≡ join us
         all [] several = refl
@@ -82,10 +82,10 @@ module _ {V : Type 0} {sign : Kind → Bool} {kind : Kind} {operand : Part Sign 
           let long : length (with_last vs v) ≡ length vs + 1 = length-append vs (v ∷ []) in
           let some = i.some in
           subst (λ us. IsRow sign operand old us new) (sym is)
-          (grind (arith, row_goes_on sign operand w.mark_laws w.laws w.apart i.carries (mark_read w.tests e n) r))
+          (grind (arith, row_goes_on sign operand w.expect_laws w.laws w.apart i.carries (expect_read w.tests e n) r))
 
       pub row_fails : (join : List V → V) → Leads (row sign join operand) old operand mid
-      row_fails join = search (rules, row_stops, mark_read)
+      row_fails join = search (rules, row_stops, expect_read)
 
   pub row_shrinks : (now : Stream Sign) {mid new : Stream Sign} {v : V} → mid ≡ behind_next now →
       Reads operand mid v new → length new.pieces < length now.pieces

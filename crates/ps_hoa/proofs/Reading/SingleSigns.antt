@@ -55,6 +55,7 @@ module _ {V X : Type 0} (view : X → V) {take : Sign → Option V} {Bad : Sign 
   }) new o.sign o.value o.taken (λ t h. ap take (sym (same_some p.sign t h)) ∙ k.none)
       (λ t f h b. grind (arith, same_some)) (Text cause offset) (λ i. Some (record { cause = k.cause i; offset = x i }))
 
+  -- a function that takes the next token as stated reads a part of one token
   pub reads_one : (old new : Stream Sign) (r : Result X HoaFault) → Takes view take Bad (next_of old) r →
       new ≡ behind_next old → Meets found_of hoa_causes view (one take Bad) old r new
   reads_one old new r = go old.pieces old.end r

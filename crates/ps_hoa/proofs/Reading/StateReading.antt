@@ -14,7 +14,7 @@ use Rattle.ps_text.proofs.Branches.{left_entered, right_otherwise}
 use Rattle.ps_hoa.specs.Tokens.{Sign}
 use Rattle.ps_hoa.specs.Files.{RowData}
 use Rattle.ps_hoa.specs.Header.{HeaderData, string_value, string_in, string}
-use Rattle.ps_hoa.specs.Operands.{mark_in, mark}
+use Rattle.ps_hoa.specs.Operands.{expect_in, expect}
 use Rattle.ps_hoa.specs.Body.{BodyData, is_left_bracket, label_in_brackets, state_label, edges, edge, set_number}
 use Rattle.ps_hoa.specs.Body.{state_value, IsBadNext, state, is_end, IsBadClose, nothing_of, state_name}
 use Rattle.ps_hoa.specs.Inner.Ahead.{begins_edge}
@@ -28,15 +28,15 @@ use Rattle.ps_hoa.proofs.Grammar.BodyLaws.{laws_set_number}
 use Rattle.ps_hoa.proofs.Grammar.StateLaws.{IsState, text_of_state, laws_named, laws_no_name, joint_state, laws_state}
 use Rattle.ps_hoa.proofs.Grammar.StateLaws.{state_apart}
 use Rattle.ps_hoa.proofs.Reading.Exits.{Serves, serves_as, itself, entered, Loop}
-use Rattle.ps_hoa.proofs.Reading.MarkReading.{tests_left_bracket, tests_string, sign_begins, mark_begins}
-use Rattle.ps_hoa.proofs.Reading.MarkReading.{mark_elsewhere}
+use Rattle.ps_hoa.proofs.Reading.ExpectReading.{tests_left_bracket, tests_string, sign_begins, expect_begins}
+use Rattle.ps_hoa.proofs.Reading.ExpectReading.{expect_elsewhere}
 use Rattle.ps_hoa.proofs.Reading.NextSign.{next_same}
 use Rattle.ps_hoa.proofs.Reading.SingleSigns.{IsOfSigns, signs_of}
 
 pub next_signs : (h : HeaderData) (b : BodyData) → IsOfSigns state_value (IsBadNext h b)
 next_signs h b = signs_of Header (codes "State:") refl refl (λ f k. k.0 refl)
 
-pub end_signs : (h : HeaderData) (b : BodyData) → IsOfSigns (mark_in is_end) (IsBadClose h b)
+pub end_signs : (h : HeaderData) (b : BodyData) → IsOfSigns (expect_in is_end) (IsBadClose h b)
 end_signs h b = signs_of End [] refl refl (λ f k. false_true k.0)
 
 -- ## `State:`
@@ -56,12 +56,12 @@ avoids_state s e t n k = false_true (sym e ∙ ap is_some (ap state_value (next_
 
 module _ (h : HeaderData) (s : Stream Sign) where
   pub label_serves : (next_of s).sign.kind ≡ LeftBracket →
-      Serves s (then_by (mark is_left_bracket) (λ _. label_in_brackets h)) (state_label h)
+      Serves s (then_by (expect is_left_bracket) (λ _. label_in_brackets h)) (state_label h)
   label_serves e = serves_as s (left_entered (laws_bracketed h) laws_no_label (there_of s) (λ t a b. b)
-      (entered (joint_bracket h) s (mark_begins tests_left_bracket s e)))
+      (entered (joint_bracket h) s (expect_begins tests_left_bracket s e)))
 
   pub no_label_serves : ((next_of s).sign.kind ≡ LeftBracket → ⊥) → Serves s (give None) (state_label h)
-  no_label_serves differs = serves_as s (grind (arith, laws_bracketed h, mark_elsewhere tests_left_bracket s differs))
+  no_label_serves differs = serves_as s (grind (arith, laws_bracketed h, expect_elsewhere tests_left_bracket s differs))
 
 module _ (s : Stream Sign) where
   pub string_next : (next_of s).sign.kind ≡ Text → (v : List ℕ) × (string_in (next_of s).sign ≡ Some v)
@@ -75,7 +75,7 @@ module _ (s : Stream Sign) where
 
   pub no_name_serves : ((next_of s).sign.kind ≡ Text → ⊥) → Serves s (give tt) state_name
   no_name_serves differs =
-      search (rules, serves_as, right_otherwise, laws_named, laws_no_name, mark_elsewhere, tests_string)
+      search (rules, serves_as, right_otherwise, laws_named, laws_no_name, expect_elsewhere, tests_string)
 
 -- the edges of a new row
 pub edges_serve : (h : HeaderData) {before count : ℕ} {row empty : RowData} → before ≡ count → row ≡ empty →

@@ -24,10 +24,12 @@ keeps_less part h k text v i q = h v (k text v i q)
 pub keeps_give : {T V F : Type 0} (S : V → Type 0) (v : V) → S v → Keeps (give {T = T} {V = V} {F = F} v) S
 keeps_give S v s text w i q = subst S (sym i.1) s
 
+-- a part of one token has a property that each taken token has
 pub keeps_one : {T V F : Type 0} {S : V → Type 0} (take : T → Option V) (Bad : T → F → Type 0) →
     ((t : T) (v : V) → take t ≡ Some v → ((f : F) → Bad t f → ⊥) → S v) → Keeps (one take Bad) S
 keeps_one take Bad h text v i q = h i.0 v i.2 (λ f b. q [] [] i.0 f i.1 (refl, b))
 
+-- a sequence of two parts has a property of its values if its second part has it for each value of the first
 pub keeps_then : {T A B F : Type 0} {S : A → Type 0} {R : B → Type 0} {P : Part T A F} {Q : A → Part T B F} →
     Keeps P S → ((a : A) → S a → Keeps (Q a) R) → Keeps (then_by P Q) R
 keeps_then {P = P} {Q = Q} p q text b i quiet = q i.value (p i.left i.value i.is_left left) i.right b i.is_right right
@@ -45,6 +47,7 @@ keeps_then {P = P} {Q = Q} p q text b i quiet = q i.value (p i.left i.value i.is
       is_cause = c;
     }))
 
+-- a sequence of two parts has a property that its second part always has
 pub keeps_behind : {T A B F : Type 0} {R : B → Type 0} (P : Part T A F) {Q : A → Part T B F} →
     ((a : A) → Keeps (Q a) R) → Keeps (then_by P Q) R
 keeps_behind P q = keeps_then (keeps_nothing P) (λ a _. q a)
@@ -53,6 +56,7 @@ pub keeps_either : {T V F : Type 0} {S : V → Type 0} {P Q : Part T V F} → Ke
 keeps_either p q text v (inl i) quiet = p text v i (λ front rest t f e c. quiet front rest t f e (inl c))
 keeps_either p q text v (inr i) quiet = q text v i (λ front rest t f e c. quiet front rest t f e (inr c))
 
+-- a property of mapped values is a property of a part whose value is mapped
 pub keeps_mapped : {T A B F : Type 0} (S : B → Type 0) (h : A → B) (P : Part T A F) → Keeps P (λ a. S (h a)) →
     Keeps (mapped h P) S
 keeps_mapped S h P k text b i quiet = subst S (sym i.2) (k text i.0 i.1 quiet)
@@ -66,6 +70,7 @@ module _ {T C F : Type 0} {S : C → Type 0} (item : C → Part T C F) (k : (c :
   keeps_times zero c s = keeps_give S c s
   keeps_times (suc n) c s = keeps_then (k c s) (keeps_times n)
 
+  -- a repetition has a property that its first value has and each item keeps
   pub keeps_many : (c : C) → S c → Keeps (many item c) S
   keeps_many c s text v i quiet = keeps_times i.0 c s text v i.1 (λ front rest t f e d. quiet front rest t f e (i.0, d))
 

@@ -11,13 +11,14 @@ use Rattle.ps_text.proofs.Simple.{none_is_some}
 use Rattle.ps_hoa.specs.Body.{edge_limit, BodyData, no_rows, IsBadState, IsBadSet, BadIn, sets_of, is_left_brace}
 use Rattle.ps_hoa.specs.Body.{is_right_brace, set_number, marks, is_left_bracket, body_scope, label_in_brackets}
 use Rattle.ps_hoa.specs.Body.{state_label, first_labelling, labelling, MayHaveNoLabel, MayHaveLabel, IsBadBracket}
-use Rattle.ps_hoa.specs.Body.{is_bracket, IsBadPlainTarget, guard_of, with_edge, labelled_edge, plain_edge, edge, edges}
+use Rattle.ps_hoa.specs.Body.{is_bracket, IsBadPlainTarget, guard_of, row_with_edge, labelled_edge, plain_edge, edge}
+use Rattle.ps_hoa.specs.Body.{edges}
 use Rattle.ps_hoa.specs.Body.{IsWrongCount, last_row, has_row, IsBadRow, state_name, empty_row, with_row, state_value}
 use Rattle.ps_hoa.specs.Body.{IsBadNext, state_begins, state, is_end, IsBadClose, ended, body}
 use Rattle.ps_hoa.specs.Files.{GuardData, EdgeData, RowData, stated, of_state, at_letter, once}
 use Rattle.ps_hoa.specs.Header.{HeaderData, int_in, state_limit, IsAlternating}
 use Rattle.ps_hoa.specs.Labels.{label}
-use Rattle.ps_hoa.specs.Operands.{nesting_limit, mark_in, mark}
+use Rattle.ps_hoa.specs.Operands.{nesting_limit, expect_in, expect}
 use Rattle.ps_hoa.specs.Sound.{AreDifferent, IsStated, IsOfState, AreAtLetters, AreRowsOnce, edges_of}
 use Rattle.ps_hoa.proofs.Soundness.Differences.{neither, nat_eq_not, all_once, different_once}
 use Rattle.ps_hoa.specs.declared.edges.Labelling.{Labelling}
@@ -26,12 +27,12 @@ use Rattle.ps_hoa.specs.declared.fault.HoaCause.{HoaCause}
 use Rattle.ps_hoa.specs.declared.fault.HoaCause.TheVariants as causes
 use Rattle.ps_hoa.specs.declared.tokens.Kind.TheVariants.{LeftBracket}
 use Rattle.std.proofs.lemmas.Bool.{false_from_ne_true}
-use Rattle.ps_hoa.proofs.Reading.MarkReading.{tests_left_bracket}
+use Rattle.ps_hoa.proofs.Reading.ExpectReading.{tests_left_bracket}
 use Rattle.ps_hoa.proofs.Soundness.Keeping.{Keeps, keeps_less, keeps_give, keeps_one, keeps_then, keeps_behind}
 use Rattle.ps_hoa.proofs.Soundness.Keeping.{keeps_either, keeps_mapped, keeps_many, keeps_barred}
 use Rattle.ps_hoa.proofs.Soundness.HeaderKept.{keeps_number}
 use Rattle.std.specs.Prelude.{nat_eq}
-use Rattle.ps_hoa.proofs.Grammar.OperandLaws.{taken_mark}
+use Rattle.ps_hoa.proofs.Grammar.OperandLaws.{taken_expect}
 use Rattle.ps_hoa.proofs.Soundness.SoundLabels.{InScope, below, keeps_label, all_push}
 
 -- ## Numbers
@@ -59,9 +60,9 @@ module _ (h : HeaderData) where
   ))
 
   keeps_marks : Keeps (marks h) AreSets
-  keeps_marks = keeps_either (keeps_behind (mark is_left_brace) (λ _.
+  keeps_marks = keeps_either (keeps_behind (expect is_left_brace) (λ _.
       keeps_then (keeps_many (set_number (sets_of h)) keeps_set_number [] (tt, tt))
-      (λ ns a. keeps_mapped _ (λ _. ns) (mark is_right_brace) (λ text u i q. a)))) (keeps_give _ [] (tt, tt))
+      (λ ns a. keeps_mapped _ (λ _. ns) (expect is_right_brace) (λ text u i q. a)))) (keeps_give _ [] (tt, tt))
 
   -- ## Labels between brackets
 
@@ -75,7 +76,7 @@ module _ (h : HeaderData) where
   keeps_label_in_brackets = keeps_then (keeps_label (body_scope h) nesting_limit) (λ e s. grind arith)
 
   keeps_state_label : Keeps (state_label h) (λ o. IfSome o IsScoped)
-  keeps_state_label = keeps_either (keeps_behind (mark is_left_bracket) (λ _. keeps_less (label_in_brackets h)
+  keeps_state_label = keeps_either (keeps_behind (expect is_left_bracket) (λ _. keeps_less (label_in_brackets h)
       (λ o l. subst (λ z. IfSome z IsScoped) (sym l.1) l.2) keeps_label_in_brackets)) (keeps_give _ None tt)
 
   -- ## Edges
@@ -135,7 +136,7 @@ module _ (h : HeaderData) (before : ℕ) (n : ℕ) where
   module _ (row : RowData) (k : RowOf row) where
     one_more : (label : Option Expression) (target : ℕ) (ns : List ℕ) → IsGuardKept h (guard_of row label) →
         IsStateOf h.states target → AreSets h ns → (edge_limit ≤ before + length row.edges → ⊥) →
-        LabelledBy row.label (with_edge row label target ns).edges → RowOf (with_edge row label target ns)
+        LabelledBy row.label (row_with_edge row label target ns).edges → RowOf (row_with_edge row label target ns)
     one_more label target ns g t a r l = grind (arith, all_push, length-append, below)
 
     abbrev MayBegin : Unit {0} → Type 0
@@ -143,7 +144,7 @@ module _ (h : HeaderData) (before : ℕ) (n : ℕ) where
 
     keeps_bracket : Keeps (one is_bracket (IsBadBracket before row)) MayBegin
     keeps_bracket = keeps_one is_bracket (IsBadBracket before row) (λ t v e good.
-        let at : t.kind ≡ LeftBracket = tests_left_bracket.is.1 t.kind (taken_mark is_left_bracket t v e) in (
+        let at : t.kind ≡ LeftBracket = tests_left_bracket.is.1 t.kind (taken_expect is_left_bracket t v e) in (
           λ full. good causes.Limit (at, inl (full, refl)),
           λ no. good causes.Labels (at, inr (no, refl)),
         ))
@@ -151,7 +152,7 @@ module _ (h : HeaderData) (before : ℕ) (n : ℕ) where
     keeps_labelled_edge : Keeps (labelled_edge h before row) RowOf
     keeps_labelled_edge = keeps_then keeps_bracket (λ _ m. keeps_then (keeps_label_in_brackets h) (λ label l. keeps_then
         (keeps_barred (one int_in (BadIn (IsBadState h.states))) IsAlternating (keeps_number (IsBadState h.states)))
-        (λ target good. keeps_mapped _ (with_edge row label target) (marks h) (λ text ns i q.
+        (λ target good. keeps_mapped _ (row_with_edge row label target) (marks h) (λ text ns i q.
         let g : guard_of row label ≡ stated l.0 = ap (guard_of row) l.1 in
         one_more label target ns (subst (IsGuardKept h) (sym g) l.2) (is_state h.states target good)
         (keeps_marks h text ns i q) m.0 (push_stated row.label row.edges _ (l.0, g) k.0.labelled m.1)))))
@@ -162,7 +163,7 @@ module _ (h : HeaderData) (before : ℕ) (n : ℕ) where
     keeps_plain_edge : Keeps (plain_edge h before row) RowOf
     keeps_plain_edge = keeps_then (keeps_barred (one int_in (BadIn (IsBadPlainTarget h.states before row)))
         IsAlternating (keeps_number (IsBadPlainTarget h.states before row))) (λ target good. keeps_mapped _
-        (with_edge row None target) (marks h) (λ text ns i q. one_more None target ns (plain_kept row.label)
+        (row_with_edge row None target) (marks h) (λ text ns i q. one_more None target ns (plain_kept row.label)
         (grind (arith, is_state)) (search (rules, keeps_marks)) (λ full. good causes.Limit (inr (inl (full, refl))))
         (push_plain row.label row.edges _ refl k.0.labelled (λ no. good causes.Labels (inr (inr (no, refl)))))))
 
@@ -242,8 +243,8 @@ module _ (h : HeaderData) (b : BodyData) where
       grind (arith, all_push, rows_push, right_push, last_right, sum_by_push)))))))
 
   keeps_ended : IsBodyKept h b → Keeps (ended h b) (IsBodyDone h)
-  keeps_ended k = keeps_mapped _ (λ _. b) (one (mark_in is_end) (IsBadClose h b)) (keeps_one (mark_in is_end)
-      (IsBadClose h b) (λ t v e good. search (rules, last_right, taken_mark, k.rows, k.once, k.edges, k.few)))
+  keeps_ended k = keeps_mapped _ (λ _. b) (one (expect_in is_end) (IsBadClose h b)) (keeps_one (expect_in is_end)
+      (IsBadClose h b) (λ t v e good. search (rules, last_right, taken_expect, k.rows, k.once, k.edges, k.few)))
 
 pub keeps_body : (h : HeaderData) → Keeps (body h) (IsBodyDone h)
 keeps_body h = keeps_then (keeps_many (state h) (keeps_state h) no_rows (search rules)) (keeps_ended h)

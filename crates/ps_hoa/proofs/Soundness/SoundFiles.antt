@@ -17,7 +17,7 @@ use Rattle.ps_hoa.specs.Header.{SomeNamesSetBeyond, start_too_large, no_start, o
 use Rattle.ps_hoa.specs.Sound.{AreDifferent, IsCondition, AreConditions, AreLabelled, IsLabelOf, IsGuard, AreBelow}
 use Rattle.ps_hoa.specs.Sound.{IsSoundEdge, IsSoundRow, IsSoundFile}
 use Rattle.ps_hoa.specs.Texts.{file_of, file, ReadsFile, by_tokens}
-use Rattle.ps_hoa.specs.Tokens.{marked}
+use Rattle.ps_hoa.specs.Tokens.{in_context}
 use Rattle.ps_hoa.specs.Scan.{fresh}
 use Rattle.ps_hoa.specs.declared.edges.Labelling.TheVariants.{ByPlace}
 use Rattle.ps_hoa.specs.declared.fault.HoaCause.TheVariants as causes
@@ -192,5 +192,5 @@ keeps_file = keeps_then keeps_header (λ h k.
     keeps_mapped _ (file_of h) (body h) (λ text b i q. sound h b k.0 k.1 (keeps_body h text b i q)))
 
 pub sound_file : (text : List ℕ) (f : FileData) → ReadsFile text (Ok f) → IsSoundFile f
-sound_file text f (by_tokens pieces short hoa version v1 tokens answer) = keeps_file (signs (marked fresh pieces)) f
+sound_file text f (by_tokens pieces short hoa version v1 tokens answer) = keeps_file (signs (in_context fresh pieces)) f
     answer.0 (λ front rest t g e c. answer.1 front (t ∷ rest) g e (by_part t refl c))

@@ -5,7 +5,7 @@ use Rattle.std.proofs.Common.{◌≡◌, ℕ, ◌+◌, List, [], ◌∷◌, leng
 use Rattle.ps_label.specs.Expression.{Expression}
 use Rattle.ps_text.proofs.Simple.{none_is_some, same_some}
 use Rattle.ps_hoa.specs.Header.{HeaderData, no_items, names_of, item_name, item, AnAliasBeyond, IsBadHeader}
-use Rattle.ps_hoa.specs.Header.{out_of_range, body_value, IsBadBody, body_mark, header}
+use Rattle.ps_hoa.specs.Header.{out_of_range, body_value, IsBadBody, body_token, header}
 use Rattle.ps_label.specs.Expression.{AreOverFrom}
 use Rattle.ps_hoa.specs.declared.fault.HoaCause.{HoaCause}
 use Rattle.ps_hoa.specs.declared.fault.HoaCause.TheVariants as causes
@@ -25,14 +25,14 @@ HasNoFlaw h = (f : HoaCause) → IsBadHeader h f → ⊥
 same_header : (h g : HeaderData) (kind : Kind) → body_value h kind ≡ Some g → (kind ≡ Body) × (h ≡ g)
 same_header h g kind k = search (rules, same_some, none_is_some)
 
-keeps_body_mark : (h : HeaderData) → Kept h → Keeps (body_mark h) (λ g. Kept g × HasNoFlaw g)
-keeps_body_mark h k = keeps_one (λ s. body_value h s.kind) (IsBadBody h) (λ t g e good. search (rules, same_header))
+keeps_body_token : (h : HeaderData) → Kept h → Keeps (body_token h) (λ g. Kept g × HasNoFlaw g)
+keeps_body_token h k = keeps_one (λ s. body_value h s.kind) (IsBadBody h) (λ t g e good. search (rules, same_header))
 
 no_items_kept : Kept no_items
 no_items_kept = (tt, (omega arith, tt), record { one_each = refl; few = omega arith; rise = tt }, tt, tt)
 
 pub keeps_header : Keeps header (λ h. Kept h × HasNoFlaw h)
-keeps_header = keeps_then (keeps_many item keeps_item no_items no_items_kept) keeps_body_mark
+keeps_header = keeps_then (keeps_many item keeps_item no_items no_items_kept) keeps_body_token
 
 -- ## The aliases
 

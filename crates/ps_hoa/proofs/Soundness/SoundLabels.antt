@@ -7,14 +7,14 @@ use Rattle.std.proofs.Common.{inl, inr, arith, rules}
 use Rattle.std.specs.List.{AllByRecursion}
 use Rattle.std.proofs.lemmas.List.Quantifiers.{position-Some}
 use Rattle.ps_label.specs.Expression.{Expression, constant, proposition, alias, not_of, all_of, any_of, Operands, last}
-use Rattle.ps_label.specs.Expression.{more, row_of, IsOver, AreOver}
+use Rattle.ps_label.specs.Expression.{more, operands_in, IsOver, AreOver}
 use Rattle.ps_text.specs.Digits.{decimal_value}
 use Rattle.ps_text.specs.Parts.{Part}
 use Rattle.ps_text.proofs.Simple.{none_is_some, same_some}
 use Rattle.ps_hoa.specs.Header.{SpeaksBeyond, SomeSpeaksBeyond}
 use Rattle.ps_hoa.specs.Labels.{ScopeData, leaf_value, leaf_in, IsBeyond, IsBadLeaf, BadLeaf, leaf, together, operand}
 use Rattle.ps_hoa.specs.Labels.{label}
-use Rattle.ps_hoa.specs.Operands.{is_not, is_left, mark, single, joined, further, operands, row, rows}
+use Rattle.ps_hoa.specs.Operands.{is_not, is_left, expect, single, joined, further, operands, row, rows}
 use Rattle.ps_hoa.specs.Operands.{bar, operand as operand_of}
 use Rattle.ps_hoa.specs.Tokens.{Sign}
 use Rattle.ps_hoa.specs.declared.infix.Connective.{Connective}
@@ -94,12 +94,12 @@ leaf_sound scope AliasName text e is good = search (rules, none_is_some, same_so
 leaf_sound scope kind text e is good = absurd (none_is_some e is)
 
 names_together : (scope : ScopeData) (es : List Expression) → AllByRecursion (InScope scope) es →
-    AllNamesBelow (length scope.names) (row_of es)
+    AllNamesBelow (length scope.names) (operands_in es)
 names_together scope [] a = tt
 names_together scope (e ∷ es) a = (a.0.0, names_together scope es a.1)
 
 some_beyond : (scope : ScopeData) (es : List Expression) → AllByRecursion (InScope scope) es → (count : ℕ) →
-    scope.propositions ≡ Some count → SomeSpeaksBeyond count (row_of es) → ⊥
+    scope.propositions ≡ Some count → SomeSpeaksBeyond count (operands_in es) → ⊥
 some_beyond scope [] a count e h = h
 some_beyond scope (x ∷ es) a count e (inl h) = a.0.1 count e h
 some_beyond scope (x ∷ es) a count e (inr h) = some_beyond scope es a.1 count e h
@@ -120,8 +120,8 @@ module _ (scope : ScopeData) where
   unfolding operand_of
   keeps_operand zero = keeps_behind (bar (Some not_of)) (λ _. keeps_leaf)
   keeps_operand (suc room) = let k = keeps_operand room in
-      keeps_either keeps_leaf (keeps_either (keeps_behind (mark is_not) (λ _. keeps_mapped _ not_of
-      (operand scope room) k)) (keeps_behind (mark is_left) (λ _. keeps_then (keeps_rows k) (λ v s. grind arith))))
+      keeps_either keeps_leaf (keeps_either (keeps_behind (expect is_not) (λ _. keeps_mapped _ not_of
+      (operand scope room) k)) (keeps_behind (expect is_left) (λ _. keeps_then (keeps_rows k) (λ v s. grind arith))))
 
   pub keeps_label : (room : ℕ) → Keeps (label scope room) (InScope scope)
   keeps_label room = keeps_rows (keeps_operand room)

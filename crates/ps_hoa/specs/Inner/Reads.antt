@@ -8,13 +8,14 @@ use Rattle.ps_text.specs.Answers.{Piece}
 use Rattle.ps_text.specs.Parts.{Part, refusal_of}
 use Rattle.ps_text.specs.Readers.{Meets}
 use Rattle.ps_hoa.specs.Causes.{cause_number, hoa_causes, found_of}
-use Rattle.ps_hoa.specs.Scan.{Reading, stream_of}
+use Rattle.ps_hoa.specs.Scan.{ScanState, stream_of}
 use Rattle.ps_hoa.specs.Tokens.{Sign}
 use Rattle.ps_hoa.specs.declared.fault.HoaCause.{HoaCause}
 use Rattle.ps_hoa.specs.Causes.{HoaFault}
 use Rattle.ps_text.specs.declared.faults.Fault.TheVariants as faults
 
-abbrev pub ReadsAs : {V X : Type 0} → (X → V) → Part Sign V HoaCause → Reading → Result X HoaFault → Reading → Type 0
+abbrev pub ReadsAs : {V X : Type 0} → (X → V) → Part Sign V HoaCause → ScanState → Result X HoaFault → ScanState →
+    Type 0
 ReadsAs view part old result new = Meets found_of hoa_causes view part (stream_of old) result (stream_of new)
 
 -- f is an error of this token, and no error of this token has a smaller number

@@ -18,11 +18,11 @@ use Rattle.ps_certificate.proofs.Keeping.{path_stays}
 use Rattle.ps_diagram.specs.Table.{Table, Keeps, leaf_of}
 use Rattle.ps_diagram.proofs.KnownLemmas.{some_nat}
 use Rattle.ps_automaton.specs.Automata.{AutomatonData}
-use Rattle.ps_machine.specs.Boards.{AreListed, Board, IsClass, IsMove, LeadsTo}
+use Rattle.ps_machine.specs.Boards.{IsListOf, Board, IsClassLetter, IsMove, LeadsTo}
 use Rattle.ps_machine.specs.BuiltBoards.{board_of}
-use Rattle.ps_machine.specs.Inner.Drawing.{AreMemories, IsPlan, IsDrawn, KeepsRows, mark_of}
+use Rattle.ps_machine.specs.Inner.Drawing.{AreMemories, IsPlan, IsDrawn, KeepsRows, anchor_of}
 use Rattle.ps_machine.specs.Extracting.{IsUsed, GoesTo, Shares, StandsFor}
-use Rattle.ps_machine.specs.Solving.{winner}
+use Rattle.ps_machine.specs.Solving.{winner_at_start}
 use Rattle.ps_machine.specs.Keys.{mover_of}
 use Rattle.ps_machine.specs.Numbering.{StandsAt}
 use Rattle.ps_machine.specs.declared.key.Key.{Key}
@@ -51,41 +51,43 @@ pub has_key : (keys : List Key) (v : ℕ) (key : Key) → StandsAt keys v key �
 has_key keys v key at = list_any_at ((key_eq.eq-value).it key) keys v key (slice_get_within keys v key at)
     (rw (get_or_from_slice_get keys v key key at) (key_same key))
 
-pub has_mark : (marks : List ℕ) (memory : ℕ) {mark : ℕ} → slice_get marks memory ≡ Some mark →
-    list_any (eqb mark) marks ≡ true
-has_mark marks memory {mark} at = list_any_at (eqb mark) marks memory mark (slice_get_within marks memory mark at)
-    (eq-eqb mark (get_or marks memory mark) (sym (get_or_from_slice_get marks memory mark mark at)))
+pub has_anchor : (anchors : List ℕ) (memory : ℕ) {anchor : ℕ} → slice_get anchors memory ≡ Some anchor →
+    list_any (eqb anchor) anchors ≡ true
+has_anchor anchors memory {anchor} at =
+    list_any_at (eqb anchor) anchors memory anchor (slice_get_within anchors memory anchor at)
+    (eq-eqb anchor (get_or anchors memory anchor) (sym (get_or_from_slice_get anchors memory anchor anchor at)))
 
--- a memory state with the mark of a vertex belongs to this vertex
-pub stands_for : {is_first : Bool} {keys : List Key} {used kept marks : List ℕ} {memory : ℕ} (v : ℕ) {q : ℕ} (p : ℕ) →
-    AllPairs (λ x y. x ≢ y) keys → AreMemories is_first keys used kept marks → StandsAt keys v (First q p) →
-    slice_get marks memory ≡ Some (mark_of is_first v q) → {w : ℕ} → StandsAt keys w (First q p) →
+-- a memory state with the anchor of a vertex belongs to this vertex
+pub stands_for : {is_first : Bool} {keys : List Key} {used kept anchors : List ℕ} {memory : ℕ} (v : ℕ) {q : ℕ} (p : ℕ) →
+    AllPairs (λ x y. x ≢ y) keys → AreMemories is_first keys used kept anchors → StandsAt keys v (First q p) →
+    slice_get anchors memory ≡ Some (anchor_of is_first v q) → {w : ℕ} → StandsAt keys w (First q p) →
     StandsFor is_first keys kept memory w q
-stands_for {is_first} {keys} {kept} {marks} {memory} v {q} p differ m at is {w} there =
+stands_for {is_first} {keys} {kept} {anchors} {memory} v {q} p differ m at is {w} there =
     let within : memory < length kept =
-    omega (arith, slice_get_within marks memory (mark_of is_first v q) is, m.many) in
+    omega (arith, slice_get_within anchors memory (anchor_of is_first v q) is, m.many) in
     let here = m.each memory within in
     grind (arith, slice_get-get_or, by)
   where
-    by : (b : Bool) (u r : ℕ) → Some (mark_of b u r) ≡ Some (mark_of b v q) → Shares b u r w q
+    by : (b : Bool) (u r : ℕ) → Some (anchor_of b u r) ≡ Some (anchor_of b v q) → Shares b u r w q
     by b u r e = grind (arith, some_nat, one_place)
 
 -- ## Used vertices
 
 -- a path can continue by any edge, except that at a vertex of the winner it can continue only by the winner's move
 pub used_more : {game : ParityGame} {certificate : CertificateData} {v : ℕ} {w : ℕ} → IsUsed game certificate v →
-    HasEdge game v w → w < vertex_count game → (owner_of game v ≡ winner certificate → choice_of certificate v ≡ Some w)
+    HasEdge game v w → w < vertex_count game →
+    (owner_of game v ≡ winner_at_start certificate → choice_of certificate v ≡ Some w)
     → IsUsed game certificate w
 used_more {game} {certificate} {w} u edge within chosen =
     let long = length_push u.path w in
     grind (arith, IsPath-push, get_or_append_left, Follows-push, get_or_push)
 
 pub used_won : {game : ParityGame} {certificate : CertificateData} {v : ℕ} → IsClosed game certificate →
-    IsUsed game certificate v → winner_of certificate v ≡ winner certificate
+    IsUsed game certificate v → winner_of certificate v ≡ winner_at_start certificate
 used_won {game} {certificate} closed u = search (rules, path_stays)
 
 pub setting : {order : Order} {a : AutomatonData} {keys : List Key} {certificate : CertificateData} {is_first : Bool}
-    {kept marks : List ℕ} → (plan : IsPlan order a keys certificate is_first kept marks) →
+    {kept anchors : List ℕ} → (plan : IsPlan order a keys certificate is_first kept anchors) →
     Setting (board_of order a) (mover_of order) keys plan.game certificate
 setting {order} plan = search (rules, small_mover)
 
@@ -93,7 +95,7 @@ setting {order} plan = search (rules, small_mover)
 
 -- the numbers of the vertices of some keys, each of which belongs to a letter of the list
 module _ (keys : List Key) (key : ℕ → Key) (numbers : List ℕ) {P : ℕ → Type 0} {letters : List ℕ} {next : List Key}
-    (listed : AreListed P letters) (are : next ≡ map key letters) (zip : AllZip (StandsAt keys) numbers next) where
+    (listed : IsListOf P letters) (are : next ≡ map key letters) (zip : AllZip (StandsAt keys) numbers next) where
   letter_of_number : {w : ℕ} → Contains numbers w → (x : ℕ) × P x × StandsAt keys w (key x)
   letter_of_number {w} c =
       let here = zip_at keys numbers next c.0 w (key 0) zip c.1 in
@@ -118,7 +120,7 @@ pub record Leads (keys : List Key) (game : ParityGame) (v : ℕ) (k : Key) : Typ
 -- the class for which a vertex stands
 pub record ClassAt (board : Board) (keys : List Key) (q w : ℕ) : Type 0 where
   pub letter : ℕ
-  pub is_class : IsClass board q letter
+  pub is_class : IsClassLetter board q letter
   pub stands : StandsAt keys w (Second q letter)
 
 -- the second player's letter that leads from a class to a vertex
@@ -140,7 +142,7 @@ module _ {board : Board} {mover : ℕ} {keys : List Key} {game : ParityGame} {ce
   pair_key q x y = First (board.auto.next q (x + y)) (board.auto.priority q (x + y))
 
   pub move_at : {v : ℕ} {k : Key} → StandsAt keys v k → IsUsed game certificate v →
-      owner_of game v ≡ winner certificate → Chosen game certificate v
+      owner_of game v ≡ winner_at_start certificate → Chosen game certificate v
   move_at {v} {k} at used own =
       let within = within_game s v at in
       let won = used_won s.valid.closed used in
@@ -166,7 +168,8 @@ module _ {board : Board} {mover : ℕ} {keys : List Key} {game : ParityGame} {ce
       grind (arith, letter_of_number keys (pair_key q x) (successors_of game v) n.1.1 n.1.2 n.2 edge.1)
 
   -- a vertex of a state has an edge to the vertex of each class of the state
-  pub to_class_of : {v q p x : ℕ} → StandsAt keys v (First q p) → IsClass board q x → Leads keys game v (Second q x)
+  pub to_class_of : {v q p x : ℕ} → StandsAt keys v (First q p) → IsClassLetter board q x →
+      Leads keys game v (Second q x)
   to_class_of {v} {q} {p} at is =
       let n = next_keys v (First q p) at in
       let there = number_of_letter keys (λ y. Second q y) (successors_of game v) n.1.1 n.1.2 n.2 is in
@@ -185,7 +188,7 @@ pub not_both : {r c q p : ℕ} → Second r c ≡ First q p → ⊥
 not_both e = search rules
 
 module _ {order : Order} {a : AutomatonData} {keys : List Key} {certificate : CertificateData} {is_first : Bool}
-    {kept marks : List ℕ} (plan : IsPlan order a keys certificate is_first kept marks) where
+    {kept anchors : List ℕ} (plan : IsPlan order a keys certificate is_first kept anchors) where
   -- the vertex of a memory state is used, and the first player moves at this vertex
   pub record KeptAt (v : ℕ) : Type 0 where
     pub state : ℕ

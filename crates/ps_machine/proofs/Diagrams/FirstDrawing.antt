@@ -13,12 +13,12 @@ use Rattle.ps_diagram.specs.Table.{Table, IsNode, leaf_of}
 use Rattle.ps_diagram.specs.Reached.{AreLeaves}
 use Rattle.ps_diagram.proofs.KnownLemmas.{some_nat}
 use Rattle.ps_automaton.specs.Automata.{AutomatonData, node_of, pair_of, step_of}
-use Rattle.ps_machine.specs.Boards.{Board, IsSecondLetter, IsClass}
+use Rattle.ps_machine.specs.Boards.{Board, IsSecondLetter, IsClassLetter}
 use Rattle.ps_machine.specs.BuiltBoards.{board_of}
 use Rattle.ps_machine.specs.Inner.Drawing.{IsPlan, IsRow, KeepsRows, IsDrawn, LeadsToRow}
 use Rattle.ps_machine.specs.Inner.Placing.{IsEntered, IsPlaced, PlaysClass}
 use Rattle.ps_machine.specs.Extracting.{IsUsed, StandsFor}
-use Rattle.ps_machine.specs.Solving.{winner}
+use Rattle.ps_machine.specs.Solving.{winner_at_start}
 use Rattle.ps_machine.specs.Keys.{mover_of}
 use Rattle.ps_machine.specs.Inner.Moving.{step_key}
 use Rattle.ps_machine.specs.Numbering.{StandsAt}
@@ -66,141 +66,142 @@ same_letter : {q r x y : ℕ} → Second q x ≡ Second r y → x ≡ y
 same_letter e = cc
 
 module _ {order : Order} {a : AutomatonData} {keys : List Key} {certificate : CertificateData} {is_first : Bool}
-    {kept marks : List ℕ} (plan : IsPlan order a keys certificate is_first kept marks) (first : is_first ≡ true) where
-  mover_wins : mover_of order ≡ winner certificate
-  mover_wins = eqb-true (mover_of order) (winner certificate) (sym plan.turn ∙ first)
+    {kept anchors : List ℕ} (plan : IsPlan order a keys certificate is_first kept anchors) (first : is_first ≡ true)
+  where
+    mover_wins : mover_of order ≡ winner_at_start certificate
+    mover_wins = eqb-true (mover_of order) (winner_at_start certificate) (sym plan.turn ∙ first)
 
-  -- the move at the vertex of a memory state leads to a class of the vertex's state
-  pub record ToClass (v q : ℕ) : Type 0 where
-    pub chosen : ℕ
-    pub choice : choice_of certificate v ≡ Some chosen
-    pub used : IsUsed plan.game certificate chosen
-    pub letter : ℕ
-    pub is_class : IsClass (board_of order a) q letter
-    pub stands : StandsAt keys chosen (Second q letter)
+    -- the move at the vertex of a memory state leads to a class of the vertex's state
+    pub record ToClass (v q : ℕ) : Type 0 where
+      pub chosen : ℕ
+      pub choice : choice_of certificate v ≡ Some chosen
+      pub used : IsUsed plan.game certificate chosen
+      pub letter : ℕ
+      pub is_class : IsClassLetter (board_of order a) q letter
+      pub stands : StandsAt keys chosen (Second q letter)
 
-  pub to_class : (v : ℕ) {q p : ℕ} → Contains kept v → StandsAt keys v (First q p) → ToClass v q
-  to_class v {q} {p} is_kept at =
-      let s = setting plan in
-      let m = move_at s at (kept_used plan is_kept) (first_owner s v at ∙ mover_wins) in
-      grind (arith, class_at s v at m.edge)
+    pub to_class : (v : ℕ) {q p : ℕ} → Contains kept v → StandsAt keys v (First q p) → ToClass v q
+    to_class v {q} {p} is_kept at =
+        let s = setting plan in
+        let m = move_at s at (kept_used plan is_kept) (first_owner s v at ∙ mover_wins) in
+        grind (arith, class_at s v at m.edge)
 
-  -- the vertex to which the certificate's move leads stands for a class
-  class_chosen : (v : ℕ) {chosen : ℕ} {q p : ℕ} → Contains kept v → StandsAt keys v (First q p) →
-      choice_of certificate v ≡ Some chosen → (letter : ℕ) × IsClass (board_of order a) q letter ×
-      StandsAt keys chosen (Second q letter)
-  class_chosen v {chosen} {q} is_kept at choice = search (rules, to_class, some_nat)
+    -- the vertex to which the certificate's move leads stands for a class
+    class_chosen : (v : ℕ) {chosen : ℕ} {q p : ℕ} → Contains kept v → StandsAt keys v (First q p) →
+        choice_of certificate v ≡ Some chosen → (letter : ℕ) × IsClassLetter (board_of order a) q letter ×
+        StandsAt keys chosen (Second q letter)
+    class_chosen v {chosen} {q} is_kept at choice = search (rules, to_class, some_nat)
 
-  pub has_choice : (v : ℕ) → Contains kept v → is_some (choice_of certificate v) ≡ true
-  has_choice v is_kept =
-      let k = kept_at plan is_kept in
-      ap is_some (to_class v is_kept k.stands).choice
+    pub has_choice : (v : ℕ) → Contains kept v → is_some (choice_of certificate v) ≡ true
+    has_choice v is_kept =
+        let k = kept_at plan is_kept in
+        ap is_some (to_class v is_kept k.stands).choice
 
-  pub chosen_within : (v : ℕ) {chosen : ℕ} → Contains kept v → choice_of certificate v ≡ Some chosen →
-      chosen < length keys
-  chosen_within v {chosen} is_kept choice =
-      let k = kept_at plan is_kept in
-      grind (arith, class_chosen, slice_get_within)
+    pub chosen_within : (v : ℕ) {chosen : ℕ} → Contains kept v → choice_of certificate v ≡ Some chosen →
+        chosen < length keys
+    chosen_within v {chosen} is_kept choice =
+        let k = kept_at plan is_kept in
+        grind (arith, class_chosen, slice_get_within)
 
-  pub chosen_not_first : (v : ℕ) {chosen r o : ℕ} → Contains kept v → choice_of certificate v ≡ Some chosen →
-      get_or keys chosen (First 0 0) ≡ First r o → ⊥
-  chosen_not_first v {chosen} is_kept choice is =
-      let k = kept_at plan is_kept in
-      grind (arith, class_chosen, not_both, get_or_from_slice_get)
+    pub chosen_not_first : (v : ℕ) {chosen r o : ℕ} → Contains kept v → choice_of certificate v ≡ Some chosen →
+        get_or keys chosen (First 0 0) ≡ First r o → ⊥
+    chosen_not_first v {chosen} is_kept choice is =
+        let k = kept_at plan is_kept in
+        grind (arith, class_chosen, not_both, get_or_from_slice_get)
 
-  pub plays_class : (v chosen r letter : ℕ) → Contains kept v → choice_of certificate v ≡ Some chosen →
-      get_or keys chosen (First 0 0) ≡ Second r letter → (q p : ℕ) → StandsAt keys v (First q p) →
-      PlaysClass (board_of order a) keys certificate v q letter
-  plays_class v chosen r letter is_kept choice is q p at =
-      search (rules, class_chosen, same_letter, get_or_from_slice_get)
+    pub plays_class : (v chosen r letter : ℕ) → Contains kept v → choice_of certificate v ≡ Some chosen →
+        get_or keys chosen (First 0 0) ≡ Second r letter → (q p : ℕ) → StandsAt keys v (First q p) →
+        PlaysClass (board_of order a) keys certificate v q letter
+    plays_class v chosen r letter is_kept choice is q p at =
+        search (rules, class_chosen, same_letter, get_or_from_slice_get)
 
-  -- each leaf of the class's rest names a step to a used vertex
-  pub entered : {mask : ℕ} {t : Table} {v q p letter rest : ℕ} {found : List (ℕ × ℕ)} → Contains kept v →
-      StandsAt keys v (First q p) → PlaysClass (board_of order a) keys certificate v q letter →
-      Left order a mask t q letter rest → AreLeaves t rest found →
-      All (λ leaf. IsEntered order a keys certificate is_first kept marks leaf.0) found
-  entered {mask} {t} {v} {q} {p} {letter} {rest} {found} is_kept at plays l are k d within =
-      let s = setting plan in
-      let to = to_class v is_kept at in
-      let same : to.chosen ≡ plays.chosen = some_nat to.chosen plays.chosen (sym to.choice ∙ plays.choice) in
-      let used : IsUsed plan.game certificate plays.chosen = rw same at to.used in
-      let y = (get_or found k (0, 0)).1 in
-      let leaf = (get_or found k (0, 0)).0 in
-      let on = to_pair_of s letter y plays.stands (move_is l.fit l.is_rest are k within) in
-      let there : step_of a q (letter + y) ≡ pair_of a leaf = grind (arith, move_leaf l.fit l.is_rest are k within) in
-      let other : owner_of plan.game plays.chosen ≡ winner certificate → ⊥ =
-      grind (arith, second_owner s plays.chosen plays.stands, mover_wins) in
-      let item : IsEntered order a keys certificate is_first kept marks leaf = record {
-        within = leaf_within l.fit l.is_rest are k within;
-        enters = record {
-          plan = plan;
-          vertex = on.vertex;
-          stands = rw there at on.stands;
-          is_used = used_more used on.edge (within_game s on.vertex on.stands) (λ own. absurd (other own));
-        };
-      } in
-      rw (get_or_default found k (0, 0) d within) at item
+    -- each leaf of the class's rest names a step to a used vertex
+    pub entered : {mask : ℕ} {t : Table} {v q p letter rest : ℕ} {found : List (ℕ × ℕ)} → Contains kept v →
+        StandsAt keys v (First q p) → PlaysClass (board_of order a) keys certificate v q letter →
+        Left order a mask t q letter rest → AreLeaves t rest found →
+        All (λ leaf. IsEntered order a keys certificate is_first kept anchors leaf.0) found
+    entered {mask} {t} {v} {q} {p} {letter} {rest} {found} is_kept at plays l are k d within =
+        let s = setting plan in
+        let to = to_class v is_kept at in
+        let same : to.chosen ≡ plays.chosen = some_nat to.chosen plays.chosen (sym to.choice ∙ plays.choice) in
+        let used : IsUsed plan.game certificate plays.chosen = rw same at to.used in
+        let y = (get_or found k (0, 0)).1 in
+        let leaf = (get_or found k (0, 0)).0 in
+        let on = to_pair_of s letter y plays.stands (move_is l.fit l.is_rest are k within) in
+        let there : step_of a q (letter + y) ≡ pair_of a leaf = grind (arith, move_leaf l.fit l.is_rest are k within) in
+        let other : owner_of plan.game plays.chosen ≡ winner_at_start certificate → ⊥ =
+        grind (arith, second_owner s plays.chosen plays.stands, mover_wins) in
+        let item : IsEntered order a keys certificate is_first kept anchors leaf = record {
+          within = leaf_within l.fit l.is_rest are k within;
+          enters = record {
+            plan = plan;
+            vertex = on.vertex;
+            stands = rw there at on.stands;
+            is_used = used_more used on.edge (within_game s on.vertex on.stands) (λ own. absurd (other own));
+          };
+        } in
+        rw (get_or_default found k (0, 0) d within) at item
 
-  module _ {mask : ℕ} {t : Table} {v q p letter rest : ℕ} {found : List (ℕ × ℕ)} {rows : List Row} {places : List ℕ}
-      (is_kept : Contains kept v) (at : StandsAt keys v (First q p))
-      (plays : PlaysClass (board_of order a) keys certificate v q letter) (l : Left order a mask t q letter rest)
-      (are : AreLeaves t rest found) (placed : All (λ leaf. IsPlaced a keys is_first kept rows places letter leaf.0)
-      found) where
-    -- the leaf of the rest at the letter x, its step, and its row
-    record Noted (x : ℕ) : Type 0 where
-      leaf : ℕ
-      is_leaf : leaf_of t rest x ≡ Some leaf
-      is_step : step_of a q (letter + x) ≡ pair_of a leaf
-      is_placed : IsPlaced a keys is_first kept rows places letter leaf
-      is_entered : IsEntered order a keys certificate is_first kept marks leaf
+    module _ {mask : ℕ} {t : Table} {v q p letter rest : ℕ} {found : List (ℕ × ℕ)} {rows : List Row} {places : List ℕ}
+        (is_kept : Contains kept v) (at : StandsAt keys v (First q p))
+        (plays : PlaysClass (board_of order a) keys certificate v q letter) (l : Left order a mask t q letter rest)
+        (are : AreLeaves t rest found) (placed : All (λ leaf. IsPlaced a keys is_first kept rows places letter leaf.0)
+        found) where
+      -- the leaf of the rest at the letter x, its step, and its row
+      record Noted (x : ℕ) : Type 0 where
+        leaf : ℕ
+        is_leaf : leaf_of t rest x ≡ Some leaf
+        is_step : step_of a q (letter + x) ≡ pair_of a leaf
+        is_placed : IsPlaced a keys is_first kept rows places letter leaf
+        is_entered : IsEntered order a keys certificate is_first kept anchors leaf
 
-    noted : (x : ℕ) → IsSecondLetter (board_of order a) x → Noted x
-    noted x second =
-        let there = some_of (leaf_of a.store (node_of a q) (letter + x)) (λ leaf. leaf < length a.steps)
-        (l.fit.whole.leaves q (letter + x) l.is_rest.state) in
-        let is = l.is_rest.leaves x second ∙ there.1 in
-        let any = are.each there.0 x (below_back l.fit x second.within, is) in
-        grind (arith, entered is_kept at plays l are any.0 any.1 any.2)
+      noted : (x : ℕ) → IsSecondLetter (board_of order a) x → Noted x
+      noted x second =
+          let there = some_of (leaf_of a.store (node_of a q) (letter + x)) (λ leaf. leaf < length a.steps)
+          (l.fit.whole.leaves q (letter + x) l.is_rest.state) in
+          let is = l.is_rest.leaves x second ∙ there.1 in
+          let any = are.each there.0 x (below_back l.fit x second.within, is) in
+          grind (arith, entered is_kept at plays l are any.0 any.1 any.2)
 
-    -- each leaf of the rest has an entry in the list of noted indices
-    pub all_noted : (x : ℕ) → x < 2 ^ t.propositions → IfSome (leaf_of t rest x) (λ leaf. leaf < length places)
-    all_noted x below = by (leaf_of t rest x) refl
-      where
-        by : (o : Option ℕ) → leaf_of t rest x ≡ o → IfSome o (λ leaf. leaf < length places)
-        by None e = tt
-        by (Some leaf) e =
-            let any = are.each leaf x (below, e) in
-            let same : (get_or found any.0 any.1).0 ≡ leaf = ap (λ (c : ℕ × ℕ). c.0) any.3 ∙ any.4 in
-            let is = rw same at (placed any.0 any.1 any.2) in
-            slice_get_within places leaf is.place is.is_noted
+      -- each leaf of the rest has an entry in the list of noted indices
+      pub all_noted : (x : ℕ) → x < 2 ^ t.propositions → IfSome (leaf_of t rest x) (λ leaf. leaf < length places)
+      all_noted x below = by (leaf_of t rest x) refl
+        where
+          by : (o : Option ℕ) → leaf_of t rest x ≡ o → IfSome o (λ leaf. leaf < length places)
+          by None e = tt
+          by (Some leaf) e =
+              let any = are.each leaf x (below, e) in
+              let same : (get_or found any.0 any.1).0 ≡ leaf = ap (λ (c : ℕ × ℕ). c.0) any.3 ∙ any.4 in
+              let is = rw same at (placed any.0 any.1 any.2) in
+              slice_get_within places leaf is.place is.is_noted
 
-    module _ (u : Table) (made : ℕ) (held : IsNode u made) (named : (x : ℕ) →
-        leaf_of u made x ≡ option_map (λ k. slice_index places k) (leaf_of t rest x)) where
-      row_at : (x : ℕ) → IsSecondLetter (board_of order a) x → LeadsToRow true (board_of order a) keys kept certificate
-          u rows made v q x
-      row_at x second =
-          let n = noted x second in
-          let w = n.is_placed in
-          let sum : letter + x ≡ x + w.row.letter = omega (arith, w.plays) in
-          let step : pair_of a n.leaf ≡ step_of a q (x + w.row.letter) = sym n.is_step ∙ ap (step_of a q) sum in
-          let vertex = n.is_entered.enters.vertex in
-          let stands = n.is_entered.enters.stands in
-          record {
-            leaf = w.place;
-            is_leaf = search (rules, get_or_from_slice_get);
-            row = w.row;
-            is_row = w.is_row;
-            is_right = search (rules, entered);
-          }
+      module _ (u : Table) (made : ℕ) (held : IsNode u made) (named : (x : ℕ) →
+          leaf_of u made x ≡ option_map (λ k. slice_index places k) (leaf_of t rest x)) where
+        row_at : (x : ℕ) → IsSecondLetter (board_of order a) x → LeadsToRow true (board_of order a) keys kept certificate
+            u rows made v q x
+        row_at x second =
+            let n = noted x second in
+            let w = n.is_placed in
+            let sum : letter + x ≡ x + w.row.letter = omega (arith, w.plays) in
+            let step : pair_of a n.leaf ≡ step_of a q (x + w.row.letter) = sym n.is_step ∙ ap (step_of a q) sum in
+            let vertex = n.is_entered.enters.vertex in
+            let stands = n.is_entered.enters.stands in
+            record {
+              leaf = w.place;
+              is_leaf = search (rules, get_or_from_slice_get);
+              row = w.row;
+              is_row = w.is_row;
+              is_right = search (rules, entered);
+            }
 
-      pub drawn_first : IsDrawn is_first (board_of order a) keys kept certificate u rows v made
-      unfolding Heeds
-      drawn_first = rw first (record {
-        held = held;
-        state = q;
-        priority = p;
-        stands = at;
-        leads = row_at;
-        heeds = λ x y alike. named x ∙ ap (λ o. option_map (λ k. slice_index places k) o)
-            (l.heeds_second x y (λ r within isnt. alike r within (ap not isnt))) ∙ sym (named y);
-      })
+        pub drawn_first : IsDrawn is_first (board_of order a) keys kept certificate u rows v made
+        unfolding Heeds
+        drawn_first = rw first (record {
+          held = held;
+          state = q;
+          priority = p;
+          stands = at;
+          leads = row_at;
+          heeds = λ x y alike. named x ∙ ap (λ o. option_map (λ k. slice_index places k) o)
+              (l.heeds_second x y (λ r within isnt. alike r within (ap not isnt))) ∙ sym (named y);
+        })

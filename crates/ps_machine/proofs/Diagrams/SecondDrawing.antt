@@ -22,14 +22,14 @@ use Rattle.ps_diagram.specs.declared.classes.Class.{Class}
 use Rattle.ps_diagram.proofs.KnownLemmas.{some_nat}
 use Rattle.ps_automaton.specs.Automata.{AutomatonData, node_of, pair_of, step_of}
 use Rattle.ps_automaton.specs.declared.step.Step.{Step}
-use Rattle.ps_machine.specs.Boards.{Board, IsFirstLetter, IsSecondLetter, SameSteps, IsClass, IsMove}
+use Rattle.ps_machine.specs.Boards.{Board, IsFirstLetter, IsSecondLetter, SameSteps, IsClassLetter, IsMove}
 use Rattle.ps_machine.specs.BuiltBoards.{board_of}
 use Rattle.ps_machine.specs.Dividing.{AreClassesOf}
 use Rattle.ps_machine.specs.Inner.Drawing.{CanEnter, IsReplyRow, IsDrawn, IsReply, IsRow, IsRowAt, KeepsRows}
 use Rattle.ps_machine.specs.Inner.Drawing.{LeadsToRow}
 use Rattle.ps_machine.specs.Inner.Drawing.{NamesAnswer}
 use Rattle.ps_machine.specs.Extracting.{IsUsed, GoesTo, StandsFor}
-use Rattle.ps_machine.specs.Solving.{winner}
+use Rattle.ps_machine.specs.Solving.{winner_at_start}
 use Rattle.ps_machine.specs.Keys.{mover_of}
 use Rattle.ps_machine.specs.Dividing.{IsFit}
 use Rattle.ps_machine.specs.Inner.Moving.{IsRest, step_key}
@@ -67,7 +67,7 @@ abbrev pair : AutomatonData → ℕ → ℕ → Key
 pair a q l = step_key (step_of a q l)
 
 module _ (order : Order) (a : AutomatonData) (keys : List Key) (certificate : CertificateData) (is_first : Bool)
-    (kept marks : List ℕ) where
+    (kept anchors : List ℕ) where
   -- the vertex to which the winner moves after the letter x at the state q, and a letter that leads to this vertex
   pub record Replies (q x : ℕ) : Type 0 where
     pub at : ℕ
@@ -77,32 +77,34 @@ module _ (order : Order) (a : AutomatonData) (keys : List Key) (certificate : Ce
     pub letter : ℕ
     pub second : IsSecondLetter (board_of order a) letter
     pub goes : GoesTo keys (board_of order a) q (x + letter) chosen
-    pub enters : CanEnter order a keys certificate is_first kept marks (step_of a q (x + letter)).state
+    pub enters : CanEnter order a keys certificate is_first kept anchors (step_of a q (x + letter)).state
         (step_of a q (x + letter)).priority
     pub apart : (v w : ℕ) (k : Key) → StandsAt keys v k → StandsAt keys w k → v ≡ w
 
 module _ {order : Order} {a : AutomatonData} {keys : List Key} {certificate : CertificateData} {is_first : Bool}
-    {kept marks : List ℕ} where
-  pub replies : {q p x : ℕ} → is_first ≡ false → CanEnter order a keys certificate is_first kept marks q p →
-      IsClass (board_of order a) q x → Replies order a keys certificate is_first kept marks q x
+    {kept anchors : List ℕ} where
+  pub replies : {q p x : ℕ} → is_first ≡ false → CanEnter order a keys certificate is_first kept anchors q p →
+      IsClassLetter (board_of order a) q x → Replies order a keys certificate is_first kept anchors q x
   replies {q} {x} turn e is =
       let plan = e.plan in
       let game = plan.game in
       let mover = mover_of order in
       let s = setting plan in
-      let loses : mover ≢ winner certificate = not_same mover (winner certificate) (sym plan.turn ∙ turn) in
-      let small : winner certificate < 2 = plan.fits.winners 0 (within_game s 0 s.by_keys.begins) in
+      let loses : mover ≢ winner_at_start certificate =
+      not_same mover (winner_at_start certificate) (sym plan.turn ∙ turn) in
+      let small : winner_at_start certificate < 2 = plan.fits.winners 0 (within_game s 0 s.by_keys.begins) in
       let to = to_class_of s e.stands is in
       let behind : to.vertex < vertex_count game = within_game s to.vertex to.stands in
       let used : IsUsed game certificate to.vertex = used_more e.is_used to.edge behind
       (λ own. absurd (loses (sym (first_owner s e.vertex e.stands) ∙ own))) in
       let owner = second_owner s to.vertex to.stands in
-      let own : owner_of game to.vertex ≡ winner certificate = omega (arith, owner, loses, small, s.is_mover) in
+      let own : owner_of game to.vertex ≡ winner_at_start certificate =
+      omega (arith, owner, loses, small, s.is_mover) in
       let m = move_at s to.stands used own in
       let t = move_to s to.vertex to.stands m.edge in
       search (rules, same_place)
 
-  module _ {q x : ℕ} (r : Replies order a keys certificate is_first kept marks q x) where
+  module _ {q x : ℕ} (r : Replies order a keys certificate is_first kept anchors q x) where
     pub reply_choice : (at : ℕ) → StandsAt keys at (Second q x) → choice_of certificate at ≡ Some r.chosen
     reply_choice at there = cc (r.apart at r.at (Second q x) there r.stands, r.choice)
 
@@ -118,7 +120,7 @@ module _ {order : Order} {a : AutomatonData} {keys : List Key} {certificate : Ce
       pub reply_is : IsReply (board_of order a) keys certificate q x step.state step.priority
       reply_is = search (rules, same_step)
 
-      pub reply_enters : CanEnter order a keys certificate is_first kept marks step.state step.priority
+      pub reply_enters : CanEnter order a keys certificate is_first kept anchors step.state step.priority
       reply_enters = rw same_step r.enters
 
 -- ## The letter that is output
@@ -138,7 +140,7 @@ module _ {order : Order} {a : AutomatonData} {mask : ℕ} {t : Table} {keys : Li
       )
 
   -- the row with the least letter that leads to the winner's step is right
-  answer_by : {kept : List ℕ} (letter memory : ℕ) → IsClass (board_of order a) q x →
+  answer_by : {kept : List ℕ} (letter memory : ℕ) → IsClassLetter (board_of order a) q x →
       IsMove (board_of order a) q x letter → step_of a q (x + letter) ≡ step →
       ((v : ℕ) → StandsAt keys v (First step.state step.priority) → StandsFor false keys kept memory v step.state) →
       IsReplyRow (board_of order a) keys kept certificate q x (record { memory = memory; letter = letter })
@@ -172,7 +174,7 @@ module _ {order : Order} {a : AutomatonData} {mask : ℕ} {t : Table} {keys : Li
         next = rw is (stands reply.chosen reply.entered);
       }
 
-  pub answered : {kept : List ℕ} (letter memory : ℕ) → IsClass (board_of order a) q x →
+  pub answered : {kept : List ℕ} (letter memory : ℕ) → IsClassLetter (board_of order a) q x →
       Any (λ leaf. (pair_of a leaf.0 ≡ step) × (leaf.1 ≡ letter)) found →
       ((v : ℕ) → StandsAt keys v (First step.state step.priority) → StandsFor false keys kept memory v step.state) →
       IsReplyRow (board_of order a) keys kept certificate q x (record { memory = memory; letter = letter })
@@ -258,7 +260,7 @@ pub named_as : {X : Type 0} (N : X → ℕ → Type 0) {xs ys : List X} {values 
 named_as N {ys} {same} is are zip = subst (λ l. AllZip N l same) is (subst (λ v. AllZip N ys v) (sym are) zip)
 
 pub class_each : {order : Order} {a : AutomatonData} {mask : ℕ} {t : Table} {q : ℕ} {c : Classes} → IsFit order a mask t
-    → AreClassesOf a mask t q c → All (λ (c : Class). IsClass (board_of order a) q c.letter) c.list.items
+    → AreClassesOf a mask t q c → All (λ (c : Class). IsClassLetter (board_of order a) q c.letter) c.list.items
 class_each {c} f of k d within = class_is f of k (slice_get-get_or c.list.items k d within)
 
 some_if : (o : Option ℕ) {n m : ℕ} → m ≡ n → IsSomeAnd o (λ k. k < n) → IfSome o (λ k. k < m)

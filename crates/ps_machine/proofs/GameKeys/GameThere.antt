@@ -14,13 +14,14 @@ use Rattle.std.proofs.lemmas.Map.Made.{IsDistinct-from_AllPairs, is_member-Decid
 use Rattle.std.proofs.lemmas.Option.{slice_get-get_or, slice_get_past}
 use Rattle.ps_game.specs.Games.{ParityGame, NamedGameData}
 use Rattle.ps_game.specs.Drafts.{with_vertex}
-use Rattle.ps_diagram.specs.Letters.{IsBefore, IsLeast}
+use Rattle.ps_diagram.specs.Letters.{IsBefore, IsLeastLetter}
 use Rattle.ps_hoa.specs.Files.{FileData}
 use Rattle.ps_hoa.specs.Sound.{IsSoundFile}
 use Rattle.ps_automaton.specs.Answers.{IsAdmitted}
 use Rattle.ps_automaton.proofs.Deciding.{some_or_none}
 use Rattle.ps_automaton.proofs.Existing.{auto_there}
-use Rattle.ps_machine.specs.Boards.{AreListed, Board, IsClass, IsFirstLetter, IsGameOf, IsMove, IsSecondLetter, LeadsTo}
+use Rattle.ps_machine.specs.Boards.{IsListOf, Board, IsClassLetter, IsFirstLetter, IsGameOf, IsMove, IsSecondLetter}
+use Rattle.ps_machine.specs.Boards.{LeadsTo}
 use Rattle.ps_machine.specs.Boards.{SameStep, SameSteps}
 use Rattle.ps_machine.specs.FileGames.{IsGameOfFile, board_of_file}
 use Rattle.ps_machine.specs.KeyNames.{key_names}
@@ -85,18 +86,18 @@ module _ (n : ℕ) (P : ℕ → Type 0) (tell : (y : ℕ) → P y ⊎ (P y → �
       raised : (letters : List ℕ) → All (λ y. rank 0 n y < count) letters → All (λ y. rank 0 n y < suc count) letters
       raised letters low k d inside = (let less = low k d inside in omega arith)
 
-  pub letters_there : (letters : List ℕ) × AreListed P letters
+  pub letters_there : (letters : List ℕ) × IsListOf P letters
   letters_there = (let l = list_below (2 ^ n) in (
     l.0,
     grind (arith, rank_lt),
   ))
 
   -- it can be decided whether a letter is the least letter with a property
-  pub least_or_not : (y : ℕ) → IsLeast P y ⊎ (IsLeast P y → ⊥)
+  pub least_or_not : (y : ℕ) → IsLeastLetter P y ⊎ (IsLeastLetter P y → ⊥)
   least_or_not y = elim (tell y) [
     | inr not_so ↦ inr (λ least. not_so least.here)
     | inl so ↦ (let l = least_there n P tell within y so in elim (cases_eq l.0 y) [
-      | inl same ↦ inl (subst (IsLeast P) same l.1)
+      | inl same ↦ inl (subst (IsLeastLetter P) same l.1)
       | inr other ↦ inr (λ least. other (one_least n (within l.0 l.1.here) (within y so) l.1 least))
     ])
   ]
@@ -226,10 +227,10 @@ module _ (board : Board) (mover : ℕ) (start : board.auto.start ≤ board.state
 
   next_there : (key : Key) → Known key → Next key
   next_there (First q p) known =
-      let is : (x : ℕ) → IsClass board q x ⊎ (IsClass board q x → ⊥) = λ x. least_or_not board.propositions
+      let is : (x : ℕ) → IsClassLetter board q x ⊎ (IsClassLetter board q x → ⊥) = λ x. least_or_not board.propositions
       (λ other. IsFirstLetter board other × SameSteps board q other x) (λ y. both_or_not (IsFirstLetter board y)
       (SameSteps board q y x) (first_or_not board y) (steps_or_not board q y x)) (λ y is. is.0.within) x in
-      let l = letters_there board.propositions (IsClass board q) is (λ y is. is.here.0.within) in
+      let l = letters_there board.propositions (IsClassLetter board q) is (λ y is. is.here.0.within) in
       let key : ℕ → Key = λ x. Second q x in
       let class = class_there board q (over_first board (part_over board.propositions board.is_first 0)) in
       let there = l.1.complete class.0 class.1 in

@@ -8,7 +8,7 @@ use Rattle.std.proofs.lemmas.List.FromFn.{length-range_with_len, get_or-range_wi
 use Rattle.ps_game.specs.Games.{quote, HasNoQuote}
 use Rattle.ps_label.specs.Truth.{is_in}
 use Rattle.ps_machine.specs.Boards.{Board}
-use Rattle.ps_machine.specs.KeyNames.{first_digits, digit_of}
+use Rattle.ps_machine.specs.KeyNames.{first_digits, letter_digit}
 use Rattle.ps_machine.specs.Inner.Naming.{IsPlain, digit_if}
 use Rattle.ps_machine.proofs.GameKeys.Standing.{range-push}
 
@@ -31,7 +31,7 @@ pub plain_more : (board : Board) (x p : ℕ) → IsPlain (first_digits board x p
 plain_more board x p h =
     let next : suc p ≡ p + 1 = omega arith in
     subst (λ n. IsPlain (first_digits board x n)) next (All-append (λ b. b ≢ quote) (first_digits board x p)
-    (digit_of board x p) h (plain_digit (board.is_first p) (is_in p x)))
+    (letter_digit board x p) h (plain_digit (board.is_first p) (is_in p x)))
 
 pub no_quote : (bytes : List ℕ) → IsPlain bytes → HasNoQuote (Some bytes)
 no_quote bytes plain has = All-contains (λ b. b ≢ quote) bytes quote plain has refl

@@ -9,11 +9,11 @@ use Rattle.std.proofs.lemmas.Nat.{mod-mul-add}
 use Rattle.std.proofs.lemmas.List.{length-append, get_or-append-add}
 use Rattle.std.proofs.lemmas.Bool.{cases_Bool, cases_lt, le-ltb, lt-ltb}
 use Rattle.ps_label.specs.Truth.{is_in}
-use Rattle.ps_automaton.specs.Words.{word}
+use Rattle.ps_automaton.specs.Words.{lasso_word}
 use Rattle.ps_automaton.proofs.Orbits.{word_within, word_behind}
 use Rattle.ps_machine.specs.Boards.{Board}
 use Rattle.ps_machine.specs.Behaviours.{Behaviour, IsMachine, IsInput, IsOutput, IsLasso, Makes}
-use Rattle.ps_machine.specs.Extracting.{HasPropositions, IsOther}
+use Rattle.ps_machine.specs.Extracting.{HasPropositions, IsOtherLetter}
 use Rattle.ps_machine.proofs.LeastLetters.{sum_within}
 use Rattle.ps_machine.proofs.Lassos.Walking.{IsEndless}
 
@@ -56,7 +56,7 @@ module _ {m : Behaviour} {stem lap : List ℕ} (l : IsLasso m stem lap) where
   unfolding at_place
   place_within t = search (rules, cases_lt, folded_within, long, folded_behind, mod-lt)
 
-  letter_at : (t : ℕ) → slice_index (stem ++ lap) (at_place t) ≡ word stem lap t
+  letter_at : (t : ℕ) → slice_index (stem ++ lap) (at_place t) ≡ lasso_word stem lap t
   unfolding at_place
   letter_at t =
       search (rules, cases_lt, folded_within, get_or-append, word_within, folded_behind, get_or-append-add, word_behind)
@@ -86,7 +86,7 @@ module _ {m : Behaviour} {stem lap : List ℕ} (l : IsLasso m stem lap) where
           let minus : suc t - u ≡ suc (t - u) = omega arith in
           grind (arith, behind (t - u) (next_in_lap (length lap) (t - u) l.some))
 
-  pub endless : IsEndless m (word stem lap) memories_on
+  pub endless : IsEndless m (lasso_word stem lap) memories_on
   unfolding memories_on at_place
   endless = search (rules, by, cases_lt, at_place, place_within, memories_on, goes_on, letter_at)
     where
@@ -102,7 +102,7 @@ module _ {m : Behaviour} {stem lap : List ℕ} (l : IsLasso m stem lap) where
       let here : u + n - u ≡ 1 * n + 0 = omega arith in
       search (rules, mod-mul-add, folded, folded_behind)
 
-  pub letter_returns : word stem lap (length stem + length lap) ≡ word stem lap (length stem)
+  pub letter_returns : lasso_word stem lap (length stem + length lap) ≡ lasso_word stem lap (length stem)
   letter_returns = search (rules, mod-mul-add, word_behind)
 
 -- ## Letters
@@ -127,5 +127,5 @@ module _ {m : Behaviour} (is_machine : IsMachine m) where
   memories_of_lasso {stem} {lap} l (suc t) low = search (rules, add-one, memories_of_lasso l t (omega arith))
 
   pub reads_other : {names : List (List ℕ)} {board : Board} → HasPropositions names board m → (x : ℕ) → IsInput m x →
-      IsOther m.is_first board x
+      IsOtherLetter m.is_first board x
   reads_other {board} h x input = search (rules, cases_lt, no_bit)

@@ -9,14 +9,14 @@ use Rattle.ps_automaton.specs.Acceptance.{IsAccepted}
 use Rattle.ps_automaton.specs.Automata.{AutomatonData, IsBuiltFrom, auto_of}
 use Rattle.ps_automaton.specs.Autos.{state_at, priority_at, greatest_from}
 use Rattle.ps_automaton.specs.Chains.{Chain}
-use Rattle.ps_automaton.specs.Words.{word}
+use Rattle.ps_automaton.specs.Words.{lasso_word}
 use Rattle.ps_automaton.proofs.Accepting.{even_is_accepted, accepted_is_even}
 use Rattle.ps_game.specs.Games.{ParityGame}
 use Rattle.ps_certificate.specs.Certificates.{CertificateData, Fits, IsValid}
 use Rattle.ps_machine.specs.Boards.{IsGameOf}
 use Rattle.ps_machine.specs.BuiltBoards.{board_of}
-use Rattle.ps_machine.specs.Extracting.{IsOther, HasPropositions, IsMachineOf}
-use Rattle.ps_machine.specs.Solving.{winner}
+use Rattle.ps_machine.specs.Extracting.{IsOtherLetter, HasPropositions, IsMachineOf}
+use Rattle.ps_machine.specs.Solving.{winner_at_start}
 use Rattle.ps_machine.specs.Keys.{mover_of}
 use Rattle.ps_machine.specs.Behaviours.{Behaviour, IsMachine, IsInput, IsLasso, LassosWon}
 use Rattle.ps_machine.specs.declared.key.Key.{Key}
@@ -57,7 +57,7 @@ module _ {file : FileData} {chain : Chain} {a : AutomatonData} (order : Order) {
           get_or_default lap t 0 d within,
         )
 
-    others : (x : ℕ) → IsInput m x → IsOther m.is_first (board_of order a) x
+    others : (x : ℕ) → IsInput m x → IsOtherLetter m.is_first (board_of order a) x
     others x = reads_other is_machine has x
 
     from : ℕ
@@ -81,17 +81,18 @@ module _ {file : FileData} {chain : Chain} {a : AutomatonData} (order : Order) {
     back : memories_on l (from + count) ≡ memories_on l from
     back = cc (end_is, memory_returns l, from_is)
 
-    again : word stem lap (from + count) ≡ word stem lap from
+    again : lasso_word stem lap (from + count) ≡ lasso_word stem lap from
     again = cc (end_is, letter_returns l, from_is)
 
-    parity : greatest_from (priority_at (auto_of a) (word stem lap)) from count % 2 ≡ winner certificate
+    parity : greatest_from (priority_at (auto_of a) (lasso_word stem lap)) from count % 2 ≡ winner_at_start certificate
     parity = parity_of_part setting made others (endless l) from count some_count back again
 
-    returns : state_at (auto_of a) (word stem lap) (from + count) ≡ state_at (auto_of a) (word stem lap) from
+    returns : state_at (auto_of a) (lasso_word stem lap) (from + count) ≡ state_at (auto_of a) (lasso_word stem lap)
+        from
     returns = state_returns setting made others (endless l) from count some_count back again
 
-    returned : state_at (auto_of a) (word stem lap) (length stem + (0 + 1) * length lap) ≡ state_at (auto_of a)
-        (word stem lap) (length stem + 0 * length lap)
+    returned : state_at (auto_of a) (lasso_word stem lap) (length stem + (0 + 1) * length lap) ≡ state_at (auto_of a)
+        (lasso_word stem lap) (length stem + 0 * length lap)
     unfolding from count
     returned = search (rules, from, count, returns)
 

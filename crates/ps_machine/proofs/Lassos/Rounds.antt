@@ -10,9 +10,9 @@ use Rattle.ps_game.specs.Games.{ParityGame, vertex_count, owner_of, priority_of,
 use Rattle.ps_certificate.specs.Certificates.{CertificateData, Fits, IsValid, winner_of, choice_of}
 use Rattle.ps_machine.specs.Keys.{owner_of_key, priority_of_key}
 use Rattle.ps_machine.specs.Numbering.{StandsAt, IsGameByKeys}
-use Rattle.ps_machine.specs.Boards.{Board, IsSecondLetter, SameStep, IsClass, IsMove, LeadsTo}
+use Rattle.ps_machine.specs.Boards.{Board, IsSecondLetter, SameStep, IsClassLetter, IsMove, LeadsTo}
 use Rattle.ps_machine.specs.Extracting.{GoesTo, StepsFirst, StepsSecond}
-use Rattle.ps_machine.specs.Solving.{winner}
+use Rattle.ps_machine.specs.Solving.{winner_at_start}
 use Rattle.ps_machine.specs.declared.key.Key.{Key}
 use Rattle.ps_machine.specs.declared.key.Key.TheVariants.{First, Second}
 use Rattle.ps_machine.proofs.GameKeys.Standing.{same_some, zip_vertex}
@@ -44,11 +44,12 @@ pub record Round (game : ParityGame) (certificate : CertificateData) (v w : ℕ)
   pub there : HasEdge game v between
   pub on : HasEdge game between w
   pub priority : priority_of game between ≡ 0
-  pub first : owner_of game v ≡ winner certificate → choice_of certificate v ≡ Some between
-  pub second : owner_of game between ≡ winner certificate → choice_of certificate between ≡ Some w
+  pub first : owner_of game v ≡ winner_at_start certificate → choice_of certificate v ≡ Some between
+  pub second : owner_of game between ≡ winner_at_start certificate → choice_of certificate between ≡ Some w
 
 module _ {board : Board} {mover : ℕ} {keys : List Key} {game : ParityGame} {certificate : CertificateData}
     (s : Setting board mover keys game certificate) where
+  -- the index of a key is a vertex of the game
   pub within_game : (v : ℕ) {k : Key} → StandsAt keys v k → v < vertex_count game
   within_game v {k} at = omega (arith, slice_get_within keys v k at, s.by_keys.count)
 
@@ -89,7 +90,7 @@ module _ {board : Board} {mover : ℕ} {keys : List Key} {game : ParityGame} {ce
       rw is at moves
 
   pub to_class : (v at q p : ℕ) {class : ℕ} → StandsAt keys v (First q p) → StandsAt keys at (Second q class) →
-      IsClass board q class → HasEdge game v at
+      IsClassLetter board q class → HasEdge game v at
   to_class v at q p {class} here there is = edge_by_key v at (First q p) (Second q class) here there (λ next leads none.
       let c = leads.1.complete class is in
       none (rw leads.2 (map_contains (λ x. Second q x) leads.0 c.0 c.1 c.2)))
@@ -110,6 +111,7 @@ module _ {board : Board} {mover : ℕ} {keys : List Key} {game : ParityGame} {ce
       let same : pair z ≡ pair y = ap₂ (λ a b. First a b) least.here.1.state least.here.1.priority in
       none (rw leads.2 (rw same at (map_contains pair leads.0 c.0 c.1 c.2)))) y itself)
 
+  -- the player who moves first owns the vertices of that player's keys
   pub first_owner : (v : ℕ) {q p : ℕ} → StandsAt keys v (First q p) → owner_of game v ≡ mover
   first_owner v {q} {p} at = owner_at v at
 
@@ -117,7 +119,8 @@ module _ {board : Board} {mover : ℕ} {keys : List Key} {game : ParityGame} {ce
   second_owner v {q} {x} at = owner_at v at
 
   -- a step of the machine is two moves in the game, because the winner of vertex 0 also wins each used vertex
-  pub round_first : (v q p x letter w : ℕ) → mover ≡ winner certificate → winner_of certificate v ≡ winner certificate →
+  pub round_first : (v q p x letter w : ℕ) → mover ≡ winner_at_start certificate →
+      winner_of certificate v ≡ winner_at_start certificate →
       StandsAt keys v (First q p) → StepsFirst board keys certificate v q x letter → IsSecondLetter board x →
       GoesTo keys board q (x + letter) w → Round game certificate v w
   round_first v q p x letter w wins here at steps second goes =
@@ -132,9 +135,9 @@ module _ {board : Board} {mover : ℕ} {keys : List Key} {game : ParityGame} {ce
         second = search (rules, second_owner);
       }
 
-  pub round_second : (v u q p x letter w : ℕ) → mover ≢ winner certificate → winner certificate < 2 →
+  pub round_second : (v u q p x letter w : ℕ) → mover ≢ winner_at_start certificate → winner_at_start certificate < 2 →
       StandsAt keys v (First q p) → (steps : StepsSecond board keys certificate u q x letter) →
-      winner_of certificate steps.at ≡ winner certificate →
+      winner_of certificate steps.at ≡ winner_at_start certificate →
       GoesTo keys board q (x + letter) w → Round game certificate v w
   round_second v u q p x letter w loses small at steps here goes =
       search (rules, second_owner, same_place, to_class, edge_by_move, priority_here, first_owner)

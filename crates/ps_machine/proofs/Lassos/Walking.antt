@@ -17,8 +17,9 @@ use Rattle.ps_certificate.proofs.Holding.{BothHold-from_valid}
 use Rattle.ps_machine.specs.Numbering.{StandsAt}
 use Rattle.ps_machine.specs.Boards.{Board}
 use Rattle.ps_machine.specs.Behaviours.{Behaviour, IsInput, Makes}
-use Rattle.ps_machine.specs.Extracting.{IsKept, StandsFor, Shares, GoesTo, IsPlayed, IsOther, IsMachineOf}
-use Rattle.ps_machine.specs.Solving.{winner}
+use Rattle.ps_machine.specs.Extracting.{IsRepresentative, StandsFor, Shares, GoesTo, IsPlayed, IsOtherLetter}
+use Rattle.ps_machine.specs.Extracting.{IsMachineOf}
+use Rattle.ps_machine.specs.Solving.{winner_at_start}
 use Rattle.ps_machine.specs.declared.key.Key.{Key}
 use Rattle.ps_machine.specs.declared.key.Key.TheVariants.{First}
 use Rattle.ps_machine.proofs.Machines.Following.{used_first}
@@ -57,23 +58,24 @@ pub record IsEndless (m : Behaviour) (w memories : ℕ → ℕ) : Type 0 where
 module _ {board : Board} {mover : ℕ} {keys : List Key} {game : ParityGame} {certificate : CertificateData}
     (s : Setting board mover keys game certificate) {m : Behaviour}
     (made : IsMachineOf board mover keys game certificate m) (others : (x : ℕ) → IsInput m x →
-    IsOther m.is_first board x) where
-  won_along : (v : ℕ) {w : ℕ} → winner_of certificate v ≡ winner certificate → HasEdge game v w →
-      (owner_of game v ≡ winner certificate → choice_of certificate v ≡ Some w) →
-      winner_of certificate w ≡ winner certificate
+    IsOtherLetter m.is_first board x) where
+  won_along : (v : ℕ) {w : ℕ} → winner_of certificate v ≡ winner_at_start certificate → HasEdge game v w →
+      (owner_of game v ≡ winner_at_start certificate → choice_of certificate v ≡ Some w) →
+      winner_of certificate w ≡ winner_at_start certificate
   won_along v {w} here edge chosen = search rules
 
-  small_winner : winner certificate < 2
+  small_winner : winner_at_start certificate < 2
   small_winner = s.fits.winners 0 (within_game s 0 s.by_keys.begins)
 
-  round_by : (first : Bool) → first ≡ (mover == winner certificate) → (v u q p x letter w : ℕ) →
-      (first ≡ true → u ≡ v) → winner_of certificate v ≡ winner certificate → StandsAt keys v (First q p) →
-      IsPlayed first board keys certificate u q x letter → IsOther first board x → GoesTo keys board q (x + letter) w →
+  round_by : (first : Bool) → first ≡ (mover == winner_at_start certificate) → (v u q p x letter w : ℕ) →
+      (first ≡ true → u ≡ v) → winner_of certificate v ≡ winner_at_start certificate → StandsAt keys v (First q p) →
+      IsPlayed first board keys certificate u q x letter → IsOtherLetter first board x →
+      GoesTo keys board q (x + letter) w →
       Round game certificate v w
   round_by true is v u q p x letter w same here at played other goes = round_first s v q p x letter w
-      (eqb-true mover (winner certificate) (sym is)) here at (rw (same refl) at played) other goes
+      (eqb-true mover (winner_at_start certificate) (sym is)) here at (rw (same refl) at played) other goes
   round_by false is v u q p x letter w same here at played other goes =
-      let loses = eqb-false mover (winner certificate) (sym is) in
+      let loses = eqb-false mover (winner_at_start certificate) (sym is) in
       let edge = to_class s v played.at q p at played.stands played.is_class in
       let won = won_along v here edge (λ o. absurd (loses (sym (first_owner s v at) ∙ o))) in
       round_second s v u q p x letter w loses small_winner at played won goes
@@ -84,12 +86,12 @@ module _ {board : Board} {mover : ℕ} {keys : List Key} {game : ParityGame} {ce
         (board.auto.priority q (x + m.plays memory x)))
     pub at_memory : StandsFor m.is_first keys made.kept (m.next memory x) vertex
         (board.auto.next q (x + m.plays memory x))
-    pub won : winner_of certificate vertex ≡ winner certificate
+    pub won : winner_of certificate vertex ≡ winner_at_start certificate
     pub round : Round game certificate v vertex
 
   next_vertex : {memory v q : ℕ} (p : ℕ) {x : ℕ} → StandsAt keys v (First q p) →
       StandsFor m.is_first keys made.kept memory v q →
-      winner_of certificate v ≡ winner certificate → IsInput m x → Next memory v q x
+      winner_of certificate v ≡ winner_at_start certificate → IsInput m x → Next memory v q x
   next_vertex {memory} {v} {q} p {x} at f here input =
       let within : memory < m.memories =
       omega (arith, made.memories, slice_get_within made.kept memory f.vertex f.is_kept) in
@@ -104,7 +106,7 @@ module _ {board : Board} {mover : ℕ} {keys : List Key} {game : ParityGame} {ce
 
   -- ## Memory state 0
 
-  start_kept : IsKept m.is_first keys game certificate 0
+  start_kept : IsRepresentative m.is_first keys game certificate 0
   start_kept = record {
     state = board.auto.start;
     priority = 0;
@@ -129,7 +131,7 @@ module _ {board : Board} {mover : ℕ} {keys : List Key} {game : ParityGame} {ce
       pub vertex : ℕ
       pub stands : StandsAt keys vertex (First (state_at board.auto w t) (entering board.auto w t))
       pub at_memory : StandsFor m.is_first keys made.kept (memories t) vertex (state_at board.auto w t)
-      pub won : winner_of certificate vertex ≡ winner certificate
+      pub won : winner_of certificate vertex ≡ winner_at_start certificate
 
     record Advance (t : ℕ) (now : At t) : Type 0 where
       pub next : At (suc t)
@@ -172,7 +174,7 @@ module _ {board : Board} {mover : ℕ} {keys : List Key} {game : ParityGame} {ce
     place_goes t (suc zero) = (round_at t).on
     place_goes t (suc (suc k)) = place_goes (suc t) k
 
-    place_follows : (t k : ℕ) → owner_of game (place t k) ≡ winner certificate →
+    place_follows : (t k : ℕ) → owner_of game (place t k) ≡ winner_at_start certificate →
         choice_of certificate (place t k) ≡ Some (place t (suc k))
     unfolding place
     place_follows t zero own = (round_at t).first own
@@ -243,10 +245,10 @@ module _ {board : Board} {mover : ℕ} {keys : List Key} {game : ParityGame} {ce
       unfolding twice
       is_loop = grind (arith, twice_rises 0 count some, path_long, path_begins, vertex_returns, place_even, path_at)
 
-      won_loop : WinsLoop game (winner certificate) path 0 (twice count)
+      won_loop : WinsLoop game (winner_at_start certificate) path 0 (twice count)
       unfolding path vertex_at
       won_loop =
-          let player = winner certificate in
+          let player = winner_at_start certificate in
           let holds = BothHold-from_valid game certificate s.fits s.valid player small_winner in
           let region : IsTrue (winner_of certificate (slice_index path 0) == player) =
           eq-eqb (winner_of certificate (slice_index path 0)) player (cc (path_begins, (walk (suc from)).won)) in
@@ -281,5 +283,5 @@ module _ {board : Board} {mover : ℕ} {keys : List Key} {game : ParityGame} {ce
               rw is at bound
 
       -- the greatest priority of a part that returns has the winner's parity
-      pub parity_of_part : greatest_from (priority_at board.auto w) from count % 2 ≡ winner certificate
+      pub parity_of_part : greatest_from (priority_at board.auto w) from count % 2 ≡ winner_at_start certificate
       parity_of_part = cc (top_is, won_loop)

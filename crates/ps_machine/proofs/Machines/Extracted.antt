@@ -11,7 +11,7 @@ use Rattle.ps_machine.specs.Boards.{Board, IsGameOf}
 use Rattle.ps_machine.specs.BuiltBoards.{board_of}
 use Rattle.ps_machine.specs.Inner.Drawing.{AreMemories, AreUsed, IsPlan}
 use Rattle.ps_machine.specs.Extracting.{HasPropositions, IsMachineOf}
-use Rattle.ps_machine.specs.Solving.{winner}
+use Rattle.ps_machine.specs.Solving.{winner_at_start}
 use Rattle.ps_machine.specs.Keys.{mover_of}
 use Rattle.ps_machine.specs.Machines.{MachineData, IsWholeMachine, behaviour}
 use Rattle.ps_machine.specs.declared.key.Key.{Key}
@@ -29,11 +29,12 @@ some_vertices {keys} is = search (rules, slice_get_within)
 
 -- the plan is right before any diagram is drawn
 unfoldable pub plan_is : {order : Order} {a : AutomatonData} {keys seen : List Key} {game shown : ParityGame}
-    {certificate : CertificateData} {first : Bool} {found kept marks : List ℕ} →
+    {certificate : CertificateData} {first : Bool} {found kept anchors : List ℕ} →
     IsGameOf (board_of order a) (mover_of order) keys game → Fits game certificate → IsValid game certificate →
-    first ≡ (mover_of order == winner certificate) → shown ≡ game → AreUsed shown certificate found → seen ≡ keys →
-    AreMemories first seen found kept marks → IsPlan order a keys certificate first kept marks
-plan_is {game} {certificate} {first} {found} {kept} {marks} is fits valid turn same are_used these memories = record {
+    first ≡ (mover_of order == winner_at_start certificate) → shown ≡ game → AreUsed shown certificate found →
+    seen ≡ keys →
+    AreMemories first seen found kept anchors → IsPlan order a keys certificate first kept anchors
+plan_is {game} {certificate} {first} {found} {kept} {anchors} is fits valid turn same are_used these memories = record {
   game = game;
   is_game = is;
   fits = fits;
@@ -41,12 +42,12 @@ plan_is {game} {certificate} {first} {found} {kept} {marks} is fits valid turn s
   turn = turn;
   used = found;
   are_used = subst (λ g. AreUsed g certificate found) same are_used;
-  memories = subst (λ ks. AreMemories first ks found kept marks) these memories;
+  memories = subst (λ ks. AreMemories first ks found kept anchors) these memories;
 }
 
 module _ {order : Order} {a : AutomatonData} {keys : List Key} {certificate : CertificateData} {first : Bool}
-    {kept marks : List ℕ} (plan : IsPlan order a keys certificate first kept marks) {player : ℕ}
-    (own : player ≡ winner certificate) where
+    {kept anchors : List ℕ} (plan : IsPlan order a keys certificate first kept anchors) {player : ℕ}
+    (own : player ≡ winner_at_start certificate) where
   some : 0 < length kept
   some =
       let game = plan.game in

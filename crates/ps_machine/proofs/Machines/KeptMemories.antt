@@ -8,28 +8,29 @@ use Rattle.std.proofs.lemmas.Option.{slice_get_within, slice_get-get_or}
 use Rattle.ps_diagram.proofs.KnownLemmas.{some_nat}
 use Rattle.ps_game.specs.Games.{ParityGame}
 use Rattle.ps_certificate.specs.Certificates.{CertificateData}
-use Rattle.ps_machine.specs.Inner.Drawing.{AreUsed, AreMemories, mark_of}
-use Rattle.ps_machine.specs.Extracting.{IsKept, Shares, StandsFor}
+use Rattle.ps_machine.specs.Inner.Drawing.{AreUsed, AreMemories, anchor_of}
+use Rattle.ps_machine.specs.Extracting.{IsRepresentative, Shares, StandsFor}
 use Rattle.ps_machine.specs.Numbering.{StandsAt}
 use Rattle.ps_machine.specs.declared.key.Key.{Key}
 use Rattle.ps_machine.specs.declared.key.Key.TheVariants.{First}
 use Rattle.ps_machine.proofs.Diagrams.DrawingLemmas.{stands_for}
 use Rattle.ps_machine.proofs.Lassos.Rounds.{one_place}
 
--- Vertices share a memory state exactly if their marks are equal.
-pub shares_mark : (is_first : Bool) (v q w r : ℕ) → Shares is_first v q w r →
-    mark_of is_first v q ≡ mark_of is_first w r
-shares_mark is_first v q w r h = search rules
+-- Vertices share a memory state exactly if their anchors are equal.
+pub shares_anchor : (is_first : Bool) (v q w r : ℕ) → Shares is_first v q w r →
+    anchor_of is_first v q ≡ anchor_of is_first w r
+shares_anchor is_first v q w r h = search rules
 
-pub mark_shares : (is_first : Bool) (v q w r : ℕ) → mark_of is_first v q ≡ mark_of is_first w r →
+pub anchor_shares : (is_first : Bool) (v q w r : ℕ) → anchor_of is_first v q ≡ anchor_of is_first w r →
     Shares is_first v q w r
-mark_shares is_first v q w r h = search rules
+anchor_shares is_first v q w r h = search rules
 
-module _ {is_first : Bool} {keys : List Key} {used kept marks : List ℕ} (m : AreMemories is_first keys used kept marks)
+module _ {is_first : Bool} {keys : List Key} {used kept anchors : List ℕ}
+    (m : AreMemories is_first keys used kept anchors)
   where
-    -- memory states with the same mark are equal
-    one_memory : {i j x : ℕ} → slice_get marks i ≡ Some x → slice_get marks j ≡ Some x → i ≡ j
-    one_memory {i} {j} at there = one_place marks m.different i j at there
+    -- memory states with the same anchor are equal
+    one_memory : {i j x : ℕ} → slice_get anchors i ≡ Some x → slice_get anchors j ≡ Some x → i ≡ j
+    one_memory {i} {j} at there = one_place anchors m.different i j at there
 
     -- each used vertex of the first player has a memory state that belongs to it
     pub memory_of : {w r : ℕ} (p : ℕ) → AllPairs (λ x y. x ≢ y) keys → Contains used w → StandsAt keys w (First r p) →
@@ -37,8 +38,8 @@ module _ {is_first : Bool} {keys : List Key} {used kept marks : List ℕ} (m : A
     memory_of {w} {r} p differ is_used stands =
         let h = m.found w r p is_used stands in grind (
           arith,
-          slice_get_within marks h.memory (mark_of is_first w r) h.is_marked,
-          stands_for w p differ m stands h.is_marked stands,
+          slice_get_within anchors h.memory (anchor_of is_first w r) h.is_anchored,
+          stands_for w p differ m stands h.is_anchored stands,
         )
 
     -- memory state 0 is kept at vertex 0
@@ -46,7 +47,7 @@ module _ {is_first : Bool} {keys : List Key} {used kept marks : List ℕ} (m : A
     first_kept p q stands is_used =
         let h = m.found 0 q p is_used stands in
         let within : h.memory < length kept =
-        omega (arith, slice_get_within marks h.memory (mark_of is_first 0 q) h.is_marked, m.many) in
+        omega (arith, slice_get_within anchors h.memory (anchor_of is_first 0 q) h.is_anchored, m.many) in
         let least : get_or kept 0 0 ≡ 0 = search (rules, cases_lt) in
         slice_get-get_or kept 0 0 (omega arith) ∙ ap (λ n. Some n) least
 
@@ -55,7 +56,8 @@ module _ {is_first : Bool} {keys : List Key} {used kept marks : List ℕ} (m : A
 
     module _ {game : ParityGame} {certificate : CertificateData} (are_used : AreUsed game certificate used) where
       -- no smaller vertex shares the memory state of a kept vertex
-      kept_at : (memory : ℕ) → memory < length kept → IsKept is_first keys game certificate (get_or kept memory 0)
+      kept_at : (memory : ℕ) → memory < length kept →
+          IsRepresentative is_first keys game certificate (get_or kept memory 0)
       kept_at memory within =
           let here = m.each memory within in
           record {
@@ -63,25 +65,25 @@ module _ {is_first : Bool} {keys : List Key} {used kept marks : List ℕ} (m : A
             priority = here.priority;
             here = record { used = (are_used (get_or kept memory 0)).0 here.is_used; stands = here.stands };
             least = λ w r p less there shares. (let h = m.found w r p ((are_used w).1 there.used) there.stands in
-                let same : h.memory ≡ memory = search (rules, one_memory, shares_mark) in
+                let same : h.memory ≡ memory = search (rules, one_memory, shares_anchor) in
                 let behind : get_or kept memory 0 ≤ w = rw same at h.behind in
                 omega arith);
           }
 
-      pub all_kept : All (IsKept is_first keys game certificate) kept
+      pub all_kept : All (IsRepresentative is_first keys game certificate) kept
       all_kept memory d within = rw (get_or_default kept memory 0 d within) at (kept_at memory within)
 
       -- the smallest of the used vertices that share a memory state is kept
-      pub each_kept : (v : ℕ) → IsKept is_first keys game certificate v → Contains kept v
+      pub each_kept : (v : ℕ) → IsRepresentative is_first keys game certificate v → Contains kept v
       each_kept v k =
           let h = m.found v k.state k.priority ((are_used v).1 k.here.used) k.here.stands in
           let within : h.memory < length kept = grind (arith, slice_get_within) in
           let at = m.each h.memory within in
-          let same : mark_of is_first v k.state ≡ mark_of is_first (get_or kept h.memory 0) at.state =
+          let same : anchor_of is_first v k.state ≡ anchor_of is_first (get_or kept h.memory 0) at.state =
           search (rules, some_nat) in
           let is : get_or kept h.memory 0 ≡ v = elim (cases_lt (get_or kept h.memory 0) v) [
             | inl less ↦ absurd (k.least (get_or kept h.memory 0) at.state at.priority less (grind arith)
-                (mark_shares is_first v k.state (get_or kept h.memory 0) at.state same))
+                (anchor_shares is_first v k.state (get_or kept h.memory 0) at.state same))
             | inr not_less ↦ omega (arith, not_less, h.behind)
           ] in
           (h.memory, within, get_or_default kept h.memory v 0 within ∙ is)

@@ -13,8 +13,8 @@ use Rattle.ps_machine.specs.Inner.Assembling.{IsAssembled}
 use Rattle.ps_machine.specs.Behaviours.{AreSameOn, IsMachine, IsOutput}
 use Rattle.ps_machine.specs.Boards.{Board}
 use Rattle.ps_machine.specs.Inner.Drawing.{IsOwn, IsDrawn, LeadsToRow}
-use Rattle.ps_machine.specs.Extracting.{IsPlayed, IsOther, IsStep, is_others}
-use Rattle.ps_machine.specs.Machines.{MachineData, IsWholeMachine, behaviour, row_of, step_of}
+use Rattle.ps_machine.specs.Extracting.{IsPlayed, IsOtherLetter, IsStep, is_others}
+use Rattle.ps_machine.specs.Machines.{MachineData, IsWholeMachine, behaviour, row_at_leaf, machine_row}
 use Rattle.ps_machine.specs.declared.key.Key.{Key}
 use Rattle.ps_machine.specs.declared.machine.Row.{Row}
 use Rattle.ps_machine.proofs.Choosing.{not_false, over_other, part, part_bit, part_over}
@@ -45,7 +45,7 @@ module _ {board : Board} {keys : List Key} {kept : List ℕ} {certificate : Cert
   abbrev read : ℕ → ℕ
   read x = part board.propositions (is_others m.is_first board) x
 
-  read_other : (x : ℕ) → IsOther m.is_first board (read x)
+  read_other : (x : ℕ) → IsOtherLetter m.is_first board (read x)
   read_other x = over_other m.is_first board (part_over board.propositions (is_others m.is_first board) x)
 
   -- each letter leads to the row for the other player's part of the letter
@@ -58,7 +58,7 @@ module _ {board : Board} {keys : List Key} {kept : List ℕ} {certificate : Cert
   leaf_is memory x d = search (rules, part_bit, leads)
 
   step_is : (memory x : ℕ) {leaf : ℕ} {row : Row} → leaf_of m.store (slice_index m.nodes memory) x ≡ Some leaf →
-      slice_get m.rows leaf ≡ Some row → step_of m memory x ≡ row
+      slice_get m.rows leaf ≡ Some row → machine_row m memory x ≡ row
   step_is memory x {leaf} {row} e f = search (rules, get_or_from_slice_get)
 
   drawn_at : (memory : ℕ) → memory < length m.nodes → Drawn memory
@@ -67,12 +67,12 @@ module _ {board : Board} {keys : List Key} {kept : List ℕ} {certificate : Cert
   outputs_only : (y : ℕ) → IsOwn m.is_first board y → IsOutput (behaviour m) y
   outputs_only y own = search (rules, own_within, cases_lt, own_none, not_false, no_bit)
 
-  row_is : (leaf : ℕ) → leaf < length m.rows → ((row_of m leaf).memory < length m.nodes) ×
-      IsOutput (behaviour m) (row_of m leaf).letter
+  row_is : (leaf : ℕ) → leaf < length m.rows → ((row_at_leaf m leaf).memory < length m.nodes) ×
+      IsOutput (behaviour m) (row_at_leaf m leaf).letter
   row_is leaf within = search (rules, outputs_only)
 
   plays_same : m.is_first ≡ true → (memory x y : ℕ) → (d : Drawn memory) →
-      (step_of m memory x).letter ≡ (step_of m memory y).letter
+      (machine_row m memory x).letter ≡ (machine_row m memory y).letter
   plays_same is memory x y d =
       let one = leads memory x d in
       let other = leads memory y d in
@@ -86,8 +86,8 @@ module _ {board : Board} {keys : List Key} {kept : List ℕ} {certificate : Cert
   read_or_played p within = search (rules, cases_Bool)
 
   -- each step leads to a memory state, and outputs a letter of the machine's player
-  row_at : (memory x : ℕ) → memory < length m.nodes → ((step_of m memory x).memory < length m.nodes) ×
-      IsOutput (behaviour m) (step_of m memory x).letter
+  row_at : (memory x : ℕ) → memory < length m.nodes → ((machine_row m memory x).memory < length m.nodes) ×
+      IsOutput (behaviour m) (machine_row m memory x).letter
   row_at memory x within =
       let l = leads memory x (drawn_at memory within) in
       let there = slice_get_within m.rows l.leaf l.row l.is_row in
@@ -98,7 +98,7 @@ module _ {board : Board} {keys : List Key} {kept : List ℕ} {certificate : Cert
   leaf_heeds memory x y within same = search (rules, drawn_at)
 
   step_heeds : (memory x y : ℕ) → memory < length m.nodes → AreSameOn m.inputs x y →
-      step_of m memory x ≡ step_of m memory y
+      machine_row m memory x ≡ machine_row m memory y
   step_heeds memory x y within same = search (rules, leaf_heeds)
 
   does : IsMachine (behaviour m)
@@ -131,7 +131,7 @@ module _ {board : Board} {keys : List Key} {kept : List ℕ} {certificate : Cert
   }
 
   -- the steps of the machine are those of the certificate
-  pub is_step : (memory x : ℕ) → memory < length m.nodes → IsOther m.is_first board x →
+  pub is_step : (memory x : ℕ) → memory < length m.nodes → IsOtherLetter m.is_first board x →
       IsStep board keys kept certificate (behaviour m) memory x
   is_step memory x within other =
       let d = drawn_at memory within in

@@ -14,9 +14,9 @@ use Rattle.ps_machine.specs.Inner.Assembling.{AreListedBelow}
 use Rattle.ps_machine.specs.Behaviours.{Behaviour, IsMachine, IsOutput, AreSameOn}
 use Rattle.ps_machine.specs.Boards.{Board, IsFirstLetter, IsSecondLetter, SameStep, IsGameOf}
 use Rattle.ps_machine.specs.Inner.Drawing.{AreMemories, AreUsed, IsOwn, IsRowAt}
-use Rattle.ps_machine.specs.Extracting.{HasPropositions, IsMachineOf, IsOther, IsStep, IsUsed, is_others}
+use Rattle.ps_machine.specs.Extracting.{HasPropositions, IsMachineOf, IsOtherLetter, IsStep, IsUsed, is_others}
 use Rattle.ps_machine.specs.Numbering.{StandsAt}
-use Rattle.ps_machine.specs.Solving.{winner}
+use Rattle.ps_machine.specs.Solving.{winner_at_start}
 use Rattle.ps_machine.specs.declared.key.Key.{Key}
 use Rattle.ps_machine.specs.declared.key.Key.TheVariants.{First}
 use Rattle.ps_machine.specs.declared.machine.Row.{Row}
@@ -39,20 +39,21 @@ module _ {board : Board} {mover : ℕ} {keys : List Key} {game : ParityGame} {ce
       let at = s.by_keys.vertices v edge.0 in
       grind (arith, All-contains, stand-within)
 
-  small_winner : winner certificate < 2
+  small_winner : winner_at_start certificate < 2
   small_winner = s.fits.winners 0 (within_game s 0 s.by_keys.begins)
 
-  module _ (used : List ℕ) (are_used : AreUsed game certificate used) (kept marks : List ℕ) where
+  module _ (used : List ℕ) (are_used : AreUsed game certificate used) (kept anchors : List ℕ) where
     record HasRow (is_first : Bool) (v q x : ℕ) : Type 0 where
       row : Row
       is_right : IsRowAt is_first board keys kept certificate v q x row
       own : IsOwn is_first board row.letter
       within : row.memory < length kept
 
-    row_first : true ≡ (mover == winner certificate) → AreMemories true keys used kept marks → (v q p x : ℕ) →
+    row_first : true ≡ (mover == winner_at_start certificate) → AreMemories true keys used kept anchors →
+        (v q p x : ℕ) →
         StandsAt keys v (First q p) → IsUsed game certificate v → IsSecondLetter board x → HasRow true v q x
     row_first turn m v q p x stands is_used second =
-        let wins : mover ≡ winner certificate = eqb-true mover (winner certificate) (sym turn) in
+        let wins : mover ≡ winner_at_start certificate = eqb-true mover (winner_at_start certificate) (sym turn) in
         let chosen = move_at s stands is_used (first_owner s v stands ∙ wins) in
         let c = class_at s v stands chosen.edge in
         let move = move_there board c.letter second in
@@ -74,10 +75,11 @@ module _ {board : Board} {mover : ℕ} {keys : List Key} {game : ParityGame} {ce
           within = next.1;
         }
 
-    row_second : false ≡ (mover == winner certificate) → AreMemories false keys used kept marks → (v q p x : ℕ) →
+    row_second : false ≡ (mover == winner_at_start certificate) → AreMemories false keys used kept anchors →
+        (v q p x : ℕ) →
         StandsAt keys v (First q p) → IsUsed game certificate v → IsFirstLetter board x → HasRow false v q x
     row_second turn m v q p x stands is_used first =
-        let loses : mover ≢ winner certificate = eqb-false mover (winner certificate) (sym turn) in
+        let loses : mover ≢ winner_at_start certificate = eqb-false mover (winner_at_start certificate) (sym turn) in
         let class = class_there board q first in
         let to = to_class_of s stands class.1 in
         let to_used : IsUsed game certificate to.vertex = used_more is_used to.edge (edge_within v to.vertex to.edge)
@@ -113,9 +115,9 @@ module _ {board : Board} {mover : ℕ} {keys : List Key} {game : ParityGame} {ce
           within = next.1;
         }
 
-    row_there : (is_first : Bool) → is_first ≡ (mover == winner certificate) →
-        AreMemories is_first keys used kept marks → {v q : ℕ} (p : ℕ) {x : ℕ} → StandsAt keys v (First q p) →
-        IsUsed game certificate v → IsOther is_first board x → HasRow is_first v q x
+    row_there : (is_first : Bool) → is_first ≡ (mover == winner_at_start certificate) →
+        AreMemories is_first keys used kept anchors → {v q : ℕ} (p : ℕ) {x : ℕ} → StandsAt keys v (First q p) →
+        IsUsed game certificate v → IsOtherLetter is_first board x → HasRow is_first v q x
     row_there is_first h k p m n q = search (rules, row_first, row_second)
 
 -- ## The machine
@@ -123,18 +125,18 @@ module _ {board : Board} {mover : ℕ} {keys : List Key} {game : ParityGame} {ce
 module _ (names : List (List ℕ)) {board : Board} {mover : ℕ} {keys : List Key} {game : ParityGame}
     {certificate : CertificateData} (few : length names ≤ 64) (are_names : AreNames names)
     (as_many : length names ≡ board.propositions) (setting : Setting board mover keys game certificate) {first : Bool}
-    (turn : first ≡ (mover == winner certificate)) {used : List ℕ} (are_used : AreUsed game certificate used)
-    {kept marks : List ℕ} (m : AreMemories first keys used kept marks)
+    (turn : first ≡ (mover == winner_at_start certificate)) {used : List ℕ} (are_used : AreUsed game certificate used)
+    {kept anchors : List ℕ} (m : AreMemories first keys used kept anchors)
   where
     -- the other player's part of a letter
     read : ℕ → ℕ
     read x = part board.propositions (is_others first board) x
 
-    read_other : (x : ℕ) → IsOther first board (read x)
+    read_other : (x : ℕ) → IsOtherLetter first board (read x)
     unfolding read
     read_other x = over_other first board (part_over board.propositions (is_others first board) x)
 
-    read_itself : (x : ℕ) → IsOther first board x → read x ≡ x
+    read_itself : (x : ℕ) → IsOtherLetter first board x → read x ≡ x
     unfolding read
     read_itself x other = part_itself board.propositions (is_others first board) x (other_over first board x other)
 
@@ -152,7 +154,7 @@ module _ (names : List (List ℕ)) {board : Board} {mover : ℕ} {keys : List Ke
         let here = m.each memory within in
         grind (
           arith,
-          row_there setting used are_used kept marks first turn m here.priority here.stands
+          row_there setting used are_used kept anchors first turn m here.priority here.stands
               ((are_used (get_or kept memory 0)).0 here.is_used) (read_other z),
         )
 
@@ -183,7 +185,7 @@ module _ (names : List (List ℕ)) {board : Board} {mover : ℕ} {keys : List Ke
       names = names;
       inputs = inputs.0;
       outputs = outputs.0;
-      player = winner certificate;
+      player = winner_at_start certificate;
       is_first = first;
       memories = length kept;
       next = λ memory x. (row memory x).memory;
@@ -218,7 +220,7 @@ module _ (names : List (List ℕ)) {board : Board} {mover : ℕ} {keys : List Ke
       blind = λ is memory x y within. same_letter_played is memory x y within;
     }
 
-    made_step : (memory x : ℕ) → memory < length kept → IsOther first board x →
+    made_step : (memory x : ℕ) → memory < length kept → IsOtherLetter first board x →
         IsStep board keys kept certificate made memory x
     unfolding made
     made_step memory x within other =
@@ -266,6 +268,6 @@ machine_there names board mover keys game certificate few are_names as_many smal
     let s : Setting board mover keys game certificate = grind arith in
     let some = within_game s 0 s.by_keys.begins in
     let used = used_there valid (edge_within s) some in
-    let first = mover == winner certificate in
+    let first = mover == winner_at_start certificate in
     let memories = memories_there first keys used.0 in
     machine names few are_names as_many s refl used.1 memories.2

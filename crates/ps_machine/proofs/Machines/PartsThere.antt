@@ -9,10 +9,10 @@ use Rattle.indexmap.specs.IndexSet.{insert_key}
 use Rattle.ps_game.specs.Games.{ParityGame, HasEdge, vertex_count, owner_of, successors_of}
 use Rattle.ps_certificate.specs.Certificates.{CertificateData, IsValid, choice_of}
 use Rattle.ps_machine.specs.Inner.Assembling.{AreListedBelow}
-use Rattle.ps_machine.specs.Inner.Drawing.{Adds, AreMemories, AreUsed, GoesOn, Stays, Grows, mark_of}
+use Rattle.ps_machine.specs.Inner.Drawing.{Adds, AreMemories, AreUsed, GoesOn, Stays, Grows, anchor_of}
 use Rattle.ps_machine.specs.Extracting.{IsUsed}
 use Rattle.ps_machine.specs.Numbering.{StandsAt}
-use Rattle.ps_machine.specs.Solving.{winner}
+use Rattle.ps_machine.specs.Solving.{winner_at_start}
 use Rattle.ps_machine.specs.declared.key.Key.{Key}
 use Rattle.ps_machine.specs.declared.key.Key.TheVariants.{First, Second}
 use Rattle.ps_machine.proofs.Diagrams.DrawingLemmas.{not_both}
@@ -39,14 +39,14 @@ module _ {game : ParityGame} {certificate : CertificateData} (valid : IsValid ga
 
   add_next : (v : ℕ) (old : List ℕ) → IsUsed game certificate v →
       (new : List ℕ) × Adds (GoesOn game certificate v) old new
-  add_next v old used = elim (cases_eq (owner_of game v) (winner certificate)) [
+  add_next v old used = elim (cases_eq (owner_of game v) (winner_at_start certificate)) [
     | inl own ↦ by own (choice_of certificate v) refl
     | inr other ↦
         let all = add_first (successors_of game v) old (length (successors_of game v)) (omega arith) in
         grind (arith, adds_all, used_within)
   ]
     where
-      by : owner_of game v ≡ winner certificate → (o : Option ℕ) → choice_of certificate v ≡ o →
+      by : owner_of game v ≡ winner_at_start certificate → (o : Option ℕ) → choice_of certificate v ≡ o →
           (new : List ℕ) × Adds (GoesOn game certificate v) old new
       by own None e = (old, adds_no_move game certificate v own e)
       by own (Some chosen) e = (
@@ -74,22 +74,23 @@ module _ {game : ParityGame} {certificate : CertificateData} (valid : IsValid ga
 -- ## Memory states
 
 module _ (is_first : Bool) (keys : List Key) (used : List ℕ) where
-  memories_below : (n : ℕ) → n ≤ length keys → (kept : List ℕ) × (marks : List ℕ) ×
-      AreMemoriesBelow is_first keys used kept marks n
+  memories_below : (n : ℕ) → n ≤ length keys → (kept : List ℕ) × (anchors : List ℕ) ×
+      AreMemoriesBelow is_first keys used kept anchors n
   memories_below zero few = ([], [], none_below is_first keys used refl refl)
   memories_below (suc n) few = (let m = memories_below n (omega arith) in
       at m.0 m.1 m.2 (get_or keys n (First 0 0)) (slice_get-get_or keys n (First 0 0) (omega arith)))
     where
-      at : (kept marks : List ℕ) → AreMemoriesBelow is_first keys used kept marks n → (key : Key) → StandsAt keys n key
-          → (kept : List ℕ) × (marks : List ℕ) × AreMemoriesBelow is_first keys used kept marks (suc n)
-      at kept marks m (Second q x) stands = search (rules, AreMemoriesBelow, below_skip, not_both, same_some)
-      at kept marks m (First q p) stands = elim (contained_or_not used n) [
+      at : (kept anchors : List ℕ) → AreMemoriesBelow is_first keys used kept anchors n → (key : Key) →
+          StandsAt keys n key
+          → (kept : List ℕ) × (anchors : List ℕ) × AreMemoriesBelow is_first keys used kept anchors (suc n)
+      at kept anchors m (Second q x) stands = search (rules, AreMemoriesBelow, below_skip, not_both, same_some)
+      at kept anchors m (First q p) stands = elim (contained_or_not used n) [
         | inr not_used ↦ (
           kept,
-          marks,
+          anchors,
           rw (add-one n) at (below_skip is_first keys used (λ r o is_used other. not_used is_used) m),
         )
-        | inl is_used ↦ elim (contained_or_not marks (mark_of is_first n q)) [
+        | inl is_used ↦ elim (contained_or_not anchors (anchor_of is_first n q)) [
           | inl came ↦
               grind (arith, add-one n, below_more is_first keys used q p m stands is_used (Stays came refl refl))
           | inr comes ↦
@@ -97,7 +98,7 @@ module _ (is_first : Bool) (keys : List Key) (used : List ℕ) where
         ]
       ]
 
-  pub memories_there : (kept : List ℕ) × (marks : List ℕ) × AreMemories is_first keys used kept marks
+  pub memories_there : (kept : List ℕ) × (anchors : List ℕ) × AreMemories is_first keys used kept anchors
   memories_there = (let m = memories_below (length keys) (omega arith) in (
     m.0,
     m.1,

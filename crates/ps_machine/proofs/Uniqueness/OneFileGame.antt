@@ -15,8 +15,8 @@ use Rattle.ps_hoa.specs.Files.{FileData}
 use Rattle.ps_automaton.specs.Autos.{Auto, IsAutoOf}
 use Rattle.ps_automaton.specs.Chains.{Chain}
 use Rattle.ps_game.specs.Games.{ParityGame, NamedGameData, vertex_count, successors_of}
-use Rattle.ps_machine.specs.Boards.{Board, IsFirstLetter, IsSecondLetter, SameStep, SameSteps, IsClass, IsMove}
-use Rattle.ps_machine.specs.Boards.{AreListed, LeadsTo, IsGameOf}
+use Rattle.ps_machine.specs.Boards.{Board, IsFirstLetter, IsSecondLetter, SameStep, SameSteps, IsClassLetter, IsMove}
+use Rattle.ps_machine.specs.Boards.{IsListOf, LeadsTo, IsGameOf}
 use Rattle.ps_machine.specs.FileGames.{IsGameOfFile, board_of_file}
 use Rattle.ps_machine.specs.KeyNames.{key_names}
 use Rattle.ps_machine.specs.Keys.{mover_of}
@@ -37,8 +37,8 @@ pub record StepAlike (a b : Auto) (q letter : ℕ) : Type 0 where
   pub next : a.next q letter ≡ b.next q letter
   pub priority : a.priority q letter ≡ b.priority q letter
 
-relisted : (P Q : ℕ → Type 0) (letters : List ℕ) → ((x : ℕ) → P x → Q x) → ((x : ℕ) → Q x → P x) → AreListed P letters →
-    AreListed Q letters
+relisted : (P Q : ℕ → Type 0) (letters : List ℕ) → ((x : ℕ) → P x → Q x) → ((x : ℕ) → Q x → P x) → IsListOf P letters →
+    IsListOf Q letters
 relisted P Q letters there back are = search rules
 
 module _ (order : Order) (file : FileData) (chain : Chain) where
@@ -86,7 +86,7 @@ module _ (order : Order) (file : FileData) (chain : Chain) where
     move_step_too le hx hy hz = step_too le (sum_within (on a) hx hy) (sum_within (on a) hx hz)
 
   module _ {a b : Auto} (is : IsAutoOf file chain a) (too : IsAutoOf file chain b) where
-    pub class_too : (q x : ℕ) → q ≤ file.states → IsClass (on a) q x → IsClass (on b) q x
+    pub class_too : (q x : ℕ) → q ≤ file.states → IsClassLetter (on a) q x → IsClassLetter (on b) q x
     class_too q x le c = record {
       here = (first_too a b c.here.0, steps_too is too q le c.here.0 c.here.0 c.here.1);
       none_before = λ z p before. (let hz = first_too b a p.0 in

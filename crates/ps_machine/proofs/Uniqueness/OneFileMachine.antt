@@ -9,7 +9,7 @@ use Rattle.ps_hoa.specs.Files.{FileData}
 use Rattle.ps_machine.specs.Behaviours.{Behaviour, IsMachine}
 use Rattle.ps_machine.specs.Behaving.{BehavesAs}
 use Rattle.ps_machine.specs.Boards.{Board, IsFirstLetter, IsSecondLetter, IsGameOf}
-use Rattle.ps_machine.specs.Extracting.{GoesTo, HasPropositions, IsMachineOf, IsOther, IsPlayed, IsStep}
+use Rattle.ps_machine.specs.Extracting.{GoesTo, HasPropositions, IsMachineOf, IsOtherLetter, IsPlayed, IsStep}
 use Rattle.ps_machine.specs.FileGames.{IsGameOfFile, board_of_file}
 use Rattle.ps_machine.specs.Keys.{mover_of}
 use Rattle.ps_machine.specs.Numbering.{StandsAt}
@@ -35,7 +35,7 @@ module _ (order : Order) {file : FileData} {chain : Chain} {a b : Auto} (is : Is
       GoesTo keys other q letter w
   goes_too {q} {letter} {w} low lt goes = grind (arith, alike order file chain is too q letter low lt)
 
-  other_too : (first : Bool) (x : ℕ) → IsOther first other x → IsOther first one x
+  other_too : (first : Bool) (x : ℕ) → IsOtherLetter first other x → IsOtherLetter first one x
   other_too first x h = search (rules, second_too, first_too)
 
 module _ (order : Order) {file : FileData} {chain : Chain} {a b : Auto} (is : IsAutoOf file chain a)
@@ -97,12 +97,12 @@ module _ (order : Order) {file : FileData} {chain : Chain} {a b : Auto} (is : Is
           let second = second_too order file chain b a there.0 in
           grind (arith, alike order file chain too is q (s.class + z) low (sum_within before class_first second))
 
-  plays : (first : Bool) (v q x letter : ℕ) → q ≤ file.states → IsOther first before x →
+  plays : (first : Bool) (v q x letter : ℕ) → q ≤ file.states → IsOtherLetter first before x →
       IsPlayed first before keys certificate v q x letter → Plays first v q x letter
   plays true v q x letter low is_other s = plays_first is_other s
   plays false v q x letter low is_other s = plays_second low is_other s
 
-  step_too : {kept : List ℕ} {m : Behaviour} {memory x : ℕ} → IsOther m.is_first before x →
+  step_too : {kept : List ℕ} {m : Behaviour} {memory x : ℕ} → IsOtherLetter m.is_first before x →
       IsStep before keys kept certificate m memory x → IsStep behind keys kept certificate m memory x
   step_too {kept} {m} {memory} {x} is_other s =
       let low = fine s.vertex s.state s.priority s.stands in

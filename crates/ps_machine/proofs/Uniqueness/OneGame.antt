@@ -9,7 +9,7 @@ use Rattle.std.proofs.lemmas.Option.{slice_get-get_or}
 use Rattle.ps_diagram.specs.Letters.{IsBefore}
 use Rattle.ps_diagram.proofs.Cells.{true_is_not_false}
 use Rattle.ps_game.specs.Games.{ParityGame, VertexData, no_vertex, vertex_count, owner_of, priority_of, successors_of}
-use Rattle.ps_machine.specs.Boards.{Board, AreListed, LeadsTo, IsGameOf}
+use Rattle.ps_machine.specs.Boards.{Board, IsListOf, LeadsTo, IsGameOf}
 use Rattle.ps_machine.specs.Keys.{owner_of_key, priority_of_key}
 use Rattle.ps_machine.specs.Numbering.{listed, StandsAt, IsVertexOf}
 use Rattle.ps_machine.specs.declared.key.Key.{Key}
@@ -26,7 +26,7 @@ use Rattle.ps_machine.proofs.Uniqueness.Counting.{none, counts_front, old_or_nex
 not_both : (x y : ℕ) → IsBefore x y → IsBefore y x → ⊥
 not_both x y a b = search (rules, cases_eq, true_is_not_false, cases_lt)
 
-one_list : {P : ℕ → Type 0} {xs ys : List ℕ} → AreListed P xs → AreListed P ys → xs ≡ ys
+one_list : {P : ℕ → Type 0} {xs ys : List ℕ} → IsListOf P xs → IsListOf P ys → xs ≡ ys
 one_list {P} {xs} {ys} a b = same_rising IsBefore not_both xs ys a.rising b.rising
     (λ z c. b.complete z (All-contains P xs z a.each c)) (λ z c. a.complete z (All-contains P ys z b.each c))
 
@@ -243,6 +243,7 @@ module _ (board : Board) (mover : ℕ) where
   vertex_same : {x y : VertexData} → x.owner ≡ y.owner → x.priority ≡ y.priority → x.successors ≡ y.successors → x ≡ y
   vertex_same {x} {y} a b c = search rules
 
+  -- a board has one list of keys and one game
   pub one_game_of : (one other : List Key) (game same : ParityGame) → IsGameOf board mover one game →
       IsGameOf board mover other same → (one ≡ other) × (game ≡ same)
   unfolding vertex_count owner_of priority_of successors_of

@@ -12,16 +12,17 @@ use Rattle.ps_diagram.proofs.KnownLemmas.{some_nat}
 use Rattle.ps_machine.specs.Inner.Assembling.{AreListedBelow}
 use Rattle.ps_machine.specs.Behaviours.{Behaviour, IsMachine, AreSameOn}
 use Rattle.ps_machine.specs.Behaving.{BehavesAs}
-use Rattle.ps_machine.specs.Boards.{Board, IsClass, IsGameOf, SameSteps}
-use Rattle.ps_machine.specs.Inner.Drawing.{mark_of}
-use Rattle.ps_machine.specs.Extracting.{GoesTo, HasPropositions, IsKept, IsMachineOf, IsOther, IsPlayed, IsUsedFirst}
+use Rattle.ps_machine.specs.Boards.{Board, IsClassLetter, IsGameOf, SameSteps}
+use Rattle.ps_machine.specs.Inner.Drawing.{anchor_of}
+use Rattle.ps_machine.specs.Extracting.{GoesTo, HasPropositions, IsRepresentative, IsMachineOf, IsOtherLetter, IsPlayed}
+use Rattle.ps_machine.specs.Extracting.{IsUsedFirst}
 use Rattle.ps_machine.specs.Extracting.{StandsFor, is_others}
 use Rattle.ps_machine.specs.Numbering.{StandsAt}
 use Rattle.ps_machine.specs.declared.key.Key.{Key}
 use Rattle.ps_machine.specs.declared.key.Key.TheVariants.{First}
 use Rattle.ps_machine.proofs.BoardLetters.{neither_before, one_least}
 use Rattle.ps_machine.proofs.Choosing.{part, part_bit, part_over, steps_sym, steps_trans, over_other}
-use Rattle.ps_machine.proofs.Machines.KeptMemories.{mark_shares, shares_mark}
+use Rattle.ps_machine.proofs.Machines.KeptMemories.{anchor_shares, shares_anchor}
 use Rattle.ps_machine.proofs.Machines.Listing.{one_listed}
 use Rattle.ps_machine.proofs.Machines.MachineLemmas.{one_letter}
 use Rattle.ps_machine.proofs.Uniqueness.Rising.{same_numbers}
@@ -45,7 +46,7 @@ module _ {names : List (List ℕ)} {board : Board} {m : Behaviour} (is : IsMachi
 
 module _ (first : Bool) (keys : List Key) (game : ParityGame) (certificate : CertificateData) where
   abbrev Kept : ℕ → Type 0
-  Kept v = IsKept first keys game certificate v
+  Kept v = IsRepresentative first keys game certificate v
 
   pub one_kept : {kept others : List ℕ} → AllPairs (λ v w. v < w) kept → AllPairs (λ v w. v < w) others → All Kept kept
       → All Kept others → ((v : ℕ) → Kept v → Contains kept v) → ((v : ℕ) → Kept v → Contains others v) → kept ≡ others
@@ -53,8 +54,9 @@ module _ (first : Bool) (keys : List Key) (game : ParityGame) (certificate : Cer
 
   -- no used vertex less than a kept vertex shares its memory state
   none_below : {v q p : ℕ} (u r o : ℕ) → Kept u → StandsAt keys u (First r o) →
-      IsUsedFirst keys game certificate v q p → mark_of first v q ≡ mark_of first u r → v < u → ⊥
-  none_below {v} {q} {p} u r o k stands used same less = k.least v q p less used (grind (arith, mark_shares, one_state))
+      IsUsedFirst keys game certificate v q p → anchor_of first v q ≡ anchor_of first u r → v < u → ⊥
+  none_below {v} {q} {p} u r o k stands used same less =
+      k.least v q p less used (grind (arith, anchor_shares, one_state))
 
   kept_at : (kept : List ℕ) (memory : ℕ) {v : ℕ} → All Kept kept → slice_get kept memory ≡ Some v → Kept v
   kept_at kept memory {v} each at =
@@ -65,7 +67,7 @@ module _ (first : Bool) (keys : List Key) (game : ParityGame) (certificate : Cer
       StandsFor first keys kept i w r → StandsFor first keys kept j w r → i < j → ⊥
   not_lower {kept} {i} {j} {w} {r} rises each a b less =
       let one = kept_at kept i each a.is_kept in
-      let same : mark_of first a.vertex a.state ≡ mark_of first b.vertex b.state = search (rules, shares_mark) in
+      let same : anchor_of first a.vertex a.state ≡ anchor_of first b.vertex b.state = search (rules, shares_anchor) in
       let below = rises i j 0 less (slice_get_within kept j b.vertex b.is_kept) in
       none_below b.vertex b.state b.priority (kept_at kept j each b.is_kept) b.stands
       (record { used = one.here.used; stands = a.stands }) same (search (rules, get_or_from_slice_get))
@@ -80,7 +82,7 @@ module _ (first : Bool) (keys : List Key) (game : ParityGame) (certificate : Cer
 -- ## Letters
 
 module _ (board : Board) (keys : List Key) (certificate : CertificateData) (differ : AllPairs (λ x y. x ≢ y) keys) where
-  one_class : (q x c d : ℕ) → IsClass board q c → IsClass board q d → SameSteps board q x c →
+  one_class : (q x c d : ℕ) → IsClassLetter board q c → IsClassLetter board q d → SameSteps board q x c →
       SameSteps board q x d → c ≡ d
   one_class q x c d a b to too =
       let same = steps_trans board q c x d (steps_sym board q x c to) too in
@@ -129,7 +131,7 @@ module _ (names : List (List ℕ)) (board : Board) (mover : ℕ) (keys : List Ke
       goes : GoesTo keys board state (x + o.plays memory x) entered
       next : StandsFor m.is_first keys of.kept (o.next memory x) entered (board.auto.next state (x + o.plays memory x))
 
-    other_step : (memory x : ℕ) → memory < m.memories → IsOther m.is_first board x → Steps memory x
+    other_step : (memory x : ℕ) → memory < m.memories → IsOtherLetter m.is_first board x → Steps memory x
     other_step memory x within is_other =
         let t = other.steps memory x (omega (arith, within, same_memories)) (rw same_first is_other) in
         grind (arith, same_first, same_kept)
@@ -138,7 +140,7 @@ module _ (names : List (List ℕ)) (board : Board) (mover : ℕ) (keys : List Ke
     SameStepAt memory x = (m.next memory x ≡ o.next memory x) × (m.plays memory x ≡ o.plays memory x)
 
     -- both machines take the same step at each letter of the other player
-    same_step : (memory x : ℕ) → memory < m.memories → IsOther m.is_first board x → SameStepAt memory x
+    same_step : (memory x : ℕ) → memory < m.memories → IsOtherLetter m.is_first board x → SameStepAt memory x
     unfolding SameStepAt
     same_step memory x within is_other =
         let s = of.steps memory x within is_other in

@@ -3,7 +3,7 @@
 -- row. (For private functions.)
 --     AreUsed game certificate found      these are the used vertices
 --     GoesOn game certificate v w      a path that follows the table of the winner of vertex 0 can continue from v to w
---     AreMemories is_first keys used kept marks      the vertex of each memory state, and its mark
+--     AreMemories is_first keys used kept anchors      the vertex of each memory state, and its anchor
 --     IsPlan ..      the data from which the machine is made
 --     IsDrawn .. v node      the diagram leads each letter of the other player to the right row for the memory state
 --               whose vertex is v
@@ -20,8 +20,8 @@ use Rattle.ps_diagram.specs.Table.{Table, IsNode, leaf_of}
 use Rattle.ps_automaton.specs.Automata.{AutomatonData}
 use Rattle.ps_machine.specs.Boards.{Board, IsFirstLetter, IsSecondLetter, IsGameOf}
 use Rattle.ps_machine.specs.BuiltBoards.{board_of}
-use Rattle.ps_machine.specs.Extracting.{IsUsed, GoesTo, StandsFor, IsPlayed, IsOther, is_others}
-use Rattle.ps_machine.specs.Solving.{winner}
+use Rattle.ps_machine.specs.Extracting.{IsUsed, GoesTo, StandsFor, IsPlayed, IsOtherLetter, is_others}
+use Rattle.ps_machine.specs.Solving.{winner_at_start}
 use Rattle.ps_machine.specs.Keys.{mover_of}
 use Rattle.ps_machine.specs.Numbering.{StandsAt}
 use Rattle.ps_machine.specs.declared.key.Key.{Key}
@@ -34,7 +34,7 @@ AreUsed game certificate found = (v : ℕ) → Contains found v ↔ IsUsed game 
 
 -- a path that follows the table of the winner of vertex 0 can continue from v to w
 abbrev pub GoesOn : ParityGame → CertificateData → ℕ → ℕ → Type 0
-GoesOn game certificate v w = RemainsFor game (winner certificate) (choice_of certificate) v w
+GoesOn game certificate v w = RemainsFor game (winner_at_start certificate) (choice_of certificate) v w
 
 -- the list grew by numbers with a property, and now has all such numbers; if its entries differed before, they still do
 pub record Adds (IsNext : ℕ → Type 0) (old new : List ℕ) : Type 0 where
@@ -46,52 +46,53 @@ pub record Adds (IsNext : ℕ → Type 0) (old new : List ℕ) : Type 0 where
 
 -- ## Memories
 
--- the mark of the vertex v of the state q: the vertex if the player moves first, the state if the player moves second
-abbrev pub mark_of : Bool → ℕ → ℕ → ℕ
-mark_of true v q = v
-mark_of false v q = q
+-- the anchor of the vertex v of the state q: the vertex if the player moves first, the state if the player moves second
+abbrev pub anchor_of : Bool → ℕ → ℕ → ℕ
+anchor_of true v q = v
+anchor_of false v q = q
 
--- a new mark gets a memory state, whose vertex is v; nothing changes if the mark has a memory state already
-pub data KeepsAt (old_kept old_marks : List ℕ) (v mark : ℕ) (kept marks : List ℕ) : Type 0 where
-  Stays : Contains old_marks mark → kept ≡ old_kept → marks ≡ old_marks → KeepsAt old_kept old_marks v mark kept marks
-  Grows : ¬ Contains old_marks mark → kept ≡ old_kept ++ v ∷ [] → marks ≡ old_marks ++ mark ∷ [] →
-      KeepsAt old_kept old_marks v mark kept marks
+-- a new anchor gets a memory state, whose vertex is v; nothing changes if the anchor has a memory state already
+pub data KeepsAt (old_kept old_anchors : List ℕ) (v anchor : ℕ) (kept anchors : List ℕ) : Type 0 where
+  Stays : Contains old_anchors anchor → kept ≡ old_kept → anchors ≡ old_anchors →
+      KeepsAt old_kept old_anchors v anchor kept anchors
+  Grows : ¬ Contains old_anchors anchor → kept ≡ old_kept ++ v ∷ [] → anchors ≡ old_anchors ++ anchor ∷ [] →
+      KeepsAt old_kept old_anchors v anchor kept anchors
 
 -- the vertex of the memory state is a used vertex at which the first player moves
-pub record IsMemory (is_first : Bool) (keys : List Key) (used kept marks : List ℕ) (memory : ℕ) : Type 0 where
+pub record IsMemory (is_first : Bool) (keys : List Key) (used kept anchors : List ℕ) (memory : ℕ) : Type 0 where
   pub state : ℕ
   pub priority : ℕ
   pub stands : StandsAt keys (slice_index kept memory) (First state priority)
   pub is_used : Contains used (slice_index kept memory)
-  pub mark : slice_get marks memory ≡ Some (mark_of is_first (slice_index kept memory) state)
+  pub anchor : slice_get anchors memory ≡ Some (anchor_of is_first (slice_index kept memory) state)
 
--- a memory state with this mark exists, and its vertex is v or a smaller vertex
-pub record HasMemory (kept marks : List ℕ) (v mark : ℕ) : Type 0 where
+-- a memory state with this anchor exists, and its vertex is v or a smaller vertex
+pub record HasMemory (kept anchors : List ℕ) (v anchor : ℕ) : Type 0 where
   pub memory : ℕ
-  pub is_marked : slice_get marks memory ≡ Some mark
+  pub is_anchored : slice_get anchors memory ≡ Some anchor
   pub behind : slice_index kept memory ≤ v
 
--- each mark of a used vertex has one memory state, whose vertex is the smallest used vertex with that mark
-pub record AreMemories (is_first : Bool) (keys : List Key) (used kept marks : List ℕ) : Type 0 where
-  pub many : length marks ≡ length kept
+-- each anchor of a used vertex has one memory state, whose vertex is the smallest used vertex with that anchor
+pub record AreMemories (is_first : Bool) (keys : List Key) (used kept anchors : List ℕ) : Type 0 where
+  pub many : length anchors ≡ length kept
   pub rising : AllPairs (λ v w. v < w) kept
-  pub different : AllPairs (λ one other. one ≢ other) marks
-  pub each : (memory : ℕ) → memory < length kept → IsMemory is_first keys used kept marks memory
+  pub different : AllPairs (λ one other. one ≢ other) anchors
+  pub each : (memory : ℕ) → memory < length kept → IsMemory is_first keys used kept anchors memory
   pub found : (v q p : ℕ) → Contains used v → StandsAt keys v (First q p) →
-      HasMemory kept marks v (mark_of is_first v q)
+      HasMemory kept anchors v (anchor_of is_first v q)
 
 -- ## Rows
 
 pub record IsPlan (order : Order) (a : AutomatonData) (keys : List Key) (certificate : CertificateData)
-    (is_first : Bool) (kept marks : List ℕ) : Type 0 where
+    (is_first : Bool) (kept anchors : List ℕ) : Type 0 where
   pub game : ParityGame
   pub is_game : IsGameOf (board_of order a) (mover_of order) keys game
   pub fits : Fits game certificate
   pub valid : IsValid game certificate
-  pub turn : is_first ≡ (mover_of order == winner certificate)
+  pub turn : is_first ≡ (mover_of order == winner_at_start certificate)
   pub used : List ℕ
   pub are_used : AreUsed game certificate used
-  pub memories : AreMemories is_first keys used kept marks
+  pub memories : AreMemories is_first keys used kept anchors
 
 -- a letter of the machine's player
 abbrev pub IsOwn : Bool → Board → ℕ → Type 0
@@ -126,7 +127,8 @@ pub record IsDrawn (is_first : Bool) (board : Board) (keys : List Key) (kept : L
   pub state : ℕ
   pub priority : ℕ
   pub stands : StandsAt keys v (First state priority)
-  pub leads : (x : ℕ) → IsOther is_first board x → LeadsToRow is_first board keys kept certificate t rows node v state x
+  pub leads : (x : ℕ) → IsOtherLetter is_first board x →
+      LeadsToRow is_first board keys kept certificate t rows node v state x
   -- the leaf depends only on the other player's propositions
   pub heeds : (x y : ℕ) → ((p : ℕ) → p < board.propositions → is_others is_first board p ≡ true → is_in p x ≡ is_in p y)
       → leaf_of t node x ≡ leaf_of t node y
@@ -137,8 +139,8 @@ pub record KeepsRows (old new : List Row) : Type 0 where
 
 -- a used vertex stands for the state q, entered by the priority p
 pub record CanEnter (order : Order) (a : AutomatonData) (keys : List Key) (certificate : CertificateData)
-    (is_first : Bool) (kept marks : List ℕ) (q p : ℕ) : Type 0 where
-  pub plan : IsPlan order a keys certificate is_first kept marks
+    (is_first : Bool) (kept anchors : List ℕ) (q p : ℕ) : Type 0 where
+  pub plan : IsPlan order a keys certificate is_first kept anchors
   pub vertex : ℕ
   pub stands : StandsAt keys vertex (First q p)
   pub is_used : IsUsed plan.game certificate vertex

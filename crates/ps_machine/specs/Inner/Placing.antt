@@ -7,7 +7,7 @@
 use Rattle.std.specs.Prelude.{◌≡◌, ℕ, ◌<◌, Bool, List, length, Some, slice_get}
 use Rattle.ps_certificate.specs.Certificates.{CertificateData, choice_of}
 use Rattle.ps_automaton.specs.Automata.{AutomatonData, pair_of}
-use Rattle.ps_machine.specs.Boards.{Board, IsClass}
+use Rattle.ps_machine.specs.Boards.{Board, IsClassLetter}
 use Rattle.ps_machine.specs.Inner.Drawing.{CanEnter}
 use Rattle.ps_machine.specs.Extracting.{StandsFor}
 use Rattle.ps_machine.specs.Inner.Moving.{step_key}
@@ -22,13 +22,13 @@ pub record PlaysClass (board : Board) (keys : List Key) (certificate : Certifica
   pub chosen : ℕ
   pub choice : choice_of certificate v ≡ Some chosen
   pub stands : StandsAt keys chosen (Second q letter)
-  pub is_class : IsClass board q letter
+  pub is_class : IsClassLetter board q letter
 
 -- the step that the leaf names leads to a used vertex
 pub record IsEntered (order : Order) (a : AutomatonData) (keys : List Key) (certificate : CertificateData)
-    (is_first : Bool) (kept marks : List ℕ) (leaf : ℕ) : Type 0 where
+    (is_first : Bool) (kept anchors : List ℕ) (leaf : ℕ) : Type 0 where
   pub within : leaf < length a.steps
-  pub enters : CanEnter order a keys certificate is_first kept marks (pair_of a leaf).state (pair_of a leaf).priority
+  pub enters : CanEnter order a keys certificate is_first kept anchors (pair_of a leaf).state (pair_of a leaf).priority
 
 -- The row at the index that `places` has for the leaf outputs the letter. The row leads to the memory state of the
 -- vertex that stands for the leaf's step.

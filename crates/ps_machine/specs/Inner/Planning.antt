@@ -22,7 +22,7 @@ board_by p = board_of p.order p.automaton.now
 abbrev pub IsPlanned : Plan → Type 0
 IsPlanned p =
     IsPlan p.order p.automaton.now p.keys.now.keys p.certificate.now p.moves_first p.memories.now.kept.items
-    p.memories.now.marks.keys
+    p.memories.now.anchors.keys
 
 abbrev pub AreDividedBy : Plan → Type 0
 AreDividedBy p =
@@ -32,12 +32,12 @@ AreDividedBy p =
 abbrev pub CanEnterBy : Plan → ℕ → ℕ → Type 0
 CanEnterBy p =
     CanEnter p.order p.automaton.now p.keys.now.keys p.certificate.now p.moves_first p.memories.now.kept.items
-    p.memories.now.marks.keys
+    p.memories.now.anchors.keys
 
 abbrev pub IsEnteredBy : Plan → ℕ → Type 0
 IsEnteredBy p =
     IsEntered p.order p.automaton.now p.keys.now.keys p.certificate.now p.moves_first p.memories.now.kept.items
-    p.memories.now.marks.keys
+    p.memories.now.anchors.keys
 
 -- the diagram of the steps from the state q after the letter x of the first player
 abbrev pub IsRestBy : Plan → ℕ → ℕ → ℕ → Type 0

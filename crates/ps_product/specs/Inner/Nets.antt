@@ -4,7 +4,7 @@ use Rattle.ps_circuit.specs.declared.parts.Gate.{Gate}
 use Rattle.ps_circuit.specs.Circuits.{CircuitData, IsCircuit, ReadsGate}
 use Rattle.ps_circuit.specs.Values.{AreValues, value_of}
 use Rattle.ps_product.specs.declared.net.Sides.{Sides}
-use Rattle.ps_product.specs.Truths.{wired}
+use Rattle.ps_product.specs.Truths.{bit_by_wire}
 use Rattle.ps_simulate.specs.declared.plan.Wire.{Wire}
 use Rattle.ps_simulate.specs.Plans.{variables, wire_of}
 
@@ -27,7 +27,7 @@ abbrev pub value_at : CircuitData → List Bool → ℕ → Bool
 value_at c values place = value_of values (slice_index_or (variables c) place 0)
 
 abbrev pub read_at : CircuitData → List Bool → Wire → Bool
-read_at c values w = wired w (value_at c values w.place)
+read_at c values w = bit_by_wire w (value_at c values w.place)
 
 -- the place belongs to a gate; the lower place belongs to no gate, or to a gate that this gate reads
 pub record IsBelow (c : CircuitData) (place lower : ℕ) : Type 0 where

@@ -7,7 +7,7 @@ use Rattle.ps_text.specs.Answers.{Found}
 use Rattle.ps_simulate.specs.declared.fault.StimulusCause.{StimulusCause}
 use Rattle.ps_simulate.specs.Faults.{rank}
 use Rattle.ps_simulate.specs.Stimuli.{StimulusData}
-use Rattle.ps_simulate.specs.StimulusTexts.{lines_of, digit_of, digits_of, divider, spelled, Stands, IsFirst}
+use Rattle.ps_simulate.specs.StimulusTexts.{lines_of, digit_of, digits_of, divider, spelled, IsErrorAt, IsFirstError}
 use Rattle.ps_simulate.specs.StimulusTexts.{IsStimulus, HasOneAnswer}
 use Rattle.ps_simulate.proofs.Stimuli.LineLemmas.{digits_of-divider}
 use Rattle.ps_simulate.proofs.Stimuli.StimulusLemmas.{divides_at, no_cause}
@@ -47,12 +47,12 @@ one_stimulus h1 {s} {t} a b = grind (arith, stimulus_same, letters_same, parts_s
 rank-injective : (c d : StimulusCause) → rank c ≡ rank d → c ≡ d
 rank-injective c d e = grind arith
 
-one_first : (S : StimulusCause → ℕ → Type 0) (a b : Found StimulusCause) → IsFirst S a.cause a.offset →
-    IsFirst S b.cause b.offset → a ≡ b
+one_first : (S : StimulusCause → ℕ → Type 0) (a b : Found StimulusCause) → IsFirstError S a.cause a.offset →
+    IsFirstError S b.cause b.offset → a ≡ b
 one_first S a b first other = grind (arith, rank-injective)
 
 none_stands : {text : List ℕ} {width : ℕ} (split : Bool) {s : StimulusData} → IsStimulus text width split s →
-    {cause : StimulusCause} {offset : ℕ} → Stands text width split cause offset → ⊥
+    {cause : StimulusCause} {offset : ℕ} → IsErrorAt text width split cause offset → ⊥
 none_stands {text} {width} split {s} is {cause} {offset} (inl l) =
     no_cause split s [] (lines_of text) width (grind (arith, append-nil)) is.stem_widths
     is.lap_widths (λ e. e) l.k l.line _ cause offset (grind (arith, slice_get_within)) l.is_letter l.in_line
@@ -64,4 +64,4 @@ pub one_answer : (text : List ℕ) (width : ℕ) (split : Bool) → HasOneAnswer
 one_answer text width split (Ok s) (Ok t) a b = ap Ok (one_stimulus split a b)
 one_answer text width split (Ok s) (Err f) a b = absurd (none_stands split a b.stands)
 one_answer text width split (Err f) (Ok s) a b = absurd (none_stands split b a.stands)
-one_answer text width split (Err f) (Err g) a b = ap Err (one_first (Stands text width split) f g a b)
+one_answer text width split (Err f) (Err g) a b = ap Err (one_first (IsErrorAt text width split) f g a b)

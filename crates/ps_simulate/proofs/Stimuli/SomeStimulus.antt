@@ -10,11 +10,12 @@ use Rattle.ps_simulate.specs.declared.fault.StimulusCause.TheVariants.{Width, St
 use Rattle.ps_simulate.specs.Faults.{rank}
 use Rattle.ps_simulate.specs.Stimuli.{StimulusData}
 use Rattle.ps_simulate.specs.StimulusTexts.{put_byte, lines_of, digits_of, divider, spelled, IsDigit, StandsInLine}
-use Rattle.ps_simulate.specs.StimulusTexts.{IsFirst, HasSomeAnswer}
+use Rattle.ps_simulate.specs.StimulusTexts.{IsFirstError, HasSomeAnswer}
 use Rattle.ps_simulate.specs.Inner.StimulusReading.{HasRead}
 use Rattle.ps_simulate.proofs.Stimuli.LineLemmas.{digit_of-is, letter_none}
 use Rattle.ps_simulate.proofs.Stimuli.StimulusSteps.{HasRead-start, HasRead-letter, HasRead-divider, at_line}
-use Rattle.ps_simulate.proofs.Stimuli.StimulusSteps.{IsFirst-in_line, not_divides, IsStimulus-end, IsFirst-end}
+use Rattle.ps_simulate.proofs.Stimuli.StimulusSteps.{IsFirstError-in_line, not_divides, IsStimulus-end}
+use Rattle.ps_simulate.proofs.Stimuli.StimulusSteps.{IsFirstError-end}
 
 -- ## One line
 
@@ -45,7 +46,7 @@ letter_or_wrong (byte ∷ line) = go (decide_one (cases_eq byte 48) (cases_eq by
 
 module _ (line : List ℕ) (start width : ℕ) where
   abbrev LineFault : Type 0
-  LineFault = (cause : StimulusCause) × (offset : ℕ) × IsFirst (StandsInLine line start width) cause offset
+  LineFault = (cause : StimulusCause) × (offset : ℕ) × IsFirstError (StandsInLine line start width) cause offset
 
   abbrev LineAnswer : Type 0
   LineAnswer = ((letter : List Bool) × (line ≡ digits_of letter) × (length line ≡ width)) ⊎ LineFault
@@ -115,7 +116,8 @@ module _ (text : List ℕ) (width : ℕ) (split : Bool) where
   -- no line is left
   at_end : (in_lap wanted : Bool) (start : ℕ) (s : StimulusData) → HasRead text width split in_lap start s →
       length text ≤ start → split ≡ wanted → Answer
-  at_end false true start s h past e = (Err (record { cause = Stimulus; offset = length text }), IsFirst-end h past e)
+  at_end false true start s h past e =
+      (Err (record { cause = Stimulus; offset = length text }), IsFirstError-end h past e)
   at_end false false start s h past e = (Ok s, IsStimulus-end h past (sym e))
   at_end true wanted start s h past e = (Ok s, IsStimulus-end h past (sym (h.wanted refl)))
 
@@ -140,7 +142,7 @@ module _ (text : List ℕ) (width : ℕ) (split : Bool) where
     as_letter plain (inl (letter, is, fits)) = grind (arith, HasRead-letter h next ends letter is fits)
     as_letter plain (inr (cause, offset, least)) = (
       Err (record { cause = cause; offset = offset }),
-      search (rules, IsFirst-in_line, next, ends, within, not_divides),
+      search (rules, IsFirstError-in_line, next, ends, within, not_divides),
     )
 
     by_line : (b wanted : Bool) → in_lap ≡ b → split ≡ wanted → Decided (line ≡ divider) → Answer

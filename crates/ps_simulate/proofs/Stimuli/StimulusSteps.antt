@@ -14,7 +14,8 @@ use Rattle.ps_simulate.specs.Faults.{rank, StimulusFault}
 use Rattle.ps_text.specs.declared.faults.Fault.TheVariants.{Text, OutOfMemory}
 use Rattle.ps_simulate.specs.Stimuli.{StimulusData, letters_of}
 use Rattle.ps_simulate.specs.StimulusTexts.{lines_of, extent, start_of, digits_of, divider, spelled, Divides}
-use Rattle.ps_simulate.specs.StimulusTexts.{StandsInLine, StandsInLetter, MissesDivider, Stands, IsFirst, IsStimulus}
+use Rattle.ps_simulate.specs.StimulusTexts.{StandsInLine, StandsInLetter, MissesDivider, IsErrorAt, IsFirstError}
+use Rattle.ps_simulate.specs.StimulusTexts.{IsStimulus}
 use Rattle.ps_simulate.specs.StimulusTexts.{IsStimulusAnswer}
 use Rattle.ps_simulate.specs.Inner.StimulusReading.{HasRead, ReadsLine}
 use Rattle.ps_simulate.proofs.Stimuli.LineLemmas.{start_of-later, in_line_from, in_line_within}
@@ -78,10 +79,11 @@ module _ {text : List ℕ} {width : ℕ} {split in_lap : Bool} {start end : ℕ}
     start_here = search (rules, behind, take_at)
 
     -- the first error in the current line is the first error in the text
-    pub IsFirst-in_line : start < length text → end ≤ length text →
+    pub IsFirstError-in_line : start < length text → end ≤ length text →
         ¬ Divides split (lines_of text) (length (spelled in_lap s)) → {cause : StimulusCause} {offset : ℕ} →
-        IsFirst (StandsInLine line start width) cause offset → IsFirst (Stands text width split) cause offset
-    IsFirst-in_line some within letter {cause} {offset} first = record {
+        IsFirstError (StandsInLine line start width) cause offset →
+        IsFirstError (IsErrorAt text width split) cause offset
+    IsFirstError-in_line some within letter {cause} {offset} first = record {
       stands = search (rules, at_line, start_here, first.stands);
       least =
           λ other there stands. elim stands [ inl l ↦ in_letter other there l | inr m ↦ inl (missing other there m) ];
@@ -136,10 +138,10 @@ module _ {text : List ℕ} {width : ℕ} {split in_lap : Bool} {start : ℕ} {s 
   pub IsStimulus-end : in_lap ≡ split → IsStimulus text width split s
   IsStimulus-end e = search (rules, all_lines)
 
-pub IsFirst-end : {text : List ℕ} {width : ℕ} {split : Bool} {start : ℕ} {s : StimulusData} →
+pub IsFirstError-end : {text : List ℕ} {width : ℕ} {split : Bool} {start : ℕ} {s : StimulusData} →
     HasRead text width split false start s → length text ≤ start → split ≡ true
-    → IsFirst (Stands text width split) Stimulus (length text)
-IsFirst-end {text} {width} {split} {start} {s} h past wanted = record {
+    → IsFirstError (IsErrorAt text width split) Stimulus (length text)
+IsFirstError-end {text} {width} {split} {start} {s} h past wanted = record {
   stands = inr (record {
     wanted = wanted;
     none =
@@ -180,5 +182,5 @@ pub IsStimulusAnswer-line : {text : List ℕ} {width : ℕ} {split in_lap : Bool
     → (in_lap ≡ true) ⊎ (¬ (slice_get (lines_of text) (length (spelled in_lap s)) ≡ Some divider) ⊎ (split ≡ false))
     → (fault : StimulusFault) → ReadsLine line start width (Err fault) → IsStimulusAnswer text width split (Err fault)
 IsStimulusAnswer-line {text} {width} {split} {in_lap} {start} {end} {s} h {line} next length_is some within plain
-    (Text cause offset) first = search (rules, IsFirst-in_line, not_divides)
+    (Text cause offset) first = search (rules, IsFirstError-in_line, not_divides)
 IsStimulusAnswer-line h next length_is some within plain OutOfMemory first = tt

@@ -13,7 +13,7 @@ use Rattle.ps_simulate.specs.Plans.{no_gate}
 use Rattle.ps_simulate.proofs.PlacesLemmas.{sides_known}
 use Rattle.ps_simulate.proofs.RowLemmas.{no_latch, length-definitions, length-variables, definitions_input}
 use Rattle.ps_simulate.proofs.RowLemmas.{definitions_latch, definitions_gate}
-use Rattle.ps_simulate.proofs.ValueLemmas.{bit_of-definition, Holds-first_table, AreValues-work_out}
+use Rattle.ps_simulate.proofs.ValueLemmas.{bit_of-definition, HasSources-first_table, AreValues-work_out}
 
 module _ {c : CircuitData} (is : IsCircuit c) {order : List ℕ}
     (is_order : IsOrder (ReadsGate c.gates) (length c.gates) order) {inputs latches values others : List Bool}
@@ -106,7 +106,7 @@ HasOneValues-circuit {c} is {order} is_order = record {
       length-variables,
       length-append,
       length-replicate,
-    )) many_inputs many_latches (Holds-first_table c inputs latches),
+    )) many_inputs many_latches (HasSources-first_table c inputs latches),
   );
   one = λ inputs latches values others a b. bit_of-one is is_order a b;
 }

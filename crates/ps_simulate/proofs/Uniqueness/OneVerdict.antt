@@ -11,7 +11,7 @@ use Rattle.ps_circuit.specs.Values.{Moment, GoesOn, HasOneValues}
 use Rattle.ps_simulate.specs.declared.role.Role.{Role}
 use Rattle.ps_simulate.specs.declared.lassos.Verdict.{Verdict}
 use Rattle.ps_simulate.specs.Symbols.{HasSymbols}
-use Rattle.ps_simulate.specs.Lassos.{laps_of, latches_along, Repeats, IsVerdictOf}
+use Rattle.ps_simulate.specs.Lassos.{laps_of, latches_along, RepeatsLatches, IsVerdictOf}
 use Rattle.ps_simulate.proofs.Uniqueness.OneTrace.{firsts_agree}
 use Rattle.ps_simulate.proofs.Uniqueness.OneLetter.{one_letters}
 use Rattle.ps_simulate.proofs.LassoLemmas.{along_more, at_end, length_trace}
@@ -49,8 +49,8 @@ module _ {c : CircuitData} (is_circuit : IsCircuit c) (one : HasOneValues c) whe
 
   module _ (stem lap : List (List Bool)) where
     -- there is no second repetition
-    not_earlier : (i j i' j' : ℕ) (ms ns : List Moment) → Repeats c stem lap i j ms →
-        Repeats c stem lap i' j' ns → j < j' → ⊥
+    not_earlier : (i j i' j' : ℕ) (ms ns : List Moment) → RepeatsLatches c stem lap i j ms →
+        RepeatsLatches c stem lap i' j' ns → j < j' → ⊥
     not_earlier i j i' j' ms ns a b lt =
         let more = laps_front lap j j' (omega arith) in
         let reads : map (λ (m : Moment). m.inputs) ns ≡ map (λ (m : Moment). m.inputs) ms ++ more.0 =
@@ -62,7 +62,8 @@ module _ {c : CircuitData} (is_circuit : IsCircuit c) (one : HasOneValues c) whe
         (latches_along ms a.last) t [] = search (rules, along_more) in
         grind (arith, at_end ms a.last)
 
-    one_repetition : (i j i' j' : ℕ) (ms ns : List Moment) → Repeats c stem lap i j ms → Repeats c stem lap i' j' ns →
+    one_repetition : (i j i' j' : ℕ) (ms ns : List Moment) → RepeatsLatches c stem lap i j ms →
+        RepeatsLatches c stem lap i' j' ns →
         (i ≡ i') × (j ≡ j') × (ms ≡ ns)
     one_repetition i j i' j' ms ns a b =
         let laps : j ≡ j' = elim (cases_order j j') [

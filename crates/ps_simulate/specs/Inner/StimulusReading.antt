@@ -4,7 +4,7 @@ use Rattle.std.specs.Global.{Global}
 use Rattle.ps_simulate.specs.Faults.{StimulusFault}
 use Rattle.ps_text.specs.declared.faults.Fault.TheVariants.{Text, OutOfMemory}
 use Rattle.ps_simulate.specs.Stimuli.{StimulusData}
-use Rattle.ps_simulate.specs.StimulusTexts.{lines_of, extent, spelled, digits_of, StandsInLine, IsFirst}
+use Rattle.ps_simulate.specs.StimulusTexts.{lines_of, extent, spelled, digits_of, StandsInLine, IsFirstError}
 
 -- the lines before this offset spell these letters, and the divider if the lap has begun
 pub record HasRead (text : List ℕ) (width : ℕ) (split in_lap : Bool) (start : ℕ) (s : StimulusData) : Type 0 where
@@ -18,5 +18,5 @@ pub record HasRead (text : List ℕ) (width : ℕ) (split in_lap : Bool) (start 
 -- the result for a line that should be a letter: its bits, or the first error in the line
 abbrev pub ReadsLine : List ℕ → ℕ → ℕ → Result (Vec Bool Global) StimulusFault → Type 0
 ReadsLine line start width (Ok letter) = (line ≡ digits_of letter.items) × (length line ≡ width)
-ReadsLine line start width (Err (Text cause offset)) = IsFirst (StandsInLine line start width) cause offset
+ReadsLine line start width (Err (Text cause offset)) = IsFirstError (StandsInLine line start width) cause offset
 ReadsLine line start width (Err OutOfMemory) = Unit {0}

@@ -7,7 +7,7 @@ use Rattle.std.proofs.lemmas.List.{take-append-drop}
 use Rattle.ps_text.specs.Answers.{Stream, next_of}
 use Rattle.ps_text.specs.Runs.{StopsBefore}
 use Rattle.ps_text.specs.Bytes.{Seen, pieces_at, ends_line}
-use Rattle.ps_text.specs.Cursors.{ended, place_of, Passes}
+use Rattle.ps_text.specs.Cursors.{rest_with_newline, stream_offset, Passes}
 use Rattle.ps_text.proofs.ByteRuns.{run_all, run_ends}
 use Rattle.ps_text.proofs.Simple.{none_is_some, same_some}
 use Rattle.ps_text.proofs.Covered.{Avoids}
@@ -23,11 +23,12 @@ last_ends (b ∷ c ∷ cs) h =
     let e' : suc (length cs) - 1 ≡ length cs = omega arith in
     last_ends (c ∷ cs) (omega arith) ∙ rw (e, e') refl
 
-pub new_small : (text : List ℕ) (u : Bool) → length text < 2 ^ 63 → length (pieces_at 0 (ended u text)) ≤ 2 ^ 63
+pub new_small : (text : List ℕ) (u : Bool) → length text < 2 ^ 63 →
+    length (pieces_at 0 (rest_with_newline u text)) ≤ 2 ^ 63
 new_small text u l = grind (arith, length_pieces, length-append)
 
-pub place_is : {at : ℕ} (rest : List ℕ) (u : Bool) → at ≡ place_of
-    (record { pieces = pieces_at at (ended u rest); end = at + length rest })
+pub place_is : {at : ℕ} (rest : List ℕ) (u : Bool) → at ≡ stream_offset
+    (record { pieces = pieces_at at (rest_with_newline u rest); end = at + length rest })
 place_is [] true = refl
 place_is [] false = omega arith
 place_is (b ∷ rest) true = refl
@@ -35,7 +36,7 @@ place_is (b ∷ rest) false = refl
 
 -- as long as bytes remain, signs remain
 pub left_some : (at : ℕ) (rest : List ℕ) (u : Bool) → eqb (length rest) 0 ≡ false →
-    eqb (length (pieces_at at (ended u rest))) 0 ≡ false
+    eqb (length (pieces_at at (rest_with_newline u rest))) 0 ≡ false
 left_some at [] u e = absurd cc
 left_some at (b ∷ rest) u e = search (rules, ne_eqb)
 
@@ -45,23 +46,25 @@ nil_of : (xs : List ℕ) → length xs ≡ 0 → xs ≡ []
 nil_of [] h = refl
 nil_of (x ∷ xs) h = absurd (omega (arith, h))
 
+-- if the test for an empty list is true, the list is empty
 pub is_empty_true : {r : List ℕ} {b : Bool} → b ≡ eqb (length r) 0 → b ≡ true → r ≡ []
 is_empty_true {r} e t = nil_of r (eqb-true (length r) 0 (sym e ∙ t))
 
+-- if the test for an empty list is false, the list has an entry
 pub is_empty_false : (r : List ℕ) {b : Bool} → b ≡ eqb (length r) 0 → b ≡ false → 0 < length r
 is_empty_false r h k = search rules
 
 stops_ended : (p : ℕ → Bool) (u : Bool) (rest : List ℕ) → p 10 ≡ false → StopsBefore p rest →
-    StopsBefore p (ended u rest)
+    StopsBefore p (rest_with_newline u rest)
 stops_ended p u rest h k = search rules
 
-ended_append : (u : Bool) (a b : List ℕ) → ended u (a ++ b) ≡ a ++ ended u b
+ended_append : (u : Bool) (a b : List ℕ) → rest_with_newline u (a ++ b) ≡ a ++ rest_with_newline u b
 ended_append u a b = grind (arith, append_assoc)
 
 pub passes_run : {p : ℕ → Bool} → p 10 ≡ false → (at : ℕ) {n : ℕ} (rest : List ℕ) {run behind : List ℕ} (u : Bool) →
     n ≡ prefix_len p rest → run ≡ take n rest → behind ≡ drop n rest → length run ≡ n
-    → Passes p (record { pieces = pieces_at at (ended u rest); end = at + length rest })
-    (record { pieces = pieces_at (at + n) (ended u behind); end = (at + n) + length behind }) run
+    → Passes p (record { pieces = pieces_at at (rest_with_newline u rest); end = at + length rest })
+    (record { pieces = pieces_at (at + n) (rest_with_newline u behind); end = (at + n) + length behind }) run
 passes_run {p} line at {n} rest {run} {behind} u size taken left each =
     search (rules, whole, ended_append, length-append, place_is, run_all, behind_is, stops_ended, run_ends)
   where

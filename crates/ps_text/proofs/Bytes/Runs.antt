@@ -11,7 +11,7 @@ use Rattle.ps_text.specs.Parts.{IsRead, is_cause, StopsAt}
 use Rattle.ps_text.specs.Readers.{StopsWith, Reads}
 use Rattle.ps_text.specs.Runs.{AllOf}
 use Rattle.ps_text.specs.Bytes.{Seen, pieces_at, bytes_of, first_at, byte_causes, BeginsRun, IsBadRun, run}
-use Rattle.ps_text.specs.Cursors.{Passes, place_of}
+use Rattle.ps_text.specs.Cursors.{Passes, stream_offset}
 use Rattle.ps_text.proofs.Splits.{same_head}
 use Rattle.ps_text.proofs.ByteRuns.{all_left, all_right, same_run}
 use Rattle.ps_text.proofs.Laws.{Laws}
@@ -70,7 +70,7 @@ module _ {V C : Type 0} (p : ℕ → Bool) (see : ℕ → List ℕ → V) (Bad :
   begins_there {r = r} x some t rest e = search (rules, first_sees)
 
   pub run_reads : {old new : Stream Seen} {r : List ℕ} {v : V} → Passes p old new r → 0 < length r →
-      ((f : C) → Bad r f → ⊥) → v ≡ see (place_of old) r → Reads (run p see Bad) old v new
+      ((f : C) → Bad r f → ⊥) → v ≡ see (stream_offset old) r → Reads (run p see Bad) old v new
   run_reads {old} {new} {r} {v} x some good value = (
     record { taken = pieces_with x.at r x.rest; split = split; end = x.end },
     subst (λ z. IsRead (run p see Bad) (signs old.pieces) z (signs new.pieces))
@@ -96,12 +96,12 @@ module _ {V C : Type 0} (p : ℕ → Bool) (see : ℕ → List ℕ → V) (Bad :
   module _ (number : C → ℕ) (syntax : C) where
     pub run_bad : {old new : Stream Seen} {r : List ℕ} (f : C) → Passes p old new r → 0 < length r → Bad r f →
         ((g : C) → Bad r g → number f ≤ number g)
-        → StopsWith (byte_causes number syntax) (run p see Bad) old (record { cause = f; offset = place_of old })
+        → StopsWith (byte_causes number syntax) (run p see Bad) old (record { cause = f; offset = stream_offset old })
     run_bad {old} {new} {r} f x some bad least = go r x some bad least
       where
         go : (r : List ℕ) → Passes p old new r → 0 < length r → Bad r f →
             ((g : C) → Bad r g → number f ≤ number g) →
-            StopsWith (byte_causes number syntax) (run p see Bad) old (record { cause = f; offset = place_of old })
+            StopsWith (byte_causes number syntax) (run p see Bad) old (record { cause = f; offset = stream_offset old })
         go [] x some bad least = absurd (omega arith)
         go (b ∷ r) x some bad least =
             let sign : Seen = record { byte = b; at = x.at; behind = r ++ x.rest } in
@@ -122,5 +122,6 @@ module _ {V C : Type 0} (p : ℕ → Bool) (see : ℕ → List ℕ → V) (Bad :
             }
 
     pub run_stops : (b : ℕ) → p b ≡ true → {old new : Stream Seen} → Passes p old new [] →
-        StopsWith (byte_causes number syntax) (run p see Bad) old (record { cause = syntax; offset = place_of old })
+        StopsWith (byte_causes number syntax) (run p see Bad) old
+        (record { cause = syntax; offset = stream_offset old })
     run_stops b e x = stops_here number syntax (laws_run b e) (λ t n h. grind arith)

@@ -16,7 +16,7 @@ use Rattle.ps_text.specs.Faults.{found_of}
 use Rattle.ps_text.specs.declared.faults.Fault.{Fault}
 use Rattle.ps_text.specs.declared.faults.Fault.TheVariants.{Text}
 use Rattle.ps_text.specs.Bytes.{Seen, byte_causes, take_byte, byte}
-use Rattle.ps_text.specs.Cursors.{next_byte, place_of}
+use Rattle.ps_text.specs.Cursors.{next_byte, stream_offset}
 use Rattle.ps_text.proofs.Laws.{Laws, Nothing, Or, Apart, weaker}
 use Rattle.ps_text.proofs.Simple.{none_is_some, same_some, Taken, BadSign, laws_one, refused}
 use Rattle.ps_text.proofs.Covered.{Avoids, Enters, enters_one}
@@ -43,6 +43,7 @@ Any s = Unit {0}
 abbrev pub seen : ℕ → Seen
 seen b = record { byte = b; at = 0; behind = [] }
 
+-- a byte is taken where that byte is next
 pub byte_taken : {b : ℕ} (s : Seen) → s.byte ≡ b → take_byte b s ≡ Some tt
 byte_taken {b} s e = ap (λ x. cond x (Some tt) None) (eq-eqb s.byte b e)
 
@@ -89,9 +90,9 @@ module _ {C : Type 0} (number : C → ℕ) (syntax : C) where
 
   pub stops_here : {V : Type 0} {P : Part Seen V C} {First More : Seen → Type 0} → Laws (Odd C) P First More ⊥ →
       {old : Stream Seen} → ((t : Seen) → next_of old ≡ Some t → First t → ⊥) →
-      StopsWith (byte_causes number syntax) P old (record { cause = syntax; offset = place_of old })
+      StopsWith (byte_causes number syntax) P old (record { cause = syntax; offset = stream_offset old })
   stops_here {P = P} l {old} none =
-      subst (λ f. StopsWith (byte_causes number syntax) P old (record { cause = f; offset = place_of old }))
+      subst (λ f. StopsWith (byte_causes number syntax) P old (record { cause = f; offset = stream_offset old }))
       (sym (refusal_is (next_of old))) (record {
         front = [];
         rest = old.pieces;
@@ -108,7 +109,7 @@ byte_reads {b = b} {old = old} {new = new} e n =
     reads_next (take_byte b) NoBad old new t.0 tt t.1 n (byte_taken t.0 t.2) (λ f h. h)
 
 pub byte_stops : {C : Type 0} (number : C → ℕ) {syntax : C} (b : ℕ) (old : Stream Seen) {e : Fault C} →
-    (next_byte old ≡ Some b → ⊥) → e ≡ Text syntax (place_of old) →
+    (next_byte old ≡ Some b → ⊥) → e ≡ Text syntax (stream_offset old) →
     Stops (byte_causes number syntax) (byte b) old (found_of e)
 byte_stops number {syntax} b old none is = subst
     (λ x. Stops (byte_causes number syntax) (byte b) old (found_of x)) (sym is)

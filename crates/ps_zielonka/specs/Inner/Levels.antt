@@ -1,6 +1,6 @@
--- The mark of a level, which is the number that represents it in the tables. Marks increase with the depth of the call.
--- In one call, the mark of decided vertices is less than that of attracted vertices. Unplaced vertices have the
--- largest mark.
+-- The code of a level, which is the number that represents it in the tables. Marks increase with the depth of the call.
+-- In one call, the code of decided vertices is less than that of attracted vertices. Unplaced vertices have the
+-- largest code.
 use Rattle.std.specs.Prelude.{ℕ, ◌+◌, ◌*◌}
 use Rattle.ps_attractor.specs.declared.aim.Aim.{Aim}
 use Rattle.ps_zielonka.specs.declared.attraction.Attraction.{Attraction}
@@ -8,16 +8,16 @@ use Rattle.ps_zielonka.specs.declared.level.Level.{Level}
 use Rattle.ps_zielonka.specs.declared.level.Level.TheVariants.{Decided, Attracted, Unplaced}
 use Rattle.ps_zielonka.specs.declared.level.TheConstants.{UNPLACED}
 
-abbrev pub mark_of : Level → ℕ
-mark_of (Decided depth) = 2 * depth + 1
-mark_of (Attracted depth) = 2 * depth + 2
-mark_of Unplaced = UNPLACED
+abbrev pub code_of : Level → ℕ
+code_of (Decided depth) = 2 * depth + 1
+code_of (Attracted depth) = 2 * depth + 2
+code_of Unplaced = UNPLACED
 
 -- the aim of an attraction, for which the unplaced vertices are free
 abbrev pub aim_of : Attraction → Aim
 aim_of attraction = record {
   player = attraction.player;
   begin = attraction.begin;
-  mark = mark_of attraction.level;
+  level = code_of attraction.level;
   free = UNPLACED;
 }

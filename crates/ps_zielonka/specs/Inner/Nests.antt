@@ -1,7 +1,7 @@
--- The pending calls of the solver, expressed by one number for each vertex: the mark of its level (`mark_of`). A call
--- of depth k, counted from 0, solves the vertices with a mark of 2k + 1 or more. In a call of depth k, the vertices
--- with the mark 2k + 1 are decided, and those with the mark 2k + 2 were attracted in the current turn. All other
--- vertices of the call are left to the next call. Unplaced vertices have the largest mark.
+-- The pending calls of the solver, expressed by one number for each vertex: the code of its level (`code_of`). A call
+-- of depth k, counted from 0, solves the vertices with a code of 2k + 1 or more. In a call of depth k, the vertices
+-- with the code 2k + 1 are decided, and those with the code 2k + 2 were attracted in the current turn. All other
+-- vertices of the call are left to the next call. Unplaced vertices have the largest code.
 use Rattle.std.specs.Prelude.{◌≡◌, ◌≢◌, ℕ, zero, suc, ◌+◌, ◌*◌, ◌%◌, ◌^◌, ◌<◌, ◌≤◌, ◌⊎◌, Bool, true, false, IsTrue}
 use Rattle.std.specs.Prelude.{cond}
 use Rattle.std.specs.Prelude.{List, [], ◌∷◌, length, slice_index, slice_index_or, nat_le}

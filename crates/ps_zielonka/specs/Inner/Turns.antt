@@ -3,7 +3,7 @@
 use Rattle.std.specs.Prelude.{◌≡◌, ◌≢◌, ℕ, ◌%◌, ◌<◌, ◌≤◌, Option, Bool, false, IsTrue}
 use Rattle.ps_game.specs.Games.{ParityGame, owner_of, priority_of, HasEdge}
 use Rattle.ps_game.specs.Subgames.{IsWithin, HoldsWithin}
-use Rattle.ps_game.specs.Attractors.{IsClosed, Falls}
+use Rattle.ps_game.specs.Attractors.{IsClosedUnderAttraction, Falls}
 
 -- the empty set
 abbrev pub nothing : ℕ → Bool
@@ -55,6 +55,6 @@ pub record IsTurned (game : ParityGame) (open_part rest : ℕ → Bool) (player 
   pub some_top : (v : ℕ) × IsTrue (tops v) × (priority_of game v ≡ greatest)
   pub within : IsWithin attracted open_part
   pub left : IsWithout open_part attracted rest
-  pub closed : IsClosed game open_part player tops attracted
+  pub closed : IsClosedUnderAttraction game open_part player tops attracted
   pub falls : Falls game open_part player tops attracted table rank
   pub given : (v : ℕ) → IsTrue (attracted v) → win v ≡ player

@@ -1,5 +1,5 @@
 use Rattle.std.proofs.Common.{◌≡◌, drop, map}
-use Rattle.ps_hoa.specs.Conditions.{row_of}
+use Rattle.ps_hoa.specs.Conditions.{operands_in}
 use Rattle.ps_hoa.specs.Values.{condition_of}
 use Rattle.ps_automaton.specs.Chains.{has_complement, some_has_complement}
 use Rattle.ps_automaton.proofs.chain.+is_complemented.Given as goal
@@ -7,10 +7,10 @@ use Rattle.ps_automaton.proofs.chain.+is_complemented.Given as goal
 -- the remaining operands decide
 abbrev pub invariant-loop-operand : goal.invariant-loop-operand
 invariant-loop-operand l =
-    some_has_complement (row_of (map condition_of (drop l.operand-index l.operand-items))) ≡ has_complement
+    some_has_complement (operands_in (map condition_of (drop l.operand-index l.operand-items))) ≡ has_complement
     (condition_of l.condition)
 
 abbrev pub invariant-loop-operand-2 : goal.invariant-loop-operand-2
 invariant-loop-operand-2 l =
-    some_has_complement (row_of (map condition_of (drop l.operand-index l.operand-items))) ≡ has_complement
+    some_has_complement (operands_in (map condition_of (drop l.operand-index l.operand-items))) ≡ has_complement
     (condition_of l.condition)

@@ -4,5 +4,5 @@ use Rattle.ps_components.proofs.search.close_items.Given as goal
 
 abbrev pub invariant-loop-item : goal.invariant-loop-item
 invariant-loop-item l =
-    (length l.marks ≡ length l.initial.marks) × (close_all l.marks (drop l.item-index l.items)
-    l.number ≡ close_all l.initial.marks l.items l.number)
+    (length l.statuses ≡ length l.initial.statuses) × (close_all l.statuses (drop l.item-index l.items)
+    l.number ≡ close_all l.initial.statuses l.items l.number)

@@ -3,7 +3,7 @@ use Rattle.ps_text.specs.Parts.{one}
 use Rattle.ps_text.proofs.Meeting.{meets_mapped}
 use Rattle.ps_hoa.specs.Body.{is_end, IsBadClose}
 use Rattle.ps_hoa.specs.Causes.{found_of, hoa_causes}
-use Rattle.ps_hoa.specs.Operands.{mark_in}
+use Rattle.ps_hoa.specs.Operands.{expect_in}
 use Rattle.ps_hoa.specs.Inner.Rows.{body_data}
 use Rattle.ps_hoa.specs.Header.{header_data}
 use Rattle.ps_hoa.proofs.Grammar.HeaderSigns.{reads_token}
@@ -14,5 +14,5 @@ pub returns : goal.returns
 returns c =
     let h = header_data c.args.header.now in
     let b = body_data c.args.rows.now in
-    meets_mapped found_of hoa_causes (λ u. u) (λ _. b) (one (mark_in is_end) (IsBadClose h b)) _ _ c.end_of.result
+    meets_mapped found_of hoa_causes (λ u. u) (λ _. b) (one (expect_in is_end) (IsBadClose h b)) _ _ c.end_of.result
     (grind (arith, reads_token, end_signs))

@@ -10,7 +10,7 @@ use Rattle.ps_hoa.specs.Scan.{stream_of}
 use Rattle.ps_hoa.specs.Header.{header_data}
 use Rattle.ps_hoa.proofs.Grammar.BodyLaws.{joint_label}
 use Rattle.ps_hoa.proofs.Reading.Exits.{exit, first, behind, under}
-use Rattle.ps_hoa.proofs.Reading.MarkReading.{tests_right_bracket}
+use Rattle.ps_hoa.proofs.Reading.ExpectReading.{tests_right_bracket}
 use Rattle.ps_hoa.proofs.edges.label_in_brackets.Goals as goal
 
 pub returns-in_err-label : goal.returns-in_err-label
@@ -18,16 +18,16 @@ returns-in_err-label c = exit _ _ _ _ (first (joint_label (header_data c.args.he
     (subst (λ s. Stops hoa_causes (label s nesting_limit) (stream_of c.args.tokens.now)
     (found_of c.in_err-label.field-0.0)) c.scope-scope.ensures c.in_err-label.ensures) c.from_residual.ensures.1
 
-pub returns-in_err-mark : goal.returns-in_err-mark
-returns-in_err-mark c =
+pub returns-in_err-expect : goal.returns-in_err-expect
+returns-in_err-expect c =
     let read = subst (λ s. Reads (label s nesting_limit) (stream_of c.args.tokens.now) (expression c.in_ok-label.label)
     (stream_of c.label.new.tokens)) c.scope-scope.ensures c.in_ok-label.ensures in
     exit _ _ _ _ (search (rules, behind, joint_label, under))
-    (c.in_err-mark.ensures is_right_bracket tests_right_bracket.is) c.from_residual-in_err-mark.ensures.1
+    (c.in_err-expect.ensures is_right_bracket tests_right_bracket.is) c.from_residual-in_err-expect.ensures.1
 
 pub returns : goal.returns
 returns c =
     let read = subst (λ s. Reads (label s nesting_limit) (stream_of c.args.tokens.now) (expression c.in_ok-label.label)
     (stream_of c.label.new.tokens)) c.scope-scope.ensures c.in_ok-label.ensures in
     reads_then (joint_label (header_data c.args.header.now)) read
-    (reads_mapped (some_label _) (c.in_ok-mark.ensures is_right_bracket tests_right_bracket.is))
+    (reads_mapped (some_label _) (c.in_ok-expect.ensures is_right_bracket tests_right_bracket.is))

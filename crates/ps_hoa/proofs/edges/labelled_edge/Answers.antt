@@ -1,7 +1,7 @@
 use Rattle.std.proofs.Common.{rules, arith, Some}
 use Rattle.ps_label.specs.Expression.{expression}
 use Rattle.ps_text.proofs.Exits.{reads_mapped, reads_then}
-use Rattle.ps_hoa.specs.Body.{with_edge}
+use Rattle.ps_hoa.specs.Body.{row_with_edge}
 use Rattle.ps_hoa.specs.Header.{header_data}
 use Rattle.ps_hoa.specs.Views.{row_data}
 use Rattle.ps_hoa.proofs.Grammar.BodyLaws.{joint_edge_label, joint_edge_target, joint_edge_marks}
@@ -48,4 +48,4 @@ returns-clause-part c =
     value_is (grind (arith, pushed_edge c.args.row.now.edges.items c.push.new.self.items _ c.in_ok-push.ensures.items))
     (reads_then (joint_edge_label h c.args.before row) c.in_ok-bracket.ensures.part (reads_then (joint_edge_target h
     c.args.before row) c.in_ok-label.ensures (reads_then (joint_edge_marks h c.args.before row label)
-    c.in_ok-target.ensures (reads_mapped (with_edge row label c.in_ok-target.target) c.in_ok-marks.ensures))))
+    c.in_ok-target.ensures (reads_mapped (row_with_edge row label c.in_ok-target.target) c.in_ok-marks.ensures))))

@@ -1,6 +1,6 @@
 use Rattle.std.proofs.Common.{rules, arith, None}
 use Rattle.ps_text.proofs.Exits.{reads_mapped, reads_then}
-use Rattle.ps_hoa.specs.Body.{with_edge}
+use Rattle.ps_hoa.specs.Body.{row_with_edge}
 use Rattle.ps_hoa.specs.Header.{header_data}
 use Rattle.ps_hoa.specs.Views.{row_data}
 use Rattle.ps_hoa.proofs.Grammar.BodyLaws.{joint_plain_marks}
@@ -25,4 +25,4 @@ returns-clause-part c =
     let es = c.args.row.now.edges.items in
     value_is (grind (arith, pushed_edge es c.push.new.self.items _ c.in_ok-push.ensures.items))
     (reads_then (joint_plain_marks (header_data c.args.header.now) c.args.before row) c.in_ok-target.ensures.part
-    (reads_mapped (with_edge row None c.in_ok-target.target) c.in_ok-marks.ensures))
+    (reads_mapped (row_with_edge row None c.in_ok-target.target) c.in_ok-marks.ensures))

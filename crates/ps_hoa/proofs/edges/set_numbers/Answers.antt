@@ -12,7 +12,7 @@ use Rattle.ps_hoa.specs.Scan.{stream_of}
 use Rattle.ps_hoa.proofs.Grammar.HeaderSigns.{reads_token}
 use Rattle.ps_hoa.proofs.Reading.BodyReading.{int_signs, int_begins}
 use Rattle.ps_hoa.proofs.Reading.Exits.{exit, loop_more, loop_fails, loop_ends}
-use Rattle.ps_hoa.proofs.Reading.MarkReading.{tests_int, mark_elsewhere}
+use Rattle.ps_hoa.proofs.Reading.ExpectReading.{tests_int, expect_elsewhere}
 use Rattle.ps_hoa.proofs.Reading.StateReading.{set_loop}
 use Rattle.ps_hoa.proofs.edges.set_numbers.Goals as goal
 
@@ -34,4 +34,4 @@ more-preserved c = let item = set_number c.args.count in
     (Ok c.in_ok-set.set) c.in_ok-set.ensures c.advance-token.ensures.next c.advance-token.ensures.rest)))
 
 pub returns : goal.returns
-returns c = loop_ends (set_loop c.args.count) c.more.invariant (grind (arith, mark_elsewhere, tests_int, iff_false))
+returns c = loop_ends (set_loop c.args.count) c.more.invariant (grind (arith, expect_elsewhere, tests_int, iff_false))

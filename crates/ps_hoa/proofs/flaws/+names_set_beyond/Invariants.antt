@@ -1,5 +1,5 @@
 use Rattle.std.proofs.Common.{◌↔◌, drop, map}
-use Rattle.ps_hoa.specs.Conditions.{row_of}
+use Rattle.ps_hoa.specs.Conditions.{operands_in}
 use Rattle.ps_hoa.specs.Header.{NamesSetBeyond, SomeNamesSetBeyond}
 use Rattle.ps_hoa.specs.Values.{condition_of}
 use Rattle.ps_hoa.proofs.flaws.+names_set_beyond.Given as goal
@@ -10,5 +10,5 @@ decreases-names_set_beyond l = goal.size-names_set_beyond l
 -- the remaining operands decide the result
 abbrev pub invariant-loop-operand : goal.invariant-loop-operand
 invariant-loop-operand l =
-    SomeNamesSetBeyond l.count (row_of (map condition_of (drop l.operand-index l.operand-items))) ↔ NamesSetBeyond
+    SomeNamesSetBeyond l.count (operands_in (map condition_of (drop l.operand-index l.operand-items))) ↔ NamesSetBeyond
     l.count (condition_of l.condition)

@@ -1,5 +1,5 @@
 use Rattle.std.proofs.Common.{◌↔◌, drop}
-use Rattle.ps_label.specs.Expression.{expression, row_of}
+use Rattle.ps_label.specs.Expression.{expression, operands_in}
 use Rattle.ps_label.specs.Truth.{expressions}
 use Rattle.ps_hoa.specs.Header.{SpeaksBeyond, SomeSpeaksBeyond}
 use Rattle.ps_hoa.proofs.flaws.+speaks_beyond.Given as goal
@@ -10,5 +10,5 @@ decreases-speaks_beyond l = goal.size-speaks_beyond l
 -- the remaining operands decide the result
 abbrev pub invariant-loop-operand : goal.invariant-loop-operand
 invariant-loop-operand l =
-    SomeSpeaksBeyond l.count (row_of (expressions (drop l.operand-index l.operand-items))) ↔ SpeaksBeyond l.count
+    SomeSpeaksBeyond l.count (operands_in (expressions (drop l.operand-index l.operand-items))) ↔ SpeaksBeyond l.count
     (expression l.label)

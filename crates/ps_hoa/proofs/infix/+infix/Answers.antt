@@ -4,7 +4,7 @@ use Rattle.ps_hoa.specs.Operands.{is_right}
 use Rattle.ps_hoa.proofs.Reading.RowReading.{last_value, first_fails, first_alone, row_starts, row_more}
 use Rattle.ps_hoa.proofs.Reading.RowReading.{row_fails, row_done, row_shrinks}
 use Rattle.ps_hoa.proofs.Reading.Exits.{exit, serves_meets, value_is}
-use Rattle.ps_hoa.proofs.Reading.MarkReading.{tests_right}
+use Rattle.ps_hoa.proofs.Reading.ExpectReading.{tests_right}
 use Rattle.ps_hoa.proofs.Reading.NextSign.{start_there}
 use Rattle.ps_hoa.proofs.Reading.InfixReading.{operand_row, leaf_serves, too_deep}
 use Rattle.ps_hoa.proofs.Reading.InfixReading.{not_reads, not_fails, paren_reads, paren_fails, paren_stays_open}
@@ -81,16 +81,16 @@ operand-returns-in_err-inner g t c =
     c.if-room-eq0.false c.advance.ensures.rest (iff_false c.is_kind.ensures c.if-is_kind.false)) c.in_err-inner.ensures
     c.from_residual-in_err-inner.ensures.1
 
-pub operand-returns-in_err-mark : goal.operand-returns-in_err-mark
-operand-returns-in_err-mark g t c =
+pub operand-returns-in_err-expect : goal.operand-returns-in_err-expect
+operand-returns-in_err-expect g t c =
     exit g.G.Infix.meaning _ _ _ (paren_stays_open (g.G.Infix.grammar c.args.grammar.now) c.requires c.args.room _
     c.peek-token.ensures.next (sym c.holds.ensures ∙ c.if-not-holds.false)
     c.if-room-eq0.false c.advance.ensures.rest (iff_false c.is_kind.ensures c.if-is_kind.false) c.in_ok-inner.ensures)
-    (c.in_err-mark.ensures is_right tests_right.is) c.from_residual-in_err-mark.ensures.1
+    (c.in_err-expect.ensures is_right tests_right.is) c.from_residual-in_err-expect.ensures.1
 
 pub operand-returns : goal.operand-returns
 operand-returns g t c =
     paren_reads (g.G.Infix.grammar c.args.grammar.now) c.requires c.args.room _
     c.peek-token.ensures.next (sym c.holds.ensures ∙ c.if-not-holds.false)
     c.if-room-eq0.false c.advance.ensures.rest (iff_false c.is_kind.ensures c.if-is_kind.false) c.in_ok-inner.ensures
-    (c.in_ok-mark.ensures is_right tests_right.is)
+    (c.in_ok-expect.ensures is_right tests_right.is)

@@ -6,7 +6,7 @@ use Rattle.ps_hoa.specs.Header.{int, kept}
 use Rattle.ps_hoa.specs.Operands.{number_limit}
 use Rattle.ps_hoa.proofs.Reading.Exits.{exit, loop_more, loop_fails, loop_ends}
 use Rattle.ps_hoa.proofs.ItemForms.{index_begins, index_loop}
-use Rattle.ps_hoa.proofs.Reading.MarkReading.{tests_int, mark_elsewhere}
+use Rattle.ps_hoa.proofs.Reading.ExpectReading.{tests_int, expect_elsewhere}
 use Rattle.ps_hoa.proofs.items.indices.Goals as goal
 
 pub returns-in_err-number : goal.returns-in_err-number
@@ -21,4 +21,4 @@ indices-preserved c = grind (
 )
 
 pub returns : goal.returns
-returns c = search (rules, loop_ends, index_loop, mark_elsewhere, tests_int, iff_false)
+returns c = search (rules, loop_ends, index_loop, expect_elsewhere, tests_int, iff_false)

@@ -19,7 +19,7 @@ loop-vertex-preserved c =
     let stands : StandsAt keys n (First c.in-First.state c.in-First.priority) = search (rules, slice_get-get_or) in
     let told = c.contains.ensures in
     elim c.if-contains.branch [
-      | then-contains+in_ok-keep w ↦ (let keeps = rw w.mark.ensures at w.in_ok-keep.ensures in
+      | then-contains+in_ok-keep w ↦ (let keeps = rw w.anchor.ensures at w.in_ok-keep.ensures in
           rw w.memories-is (search (rules, below_more, is_there)))
       | else-contains w ↦ rw w.memories-is (search (rules, below_skip, is_absent))
     ]

@@ -1,5 +1,5 @@
 use Rattle.std.proofs.Common.{arith, ◌≡◌, sym, ap, ◌∙◌, Some, eqb, false, rules, tests}
-use Rattle.ps_pgsolver.proofs.TokenLemmas.{at_digit, at_letter, at_quote, at_mark, first_size-none}
+use Rattle.ps_pgsolver.proofs.TokenLemmas.{at_digit, at_letter, at_quote, at_punctuation, first_size-none}
 use Rattle.ps_pgsolver.proofs.token.token_at.Goals as goal
 
 pub returns-in_default-clause-size : goal.returns-in_default-clause-size
@@ -30,9 +30,11 @@ returns-then-first-eq34-clause-size c =
 
 pub returns-else-first-eq34-clause-sign : goal.returns-else-first-eq34-clause-sign
 returns-else-first-eq34-clause-sign c = λ _. let other : eqb c.in-Some.first.now 34 ≡ false =
-    search (rules, tests) in c.mark.ensures.sign ∙ ap Some (sym (at_mark c.args.before.now _ _ c.in-Some.ensures.cases.0
+    search (rules, tests) in c.punctuation.ensures.sign
+    ∙ ap Some (sym (at_punctuation c.args.before.now _ _ c.in-Some.ensures.cases.0
     (sym c.has.ensures ∙ c.if-has.false) (sym c.has-else-has.ensures ∙ c.if-has-2.false) other).0)
 
 pub returns-else-first-eq34-clause-size : goal.returns-else-first-eq34-clause-size
 returns-else-first-eq34-clause-size c = let other : eqb c.in-Some.first.now 34 ≡ false = search (rules, tests) in sym
-    (at_mark c.args.before.now _ _ c.in-Some.ensures.cases.0 (sym c.has.ensures ∙ c.if-has.false) (grind arith) other).1
+    (at_punctuation c.args.before.now _ _ c.in-Some.ensures.cases.0 (sym c.has.ensures ∙ c.if-has.false) (grind arith)
+    other).1

@@ -4,7 +4,7 @@ use Rattle.std.specs.Global.{Global}
 use Rattle.std.proofs.lemmas.Result.{err_from_is_err_and}
 use Rattle.ps_simulate.specs.Stimuli.{StimulusData, letters_of}
 use Rattle.ps_simulate.specs.StimulusTexts.{lines_of, spelled, divider}
-use Rattle.ps_simulate.proofs.Stimuli.StimulusSteps.{HasRead-letter, HasRead-divider, HasRead-same, IsFirst-end}
+use Rattle.ps_simulate.proofs.Stimuli.StimulusSteps.{HasRead-letter, HasRead-divider, HasRead-same, IsFirstError-end}
 use Rattle.ps_simulate.proofs.Stimuli.StimulusSteps.{IsStimulusAnswer-line, at_line, letters_of-push}
 use Rattle.ps_simulate.proofs.Stimuli.LineLemmas.{line_length}
 use Rattle.ps_simulate.proofs.stimulus.parse_stimulus.Goals as goal
@@ -14,7 +14,7 @@ use Rattle.ps_simulate.proofs.stimulus.parse_stimulus.Goals.{else-split+in_ok-le
 
 pub returns-then-not-in_lap-2 : goal.returns-then-not-in_lap-2
 returns-then-not-in_lap-2 c =
-    rw c.at.ensures (IsFirst-end (HasRead-same c.args.text.now c.args.width c.args.split c.loop-start.in_lap false
+    rw c.at.ensures (IsFirstError-end (HasRead-same c.args.text.now c.args.width c.args.split c.loop-start.in_lap false
     c.loop-start.start _ _ _ _ c.if-not-in_lap-2.true refl refl c.loop-start.invariant) (omega arith) c.if-split-2.true)
 
 pub loop-start-preserved : goal.loop-start-preserved

@@ -1,5 +1,5 @@
 use Rattle.std.proofs.Common.{◌≡◌, subst, arith, rules}
-use Rattle.ps_certificate.specs.Sparse.{IsFirstAbove, place_at, row_of}
+use Rattle.ps_certificate.specs.Sparse.{IsFirstAbove, place_at, dense_row}
 use Rattle.ps_certificate.proofs.SparseRows.Rows.{not_above_start, not_above_end, not_above_next, above_here}
 use Rattle.ps_certificate.proofs.SparseRows.Sparse.{rising, length-counts_from}
 use Rattle.ps_certificate.proofs.row.Row.first_above.Goals as goal
@@ -21,10 +21,11 @@ returns-then-count-count_in-clause-some c =
     let own = c.self.inside.placed.now in
     let other = c.other.inside.placed.now in
     let width : c.other.inside.width ≡ c.self.inside.width = search (rules, length-counts_from) in
-    let there : row_of c.self.inside.width other ≡ c.args.other.now = grind arith in
+    let there : dense_row c.self.inside.width other ≡ c.args.other.now = grind arith in
     let place = place_at own c.loop-number.number in
     subst (λ row. IsFirstAbove c.args.self.now row c.args.from place) there
-    (subst (λ row. IsFirstAbove row (row_of c.self.inside.width other) c.args.from place) c.self.view_is (above_here own
+    (subst (λ row. IsFirstAbove row (dense_row c.self.inside.width other) c.args.from place) c.self.view_is
+    (above_here own
     other c.args.from c.loop-number.number c.loop-number.invariant (search (rules, rising)) c.loop-number-test.true
     c.self.inside.width c.self.invariant (omega (arith, c.if-count-count_in.true, c.count_in.ensures))))
 

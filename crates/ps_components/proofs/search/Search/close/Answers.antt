@@ -17,13 +17,14 @@ returns g c =
     let s = c.args.self.now in
     let r = c.requires in
     let segment = take_rest c.deref.result.now c.args.bound ∙ ap (drop c.args.bound) c.deref.ensures.value in
-    let marks = c.in_ok-close_items.ensures ∙ ap (λ vs. close_all s.marks vs c.len-number.result) segment
-    ∙ ap (close_all s.marks (drop c.args.bound s.active.items)) (c.len-number.ensures ∙ s.order.ok.0) in
+    let statuses = c.in_ok-close_items.ensures ∙ ap (λ vs. close_all s.statuses vs c.len-number.result) segment
+    ∙ ap (close_all s.statuses (drop c.args.bound s.active.items)) (c.len-number.ensures ∙ s.order.ok.0) in
     let bounds = c.pop.ensures.rest ∙ ap (λ n. take (n - 1) s.bounds.items) s.bounds.ok.0 in
     let order = c.in_ok-extend_from_slice.ensures.items ∙ ap (λ vs. s.order.items ++ vs) segment in
     record {
-      sound = rw (marks, c.truncate.ensures.items, bounds, order) (sound-closed r.sound r.last r.done);
-      fewer = rw (marks, bounds) (fewer-closed r.sound r.last r.done);
-      kept = rw marks (kept-closed r.sound r.last r.done);
-      reached = rw marks (reached-closed (g.G.Graph.graph c.args.graph.now) s.marks s.active.items c.args.bound _);
+      sound = rw (statuses, c.truncate.ensures.items, bounds, order) (sound-closed r.sound r.last r.done);
+      fewer = rw (statuses, bounds) (fewer-closed r.sound r.last r.done);
+      kept = rw statuses (kept-closed r.sound r.last r.done);
+      reached =
+          rw statuses (reached-closed (g.G.Graph.graph c.args.graph.now) s.statuses s.active.items c.args.bound _);
     }

@@ -7,7 +7,7 @@ pub returns : goal.returns
 returns g c = record {
   sound = search (rules, sound-merged);
   settled = active c.args.place c.requires.marked (λ k b h le. c.cut.ensures.below k b h);
-  marks = refl;
+  statuses = refl;
   shorter = c.cut.ensures.shorter;
   pending = refl;
 }

@@ -1,6 +1,6 @@
 use Rattle.std.proofs.Common.{◌∙◌, ap, arith, inr, Some, length, sym}
 use Rattle.std.proofs.lemmas.Result.{on_ok_weaker}
-use Rattle.ps_components.specs.declared.marks.Mark.TheVariants.{Active}
+use Rattle.ps_components.specs.declared.statuses.Status.TheVariants.{Active}
 use Rattle.ps_components.specs.Graphs.{last}
 use Rattle.ps_components.specs.Searching.{closed}
 use Rattle.ps_components.proofs.Reaching.{reached-entered}
@@ -38,7 +38,7 @@ returns-in-Unseen g c =
     let s = c.args.self.now in
     let e = c.in-Some.field-0.now in
     let l = c.requires.sound.pending_links _ e (sym (rw c.deref.ensures.value at c.in-Some.ensures.value)) in
-    let reached = reached-entered s.marks s.active.items (Active (length s.active.items))
+    let reached = reached-entered s.statuses s.active.items (Active (length s.active.items))
     (e.from, l.0, l.1, inr (last l.2)) in
     on_ok_weaker c.follow.result (λ is. record {
       sound = is.sound;

@@ -1,6 +1,6 @@
 use Rattle.std.proofs.Common.{◌≡◌, ℕ, Bool, List, drop}
 use Rattle.std.specs.Prelude.{◌&&◌}
-use Rattle.ps_label.specs.Expression.{expression, row_of, AreOver}
+use Rattle.ps_label.specs.Expression.{expression, operands_in, AreOver}
 use Rattle.ps_label.specs.Truth.{expressions, truth, all_true}
 use Rattle.ps_diagram.specs.Inner.Products.{meets}
 use Rattle.ps_diagram.proofs.store.Store.+with_label.Given as goal
@@ -12,8 +12,8 @@ decreases-with_label l = goal.size-with_label l
 abbrev pub invariant-loop-operand : goal.invariant-loop-operand
 invariant-loop-operand l = record {
   decides : (known : List Bool) (letter : ℕ) → (meets l.self.propositions l.more letter
-      && all_true known letter (row_of (expressions (drop l.operand-index l.operand-items))))
+      && all_true known letter (operands_in (expressions (drop l.operand-index l.operand-items))))
       ≡ (meets l.self.propositions l.fn.product letter && truth known letter (expression l.label));
-  within : (aliases : ℕ) × AreOver aliases l.self.propositions (row_of (expressions (drop l.operand-index
+  within : (aliases : ℕ) × AreOver aliases l.self.propositions (operands_in (expressions (drop l.operand-index
       l.operand-items)));
 }

@@ -3,7 +3,7 @@ use Rattle.ps_hoa.specs.Conditions.{often_in}
 use Rattle.ps_hoa.specs.Operands.{is_left, is_right}
 use Rattle.ps_hoa.specs.Values.{condition_of}
 use Rattle.ps_hoa.proofs.Reading.Exits.{exit, serves_meets, value_is}
-use Rattle.ps_hoa.proofs.Reading.MarkReading.{tests_left, tests_right}
+use Rattle.ps_hoa.proofs.Reading.ExpectReading.{tests_left, tests_right}
 use Rattle.ps_hoa.proofs.Reading.LeafReading.{visit_unopened, visit_fails, visit_stays_open, visit_reads}
 use Rattle.ps_hoa.proofs.Reading.LeafReading.{constant_serves}
 use Rattle.ps_hoa.proofs.condition.ConditionsInfix.leaf.Goals as goal
@@ -11,26 +11,28 @@ use Rattle.ps_hoa.proofs.condition.ConditionsInfix.leaf.Goals as goal
 pub returns-in_default : goal.returns-in_default
 returns-in_default c = serves_meets condition_of _ c.constant.result (grind (arith, constant_serves)) c.constant.ensures
 
-pub returns-in_err-mark : goal.returns-in_err-mark
-returns-in_err-mark c =
+pub returns-in_err-expect : goal.returns-in_err-expect
+returns-in_err-expect c =
     let often = ap (λ p. often_in p.sign) (sym c.peek.ensures.next) ∙ sym c.often_of.ensures ∙ c.in-Some.is in
     exit condition_of _ _ _ (visit_unopened often c.advance.ensures.rest)
-    (c.in_err-mark.ensures is_left tests_left.is) c.from_residual.ensures.1
+    (c.in_err-expect.ensures is_left tests_left.is) c.from_residual.ensures.1
 
 pub returns-in_err-set : goal.returns-in_err-set
 returns-in_err-set c =
     let often = ap (λ p. often_in p.sign) (sym c.peek.ensures.next) ∙ sym c.often_of.ensures ∙ c.in-Some.is in
     exit condition_of _ _ _ (visit_fails often c.advance.ensures.rest
-    (c.in_ok-mark.ensures is_left tests_left.is)) c.in_err-set.ensures c.from_residual-in_err-set.ensures.1
+    (c.in_ok-expect.ensures is_left tests_left.is)) c.in_err-set.ensures c.from_residual-in_err-set.ensures.1
 
-pub returns-in_err-mark-2 : goal.returns-in_err-mark-2
-returns-in_err-mark-2 c =
+pub returns-in_err-expect-2 : goal.returns-in_err-expect-2
+returns-in_err-expect-2 c =
     let often = ap (λ p. often_in p.sign) (sym c.peek.ensures.next) ∙ sym c.often_of.ensures ∙ c.in-Some.is in
     exit condition_of _ _ _ (visit_stays_open often c.advance.ensures.rest
-    (c.in_ok-mark.ensures is_left tests_left.is) c.in_ok-set.ensures) (c.in_err-mark-2.ensures is_right tests_right.is)
-    c.from_residual-in_err-mark-2.ensures.1
+    (c.in_ok-expect.ensures is_left tests_left.is) c.in_ok-set.ensures)
+    (c.in_err-expect-2.ensures is_right tests_right.is)
+    c.from_residual-in_err-expect-2.ensures.1
 
 pub returns : goal.returns
 returns c = let often = ap (λ p. often_in p.sign) (sym c.peek.ensures.next) ∙ sym c.often_of.ensures ∙ c.in-Some.is in
     value_is (sym c.visits.ensures) (visit_reads often c.advance.ensures.rest
-    (c.in_ok-mark.ensures is_left tests_left.is) c.in_ok-set.ensures (c.in_ok-mark-2.ensures is_right tests_right.is))
+    (c.in_ok-expect.ensures is_left tests_left.is) c.in_ok-set.ensures
+    (c.in_ok-expect-2.ensures is_right tests_right.is))

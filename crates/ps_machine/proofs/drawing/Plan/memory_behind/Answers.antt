@@ -1,10 +1,10 @@
 use Rattle.std.proofs.Common.{◌≡◌, Some, sym, ◌∙◌, eqb, rules}
 use Rattle.std.specs.List.{slice_get}
 use Rattle.std.proofs.lemmas.Bool.{eqb-true}
-use Rattle.ps_machine.specs.Inner.Drawing.{mark_of}
+use Rattle.ps_machine.specs.Inner.Drawing.{anchor_of}
 use Rattle.ps_machine.specs.Numbering.{StandsAt}
 use Rattle.ps_machine.specs.declared.key.Key.TheVariants.{First}
-use Rattle.ps_machine.proofs.Diagrams.DrawingLemmas.{at_position, has_key, has_mark, stands_for}
+use Rattle.ps_machine.proofs.Diagrams.DrawingLemmas.{at_position, has_key, has_anchor, stands_for}
 use Rattle.ps_machine.proofs.GameKeys.KeyTests.{same_key}
 use Rattle.ps_machine.proofs.Lassos.Rounds.{one_place}
 use Rattle.ps_machine.proofs.drawing.Plan.memory_behind.Goals as goal
@@ -23,7 +23,7 @@ unwrap-requires c =
     let same : c.requires.vertex ≡ c.unwrap-vertex.result = search (rules, one_place) in
     let m = plan.memories.found c.requires.vertex c.args.state c.args.priority
     ((plan.are_used c.requires.vertex).1 c.requires.is_used) c.requires.stands in
-    search (rules, has_mark)
+    search (rules, has_anchor)
 
 pub returns-clause-stands : goal.returns-clause-stands
 returns-clause-stands c v at =
@@ -33,8 +33,9 @@ returns-clause-stands c v at =
     let plan = c.requires.plan in
     let found = at_position _ keys key (sym c.get_index_of.ensures.index ∙ c.unwrap-vertex.ensures) in
     let here : StandsAt keys c.unwrap-vertex.result key = search (rules, same_key) in
-    let marks = self.memories.now.marks.keys in
-    let there = at_position (eqb c.mark-mark.result) marks 0 (sym c.get_index_of-2.ensures.index ∙ c.unwrap.ensures) in
-    let is : slice_get marks c.unwrap.result ≡ Some (mark_of self.moves_first c.unwrap-vertex.result c.args.state) =
+    let anchors = self.memories.now.anchors.keys in
+    let there =
+    at_position (eqb c.anchor-anchor.result) anchors 0 (sym c.get_index_of-2.ensures.index ∙ c.unwrap.ensures) in
+    let is : slice_get anchors c.unwrap.result ≡ Some (anchor_of self.moves_first c.unwrap-vertex.result c.args.state) =
     search (rules, eqb-true) in
     stands_for c.unwrap-vertex.result c.args.priority plan.is_game.by_keys.different plan.memories here is at

@@ -5,7 +5,7 @@ use Rattle.ps_simulate.specs.Lanes.{LaneSimulation, lane_of}
 use Rattle.ps_simulate.specs.Plans.{IsWorkedOut}
 use Rattle.ps_simulate.proofs.LaneStepLemmas.{room, latches_many, gates_fit, gates_within, outputs_in_table}
 use Rattle.ps_simulate.proofs.LaneStepLemmas.{nexts_in_table, outputs_many, nexts_many, constant_there, Steps-lane}
-use Rattle.ps_simulate.proofs.LaneStepLemmas.{IsTable-lane}
+use Rattle.ps_simulate.proofs.LaneStepLemmas.{IsValueTable-lane}
 use Rattle.ps_simulate.proofs.lanes.LaneSimulator.step_lanes.Goals as goal
 use Rattle.ps_simulate.proofs.lanes.LaneSimulator.step_lanes.Goals.{After-fill_words, After-read_words-2}
 
@@ -75,7 +75,7 @@ invariant_of-self c =
       places = t.places;
       is_lane_plan = t.is_lane_plan;
       values_each = table_size a;
-      tables = λ lane lt. IsTable-lane t c.args.inputs.now c.fill_words.new.values lane lt (letters_fit b)
+      tables = λ lane lt. IsValueTable-lane t c.args.inputs.now c.fill_words.new.values lane lt (letters_fit b)
           (worked a lane lt) c.read_words-2.new.words (next_length b);
     })
 

@@ -1,14 +1,14 @@
 use Rattle.std.proofs.Common.{rules, arith, ◌≡◌, refl, position, Some}
 use Rattle.ps_circuit.specs.Literals.{variable}
 use Rattle.ps_ids.proofs.IdPlaces.{position_here}
-use Rattle.ps_simulate.specs.Plans.{place_of}
+use Rattle.ps_simulate.specs.Plans.{place_of_variable}
 use Rattle.ps_simulate.proofs.LanePlanLemmas.{few_variables}
 use Rattle.ps_simulate.proofs.PlacesLemmas.{place_known, variables_once}
 use Rattle.ps_simulate.proofs.places.Places.wire.Goals as goal
 use Rattle.ps_simulate.proofs.places.Places.wire.Goals.{After-place}
 
 -- the table has the index of the literal's variable
-found : (c : After-place) → c.place.result ≡ Some (place_of c.args.self.now (variable c.args.literal))
+found : (c : After-place) → c.place.result ≡ Some (place_of_variable c.args.self.now (variable c.args.literal))
 found c = search (rules, place_known, position, position_here, variables_once)
 
 pub unwrap-place-requires : goal.unwrap-place-requires

@@ -1,7 +1,8 @@
 use Rattle.std.proofs.Common.{◌≡◌, ◌∙◌, ◌++◌, length, take, drop, ap, arith}
 use Rattle.std.proofs.lemmas.List.{take_at}
 use Rattle.ps_simulate.specs.Plans.{IsWorkedOut, variables}
-use Rattle.ps_simulate.proofs.NeededLemmas.{cut_within, cut_nexts_within, cut_outputs_within, IsTable-cut, Steps-cut}
+use Rattle.ps_simulate.proofs.NeededLemmas.{cut_within, cut_nexts_within, cut_outputs_within, IsValueTable-cut}
+use Rattle.ps_simulate.proofs.NeededLemmas.{Steps-cut}
 use Rattle.ps_simulate.proofs.simulator.Simulator.step.Goals as goal
 use Rattle.ps_simulate.proofs.simulator.Simulator.step.Goals.{After-fill, After-read_all-2}
 
@@ -54,7 +55,8 @@ invariant_of-self c =
     let t = c.self.invariant.2 in (
       c.self.invariant.0,
       c.self.invariant.1,
-      rw (table_is a, next_is b) (IsTable-cut t.is_circuit t.is_plan c.self.invariant.1 (worked a) c.read_all-2.new.bits
+      rw (table_is a, next_is b)
+          (IsValueTable-cut t.is_circuit t.is_plan c.self.invariant.1 (worked a) c.read_all-2.new.bits
           t (next_length b)),
     )
 

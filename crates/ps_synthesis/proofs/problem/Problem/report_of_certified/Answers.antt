@@ -1,7 +1,7 @@
 use Rattle.std.proofs.Common.{arith, subst, sym}
 use Rattle.ps_machine.specs.Solving.{IsCertified}
-use Rattle.ps_synthesis.specs.Problems.{Gives, IsProblemOf, ProblemData}
-use Rattle.ps_synthesis.specs.SynthFaults.{IsOutcome}
+use Rattle.ps_synthesis.specs.Problems.{ReturnsOnly, IsProblemOf, ProblemData}
+use Rattle.ps_synthesis.specs.SynthFaults.{IsReportOrFault}
 use Rattle.ps_synthesis.proofs.Reporting.{IsMade, problem_outcome}
 use Rattle.ps_synthesis.proofs.problem.Problem.report_of_certified.Goals as goal
 
@@ -18,5 +18,6 @@ returns-clause-outcome c = λ order text. (let i = c.self.inside in
     let outside = c.no_strategy_wins_outside.ensures p.game.game certificate c.game.ensures.well_formed.is_game
     certified.fits certified.valid in
     subst (λ (q : ProblemData). IsProblemOf order text q →
-    IsOutcome (Gives q.game certificate) order c.args.compact text result) c.self.view_is (λ of. problem_outcome p
+    IsReportOrFault (ReturnsOnly q.game certificate) order c.args.compact text result) c.self.view_is
+    (λ of. problem_outcome p
     c.self.invariant.0 certificate c.args.compact result made certified order text of hold outside))

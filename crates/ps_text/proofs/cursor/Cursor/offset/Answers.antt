@@ -1,7 +1,7 @@
 use Rattle.std.proofs.Common.{◌∙◌, ap}
-use Rattle.ps_text.specs.Cursors.{place_of}
+use Rattle.ps_text.specs.Cursors.{stream_offset}
 use Rattle.ps_text.proofs.Bytes.Moves.{place_is}
 use Rattle.ps_text.proofs.cursor.Cursor.offset.Goals as goal
 
 pub returns : goal.returns
-returns c = place_is c.self.inside.rest.now c.self.inside.unended ∙ ap place_of c.self.view_is
+returns c = place_is c.self.inside.rest.now c.self.inside.unended ∙ ap stream_offset c.self.view_is

@@ -1,6 +1,6 @@
 use Rattle.std.proofs.Common.{◌≡◌, ◌+◌, ◌*◌, length, refl, ap}
 use Rattle.ps_attractor.specs.declared.aim.Aim.{Aim}
-use Rattle.ps_zielonka.specs.Inner.Levels.{mark_of, aim_of}
+use Rattle.ps_zielonka.specs.Inner.Levels.{code_of, aim_of}
 use Rattle.ps_zielonka.proofs.Climbs.{on_aim}
 use Rattle.ps_zielonka.proofs.GoesOn.{Reached, going_on, fits_reopened, on_nest, on_falls}
 use Rattle.ps_zielonka.proofs.Frames.{last_waits}
@@ -18,9 +18,9 @@ returns g c =
     let frames = c.args.self.now.frames.items in
     let made = c.in_ok-attract.ensures in
     let aim : Aim = aim_of (record { player = c.opponent.result; begin = frame.turn; level = c.args.level }) in
-    let is_level : mark_of c.args.level ≡ 2 * length frames + 1 = ap mark_of c.requires.level in
+    let is_level : code_of c.args.level ≡ 2 * length frames + 1 = ap code_of c.requires.level in
     let is_aim : aim ≡ on_aim (2 * length frames) frame = cc (c.opponent.ensures, is_level) in
-    let reached : Reached (g.A.Arena.game c.args.arena.now) (mark_of c.args.level) aim frame
+    let reached : Reached (g.A.Arena.game c.args.arena.now) (code_of c.args.level) aim frame
     c.args.self.now.board.tables c.reopen.new.self.tables c.attract.new.self.tables c.args.self.now.board.winner.items
     c.attract.new.self.winner.items = record {
       reopened = c.in_ok-reopen.ensures.reopened;

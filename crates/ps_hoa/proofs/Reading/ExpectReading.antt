@@ -1,8 +1,8 @@
 -- Lemmas for the functions that read single tokens, and parts in parentheses.
 --     Tests test kind      only this kind passes the test
 --     sign_begins, avoids_kind      the next token begins its part; the next token does not pass a test
---     mark_read, mark_begins, mark_elsewhere      the next token is of this kind: it is taken, and begins a part; or
---               the next token is of another kind
+--     expect_read, expect_begins, expect_elsewhere      the next token is of this kind: it is taken, and begins a part;
+--               or the next token is of another kind
 --     tests_not, .., tests_string      the tests of the grammar
 --     inner_reads, inner_fails, inner_stays_open      the results for a part in parentheses, after its `(`
 use Rattle.std.proofs.Common.{◌≡◌, ◌≤◌, Bool, true, cond, length, Option, None, Some, Ok, refl, sym, ap, subst, ◌∙◌}
@@ -14,7 +14,7 @@ use Rattle.ps_text.proofs.Laws.{Laws, Joint, Apart}
 use Rattle.ps_text.proofs.Covered.{Enters, Avoids, enters_one}
 use Rattle.ps_text.proofs.Exits.{reads_then, reads_mapped}
 use Rattle.ps_hoa.specs.Body.{is_left_brace, is_right_brace, is_left_bracket, is_right_bracket}
-use Rattle.ps_hoa.specs.Operands.{is_not, is_and, is_or, is_left, is_right, mark_in, mark, inner, before, closed}
+use Rattle.ps_hoa.specs.Operands.{is_not, is_and, is_or, is_left, is_right, expect_in, expect, inner, before, closed}
 use Rattle.ps_hoa.specs.Scan.{next_of, behind_next}
 use Rattle.ps_hoa.specs.Tokens.{Sign}
 use Rattle.ps_hoa.specs.declared.fault.HoaCause.{HoaCause}
@@ -23,10 +23,10 @@ use Rattle.ps_hoa.specs.declared.tokens.Kind.TheVariants.{Finish, Not, And, Or, 
 use Rattle.ps_hoa.specs.declared.tokens.Kind.TheVariants.{LeftBrace, RightBrace, LeftBracket, RightBracket}
 use Rattle.ps_hoa.specs.Inner.Signs.{IsTestOf}
 use Rattle.ps_hoa.proofs.Grammar.ConditionLaws.{is_int}
-use Rattle.ps_hoa.proofs.Grammar.HeaderSigns.{signs_mark}
+use Rattle.ps_hoa.proofs.Grammar.HeaderSigns.{signs_expect}
 use Rattle.ps_hoa.proofs.Grammar.KindSets.{test_of}
 use Rattle.ps_hoa.proofs.Grammar.InfixLaws.{laws_left, laws_right}
-use Rattle.ps_hoa.proofs.Grammar.OperandLaws.{Odd, Of, joint_mark, joint_closed, laws_held}
+use Rattle.ps_hoa.proofs.Grammar.OperandLaws.{Odd, Of, joint_expect, joint_closed, laws_held}
 use Rattle.ps_hoa.proofs.Grammar.SignLaws.{is_string}
 use Rattle.ps_hoa.proofs.Reading.Exits.{Leads, first, behind, under}
 use Rattle.ps_hoa.proofs.Reading.NextSign.{next_there, next_same}
@@ -48,19 +48,19 @@ pub avoids_kind : (test : Kind → Bool) (s : Stream Sign) → (test (next_of s)
 avoids_kind test s h t e k = h (ap (λ (u : Sign). test u.kind) (next_same s t e) ∙ k)
 
 module _ {test : Kind → Bool} {kind : Kind} (tests : Tests test kind) where
-  pub taken_there : (sign : Sign) → sign.kind ≡ kind → mark_in test sign ≡ Some tt
+  pub taken_there : (sign : Sign) → sign.kind ≡ kind → expect_in test sign ≡ Some tt
   taken_there sign e = ap (λ (b : Bool). cond b (Some tt) None) (ap test e ∙ tests.is.0)
 
-  pub mark_read : {old new : Stream Sign} → (next_of old).sign.kind ≡ kind → new ≡ behind_next old →
-      Reads (mark test) old tt new
-  mark_read {old = old} {new = new} e n = reads_one (λ u. u) (signs_mark test kind tests.is tests.proper) old new
+  pub expect_read : {old new : Stream Sign} → (next_of old).sign.kind ≡ kind → new ≡ behind_next old →
+      Reads (expect test) old tt new
+  expect_read {old = old} {new = new} e n = reads_one (λ u. u) (signs_expect test kind tests.is tests.proper) old new
       (Ok tt) (record { some = taken_there (next_of old).sign e; good = λ f b. b }) n
 
-  pub mark_begins : (s : Stream Sign) → (next_of s).sign.kind ≡ kind → Enters (mark test) (there_of s)
-  mark_begins s e = search (rules, sign_begins, taken_there)
+  pub expect_begins : (s : Stream Sign) → (next_of s).sign.kind ≡ kind → Enters (expect test) (there_of s)
+  expect_begins s e = search (rules, sign_begins, taken_there)
 
-  pub mark_elsewhere : (s : Stream Sign) → ((next_of s).sign.kind ≡ kind → ⊥) → Avoids (Of test) (there_of s)
-  mark_elsewhere s differs = avoids_kind test s (λ h. differs (tests.is.1 (next_of s).sign.kind h))
+  pub expect_elsewhere : (s : Stream Sign) → ((next_of s).sign.kind ≡ kind → ⊥) → Avoids (Of test) (there_of s)
+  expect_elsewhere s differs = avoids_kind test s (λ h. differs (tests.is.1 (next_of s).sign.kind h))
 
 -- moving past a token does not increase the number of remaining pieces
 pub behind_shrinks : (s new : Stream Sign) → new ≡ behind_next s → length new.pieces ≤ length s.pieces
@@ -87,6 +87,7 @@ tests_left_brace = record { is = test_of is_left_brace LeftBrace refl refl; prop
 pub tests_right_brace : Tests is_right_brace RightBrace
 tests_right_brace = record { is = test_of is_right_brace RightBrace refl refl; proper = λ e. cc }
 
+-- the test passes exactly the kind `LeftBracket`
 pub tests_left_bracket : Tests is_left_bracket LeftBracket
 tests_left_bracket = record { is = test_of is_left_bracket LeftBracket refl refl; proper = λ e. cc }
 
@@ -112,19 +113,19 @@ enters_right P Q there h = search rules
 
 module _ {V : Type 0} {P : Part Sign V HoaCause} {First More : Sign → Type 0} (l : Laws Odd P First More ⊥)
     (apart : Apart More (Of is_right)) where
-  joint_left : Joint (mark is_left) (λ _. then_by P (λ v. closed v))
-  joint_left = joint_mark is_left laws_left (laws_held laws_right l apart)
+  joint_left : Joint (expect is_left) (λ _. then_by P (λ v. closed v))
+  joint_left = joint_expect is_left laws_left (laws_held laws_right l apart)
 
   joint_right : Joint P (λ v. closed v)
   joint_right = joint_closed laws_right l apart
 
-  pub inner_reads : {old mid next new : Stream Sign} {v : V} → Reads (mark is_left) old tt mid → Reads P mid v next →
-      Reads (mark is_right) next tt new → Reads (inner P) old v new
+  pub inner_reads : {old mid next new : Stream Sign} {v : V} → Reads (expect is_left) old tt mid → Reads P mid v next →
+      Reads (expect is_right) next tt new → Reads (inner P) old v new
   inner_reads {v = v} r m n = reads_then joint_left r (reads_then joint_right m (reads_mapped (before v) n))
 
-  pub inner_fails : {old mid : Stream Sign} → Reads (mark is_left) old tt mid → Leads (inner P) old P mid
+  pub inner_fails : {old mid : Stream Sign} → Reads (expect is_left) old tt mid → Leads (inner P) old P mid
   inner_fails r = behind joint_left r (first joint_right)
 
-  pub inner_stays_open : {old mid next : Stream Sign} {v : V} → Reads (mark is_left) old tt mid → Reads P mid v next →
-      Leads (inner P) old (mark is_right) next
-  inner_stays_open {v = v} r m = behind joint_left r (behind joint_right m (under (before v) (mark is_right)))
+  pub inner_stays_open : {old mid next : Stream Sign} {v : V} → Reads (expect is_left) old tt mid → Reads P mid v next →
+      Leads (inner P) old (expect is_right) next
+  inner_stays_open {v = v} r m = behind joint_left r (behind joint_right m (under (before v) (expect is_right)))

@@ -1,16 +1,16 @@
-//! The marks of a search, which record the state of each item.
+//! The status of each item during a search.
 
 ghost use Rattle.std.specs.Prelude.{◌≡◌, ◌+◌, ◌-◌, ◌<◌, ◌^◌, ◌++◌, [], length, replicate, slice_get, slice_set, take};
 ghost use Rattle.std.specs.Prelude.{Some, IfOk, OnOk, OnErr, map};
-ghost use Rattle.ps_components.specs.declared.marks.Mark.TheVariants.{Unseen};
-ghost use Rattle.ps_components.specs.Codes.{mark_of, narrow_mark_of};
+ghost use Rattle.ps_components.specs.declared.statuses.Status.TheVariants.{Unseen};
+ghost use Rattle.ps_components.specs.Codes.{status_of, narrow_status_of};
 
 use std::alloc::{AllocError, Global};
 use std::marker::Model;
 
 /// The state of an item in the search.
 #[derive(Clone, Copy)]
-pub enum Mark {
+pub enum Status {
     /// Not visited yet.
     Unseen,
     /// On the path, at the given index.
@@ -25,33 +25,33 @@ const LAST_CLOSED: usize = 1 << 63;
 /// The largest 4-byte code of a closed item.
 const LAST_NARROW: usize = 1 << 31;
 
-/// A mark for each item, stored as a code. The code 0 means unseen. The next codes are numbers of components plus one,
-/// and the largest codes are indices on the path. A code takes 4 bytes until an index of 2^31 - 1 or a number of 2^31
-/// has to be stored, and 8 bytes from then on. A call fails if out of memory; then nothing changes.
+/// A status for each item, stored as a code. The code 0 means unseen. The next codes are numbers of components plus
+/// one, and the largest codes are indices on the path. A code takes 4 bytes until an index of 2^31 - 1 or a number of
+/// 2^31 has to be stored, and 8 bytes from then on. A call fails if out of memory; then nothing changes.
 #[derive(Drop)]
-pub struct Marks {
+pub struct Statuses {
     alloc: Global,
     narrow: Vec<u32>,
     wide: Vec<usize>,
     is_wide: bool,
 }
 
-impl Model for Marks {
+impl Model for Statuses {
     ghost use Rattle.std.specs.Prelude.{List, map, if◌then◌else◌};
-    ghost use Rattle.ps_components.specs.Codes.{mark_of, narrow_mark_of};
-    ghost use Rattle.ps_components.specs.declared.marks.Mark.{Mark};
+    ghost use Rattle.ps_components.specs.Codes.{status_of, narrow_status_of};
+    ghost use Rattle.ps_components.specs.declared.statuses.Status.{Status};
 
-    ghost Value = { List Mark };
+    ghost Value = { List Status };
 
-    ghost view = { λ m. if m.is_wide then map mark_of m.wide.items else map narrow_mark_of m.narrow.items };
+    ghost view = { λ m. if m.is_wide then map status_of m.wide.items else map narrow_status_of m.narrow.items };
 }
 
-impl Marks {
-    /// An empty list of marks.
+impl Statuses {
+    /// An empty list of statuses.
     pub fn new(alloc: Global) -> Self
         ensures { result ≡ [] }
     {
-        Marks {
+        Statuses {
             alloc,
             narrow: Vec::new(alloc),
             wide: Vec::new(alloc),
@@ -59,12 +59,12 @@ impl Marks {
         }
     }
 
-    /// The marks of `count` unseen items.
+    /// The statuses of `count` unseen items.
     pub fn unseen(alloc: Global, count: usize) -> Result<Self, AllocError>
-        ensures { IfOk result (λ marks. marks ≡ replicate count Unseen) }
+        ensures { IfOk result (λ statuses. statuses ≡ replicate count Unseen) }
     {
         let narrow = vec![in alloc; 0; count]?;
-        Ok(Marks {
+        Ok(Statuses {
             alloc,
             narrow,
             wide: Vec::new(alloc),
@@ -72,20 +72,20 @@ impl Marks {
         })
     }
 
-    /// The mark of an item.
+    /// The status of an item.
     #[inline(always)]
-    pub fn at(&self, item: usize) -> Mark
+    pub fn at(&self, item: usize) -> Status
         requires { item < length self.now }
         ensures { slice_get self.now item ≡ Some result }
     {
         if self.is_wide {
-            mark_of(self.wide[item])
+            status_of(self.wide[item])
         } else {
-            narrow_mark_of(self.narrow[item] as usize)
+            narrow_status_of(self.narrow[item] as usize)
         }
     }
 
-    /// Marks an item as unseen.
+    /// Statuses an item as unseen.
     #[inline(always)]
     pub fn clear_at(&mut self, item: usize)
         requires { item < length self.old }
@@ -98,11 +98,11 @@ impl Marks {
         }
     }
 
-    /// Marks an item as active, at index `place` of the path.
+    /// Statuses an item as active, at index `place` of the path.
     pub fn put(&mut self, item: usize, place: usize) -> Result<(), AllocError>
         requires item { item < length self.old }
         requires place { place + 1 < 2 ^ 63 }
-        ensures ok { OnOk result (self.new ≡ slice_set self.old item (Mark.Active place)) }
+        ensures ok { OnOk result (self.new ≡ slice_set self.old item (Status.Active place)) }
         ensures err { OnErr result (self.new ≡ self.old) }
     {
         if self.is_wide {
@@ -120,11 +120,11 @@ impl Marks {
         Ok(())
     }
 
-    /// Marks an item as closed, in the component with the given number.
+    /// Statuses an item as closed, in the component with the given number.
     pub fn close(&mut self, item: usize, number: usize) -> Result<(), AllocError>
         requires item { item < length self.old }
         requires number { number < 2 ^ 63 }
-        ensures ok { OnOk result (self.new ≡ slice_set self.old item (Mark.Closed number)) }
+        ensures ok { OnOk result (self.new ≡ slice_set self.old item (Status.Closed number)) }
         ensures err { OnErr result (self.new ≡ self.old) }
     {
         if self.is_wide {
@@ -142,7 +142,7 @@ impl Marks {
         Ok(())
     }
 
-    /// Keeps the marks of the first `count` items. Additional items are unseen.
+    /// Keeps the statuses of the first `count` items. Additional items are unseen.
     pub fn resize(&mut self, count: usize) -> Result<(), AllocError>
         ensures { OnOk result (self.new ≡ take count self.old ++ replicate (count - length self.old) Unseen) }
     {
@@ -153,7 +153,7 @@ impl Marks {
         }
     }
 
-    /// Removes all marks.
+    /// Removes all statuses.
     pub fn clear(&mut self)
         ensures { self.new ≡ [] }
     {
@@ -162,10 +162,10 @@ impl Marks {
     }
 }
 
-/// The marks of the same items in 8-byte codes. Fails if out of memory.
+/// The statuses of the same items in 8-byte codes. Fails if out of memory.
 #[inline(never)]
 fn widened(alloc: Global, narrow: &[u32]) -> Result<Vec<usize>, AllocError>
-    ensures { IfOk result (λ wide. map mark_of wide.items ≡ map narrow_mark_of narrow.now) }
+    ensures { IfOk result (λ wide. map status_of wide.items ≡ map narrow_status_of narrow.now) }
 {
     let mut wide = Vec::with_capacity(alloc, narrow.len())?;
     for place in 0..narrow.len() {
@@ -174,10 +174,10 @@ fn widened(alloc: Global, narrow: &[u32]) -> Result<Vec<usize>, AllocError>
     Ok(wide)
 }
 
-/// The 8-byte code of the mark that a 4-byte code represents.
+/// The 8-byte code of the status that a 4-byte code represents.
 fn wide_code(code: usize) -> usize
     requires { code < 2 ^ 32 }
-    ensures { mark_of result ≡ narrow_mark_of code }
+    ensures { status_of result ≡ narrow_status_of code }
 {
     if code <= LAST_NARROW {
         code
@@ -186,30 +186,30 @@ fn wide_code(code: usize) -> usize
     }
 }
 
-/// The mark that an 8-byte code represents.
+/// The status that an 8-byte code represents.
 #[inline(always)]
-fn mark_of(code: usize) -> Mark
-    ensures { result ≡ mark_of code }
+fn status_of(code: usize) -> Status
+    ensures { result ≡ status_of code }
 {
     if code == 0 {
-        Mark::Unseen
+        Status::Unseen
     } else if code <= LAST_CLOSED {
-        Mark::Closed(code - 1)
+        Status::Closed(code - 1)
     } else {
-        Mark::Active(code - LAST_CLOSED - 1)
+        Status::Active(code - LAST_CLOSED - 1)
     }
 }
 
-/// The mark that a 4-byte code represents.
+/// The status that a 4-byte code represents.
 #[inline(always)]
-fn narrow_mark_of(code: usize) -> Mark
-    ensures { result ≡ narrow_mark_of code }
+fn narrow_status_of(code: usize) -> Status
+    ensures { result ≡ narrow_status_of code }
 {
     if code == 0 {
-        Mark::Unseen
+        Status::Unseen
     } else if code <= LAST_NARROW {
-        Mark::Closed(code - 1)
+        Status::Closed(code - 1)
     } else {
-        Mark::Active(code - LAST_NARROW - 1)
+        Status::Active(code - LAST_NARROW - 1)
     }
 }

@@ -1,6 +1,6 @@
 use Rattle.std.proofs.Common.{arith}
 use Rattle.ps_components.proofs.Codes.{map-replicate}
-use Rattle.ps_components.proofs.marks.Marks.unseen.Goals as goal
+use Rattle.ps_components.proofs.statuses.Statuses.unseen.Goals as goal
 
 pub returns : goal.returns
 returns c = grind (arith, map-replicate)

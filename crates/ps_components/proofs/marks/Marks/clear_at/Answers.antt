@@ -1,9 +1,0 @@
-use Rattle.std.proofs.Common.{rules}
-use Rattle.ps_components.proofs.Codes.{mark_set}
-use Rattle.ps_components.proofs.marks.Marks.clear_at.Goals as goal
-
-pub returns-then-self : goal.returns-then-self
-returns-then-self c = search (rules, mark_set)
-
-pub returns-else-self : goal.returns-else-self
-returns-else-self c = search (rules, mark_set)

@@ -1,6 +1,0 @@
-use Rattle.ps_hoa.proofs.Grammar.HeaderSigns.{reads_token, signs_mark}
-use Rattle.ps_hoa.proofs.signs.mark.Goals as goal
-
-pub returns : goal.returns
-returns c = λ test is. reads_token (λ u. u) (signs_mark test c.args.kind is c.requires) _ _ _ _
-    (c.mark_of.ensures test is) c.advance-token.ensures.next c.advance-token.ensures.rest
