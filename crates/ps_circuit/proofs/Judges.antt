@@ -36,7 +36,7 @@ judge_count n = judge_cause cause_number Sections (decide_not (cases_eq n 0))
 pub judge_literal : (most : ℕ) → Judges (WrongLiteral most)
 judge_literal most n = judge_cause cause_number Literal (decide_below (suc (2 * most + 1)) n)
 
-decide_definition : (most n : ℕ) → Decided (IsDefinition most n)
+pub decide_definition : (most n : ℕ) → Decided (IsDefinition most n)
 decide_definition most n = search (rules, decide_as, decide_both, cases_eq, decide_below)
 
 pub judge_definition : (most : ℕ) (defined : List ℕ) → Judges (WrongDefinition most defined)

@@ -20,3 +20,5 @@ pub mod Ordered
 pub mod GateLemmas
 pub mod MadeLemmas
 pub mod MadeSound
+pub mod SoundParts
+pub mod SoundTexts

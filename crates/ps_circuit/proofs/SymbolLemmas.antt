@@ -177,7 +177,7 @@ pub letter_is : (s : Stream Seen) {b : ℕ} {kind : Kind} → next_byte s ≡ So
 letter_is s e h = let t = next_is (next_of s) e in (t.0, t.1, rw t.2 h)
 
 -- a name that was read has at least one byte, and no newline
-all_plain : (xs : List ℕ) → AllOf is_inner xs → All (λ b. b ≢ 10) xs
+pub all_plain : (xs : List ℕ) → AllOf is_inner xs → All (λ b. b ≢ 10) xs
 all_plain [] h k d lt = absurd (omega arith)
 all_plain (x ∷ xs) h zero d lt = λ e. let y : is_inner 10 ≡ true = ap is_inner (sym e) ∙ h.0 in cc
 all_plain (x ∷ xs) h (suc k) d lt = all_plain xs h.1 k d (omega arith)

@@ -1,8 +1,8 @@
-//! Laws: the text of a circuit has exactly one answer.
+//! Laws: the text of a circuit has exactly one answer, a circuit or an error.
 
-ghost use Rattle.std.specs.Prelude.{◌≡◌, ℕ, List, Result};
+ghost use Rattle.std.specs.Prelude.{◌≡◌, ℕ, List, Result, Ok};
 ghost use Rattle.ps_text.specs.Answers.{Found};
-ghost use Rattle.ps_circuit.specs.Circuits.{CircuitData};
+ghost use Rattle.ps_circuit.specs.Circuits.{CircuitData, IsCircuit};
 ghost use Rattle.ps_circuit.specs.Texts.{ReadsCircuit};
 ghost use Rattle.ps_circuit.specs.declared.fault.AigCause.{AigCause};
 
@@ -16,4 +16,9 @@ pub fn one_answer()
 /// memory.
 pub fn some_answer()
     ensures { (text : List ℕ) → (answer : Result CircuitData (Found AigCause)) × ReadsCircuit text answer }
+{}
+
+/// What a text describes is a circuit.
+pub fn read_circuit_is_circuit()
+    ensures { (text : List ℕ) (c : CircuitData) → ReadsCircuit text (Ok c) → IsCircuit c }
 {}

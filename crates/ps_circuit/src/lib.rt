@@ -18,6 +18,7 @@
 //! | `Circuit::input_name`, `latch_name`, `output_name` | the name of an input, a latch or an output, if it has one |
 //! | `EncodeFault::number`, `name`, `AigCause::number`, `name` | the number and name of a fault or cause |
 //! | `one_answer`, `some_answer` | laws: a text has exactly one answer, its circuit or its first error |
+//! | `read_circuit_is_circuit` | law: what a text describes is a circuit |
 //!
 //! A builder fails only if out of memory, or if 2,147,483,647 variables exist and another gate is needed. In a circuit
 //! each variable is defined once, each literal's variable is defined or 0, and no gate depends on itself.
@@ -48,7 +49,7 @@ pub use builder::{Builder, Sides};
 pub use circuit::Circuit;
 pub use encode_fault::EncodeFault;
 pub use fault::{AigCause, AigFault};
-pub use laws::{one_answer, some_answer};
+pub use laws::{one_answer, read_circuit_is_circuit, some_answer};
 pub use literal::Literal;
 pub use parts::{Gate, Latch, Parts};
 pub use reader::read;

@@ -1,0 +1,6 @@
+-- The law is the lemma `circuit_is_sound`.
+use Rattle.ps_circuit.proofs.SoundTexts.{circuit_is_sound}
+use Rattle.ps_circuit.proofs.laws.read_circuit_is_circuit.Goals as goal
+
+pub returns : goal.returns
+returns c = circuit_is_sound
