@@ -18,3 +18,4 @@ pub mod CountLemmas
 pub mod GateOrders
 pub mod Uniqueness
 pub mod Stimuli
+pub mod DecidedSymbols

@@ -1,6 +1,6 @@
 //! Laws about circuits and their runs.
 
-ghost use Rattle.std.specs.Prelude.{Bool, List};
+ghost use Rattle.std.specs.Prelude.{◌⊎◌, ℕ, Bool, List};
 ghost use Rattle.ps_circuit.specs.Circuits.{CircuitData, IsCircuit};
 ghost use Rattle.ps_circuit.specs.Values.{HasOneValues};
 ghost use Rattle.ps_hoa.specs.Files.{FileData};
@@ -29,3 +29,9 @@ pub fn verdict_is_one()
 {
     circuit_has_one_values();
 }
+
+/// A circuit has the inputs and outputs of a role, or it does not.
+pub fn symbols_are_decided()
+    ensures { (role : Role) (names : List (List ℕ)) (controllable : List ℕ) (c : CircuitData) →
+        HasSymbols role names controllable c ⊎ ¬ HasSymbols role names controllable c }
+{}

@@ -18,6 +18,7 @@
 //! |---|---|
 //! | `circuit_has_one_values` | values for given inputs and latches exist, and agree at each defined literal |
 //! | `lanes_are_plain_runs` | a lane does the same on its letters as a plain run |
+//! | `symbols_are_decided` | a circuit has the inputs and outputs of a role, or it does not |
 //! | `verdict_is_one` | there is at most one verdict on a circuit with the symbols of its role |
 //! | `stimulus_text_has_one_answer`, `stimulus_text_has_some_answer` | a text has exactly one answer |
 //!
@@ -44,7 +45,7 @@ mod stimulus;
 pub use fault::{StimulusCause, StimulusFault};
 pub use lanes::LaneSimulator;
 pub use lassos::{LassoFault, Verdict, lasso};
-pub use laws::{circuit_has_one_values, lanes_are_plain_runs, verdict_is_one};
+pub use laws::{circuit_has_one_values, lanes_are_plain_runs, symbols_are_decided, verdict_is_one};
 pub use letters::{Letters, parse_letters};
 pub use places::Places;
 pub use plan::{Wire, next_wires, output_wires};
