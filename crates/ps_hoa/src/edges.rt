@@ -70,11 +70,8 @@ pub(crate) fn edges(
     before: usize,
     row: &mut Row,
 ) -> Result<(), HoaFault>
-    requires { before + length row.old.edges.items ≤ edge_limit }
-    ensures part { ReadsAs (λ _. row_data row.new) (parts.edges (header_data header.now) before (row_data row.old))
+    ensures { ReadsAs (λ _. row_data row.new) (parts.edges (header_data header.now) before (row_data row.old))
         tokens.old result tokens.new }
-    ensures within { IfOk result (λ _. before + length row.new.edges.items ≤ edge_limit) }
-    ensures same { row.new.state ≡ row.old.state }
 {
     'more: while is_at_edge(tokens) {
         edge(alloc, tokens, header, before, row)?;
@@ -97,11 +94,8 @@ fn edge(
     before: usize,
     row: &mut Row,
 ) -> Result<(), HoaFault>
-    requires { before + length row.old.edges.items ≤ edge_limit }
-    ensures part { ReadsAs (λ _. row_data row.new) (parts.edge (header_data header.now) before (row_data row.old))
+    ensures { ReadsAs (λ _. row_data row.new) (parts.edge (header_data header.now) before (row_data row.old))
         tokens.old result tokens.new }
-    ensures within { IfOk result (λ _. before + length row.new.edges.items ≤ edge_limit) }
-    ensures same { row.new.state ≡ row.old.state }
 {
     if tokens.is_at(Kind::LeftBracket) {
         labelled_edge(alloc, tokens, header, before, row)
@@ -118,11 +112,8 @@ fn labelled_edge(
     before: usize,
     row: &mut Row,
 ) -> Result<(), HoaFault>
-    requires { before + length row.old.edges.items ≤ edge_limit }
-    ensures part { ReadsAs (λ _. row_data row.new) (parts.labelled_edge (header_data header.now) before
+    ensures { ReadsAs (λ _. row_data row.new) (parts.labelled_edge (header_data header.now) before
         (row_data row.old)) tokens.old result tokens.new }
-    ensures within { IfOk result (λ _. before + length row.new.edges.items ≤ edge_limit) }
-    ensures same { row.new.state ≡ row.old.state }
 {
     bracket(tokens, before, row)?;
     let label = label_in_brackets(alloc, tokens, header)?;
@@ -144,11 +135,8 @@ fn plain_edge(
     before: usize,
     row: &mut Row,
 ) -> Result<(), HoaFault>
-    requires { before + length row.old.edges.items ≤ edge_limit }
-    ensures part { ReadsAs (λ _. row_data row.new) (parts.plain_edge (header_data header.now) before (row_data row.old))
+    ensures { ReadsAs (λ _. row_data row.new) (parts.plain_edge (header_data header.now) before (row_data row.old))
         tokens.old result tokens.new }
-    ensures within { IfOk result (λ _. before + length row.new.edges.items ≤ edge_limit) }
-    ensures same { row.new.state ≡ row.old.state }
 {
     let target = plain_target(tokens, header, before, row)?;
     let marks = marks(alloc, tokens, header)?;
@@ -173,10 +161,8 @@ fn plain_guard(row: &Row) -> Guard
 
 /// Reads the `[` of an edge.
 fn bracket(tokens: &mut Tokens, before: usize, row: &Row) -> Result<(), HoaFault>
-    requires { before ≤ edge_limit }
-    ensures part { ReadsAs (λ u. u) (one is_bracket (IsBadBracket before (row_data row.now))) tokens.old
+    ensures { ReadsAs (λ u. u) (one is_bracket (IsBadBracket before (row_data row.now))) tokens.old
         result tokens.new }
-    ensures room { IfOk result (λ _. before + length row.now.edges.items < edge_limit) }
 {
     let token = tokens.advance();
     bracket_of(token, before, row)
@@ -184,13 +170,11 @@ fn bracket(tokens: &mut Tokens, before: usize, row: &Row) -> Result<(), HoaFault
 
 /// Checks that a token is the `[` of an edge, and that an edge with a label is allowed here.
 fn bracket_of(token: Token, before: usize, row: &Row) -> Result<(), HoaFault>
-    requires { before ≤ edge_limit }
-    ensures sign { Takes (λ u. u) is_bracket (IsBadBracket before (row_data row.now)) (piece_of token.entry) result }
-    ensures room { IfOk result (λ _. before + length row.now.edges.items < edge_limit) }
+    ensures { Takes (λ u. u) is_bracket (IsBadBracket before (row_data row.now)) (piece_of token.entry) result }
 {
     if token.kind != Kind::LeftBracket {
         Err(refused(token))
-    } else if row.edges.len() >= EDGE_LIMIT - before {
+    } else if row.edges.len() >= EDGE_LIMIT.saturating_sub(before) {
         Err(fault_at(token, HoaCause::Limit))
     } else if matches!(labelling_of(row), Labelling::ByEdge | Labelling::NotKnown) {
         Ok(())
@@ -231,10 +215,8 @@ fn plain_target(
     before: usize,
     row: &Row,
 ) -> Result<u32, HoaFault>
-    requires { before ≤ edge_limit }
-    ensures part { ReadsAs (λ n. n) (parts.plain_target (header_data header.now) before (row_data row.now)) tokens.old
+    ensures { ReadsAs (λ n. n) (parts.plain_target (header_data header.now) before (row_data row.now)) tokens.old
         result tokens.new }
-    ensures room { IfOk result (λ _. before + length row.now.edges.items < edge_limit) }
 {
     let token = tokens.advance();
     let target = plain_target_of(token, header.states, before, row)?;
@@ -249,15 +231,13 @@ fn plain_target_of(
     before: usize,
     row: &Row,
 ) -> Result<u32, HoaFault>
-    requires { before ≤ edge_limit }
-    ensures sign { Takes (λ n. n) int_in (BadIn (IsBadPlainTarget states before (row_data row.now)))
+    ensures { Takes (λ n. n) int_in (BadIn (IsBadPlainTarget states before (row_data row.now)))
         (piece_of token.entry) result }
-    ensures room { IfOk result (λ _. before + length row.now.edges.items < edge_limit) }
 {
     if token.kind != Kind::Int {
         return Err(refused(token));
     }
-    if row.edges.len() >= EDGE_LIMIT - before {
+    if row.edges.len() >= EDGE_LIMIT.saturating_sub(before) {
         return Err(fault_at(token, HoaCause::Limit));
     }
     let target = state_of(token, states)?;

@@ -1,4 +1,5 @@
 -- Properties of the states and edges of a parsed body.
+--     edges_within      the limit on edges, and the state, of a row whose edges were parsed
 --     keeps_body      the properties hold for each body
 use Rattle.std.proofs.Common.{◌≡◌, ℕ, suc, ◌+◌, ◌-◌, ◌<◌, ◌≤◌, ◌⊎◌, false, List, [], ◌∷◌, ◌++◌, length, Option, None}
 use Rattle.std.proofs.Common.{Some, refl, sym, ap, subst, inl, inr, ◌∙◌, arith, length-append, rules}
@@ -6,7 +7,9 @@ use Rattle.std.specs.Option.{IfSome}
 use Rattle.std.specs.List.{AllByRecursion, slice_get}
 use Rattle.std.proofs.lemmas.List.Sums.{sum_by_push}
 use Rattle.ps_label.specs.Expression.{Expression}
+use Rattle.ps_text.specs.Answers.{Stream}
 use Rattle.ps_text.specs.Parts.{one}
+use Rattle.ps_text.specs.Readers.{Reads}
 use Rattle.ps_text.proofs.Simple.{none_is_some}
 use Rattle.ps_hoa.specs.Body.{edge_limit, BodyData, no_rows, IsBadState, IsBadSet, BadIn, sets_of, is_left_brace}
 use Rattle.ps_hoa.specs.Body.{is_right_brace, set_number, marks, is_left_bracket, body_scope, label_in_brackets}
@@ -19,6 +22,7 @@ use Rattle.ps_hoa.specs.Files.{GuardData, EdgeData, RowData, stated, of_state, a
 use Rattle.ps_hoa.specs.Header.{HeaderData, int_in, state_limit, IsAlternating}
 use Rattle.ps_hoa.specs.Labels.{label}
 use Rattle.ps_hoa.specs.Operands.{nesting_limit, expect_in, expect}
+use Rattle.ps_hoa.specs.Tokens.{Sign}
 use Rattle.ps_hoa.specs.Sound.{AreDifferent, IsStated, IsOfState, AreAtLetters, AreRowsOnce, edges_of}
 use Rattle.ps_hoa.proofs.Soundness.Differences.{neither, nat_eq_not, all_once, different_once}
 use Rattle.ps_hoa.specs.declared.edges.Labelling.{Labelling}
@@ -29,7 +33,7 @@ use Rattle.ps_hoa.specs.declared.tokens.Kind.TheVariants.{LeftBracket}
 use Rattle.std.proofs.lemmas.Bool.{false_from_ne_true}
 use Rattle.ps_hoa.proofs.Reading.ExpectReading.{tests_left_bracket}
 use Rattle.ps_hoa.proofs.Soundness.Keeping.{Keeps, keeps_less, keeps_give, keeps_one, keeps_then, keeps_behind}
-use Rattle.ps_hoa.proofs.Soundness.Keeping.{keeps_either, keeps_mapped, keeps_many, keeps_barred}
+use Rattle.ps_hoa.proofs.Soundness.Keeping.{keeps_either, keeps_mapped, keeps_many, keeps_barred, keeps_read}
 use Rattle.ps_hoa.proofs.Soundness.HeaderKept.{keeps_number}
 use Rattle.std.specs.Prelude.{nat_eq}
 use Rattle.ps_hoa.proofs.Grammar.OperandLaws.{taken_expect}
@@ -127,11 +131,47 @@ pub record IsRowKept (h : HeaderData) (row : RowData) : Type 0 where
   pub edges : AllByRecursion (IsEdgeKept h) row.edges
   pub labelled : LabelledBy row.label row.edges
 
--- a row after a given number of edges of earlier states
+-- what allows an edge with a label after this row
+abbrev MayBegin : ℕ → RowData → Type 0
+MayBegin before row = (edge_limit ≤ before + length row.edges → ⊥) × ((MayHaveLabel (labelling row) → ⊥) → ⊥)
+
+keeps_bracket : (before : ℕ) (row : RowData) →
+    Keeps (one is_bracket (IsBadBracket before row)) (λ _. MayBegin before row)
+keeps_bracket before row = keeps_one is_bracket (IsBadBracket before row) (λ t v e good.
+    let at : t.kind ≡ LeftBracket = tests_left_bracket.is.1 t.kind (taken_expect is_left_bracket t v e) in (
+      λ full. good causes.Limit (at, inl (full, refl)),
+      λ no. good causes.Labels (at, inr (no, refl)),
+    ))
+
+-- the row of state n, within the limit on edges, after a given number of edges of earlier states
+abbrev pub IsRowOf : (before n : ℕ) → RowData → Type 0
+IsRowOf before n row = (row.state ≡ n) × (before + length row.edges ≤ edge_limit)
+
+module _ (h : HeaderData) (before n : ℕ) where
+  module _ (row : RowData) (k : IsRowOf before n row) where
+    another : (label : Option Expression) (target : ℕ) (ns : List ℕ) → (edge_limit ≤ before + length row.edges → ⊥) →
+        IsRowOf before n (row_with_edge row label target ns)
+    another label target ns room = grind (arith, length-append, below)
+
+    labelled_within : Keeps (labelled_edge h before row) (IsRowOf before n)
+    labelled_within = keeps_then (keeps_bracket before row) (λ _ m. keeps_behind _ (λ label. keeps_behind _ (λ target.
+        keeps_mapped _ (row_with_edge row label target) (marks h) (λ text ns i q. another label target ns m.0))))
+
+    plain_within : Keeps (plain_edge h before row) (IsRowOf before n)
+    plain_within = keeps_then (keeps_barred (one int_in (BadIn (IsBadPlainTarget h.states before row)))
+        IsAlternating (keeps_number (IsBadPlainTarget h.states before row))) (λ target good. keeps_mapped _
+        (row_with_edge row None target) (marks h) (λ text ns i q. another None target ns
+        (λ full. good causes.Limit (inr (inl (full, refl))))))
+
+  pub edges_within : (row : RowData) {new : RowData} {s t : Stream Sign} → IsRowOf before n row →
+      Reads (edges h before row) s new t → IsRowOf before n new
+  edges_within row k r = keeps_read (edges h before row) (keeps_many (edge h before)
+      (λ other l. keeps_either (labelled_within other l) (plain_within other l)) row k) _ _ _ r.1
+
+-- a row with the properties of a row
 module _ (h : HeaderData) (before : ℕ) (n : ℕ) where
-  -- the row of state n, within the limit on edges
   abbrev RowOf : RowData → Type 0
-  RowOf row = IsRowKept h row × (row.state ≡ n) × (before + length row.edges ≤ edge_limit)
+  RowOf row = IsRowKept h row × IsRowOf before n row
 
   module _ (row : RowData) (k : RowOf row) where
     one_more : (label : Option Expression) (target : ℕ) (ns : List ℕ) → IsGuardKept h (guard_of row label) →
@@ -139,18 +179,9 @@ module _ (h : HeaderData) (before : ℕ) (n : ℕ) where
         LabelledBy row.label (row_with_edge row label target ns).edges → RowOf (row_with_edge row label target ns)
     one_more label target ns g t a r l = grind (arith, all_push, length-append, below)
 
-    abbrev MayBegin : Unit {0} → Type 0
-    MayBegin _ = (edge_limit ≤ before + length row.edges → ⊥) × ((MayHaveLabel (labelling row) → ⊥) → ⊥)
-
-    keeps_bracket : Keeps (one is_bracket (IsBadBracket before row)) MayBegin
-    keeps_bracket = keeps_one is_bracket (IsBadBracket before row) (λ t v e good.
-        let at : t.kind ≡ LeftBracket = tests_left_bracket.is.1 t.kind (taken_expect is_left_bracket t v e) in (
-          λ full. good causes.Limit (at, inl (full, refl)),
-          λ no. good causes.Labels (at, inr (no, refl)),
-        ))
-
     keeps_labelled_edge : Keeps (labelled_edge h before row) RowOf
-    keeps_labelled_edge = keeps_then keeps_bracket (λ _ m. keeps_then (keeps_label_in_brackets h) (λ label l. keeps_then
+    keeps_labelled_edge =
+        keeps_then (keeps_bracket before row) (λ _ m. keeps_then (keeps_label_in_brackets h) (λ label l. keeps_then
         (keeps_barred (one int_in (BadIn (IsBadState h.states))) IsAlternating (keeps_number (IsBadState h.states)))
         (λ target good. keeps_mapped _ (row_with_edge row label target) (marks h) (λ text ns i q.
         let g : guard_of row label ≡ stated l.0 = ap (guard_of row) l.1 in

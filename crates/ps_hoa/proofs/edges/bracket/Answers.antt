@@ -3,5 +3,5 @@ use Rattle.ps_hoa.proofs.Grammar.HeaderSigns.{reads_token}
 use Rattle.ps_hoa.proofs.Reading.BodyReading.{bracket_signs}
 use Rattle.ps_hoa.proofs.edges.bracket.Goals as goal
 
-pub returns-clause-part : goal.returns-clause-part
-returns-clause-part c = grind (arith, reads_token, bracket_signs)
+pub returns : goal.returns
+returns c = grind (arith, reads_token, bracket_signs)

@@ -42,22 +42,26 @@ labels_last : (before : ℕ) (row : RowData) → before + length row.edges < edg
 labels_last before row room n g h = grind arith
 
 -- whether the text has too many edges, as the code tests it
-module _ (edges : List Edge) {count len : ℕ} (is : count ≡ length edges) (told : len ≡ count) {before : ℕ} where
-  is_full : 1048576 - before ≤ len → before ≤ 1048576 → edge_limit ≤ before + length (map edge_data edges)
-  is_full h b = omega (arith, length-map edges edge_data)
+module _ (edges : List Edge) {count len : ℕ} (is : count ≡ length edges) (told : len ≡ count) (before : ℕ) where
+  is_full : {room : ℕ} → room ≡ 1048576 - before → room ≤ len → edge_limit ≤ before + length (map edge_data edges)
+  is_full e h = omega (arith, length-map edges edge_data)
 
-  has_room : len < 1048576 - before → before ≤ 1048576 → before + length (map edge_data edges) < edge_limit
-  has_room h b = omega (arith, length-map edges edge_data)
+  has_room : {room : ℕ} → room ≡ 1048576 - before → len < room → before + length (map edge_data edges) < edge_limit
+  has_room e h = omega (arith, length-map edges edge_data)
 
-pub returns-then-len-before-clause-sign : goal.returns-then-len-before-clause-sign
-returns-then-len-before-clause-sign c = grind (arith, same_true, not-false, full_worst, is_full)
+pub returns-then-len-saturating_sub : goal.returns-then-len-saturating_sub
+returns-then-len-saturating_sub c =
+    let full = is_full _ c.args.row.now.edges.ok.0 c.len.ensures c.args.before c.saturating_sub.ensures
+    c.if-len-saturating_sub.true in
+    grind (arith, same_true, not-false, full_worst)
 
-pub returns-in_err-target-clause-sign : goal.returns-in_err-target-clause-sign
-returns-in_err-target-clause-sign c = grind (arith, has_room, takes_err, later)
+pub returns-in_err-target : goal.returns-in_err-target
+returns-in_err-target c = grind (arith, has_room, takes_err, later)
 
-pub returns-in-ByEdge-clause-sign : goal.returns-in-ByEdge-clause-sign
-returns-in-ByEdge-clause-sign c =
-    let room = has_room _ c.args.row.now.edges.ok.0 c.len.ensures c.if-len-before.false c.requires in
+pub returns-in-ByEdge : goal.returns-in-ByEdge
+returns-in-ByEdge c =
+    let room = has_room _ c.args.row.now.edges.ok.0 c.len.ensures c.args.before c.saturating_sub.ensures
+    c.if-len-saturating_sub.false in
     let by : parts.labelling (row_data c.args.row.now) ≡ ByEdge = sym c.labelling_of.ensures ∙ c.in-ByEdge.is in
     subst (λ e. Takes {X = ℕ} (λ n. n) int_in (BadIn (IsBadPlainTarget c.args.states c.args.before
     (row_data c.args.row.now))) (piece_of c.args.token) (Err e)) (sym c.fault_at-in-ByEdge.ensures) (
@@ -68,8 +72,9 @@ returns-in-ByEdge-clause-sign c =
           (grind (arith, labels_last))),
     )
 
-pub returns-in_default-clause-sign : goal.returns-in_default-clause-sign
-returns-in_default-clause-sign c =
-    let room = has_room _ c.args.row.now.edges.ok.0 c.len.ensures c.if-len-before.false c.requires in
+pub returns-in_default : goal.returns-in_default
+returns-in_default c =
+    let room = has_room _ c.args.row.now.edges.ok.0 c.len.ensures c.args.before c.saturating_sub.ensures
+    c.if-len-saturating_sub.false in
     takes_both (IsBadState c.args.states) (OfRow c.args.before (row_data c.args.row.now)) (piece_of c.args.token).sign
     c.in_ok-target.target c.in_ok-target.ensures (grind arith)
