@@ -13,3 +13,4 @@ pub mod Placing
 pub mod Putting
 pub mod Reaching
 pub mod Spread
+pub mod Turned

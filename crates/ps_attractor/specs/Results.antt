@@ -2,7 +2,7 @@
 use Rattle.std.specs.Prelude.{◌≡◌, ℕ, ◌<◌, ◌≤◌, List, length, Option, Some, None, IsSome, Bool, false, IsTrue}
 use Rattle.std.specs.Prelude.{slice_index}
 use Rattle.ps_game.specs.Games.{ParityGame, owner_of, vertex_count}
-use Rattle.ps_game.specs.Subgames.{IsWithin}
+use Rattle.ps_game.specs.Subgames.{IsWithin, IsSubgame}
 use Rattle.ps_game.specs.Attractors.{IsClosedUnderAttraction, Falls, IsLeastClosed}
 use Rattle.ps_game.specs.Regions.{has, move_at}
 use Rattle.ps_attractor.specs.declared.attractor.TheConstants.{OUTSIDE, PLACED, FREE}
@@ -10,6 +10,13 @@ use Rattle.ps_attractor.specs.declared.aim.Aim.{Aim}
 use Rattle.ps_attractor.specs.declared.attractor.Attracted.{Attracted}
 use Rattle.ps_attractor.specs.Tables.{TablesData, level_of, moves_of, place_in}
 use Rattle.ps_attractor.specs.Aims.{IsAttracted, IsGrown, IsSetOfPlaced, StandsFrom, rank_of}
+
+-- the target is within the subgame, and both sets have a place for each vertex
+pub record IsGoal (game : ParityGame) (subgame target : List Bool) : Type 0 where
+  pub is_subgame : IsSubgame game (has subgame)
+  pub target_within : IsWithin (has target) (has subgame)
+  pub subgame_places : length subgame ≡ vertex_count game
+  pub target_places : length target ≡ vertex_count game
 
 -- each vertex less than n has its level, and the trail has exactly those of these vertices that are in the target
 pub record AreLaidOut (subgame target : List Bool) (n : ℕ) (tables : TablesData) : Type 0 where

@@ -4,8 +4,14 @@ use Rattle.std.specs.Prelude.{◌≡◌, ◌≢◌, ℕ, ◌<◌, ◌≤◌, ◌
 use Rattle.std.specs.Prelude.{count_by}
 use Rattle.ps_game.specs.Games.{ParityGame, owner_of, HasEdge}
 use Rattle.ps_attractor.specs.declared.aim.Aim.{Aim}
-use Rattle.ps_attractor.specs.Tables.{TablesData, level_of}
+use Rattle.ps_attractor.specs.Levels.{IsLevel}
+use Rattle.ps_attractor.specs.Tables.{TablesData, FitsGame, level_of}
 use Rattle.ps_attractor.specs.Aims.{StandsFrom, IsGrown}
+
+-- the tables fit the game, and the level of the aim can be represented in them
+pub record IsReady (game : ParityGame) (limit : ℕ) (aim : Aim) (tables : TablesData) : Type 0 where
+  pub fits : FitsGame game tables
+  pub fits_width : IsLevel limit aim.level
 
 -- the tables after the vertex v is placed
 abbrev pub with_placed : TablesData → ℕ → ℕ → TablesData

@@ -9,12 +9,12 @@ ghost use Rattle.ps_game.specs.Regions.{has, move_at};
 ghost use Rattle.ps_attractor.specs.Tables.{FitsGame, level_of, place_in};
 ghost use Rattle.ps_attractor.specs.Aims.{StandsFrom};
 ghost use Rattle.ps_attractor.specs.Room.{HasRoom};
-ghost use Rattle.ps_attractor.specs.Results.{AreAttracted, AreLaidOut, IsAttractor, IsReadOff, IsRegionTo, AreMovesTo};
-ghost use Rattle.ps_attractor.specs.Results.{rank_at};
+ghost use Rattle.ps_attractor.specs.Results.{IsGoal, AreAttracted, AreLaidOut, IsAttractor, IsReadOff, IsRegionTo};
+ghost use Rattle.ps_attractor.specs.Results.{AreMovesTo, rank_at};
 
 use crate::aim::Aim;
 use crate::room::{has_room, no_room};
-use crate::sources::Sources;
+use crate::sources::Adjacency;
 use crate::tables::Tables;
 use ps_game::{Arena, Region, Strategy, Subgame, Width};
 use std::alloc::{AllocError, Global};
@@ -88,13 +88,11 @@ fn attract_in<A: Arena, W: Width>(
     target: &Region,
 ) -> Result<Attracted, AllocError>
     requires room { HasRoom (A.game arena.now) W.LIMIT }
-    requires subgame { IsSubgame (A.game arena.now) (has subgame.now) }
-    requires target { IsWithin (has target.now) (has subgame.now) }
-    requires subgame_places { length subgame.now ≡ vertex_count (A.game arena.now) }
-    requires target_places { length target.now ≡ vertex_count (A.game arena.now) }
+    requires goal { IsGoal (A.game arena.now) subgame.now target.now }
     ensures { IfOk result (IsAttractor (A.game arena.now) player subgame.now target.now) }
 {
-    let tables = attracted_tables::<A, W>(alloc, arena, subgame, player, target)?;
+    let edges = Adjacency::<A, W>::of(alloc, arena)?;
+    let tables = attracted_tables(alloc, &edges, subgame, player, target)?;
     read_off(alloc, arena, &tables, player, target)
 }
 
@@ -123,28 +121,23 @@ fn read_off<A: Arena, W: Width>(
 /// Tables in which the target and all vertices attracted to it are placed. Fails if out of memory.
 fn attracted_tables<A: Arena, W: Width>(
     alloc: Global,
-    arena: &A,
+    edges: &Adjacency<'_, A, W>,
     subgame: &Subgame,
     player: u8,
     target: &Region,
 ) -> Result<Tables<W>, AllocError>
-    requires room { HasRoom (A.game arena.now) W.LIMIT }
-    requires subgame { IsSubgame (A.game arena.now) (has subgame.now) }
-    requires target { IsWithin (has target.now) (has subgame.now) }
-    requires subgame_places { length subgame.now ≡ vertex_count (A.game arena.now) }
-    requires target_places { length target.now ≡ vertex_count (A.game arena.now) }
-    ensures fits { IfOk result (FitsGame (A.game arena.now)) }
-    ensures attracted { IfOk result (AreAttracted (A.game arena.now) player subgame.now target.now) }
+    requires { IsGoal (A.game edges.now.arena.now) subgame.now target.now }
+    ensures fits { IfOk result (FitsGame (A.game edges.now.arena.now)) }
+    ensures attracted { IfOk result (AreAttracted (A.game edges.now.arena.now) player subgame.now target.now) }
 {
-    let sources = Sources::of(alloc, arena)?;
-    let mut tables = laid_out(alloc, arena.count(), subgame.region(), target)?;
+    let mut tables = laid_out(alloc, edges.arena.count(), subgame.region(), target)?;
     let aim = Aim {
         player,
         begin: 0,
         level: PLACED,
         free: FREE,
     };
-    tables.attract(arena, &sources, aim)?;
+    tables.attract(edges, aim)?;
     Ok(tables)
 }
 
@@ -163,28 +156,6 @@ fn laid_out<W: Width>(
     ensures laid_out { IfOk result (AreLaidOut subgame.now target.now count) }
 {
     let mut tables = Tables::new(alloc, count, OUTSIDE)?;
-    lay_out(&mut tables, count, subgame, target)?;
-    Ok(tables)
-}
-
-/// Sets the level of each vertex, and appends the vertices of the target to the trail. Fails if out of memory.
-fn lay_out<W: Width>(
-    tables: &mut Tables<W>,
-    count: usize,
-    subgame: &Region,
-    target: &Region,
-) -> Result<(), AllocError>
-    requires room { count + 2 < W.LIMIT }
-    requires levels { length tables.old.level ≡ count }
-    requires moves { length tables.old.moves ≡ count }
-    requires subgame { length subgame.now ≡ count }
-    requires target { length target.now ≡ count }
-    requires outside { (v : ℕ) → level_of tables.old v ≡ OUTSIDE }
-    requires empty { tables.old.trail ≡ [] }
-    ensures levels { OnOk result (length tables.new.level ≡ count) }
-    ensures moves { OnOk result (length tables.new.moves ≡ count) }
-    ensures laid_out { OnOk result (AreLaidOut subgame.now target.now count tables.new) }
-{
     for vertex in 0..count {
         if target.contains(vertex) {
             tables.place(vertex, PLACED)?;
@@ -192,7 +163,7 @@ fn lay_out<W: Width>(
             tables.set_level(vertex, FREE);
         }
     }
-    Ok(())
+    Ok(tables)
 }
 
 /// The set of the vertices that were placed. Fails if out of memory.

@@ -14,6 +14,7 @@
 //! | `has_room` | whether numbers of a width, 4 or 8 bytes, are large enough for a game |
 //! | `no_room` | the error if no width has room: out of memory |
 //! | `Sources::of`, `at` | for each vertex the vertices with an edge to it, each once, in ascending order |
+//! | `Adjacency::of` | the edges of a game in both directions |
 //! | `Tables::new`, `place`, `cut` | levels, moves and the trail, for a solver that computes attractors repeatedly |
 //! | `Tables::attract` | the attractor on these tables, whose vertices are appended to the trail |
 //! | `Aim` | the player of an attractor, its target, and the levels that mark it in the tables |
@@ -36,5 +37,5 @@ pub use aim::Aim;
 pub use attractor::{Attracted, attract};
 pub use numbers::places_by_number;
 pub use room::{has_room, no_room};
-pub use sources::Sources;
+pub use sources::{Adjacency, Sources};
 pub use tables::Tables;

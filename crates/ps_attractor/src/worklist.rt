@@ -2,15 +2,14 @@
 
 ghost use Rattle.std.specs.Prelude.{◌≡◌, ◌≢◌, ◌+◌, ◌<◌, ◌≤◌, ℕ, Bool, IfSome, IfNone, OnOk, OnErr, IsTrue, false};
 ghost use Rattle.std.specs.Prelude.{length, slice_index};
-ghost use Rattle.ps_game.specs.Games.{IsGame, HasEdge, vertex_count, successors_of};
-ghost use Rattle.ps_attractor.specs.Sources.{IsSourcesOf};
+ghost use Rattle.ps_game.specs.Games.{HasEdge, vertex_count, successors_of};
 ghost use Rattle.ps_attractor.specs.Tables.{TablesData, FitsGame, level_of, moves_of};
 ghost use Rattle.ps_attractor.specs.Levels.{IsLevel};
 ghost use Rattle.ps_attractor.specs.Aims.{IsPosed, IsSetOfPlaced, IsAttracted, IsGrown, rank_of};
-ghost use Rattle.ps_attractor.specs.Steps.{HasFree, Look, Reaching, From, free_count};
+ghost use Rattle.ps_attractor.specs.Steps.{IsReady, HasFree, Look, Reaching, From, free_count};
 
 use crate::aim::Aim;
-use crate::sources::Sources;
+use crate::sources::Adjacency;
 use crate::tables::Tables;
 use ps_game::{Arena, Width};
 use std::alloc::AllocError;
@@ -24,25 +23,23 @@ impl<W: Width> Tables<W> {
     /// Fails if out of memory; then vertices that were already placed stay placed.
     pub fn attract<A: Arena>(
         &mut self,
-        arena: &A,
-        sources: &Sources<W>,
+        edges: &Adjacency<'_, A, W>,
         aim: Aim,
     ) -> Result<(), AllocError>
-        requires game { IsGame (A.game arena.now) }
-        requires sources { IsSourcesOf (A.game arena.now) sources.now }
-        requires fits { FitsGame (A.game arena.now) self.old }
+        requires fits { FitsGame (A.game edges.now.arena.now) self.old }
         requires differ { aim.level ≢ aim.free }
         requires fits_width { IsLevel W.LIMIT aim.level }
         requires begin { aim.begin ≤ length self.old.trail }
-        ensures fits { FitsGame (A.game arena.now) self.new }
+        ensures fits { FitsGame (A.game edges.now.arena.now) self.new }
         ensures grown { OnOk result (IsGrown aim self.old self.new) }
         ensures attracted { OnOk result ((subgame target set : ℕ → Bool) →
-            IsPosed (A.game arena.now) aim self.old subgame target → IsSetOfPlaced aim self.new subgame set →
-            IsAttracted (A.game arena.now) subgame aim.player target set (moves_of self.new) (rank_of aim self.new)) }
+            IsPosed (A.game edges.now.arena.now) aim self.old subgame target → IsSetOfPlaced aim self.new subgame set →
+            IsAttracted (A.game edges.now.arena.now) subgame aim.player target set (moves_of self.new)
+            (rank_of aim self.new)) }
     {
         let mut place = aim.begin;
         while place < self.placed() {
-            self.spread(arena, sources, aim, place)?;
+            self.spread(edges, aim, place)?;
             place += 1;
         }
         Ok(())
@@ -51,29 +48,25 @@ impl<W: Width> Tables<W> {
     /// Examines each edge into the vertex at an index of the trail. Fails if out of memory.
     fn spread<A: Arena>(
         &mut self,
-        arena: &A,
-        sources: &Sources<W>,
+        edges: &Adjacency<'_, A, W>,
         aim: Aim,
         place: usize,
     ) -> Result<(), AllocError>
-        requires game { IsGame (A.game arena.now) }
-        requires sources { IsSourcesOf (A.game arena.now) sources.now }
-        requires fits { FitsGame (A.game arena.now) self.old }
+        requires ready { IsReady (A.game edges.now.arena.now) W.LIMIT aim self.old }
         requires differ { aim.level ≢ aim.free }
-        requires fits_width { IsLevel W.LIMIT aim.level }
         requires after { aim.begin ≤ place }
         requires within { place < length self.old.trail }
-        ensures fits { FitsGame (A.game arena.now) self.new }
+        ensures fits { FitsGame (A.game edges.now.arena.now) self.new }
         ensures longer { OnOk result (length self.old.trail ≤ length self.new.trail) }
         ensures frees { OnOk result (free_count aim self.new + length self.new.trail ≡ free_count aim self.old + length
             self.old.trail) }
         ensures reaching { OnOk result ((start : TablesData) → aim.begin ≤ length start.trail →
-            Reaching (A.game arena.now) aim start self.old (From place) →
-            Reaching (A.game arena.now) aim start self.new (From (place + 1))) }
+            Reaching (A.game edges.now.arena.now) aim start self.old (From place) →
+            Reaching (A.game edges.now.arena.now) aim start self.new (From (place + 1))) }
     {
         let reached = self.vertex_at(place);
-        for source in sources.at(reached) {
-            self.look(arena, aim, source.number(), reached)?;
+        for source in edges.sources.at(reached) {
+            self.look(edges, aim, source.number(), reached)?;
         }
         Ok(())
     }
@@ -81,44 +74,47 @@ impl<W: Width> Tables<W> {
     /// Examines one edge into a vertex that was reached. Fails if out of memory.
     fn look<A: Arena>(
         &mut self,
-        arena: &A,
+        edges: &Adjacency<'_, A, W>,
         aim: Aim,
         source: usize,
         reached: usize,
     ) -> Result<(), AllocError>
-        requires game { IsGame (A.game arena.now) }
-        requires fits { FitsGame (A.game arena.now) self.old }
-        requires fits_width { IsLevel W.LIMIT aim.level }
-        requires vertex { source < vertex_count (A.game arena.now) }
-        requires reached { reached < vertex_count (A.game arena.now) }
-        ensures fits { FitsGame (A.game arena.now) self.new }
-        ensures looked { OnOk result (Look (A.game arena.now) aim self.old self.new source reached) }
+        requires ready { IsReady (A.game edges.now.arena.now) W.LIMIT aim self.old }
+        requires vertex { source < vertex_count (A.game edges.now.arena.now) }
+        requires reached { reached < vertex_count (A.game edges.now.arena.now) }
+        ensures fits { FitsGame (A.game edges.now.arena.now) self.new }
+        ensures looked { OnOk result (Look (A.game edges.now.arena.now) aim self.old self.new source reached) }
     {
         if self.level(source) != aim.free {
             return Ok(());
         }
-        if arena.owner(source) == aim.player {
+        if edges.arena.owner(source) == aim.player {
             self.choose(source, reached);
-        } else if self.has_free(arena, source, aim.free) {
+        } else if self.has_free(edges, source, aim.free) {
             return Ok(());
         }
         self.place(source, aim.level)
     }
 
     /// Whether a vertex has a free successor. The search starts where the previous search from this vertex ended.
-    fn has_free<A: Arena>(&mut self, arena: &A, vertex: usize, free: usize) -> bool
-        requires game { IsGame (A.game arena.now) }
-        requires fits { FitsGame (A.game arena.now) self.old }
-        requires vertex { vertex < vertex_count (A.game arena.now) }
+    fn has_free<A: Arena>(
+        &mut self,
+        edges: &Adjacency<'_, A, W>,
+        vertex: usize,
+        free: usize,
+    ) -> bool
+        requires fits { FitsGame (A.game edges.now.arena.now) self.old }
+        requires vertex { vertex < vertex_count (A.game edges.now.arena.now) }
         ensures same { self.new ≡ self.old }
-        ensures found { IsTrue result → HasFree (A.game arena.now) free self.old vertex }
-        ensures none { result ≡ false → (w : ℕ) → HasEdge (A.game arena.now) vertex w → level_of self.old w ≢ free }
+        ensures found { IsTrue result → HasFree (A.game edges.now.arena.now) free self.old vertex }
+        ensures none { result ≡ false → (w : ℕ) → HasEdge (A.game edges.now.arena.now) vertex w →
+            level_of self.old w ≢ free }
     {
-        let degree = arena.degree(vertex);
+        let degree = edges.arena.degree(vertex);
         let watched = self.watched(vertex).min(degree);
-        let found = match self.first_free(arena, vertex, watched, degree, free) {
+        let found = match self.first_free(edges, vertex, watched, degree, free) {
             Some(number) => Some(number),
-            None => self.first_free(arena, vertex, 0, watched, free),
+            None => self.first_free(edges, vertex, 0, watched, free),
         };
         match found {
             Some(number) => {
@@ -132,25 +128,24 @@ impl<W: Width> Tables<W> {
     /// The index of the first free successor of a vertex, among the indices from `from` up to, but not including, `to`.
     fn first_free<A: Arena>(
         &self,
-        arena: &A,
+        edges: &Adjacency<'_, A, W>,
         vertex: usize,
         from: usize,
         to: usize,
         free: usize,
     ) -> Option<usize>
-        requires game { IsGame (A.game arena.now) }
-        requires fits { FitsGame (A.game arena.now) self.now }
-        requires vertex { vertex < vertex_count (A.game arena.now) }
+        requires fits { FitsGame (A.game edges.now.arena.now) self.now }
+        requires vertex { vertex < vertex_count (A.game edges.now.arena.now) }
         requires order { from ≤ to }
-        requires within { to ≤ length (successors_of (A.game arena.now) vertex) }
+        requires within { to ≤ length (successors_of (A.game edges.now.arena.now) vertex) }
         ensures below { IfSome result (λ number. number < to) }
         ensures some { IfSome result (λ number. level_of self.now
-            (slice_index (successors_of (A.game arena.now) vertex) number) ≡ free) }
+            (slice_index (successors_of (A.game edges.now.arena.now) vertex) number) ≡ free) }
         ensures none { IfNone result ((k : ℕ) → from ≤ k → k < to →
-            level_of self.now (slice_index (successors_of (A.game arena.now) vertex) k) ≢ free) }
+            level_of self.now (slice_index (successors_of (A.game edges.now.arena.now) vertex) k) ≢ free) }
     {
         for number in from..to {
-            if self.level(arena.successor(vertex, number)) == free {
+            if self.level(edges.arena.successor(vertex, number)) == free {
                 return Some(number);
             }
         }

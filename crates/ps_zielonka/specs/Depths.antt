@@ -1,9 +1,10 @@
 -- The number of distinct priorities of a set, and sets that are closed for the player who wins by the greatest
 -- priority.
-use Rattle.std.specs.Prelude.{◌≡◌, ◌↔◌, ℕ, ◌%◌, ◌<◌, ◌≤◌, List, length, Bool, IsTrue, nat_lt}
+use Rattle.std.specs.Prelude.{◌≡◌, ◌↔◌, ℕ, ◌%◌, ◌<◌, ◌≤◌, List, length, Option, Bool, IsTrue, nat_lt}
 use Rattle.std.specs.List.{Contains}
 use Rattle.ps_game.specs.Games.{ParityGame, vertex_count, priority_of}
 use Rattle.ps_game.specs.Attractors.{IsClosedUnderAttraction}
+use Rattle.ps_zielonka.specs.Answers.{IsAnswer}
 
 -- the set of all vertices
 abbrev pub is_vertex : ParityGame → ℕ → Bool
@@ -33,3 +34,9 @@ pub record IsDepth (game : ParityGame) (depth : ℕ) : Type 0 where
   pub most : HasPriorities game (is_vertex game) depth
   pub some : (v : ℕ) → v < vertex_count game → 1 ≤ depth
   pub two : (set : ℕ → Bool) → IsClosedToTops game set → (v : ℕ) → v < vertex_count game → ¬ IsTrue (set v) → 2 ≤ depth
+
+-- the region and both strategies solve the game, and `depth` is the maximal number of pending calls
+pub record IsSolution (game : ParityGame) (depth : ℕ) (region : List Bool) (first second : List (Option ℕ)) : Type 0
+  where
+    pub answer : IsAnswer game region first second
+    pub is_depth : IsDepth game depth

@@ -1,7 +1,8 @@
 //! Attractions, which compute a player's attractor to vertices of the trail.
 
 ghost use Rattle.std.specs.Prelude.{◌≡◌, ◌<◌};
-ghost use Rattle.ps_zielonka.specs.Inner.Levels.{code_of, aim_of};
+ghost use Rattle.ps_zielonka.specs.declared.level.Level.{Level};
+ghost use Rattle.ps_zielonka.specs.Inner.Levels.{code_of};
 
 use crate::level::Level;
 use ps_attractor::Aim;
@@ -16,12 +17,14 @@ pub struct Attraction {
     pub begin: usize,
     /// The level of a vertex after it is placed.
     pub level: Level,
+    ghost placed: { code_of level < code_of Level.Unplaced },
 }
 
 impl Attraction {
+    ghost use Rattle.ps_zielonka.specs.Inner.Aims.{aim_of};
+
     /// The aim for the tables. The free vertices are those that are not placed.
     pub fn aim(&self) -> Aim
-        requires { code_of self.now.level < code_of Level.Unplaced }
         ensures { result ≡ aim_of self.now }
     {
         Aim {

@@ -3,19 +3,19 @@
 
 ghost use Rattle.std.specs.Prelude.{◌≡◌, ◌≢◌, ◌+◌, ◌-◌, ◌<◌, ◌≤◌, ℕ, Bool, false, IfSome, IfNone, OnOk, IsTrue, length};
 ghost use Rattle.std.specs.Prelude.{take, slice_index, replicate, IfOk, []};
-ghost use Rattle.ps_game.specs.Games.{IsGame, vertex_count, HasEdge};
-ghost use Rattle.ps_attractor.specs.Sources.{IsSourcesOf};
-ghost use Rattle.ps_attractor.specs.Tables.{FitsGame, level_of, moves_of};
+ghost use Rattle.ps_game.specs.Games.{vertex_count, HasEdge};
+ghost use Rattle.ps_attractor.specs.Tables.{level_of, moves_of};
 ghost use Rattle.ps_attractor.specs.Aims.{IsPosed, IsSetOfPlaced, IsAttracted, IsGrown, StandsFrom, rank_of};
-ghost use Rattle.ps_zielonka.specs.Inner.Levels.{code_of, aim_of};
-ghost use Rattle.ps_zielonka.specs.Inner.Nests.{IsGiven, IsWonStep, IsKeptAt, IsLostAt, IsMoved, StandsBetween};
-ghost use Rattle.ps_zielonka.specs.Inner.Nests.{IsTakenOff};
+ghost use Rattle.ps_zielonka.specs.Inner.Levels.{code_of};
+ghost use Rattle.ps_zielonka.specs.Inner.Aims.{aim_of};
+ghost use Rattle.ps_zielonka.specs.Inner.Nests.{IsGiven, IsWonStep, IsKeptAt, IsLostAt, StandsBetween, IsTakenOff};
 ghost use Rattle.ps_zielonka.specs.Inner.Nests.{IsReopened};
+ghost use Rattle.ps_zielonka.specs.Inner.Boards.{IsBoardOf, OnlyMoves, HasTurn};
 
 use crate::attraction::Attraction;
 use crate::frame::Frame;
 use crate::level::Level;
-use ps_attractor::{Sources, Tables};
+use ps_attractor::{Adjacency, Tables};
 use ps_game::{Arena, Numbers, Player, Width};
 use std::alloc::{AllocError, Global};
 
@@ -50,29 +50,23 @@ impl<W: Width> Board<W> {
     /// of all vertices of the trail from index `begin` on. Fails if out of memory.
     pub fn attract<A: Arena>(
         &mut self,
-        arena: &A,
-        sources: &Sources<W>,
+        edges: &Adjacency<'_, A, W>,
         attraction: &Attraction,
     ) -> Result<(), AllocError>
-        requires game { IsGame (A.game arena.now) }
-        requires sources { IsSourcesOf (A.game arena.now) sources.now }
-        requires fits { FitsGame (A.game arena.now) self.old.tables }
-        requires winners { length self.old.winner.items ≡ vertex_count (A.game arena.now) }
-        requires placed { code_of attraction.now.level < code_of Level.Unplaced }
+        requires fits { IsBoardOf (A.game edges.now.arena.now) self.old }
         requires fits_width { code_of attraction.now.level < W.LIMIT }
         requires begin { attraction.now.begin ≤ length self.old.tables.trail }
-        ensures fits { OnOk result (FitsGame (A.game arena.now) self.new.tables) }
-        ensures winners { OnOk result (length self.new.winner.items ≡ vertex_count (A.game arena.now)) }
+        ensures fits { OnOk result (IsBoardOf (A.game edges.now.arena.now) self.new) }
         ensures grown { OnOk result (IsGrown (aim_of attraction.now) self.old.tables self.new.tables) }
         ensures attracted { OnOk result ((subgame target set : ℕ → Bool) →
-            IsPosed (A.game arena.now) (aim_of attraction.now) self.old.tables subgame target →
+            IsPosed (A.game edges.now.arena.now) (aim_of attraction.now) self.old.tables subgame target →
             IsSetOfPlaced (aim_of attraction.now) self.new.tables subgame set →
-            IsAttracted (A.game arena.now) subgame attraction.now.player target set (moves_of self.new.tables)
+            IsAttracted (A.game edges.now.arena.now) subgame attraction.now.player target set (moves_of self.new.tables)
             (rank_of (aim_of attraction.now) self.new.tables)) }
         ensures given { OnOk result (IsGiven attraction.now.player attraction.now.begin self.new.tables
             self.old.winner.items self.new.winner.items) }
     {
-        self.tables.attract(arena, sources, attraction.aim())?;
+        self.tables.attract(edges, attraction.aim())?;
         self.give(attraction.player, attraction.begin);
         Ok(())
     }
@@ -93,26 +87,27 @@ impl<W: Width> Board<W> {
 
     /// Whether the player keeps each top (see `keeps`), and so wins all vertices that the opponent did not win. Writes
     /// the moves at the tops.
-    pub fn is_kept<A: Arena>(&mut self, arena: &A, frame: &Frame, level: Level) -> bool
-        requires game { IsGame (A.game arena.now) }
-        requires fits { FitsGame (A.game arena.now) self.old.tables }
-        requires winners { length self.old.winner.items ≡ vertex_count (A.game arena.now) }
+    pub fn is_kept<A: Arena>(
+        &mut self,
+        edges: &Adjacency<'_, A, W>,
+        frame: &Frame,
+        level: Level,
+    ) -> bool
+        requires fits { IsBoardOf (A.game edges.now.arena.now) self.old }
         requires end { frame.now.top ≤ length self.old.tables.trail }
         requires placed { code_of level < code_of Level.Unplaced }
-        ensures moved { IsMoved self.old.tables self.new.tables
+        ensures moved { OnlyMoves (A.game edges.now.arena.now) self.old self.new
             (StandsBetween self.old.tables frame.now.turn frame.now.top) }
-        ensures winner { self.new.winner.items ≡ self.old.winner.items }
-        ensures fits { FitsGame (A.game arena.now) self.new.tables }
         ensures kept { IsTrue result → (v : ℕ) → StandsBetween self.old.tables frame.now.turn frame.now.top v →
-            IsKeptAt (A.game arena.now) self.new.tables self.old.winner.items (code_of level) frame.now.player
+            IsKeptAt (A.game edges.now.arena.now) self.new.tables self.old.winner.items (code_of level) frame.now.player
             (1 - frame.now.player) v }
         ensures lost { result ≡ false → (v : ℕ) × StandsBetween self.old.tables frame.now.turn frame.now.top v ×
-            IsLostAt (A.game arena.now) self.old.tables self.old.winner.items (code_of level) frame.now.player
+            IsLostAt (A.game edges.now.arena.now) self.old.tables self.old.winner.items (code_of level) frame.now.player
             (1 - frame.now.player) v }
     {
         for place in frame.turn..frame.top {
             let vertex = self.tables.vertex_at(place);
-            if !self.keeps(arena, frame.player, level, vertex) {
+            if !self.keeps(edges, frame.player, level, vertex) {
                 return false;
             }
         }
@@ -121,26 +116,29 @@ impl<W: Width> Board<W> {
 
     /// Whether the player keeps a top: a top of the player has a successor that the player won, and a top of the
     /// opponent has no successor that the opponent won. Writes the move at a top that the player owns and keeps.
-    fn keeps<A: Arena>(&mut self, arena: &A, player: Player, level: Level, vertex: usize) -> bool
-        requires game { IsGame (A.game arena.now) }
-        requires fits { FitsGame (A.game arena.now) self.old.tables }
-        requires winners { length self.old.winner.items ≡ vertex_count (A.game arena.now) }
-        requires vertex { vertex < vertex_count (A.game arena.now) }
+    fn keeps<A: Arena>(
+        &mut self,
+        edges: &Adjacency<'_, A, W>,
+        player: Player,
+        level: Level,
+        vertex: usize,
+    ) -> bool
+        requires fits { IsBoardOf (A.game edges.now.arena.now) self.old }
+        requires vertex { vertex < vertex_count (A.game edges.now.arena.now) }
         requires placed { code_of level < code_of Level.Unplaced }
-        ensures moved { IsMoved self.old.tables self.new.tables (λ v. v ≡ vertex) }
-        ensures winner { self.new.winner.items ≡ self.old.winner.items }
-        ensures fits { FitsGame (A.game arena.now) self.new.tables }
-        ensures kept { IsTrue result → IsKeptAt (A.game arena.now) self.new.tables self.old.winner.items (code_of level)
+        ensures moved { OnlyMoves (A.game edges.now.arena.now) self.old self.new (λ v. v ≡ vertex) }
+        ensures kept { IsTrue result →
+            IsKeptAt (A.game edges.now.arena.now) self.new.tables self.old.winner.items (code_of level)
             player (1 - player) vertex }
-        ensures lost { result ≡ false → IsLostAt (A.game arena.now) self.old.tables self.old.winner.items
+        ensures lost { result ≡ false → IsLostAt (A.game edges.now.arena.now) self.old.tables self.old.winner.items
             (code_of level) player (1 - player) vertex }
     {
-        if !player.owns(arena, vertex) {
+        if !player.owns(edges.arena, vertex) {
             return self
-                .won_successor(arena, vertex, level, player.opponent())
+                .won_successor(edges, vertex, level, player.opponent())
                 .is_none();
         }
-        match self.won_successor(arena, vertex, level, player) {
+        match self.won_successor(edges, vertex, level, player) {
             Some(successor) => {
                 self.tables.choose(vertex, successor);
                 true
@@ -152,23 +150,22 @@ impl<W: Width> Board<W> {
     /// A successor that has a higher level than `level` and that the player wins, or `None` if the vertex has none.
     fn won_successor<A: Arena>(
         &self,
-        arena: &A,
+        edges: &Adjacency<'_, A, W>,
         vertex: usize,
         level: Level,
         player: Player,
     ) -> Option<usize>
-        requires game { IsGame (A.game arena.now) }
-        requires fits { FitsGame (A.game arena.now) self.now.tables }
-        requires winners { length self.now.winner.items ≡ vertex_count (A.game arena.now) }
-        requires vertex { vertex < vertex_count (A.game arena.now) }
+        requires fits { IsBoardOf (A.game edges.now.arena.now) self.now }
+        requires vertex { vertex < vertex_count (A.game edges.now.arena.now) }
         requires placed { code_of level < code_of Level.Unplaced }
-        ensures some { IfSome result (IsWonStep (A.game arena.now) self.now.tables self.now.winner.items (code_of level)
+        ensures some { IfSome result
+            (IsWonStep (A.game edges.now.arena.now) self.now.tables self.now.winner.items (code_of level)
             player vertex) }
-        ensures none { IfNone result ((w : ℕ) → HasEdge (A.game arena.now) vertex w →
+        ensures none { IfNone result ((w : ℕ) → HasEdge (A.game edges.now.arena.now) vertex w →
             code_of level < level_of self.now.tables w → slice_index self.now.winner.items w ≢ player) }
     {
-        for number in 0..arena.degree(vertex) {
-            let successor = arena.successor(vertex, number);
+        for number in 0..edges.arena.degree(vertex) {
+            let successor = edges.arena.successor(vertex, number);
             if self.tables.level(successor) > level.code() && self.winner[successor] == player {
                 return Some(successor);
             }
@@ -179,12 +176,9 @@ impl<W: Width> Board<W> {
     /// Takes back the vertices of the trail from index `turn` on. Those that the player won are then no longer placed;
     /// the others are placed again, at the given level. Fails if out of memory.
     pub fn reopen(&mut self, frame: &Frame, level: Level) -> Result<(), AllocError>
-        requires vertices { (j : ℕ) → j < length self.old.tables.trail →
-            slice_index self.old.tables.trail j < length self.old.tables.level }
+        requires turn { HasTurn self.old.tables W.LIMIT frame.now.turn }
         requires winners { length self.old.winner.items ≡ length self.old.tables.level }
-        requires turn { frame.now.turn ≤ length self.old.tables.trail }
         requires placed { code_of level < code_of Level.Unplaced }
-        requires room { length self.old.tables.level ≤ W.LIMIT }
         requires fits_width { code_of level < W.LIMIT }
         ensures winner { self.new.winner.items ≡ self.old.winner.items }
         ensures reopened { OnOk result (IsReopened self.old.winner.items frame.now.player (code_of level) frame.now.turn
@@ -204,10 +198,7 @@ impl<W: Width> Board<W> {
 
     /// Moves the trail's vertices from index `turn` on into `spare`. Fails if out of memory.
     fn take_off(&mut self, turn: usize) -> Result<(), AllocError>
-        requires turn { turn ≤ length self.old.tables.trail }
-        requires vertices { (j : ℕ) → j < length self.old.tables.trail →
-            slice_index self.old.tables.trail j < length self.old.tables.level }
-        requires room { length self.old.tables.level ≤ W.LIMIT }
+        requires { HasTurn self.old.tables W.LIMIT turn }
         ensures winner { self.new.winner.items ≡ self.old.winner.items }
         ensures level { self.new.tables.level ≡ self.old.tables.level }
         ensures moves { self.new.tables.moves ≡ self.old.tables.moves }

@@ -2,21 +2,17 @@
 
 ghost use Rattle.std.specs.Prelude.{◌≡◌, ◌≢◌, ◌+◌, ◌-◌, ◌*◌, ◌<◌, ◌≤◌, ℕ, Bool, true, false, [], ◌∷◌, ◌++◌, IfOk, OnOk};
 ghost use Rattle.std.specs.Prelude.{IsTrue, None, length, slice_index};
-ghost use Rattle.ps_game.specs.Games.{IsGame, vertex_count};
-ghost use Rattle.ps_attractor.specs.Room.{HasRoom};
-ghost use Rattle.ps_attractor.specs.Sources.{IsSourcesOf};
-ghost use Rattle.ps_attractor.specs.Tables.{FitsGame, level_of, moves_of};
-ghost use Rattle.ps_zielonka.specs.Depths.{IsDepth};
+ghost use Rattle.ps_attractor.specs.Tables.{level_of};
 ghost use Rattle.ps_zielonka.specs.Inner.Levels.{code_of};
-ghost use Rattle.ps_zielonka.specs.Inner.Stacks.{IsStack, IsDeep, IsSolvedBy, steps_of};
-ghost use Rattle.ps_zielonka.specs.Inner.Nests.{IsNest, IsLostAt, StandsBetween, steps_left};
+ghost use Rattle.ps_zielonka.specs.Inner.Stacks.{IsStack, IsDeep, IsDone, IsSearching, IsStep, IsResumed};
+ghost use Rattle.ps_zielonka.specs.Inner.Nests.{IsNest, IsLostAt, StandsBetween};
 
 use crate::attraction::Attraction;
 use crate::board::Board;
 use crate::frame::Frame;
 use crate::level::Level;
 use crate::order::{falling_order, first_unplaced, place_tops};
-use ps_attractor::{Sources, Tables};
+use ps_attractor::{Adjacency, Tables};
 use ps_game::{Arena, Numbers, Player, Width};
 use std::alloc::{AllocError, Global};
 
@@ -41,14 +37,13 @@ pub struct Nest<W: Width> {
 
 impl<W: Width> Nest<W> {
     /// No vertex is decided, and no call is pending. Fails if out of memory.
-    pub fn new<A: Arena>(alloc: Global, arena: &A) -> Result<Nest<W>, AllocError>
-        requires { HasRoom (A.game arena.now) W.LIMIT }
-        ensures stack { IfOk result (IsStack (A.game arena.now)) }
-        ensures deep { IfOk result (IsDeep (A.game arena.now)) }
+    pub fn new<A: Arena>(alloc: Global, edges: &Adjacency<'_, A, W>) -> Result<Nest<W>, AllocError>
+        ensures stack { IfOk result (IsStack (A.game edges.now.arena.now)) }
+        ensures deep { IfOk result (IsDeep (A.game edges.now.arena.now)) }
     {
         Ok(Nest {
-            board: Board::undecided(alloc, arena.count())?,
-            order: falling_order(alloc, arena)?,
+            board: Board::undecided(alloc, edges.arena.count())?,
+            order: falling_order(alloc, edges)?,
             frames: Vec::new(alloc),
             cursor: 0,
             solved: false,
@@ -59,38 +54,14 @@ impl<W: Width> Nest<W> {
 
     /// Decides each vertex, unless a budget of placements is used up first. Returns whether all vertices are decided.
     /// Fails if out of memory.
-    pub fn decide<A: Arena>(
-        &mut self,
-        alloc: Global,
-        arena: &A,
-        budget: Option<u64>,
-    ) -> Result<bool, AllocError>
-        requires room { HasRoom (A.game arena.now) W.LIMIT }
-        requires stack { IsStack (A.game arena.now) self.old }
-        requires deep { IsDeep (A.game arena.now) self.old }
-        ensures solved { IfOk result (λ done. done ≡ true →
-            IsSolvedBy (A.game arena.now) self.new.board.tables self.new.board.winner.items) }
-        ensures depth { IfOk result (λ done. done ≡ true → IsDepth (A.game arena.now) self.new.depth) }
-        ensures unbounded { IfOk result (λ done. budget ≡ None → done ≡ true) }
-    {
-        let sources = Sources::of(alloc, arena)?;
-        self.solve(arena, &sources, budget)
-    }
-
-    /// Like `decide`, with the sources of each vertex given. Fails if out of memory.
     pub fn solve<A: Arena>(
         &mut self,
-        arena: &A,
-        sources: &Sources<W>,
+        edges: &Adjacency<'_, A, W>,
         budget: Option<u64>,
     ) -> Result<bool, AllocError>
-        requires room { HasRoom (A.game arena.now) W.LIMIT }
-        requires sources { IsSourcesOf (A.game arena.now) sources.now }
-        requires stack { IsStack (A.game arena.now) self.old }
-        requires deep { IsDeep (A.game arena.now) self.old }
-        ensures solved { IfOk result (λ done. done ≡ true →
-            IsSolvedBy (A.game arena.now) self.new.board.tables self.new.board.winner.items) }
-        ensures depth { IfOk result (λ done. done ≡ true → IsDepth (A.game arena.now) self.new.depth) }
+        requires stack { IsStack (A.game edges.now.arena.now) self.old }
+        requires deep { IsDeep (A.game edges.now.arena.now) self.old }
+        ensures done { IfOk result (λ done. done ≡ true → IsDone (A.game edges.now.arena.now) self.new) }
         ensures unbounded { IfOk result (λ done. budget ≡ None → done ≡ true) }
     {
         'steps: while !self.solved || !self.frames.is_empty() {
@@ -98,9 +69,9 @@ impl<W: Width> Nest<W> {
                 return Ok(false);
             }
             if self.solved {
-                self.climb(arena, sources)?;
+                self.climb(edges)?;
             } else {
-                self.descend(arena, sources)?;
+                self.descend(edges)?;
             }
         }
         Ok(true)
@@ -114,18 +85,13 @@ impl<W: Width> Nest<W> {
     }
 
     /// Begins a turn if an unplaced vertex remains; otherwise the current call is solved. Fails if out of memory.
-    fn descend<A: Arena>(&mut self, arena: &A, sources: &Sources<W>) -> Result<(), AllocError>
-        requires room { HasRoom (A.game arena.now) W.LIMIT }
-        requires sources { IsSourcesOf (A.game arena.now) sources.now }
-        requires stack { IsStack (A.game arena.now) self.old }
-        requires searches { self.old.solved ≡ false }
-        ensures stack { OnOk result (IsStack (A.game arena.now) self.new) }
-        ensures falls { OnOk result (steps_of self.new < steps_of self.old) }
-        ensures deep { OnOk result (IsDeep (A.game arena.now) self.old → IsDeep (A.game arena.now) self.new) }
+    fn descend<A: Arena>(&mut self, edges: &Adjacency<'_, A, W>) -> Result<(), AllocError>
+        requires { IsSearching (A.game edges.now.arena.now) self.old }
+        ensures { OnOk result (IsStep (A.game edges.now.arena.now) self.old self.new) }
     {
         let cursor = first_unplaced(&self.board.tables, &self.order, self.cursor);
         if cursor < self.order.len() {
-            self.begin_turn(arena, sources, cursor)
+            self.begin_turn(edges, cursor)
         } else {
             self.solved = true;
             Ok(())
@@ -138,24 +104,18 @@ impl<W: Width> Nest<W> {
     /// Fails if out of memory.
     fn begin_turn<A: Arena>(
         &mut self,
-        arena: &A,
-        sources: &Sources<W>,
+        edges: &Adjacency<'_, A, W>,
         cursor: usize,
     ) -> Result<(), AllocError>
-        requires room { HasRoom (A.game arena.now) W.LIMIT }
-        requires sources { IsSourcesOf (A.game arena.now) sources.now }
-        requires stack { IsStack (A.game arena.now) self.old }
-        requires searches { self.old.solved ≡ false }
+        requires searching { IsSearching (A.game edges.now.arena.now) self.old }
         requires within { cursor < length self.old.order }
         requires unplaced { level_of self.old.board.tables (slice_index self.old.order cursor) ≡
             code_of Level.Unplaced }
         requires first { (j : ℕ) → j < cursor → level_of self.old.board.tables (slice_index self.old.order j) ≢
             code_of Level.Unplaced }
-        ensures stack { OnOk result (IsStack (A.game arena.now) self.new) }
-        ensures falls { OnOk result (steps_of self.new < steps_of self.old) }
-        ensures deep { OnOk result (IsDeep (A.game arena.now) self.old → IsDeep (A.game arena.now) self.new) }
+        ensures { OnOk result (IsStep (A.game edges.now.arena.now) self.old self.new) }
     {
-        let player = Player::of_priority(arena.priority(self.order.at(cursor)));
+        let player = Player::of_priority(edges.arena.priority(self.order.at(cursor)));
         let depth = self.frames.len();
         let turn = self.board.tables.placed();
         let attraction = Attraction {
@@ -164,7 +124,7 @@ impl<W: Width> Nest<W> {
             level: Level::Attracted { depth },
         };
         let behind = place_tops(
-            arena,
+            edges,
             &mut self.board.tables,
             &self.order,
             &attraction,
@@ -172,7 +132,7 @@ impl<W: Width> Nest<W> {
             self.frames.is_empty(),
         )?;
         let top = self.board.tables.placed();
-        self.board.attract(arena, sources, &attraction)?;
+        self.board.attract(edges, &attraction)?;
         self.work = work_behind(self.work, &self.board.tables, turn);
         self.frames.push(Frame {
             cursor,
@@ -187,25 +147,21 @@ impl<W: Width> Nest<W> {
 
     /// Returns to the last pending call, which is then solved or continues with its open vertices. Fails if out of
     /// memory.
-    fn climb<A: Arena>(&mut self, arena: &A, sources: &Sources<W>) -> Result<(), AllocError>
-        requires room { HasRoom (A.game arena.now) W.LIMIT }
-        requires sources { IsSourcesOf (A.game arena.now) sources.now }
-        requires stack { IsStack (A.game arena.now) self.old }
+    fn climb<A: Arena>(&mut self, edges: &Adjacency<'_, A, W>) -> Result<(), AllocError>
+        requires stack { IsStack (A.game edges.now.arena.now) self.old }
         requires done { self.old.solved ≡ true }
         requires some { 0 < length self.old.frames.items }
-        ensures stack { OnOk result (IsStack (A.game arena.now) self.new) }
-        ensures falls { OnOk result (steps_of self.new < steps_of self.old) }
-        ensures deep { OnOk result (IsDeep (A.game arena.now) self.old → IsDeep (A.game arena.now) self.new) }
+        ensures { OnOk result (IsStep (A.game edges.now.arena.now) self.old self.new) }
     {
         let Some(frame) = self.frames.pop() else {
             return Ok(());
         };
         let depth = self.frames.len();
         let level = Level::Decided { depth };
-        if self.board.is_kept(arena, &frame, level) {
+        if self.board.is_kept(edges, &frame, level) {
             Ok(())
         } else {
-            self.go_on(arena, sources, frame, level)
+            self.go_on(edges, frame, level)
         }
     }
 
@@ -213,23 +169,18 @@ impl<W: Width> Nest<W> {
     /// open. Fails if out of memory.
     fn go_on<A: Arena>(
         &mut self,
-        arena: &A,
-        sources: &Sources<W>,
+        edges: &Adjacency<'_, A, W>,
         frame: Frame,
         level: Level,
     ) -> Result<(), AllocError>
-        requires room { HasRoom (A.game arena.now) W.LIMIT }
-        requires sources { IsSourcesOf (A.game arena.now) sources.now }
-        requires nest { IsNest (A.game arena.now) self.old.board.tables self.old.board.winner.items self.old.order
-            (self.old.frames.items ++ frame ∷ []) self.old.cursor true }
+        requires nest { IsNest (A.game edges.now.arena.now) self.old.board.tables self.old.board.winner.items
+            self.old.order (self.old.frames.items ++ frame ∷ []) self.old.cursor true }
         requires level { level ≡ Level.Decided (length self.old.frames.items) }
         requires lost { (v : ℕ) × StandsBetween self.old.board.tables frame.turn frame.top v ×
-            IsLostAt (A.game arena.now) self.old.board.tables self.old.board.winner.items (code_of level) frame.player
+            IsLostAt (A.game edges.now.arena.now) self.old.board.tables self.old.board.winner.items (code_of level)
+            frame.player
             (1 - frame.player) v }
-        ensures stack { OnOk result (IsStack (A.game arena.now) self.new) }
-        ensures falls { OnOk result (steps_of self.new <
-            steps_left self.old.board.tables.level (length self.old.frames.items + 1) true) }
-        ensures depth { OnOk result (self.new.depth ≡ self.old.depth) }
+        ensures { OnOk result (IsResumed (A.game edges.now.arena.now) self.old self.new) }
     {
         self.board.reopen(&frame, level)?;
         let attraction = Attraction {
@@ -237,7 +188,7 @@ impl<W: Width> Nest<W> {
             begin: frame.turn,
             level,
         };
-        self.board.attract(arena, sources, &attraction)?;
+        self.board.attract(edges, &attraction)?;
         self.work = work_behind(self.work, &self.board.tables, frame.turn);
         self.cursor = frame.cursor;
         self.solved = false;

@@ -3,13 +3,12 @@
 ghost use Rattle.std.specs.Prelude.{◌≡◌, IfOk, IfSome, IfNone, OnOk, OnSome};
 ghost use Rattle.ps_attractor.specs.Room.{HasRoom};
 ghost use Rattle.ps_zielonka.specs.Answers.{IsAnswer};
-ghost use Rattle.ps_zielonka.specs.Depths.{IsDepth};
-ghost use Rattle.ps_zielonka.specs.Inner.Stacks.{IsSolvedBy};
+ghost use Rattle.ps_zielonka.specs.Depths.{IsDepth, IsSolution};
+ghost use Rattle.ps_zielonka.specs.Inner.Stacks.{IsDone};
 
 use crate::answer::{region_of, strategy_of};
-use crate::board::Board;
 use crate::nest::Nest;
-use ps_attractor::{has_room, no_room};
+use ps_attractor::{Adjacency, has_room, no_room};
 use ps_game::{Arena, Counts, Player, Region, Strategy, Width};
 use std::alloc::{AllocError, Global};
 
@@ -43,12 +42,12 @@ pub fn regions_in<A: Arena, W: Width>(
     counts: &mut Counts,
 ) -> Result<(Region, Strategy, Strategy), AllocError>
     requires { HasRoom (A.game arena.now) W.LIMIT }
-    ensures answer { IfOk result (λ answer. IsAnswer (A.game arena.now) answer.0 answer.1 answer.2) }
-    ensures depth { OnOk result (IsDepth (A.game arena.now) counts.new.depth) }
+    ensures solution { IfOk result (λ answer.
+        IsSolution (A.game arena.now) counts.new.depth answer.0 answer.1 answer.2) }
     ensures raises { counts.new.raises ≡ counts.old.raises }
 {
     let nest = solved_nest::<A, W>(alloc, arena)?;
-    answer_by(alloc, arena, counts, &nest)
+    answer_by(alloc, arena, &mut counts.depth, &nest)
 }
 
 /// The result of `regions`, or `None` if a budget is used up first. The budget is used up if vertices are placed
@@ -68,9 +67,9 @@ pub fn regions_within<A: Arena>(
     ensures raises { counts.new.raises ≡ counts.old.raises }
 {
     if has_room::<A, u32>(arena) {
-        answer_within::<A, u32>(alloc, arena, counts, budget)
+        answer_within::<A, u32>(alloc, arena, &mut counts.depth, budget)
     } else if has_room::<A, usize>(arena) {
-        answer_within::<A, usize>(alloc, arena, counts, budget)
+        answer_within::<A, usize>(alloc, arena, &mut counts.depth, budget)
     } else {
         Err(no_room(alloc))
     }
@@ -80,60 +79,46 @@ pub fn regions_within<A: Arena>(
 fn answer_within<A: Arena, W: Width>(
     alloc: Global,
     arena: &A,
-    counts: &mut Counts,
+    depth: &mut u64,
     budget: u64,
 ) -> Result<Option<(Region, Strategy, Strategy)>, AllocError>
     requires { HasRoom (A.game arena.now) W.LIMIT }
-    ensures answer { IfOk result (λ found. IfSome found
-        (λ answer. IsAnswer (A.game arena.now) answer.0 answer.1 answer.2)) }
-    ensures depth { IfOk result (λ found. OnSome found (IsDepth (A.game arena.now) counts.new.depth)) }
-    ensures raises { counts.new.raises ≡ counts.old.raises }
+    ensures { IfOk result (λ found. IfSome found
+        (λ answer. IsSolution (A.game arena.now) depth.new answer.0 answer.1 answer.2)) }
 {
-    let mut nest = Nest::<W>::new(alloc, arena)?;
-    if !nest.decide(alloc, arena, Some(budget))? {
+    let edges = Adjacency::<A, W>::of(alloc, arena)?;
+    let mut nest = Nest::new(alloc, &edges)?;
+    if !nest.solve(&edges, Some(budget))? {
         return Ok(None);
     }
-    let answer = answer_by(alloc, arena, counts, &nest)?;
+    let answer = answer_by(alloc, arena, depth, &nest)?;
     Ok(Some(answer))
 }
 
 /// A nest in which each vertex is decided. Fails if out of memory.
 fn solved_nest<A: Arena, W: Width>(alloc: Global, arena: &A) -> Result<Nest<W>, AllocError>
     requires { HasRoom (A.game arena.now) W.LIMIT }
-    ensures solved { IfOk result (λ nest. IsSolvedBy (A.game arena.now) nest.board.tables nest.board.winner.items) }
-    ensures depth { IfOk result (λ nest. IsDepth (A.game arena.now) nest.depth) }
+    ensures { IfOk result (IsDone (A.game arena.now)) }
 {
-    let mut nest = Nest::new(alloc, arena)?;
-    nest.decide(alloc, arena, None)?;
+    let edges = Adjacency::<A, W>::of(alloc, arena)?;
+    let mut nest = Nest::new(alloc, &edges)?;
+    nest.solve(&edges, None)?;
     Ok(nest)
 }
 
-/// The result of a solved nest, whose depth is written to the counts. Fails if out of memory.
+/// The region and the two strategies of a nest in which each vertex is decided. Its depth is written to `depth`. Fails
+/// if out of memory.
 fn answer_by<A: Arena, W: Width>(
     alloc: Global,
     arena: &A,
-    counts: &mut Counts,
+    depth: &mut u64,
     nest: &Nest<W>,
 ) -> Result<(Region, Strategy, Strategy), AllocError>
-    requires solved { IsSolvedBy (A.game arena.now) nest.now.board.tables nest.now.board.winner.items }
-    requires depth { IsDepth (A.game arena.now) nest.now.depth }
-    ensures answer { IfOk result (λ answer. IsAnswer (A.game arena.now) answer.0 answer.1 answer.2) }
-    ensures depth { OnOk result (IsDepth (A.game arena.now) counts.new.depth) }
-    ensures raises { counts.new.raises ≡ counts.old.raises }
+    requires { IsDone (A.game arena.now) nest.now }
+    ensures { IfOk result (λ answer. IsSolution (A.game arena.now) depth.new answer.0 answer.1 answer.2) }
 {
-    counts.depth = nest.depth as u64;
-    answer_of(alloc, arena, &nest.board)
-}
-
-/// The region and the two strategies of a board on which each vertex is decided. Fails if out of memory.
-fn answer_of<A: Arena, W: Width>(
-    alloc: Global,
-    arena: &A,
-    board: &Board<W>,
-) -> Result<(Region, Strategy, Strategy), AllocError>
-    requires { IsSolvedBy (A.game arena.now) board.now.tables board.now.winner.items }
-    ensures { IfOk result (λ answer. IsAnswer (A.game arena.now) answer.0 answer.1 answer.2) }
-{
+    *depth = nest.depth as u64;
+    let board = &nest.board;
     let region = region_of(alloc, &board.winner)?;
     let first = strategy_of(alloc, arena, &board.tables, &board.winner, Player::EVEN)?;
     let second = strategy_of(alloc, arena, &board.tables, &board.winner, Player::ODD)?;

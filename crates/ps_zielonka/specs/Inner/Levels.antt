@@ -2,8 +2,6 @@
 -- In one call, the code of decided vertices is less than that of attracted vertices. Unplaced vertices have the
 -- largest code.
 use Rattle.std.specs.Prelude.{ℕ, ◌+◌, ◌*◌}
-use Rattle.ps_attractor.specs.declared.aim.Aim.{Aim}
-use Rattle.ps_zielonka.specs.declared.attraction.Attraction.{Attraction}
 use Rattle.ps_zielonka.specs.declared.level.Level.{Level}
 use Rattle.ps_zielonka.specs.declared.level.Level.TheVariants.{Decided, Attracted, Unplaced}
 use Rattle.ps_zielonka.specs.declared.level.TheConstants.{UNPLACED}
@@ -12,12 +10,3 @@ abbrev pub code_of : Level → ℕ
 code_of (Decided depth) = 2 * depth + 1
 code_of (Attracted depth) = 2 * depth + 2
 code_of Unplaced = UNPLACED
-
--- the aim of an attraction, for which the unplaced vertices are free
-abbrev pub aim_of : Attraction → Aim
-aim_of attraction = record {
-  player = attraction.player;
-  begin = attraction.begin;
-  level = code_of attraction.level;
-  free = UNPLACED;
-}

@@ -1,8 +1,9 @@
 -- The state of the solver between two steps, and the tables at the end.
-use Rattle.std.specs.Prelude.{◌≡◌, ℕ, ◌≤◌, ◌<◌, List, length}
+use Rattle.std.specs.Prelude.{◌≡◌, ℕ, ◌+◌, ◌≤◌, ◌<◌, List, true, false, length}
 use Rattle.ps_game.specs.Games.{ParityGame, vertex_count}
 use Rattle.ps_attractor.specs.Tables.{TablesData, level_of, moves_of}
 use Rattle.ps_zielonka.specs.declared.nest.Nest.{Nest}
+use Rattle.ps_zielonka.specs.Depths.{IsDepth}
 use Rattle.ps_zielonka.specs.Inner.Depths.{IsDepthSoFar}
 use Rattle.ps_zielonka.specs.Inner.Turns.{Solved}
 use Rattle.ps_zielonka.specs.Inner.Nests.{IsNest, from, winner_of, steps_left}
@@ -24,3 +25,25 @@ pub record IsSolvedBy (game : ParityGame) (tables : TablesData) (winner : List �
 
 abbrev pub IsDeep : {W : Type 0} → ParityGame → Nest W → Type 0
 IsDeep game nest = IsDepthSoFar game nest.board.tables.level (length nest.frames.items) nest.solved nest.depth
+
+-- each vertex is decided
+pub record IsDone {W : Type 0} (game : ParityGame) (nest : Nest W) : Type 0 where
+  pub solved : IsSolvedBy game nest.board.tables nest.board.winner.items
+  pub depth : IsDepth game nest.depth
+
+-- the current call searches for its next turn
+pub record IsSearching {W : Type 0} (game : ParityGame) (nest : Nest W) : Type 0 where
+  pub stack : IsStack game nest
+  pub searches : nest.solved ≡ false
+
+-- the last pending call, whose frame was taken from `old`, is the current call again, and fewer steps are left
+pub record IsResumed {W : Type 0} (game : ParityGame) (old new : Nest W) : Type 0 where
+  pub stack : IsStack game new
+  pub falls : steps_of new < steps_left old.board.tables.level (length old.frames.items + 1) true
+  pub depth : new.depth ≡ old.depth
+
+-- a step keeps the invariants, and fewer steps are left
+pub record IsStep {W : Type 0} (game : ParityGame) (old new : Nest W) : Type 0 where
+  pub stack : IsStack game new
+  pub falls : steps_of new < steps_of old
+  pub deep : IsDeep game old → IsDeep game new

@@ -4,6 +4,7 @@ use Rattle.ps_attractor.proofs.attractor.attract_in.Goals as goal
 
 pub returns : goal.returns
 returns g c =
-    let made = c.in_ok-tables.ensures.attracted in
-    IfOk-weaker c.read_off.result _ _ (λ a read. attractor_of c.requires.subgame c.requires.target made read)
+    let made = rw c.in_ok-edges.ensures at c.in_ok-tables.ensures.attracted in
+    IfOk-weaker c.read_off.result _ _
+    (λ a read. attractor_of c.requires.goal.is_subgame c.requires.goal.target_within made read)
     c.read_off.ensures

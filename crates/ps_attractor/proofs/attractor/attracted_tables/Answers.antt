@@ -10,5 +10,5 @@ returns-clause-attracted g c =
       laid = laid;
       grown = c.in_ok-attract.ensures.grown;
       attracted = λ set taken. c.in_ok-attract.ensures.attracted (has c.args.subgame.now) (has c.args.target.now) set
-          (laid_posed c.args.player c.requires.subgame c.requires.target laid) taken;
+          (laid_posed c.args.player c.requires.is_subgame c.requires.target_within laid) taken;
     }

@@ -5,11 +5,11 @@ use Rattle.ps_attractor.proofs.tables.Tables.attract.Goals as goal
 
 pub returns-clause-attracted : goal.returns-clause-attracted
 returns-clause-attracted g c subgame target set posed taken =
-    let game = g.A.Arena.game c.args.arena.now in
+    let game = g.A.Arena.game c.args.edges.now.arena.now in
     let at_end : c.loop-place.place ≡ length c.loop-place.self.trail = omega arith in
     let Reached : ℕ → Type 0 = λ k. Reaching game c.args.aim c.args.self.now c.loop-place.self (From k) in
     attracted (record {
-      is_game = c.requires.game;
+      is_game = c.args.edges.now.game;
       marks = c.requires.differ;
       begins = c.requires.begin;
       posed = posed;

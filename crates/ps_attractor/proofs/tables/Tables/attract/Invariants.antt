@@ -5,10 +5,10 @@ use Rattle.ps_attractor.proofs.tables.Tables.attract.Given as goal
 
 abbrev pub invariant-loop-place : goal.invariant-loop-place
 invariant-loop-place g l = record {
-  fits : FitsGame (g.A.Arena.game l.arena) l.self;
+  fits : FitsGame (g.A.Arena.game l.edges.arena.now) l.self;
   after : l.aim.begin ≤ l.place;
   inside : l.place ≤ length l.self.trail;
-  reaching : Reaching (g.A.Arena.game l.arena) l.aim l.initial.self l.self (From l.place);
+  reaching : Reaching (g.A.Arena.game l.edges.arena.now) l.aim l.initial.self l.self (From l.place);
 }
 
 abbrev pub decreases-loop-place : goal.decreases-loop-place

@@ -5,11 +5,11 @@ use Rattle.ps_attractor.proofs.tables.Tables.first_free.Goals as goal
 
 pub level-requires : goal.level-requires
 level-requires g c =
-    let game = g.A.Arena.game c.args.arena.now in
+    let game = g.A.Arena.game c.args.edges.now.arena.now in
     let below : c.loop-number.number < length (successors_of game c.args.vertex) = omega (arith, c.requires.within) in
     omega (
       arith,
-      c.requires.game.within c.args.vertex _ (
+      c.args.edges.now.game.within c.args.vertex _ (
         c.requires.vertex,
         Contains-get_or (successors_of game c.args.vertex) c.loop-number.number 0 below,
       ),

@@ -9,9 +9,12 @@ loop-place-preserved g c =
     let u = c.vertex_at-vertex.result in
     let at : get_or c.args.self.now.tables.trail place 0 ≡ u = grind arith in
     record {
-      fits = c.keeps.ensures.fits;
-      winner = c.keeps.ensures.winner ∙ so_far.winner;
-      moved = search (rules, moved_more);
-      kept = kept_more place at c.keeps.ensures.moved
-          (rw so_far.winner at (c.if-not-keeps.ensures.kept (search rules))) so_far.kept;
+      moves = record {
+        moved = moved_more c.args.frame.now.turn c.args.frame.now.top place u (search rules) (search rules) at
+            so_far.moves.moved c.keeps.ensures.moved.moved;
+        winner = c.keeps.ensures.moved.winner ∙ so_far.moves.winner;
+        fits = c.keeps.ensures.moved.fits;
+      };
+      kept = kept_more place at c.keeps.ensures.moved.moved
+          (rw so_far.moves.winner at (c.if-not-keeps.ensures.kept (search rules))) so_far.kept;
     }

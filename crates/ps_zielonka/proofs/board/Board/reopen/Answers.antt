@@ -43,6 +43,6 @@ loop-place-preserved g c =
 pub returns-clause-reopened : goal.returns-clause-reopened
 returns-clause-reopened g c =
     let at_end : c.loop-place.place ≡ length c.take_off.new.self.spare = grind arith in
-    reopened_end c.loop-place.place c.args.self.now.tables c.requires.turn c.take_off.ensures.level
+    reopened_end c.loop-place.place c.args.self.now.tables c.requires.turn.within c.take_off.ensures.level
     c.take_off.ensures.moves c.in_ok-take_off.ensures.trail c.in_ok-take_off.ensures.spare at_end
     (rw c.take_off.ensures.winner at c.loop-place.invariant.reopened)

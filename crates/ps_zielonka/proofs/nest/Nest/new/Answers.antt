@@ -8,7 +8,7 @@ use Rattle.ps_zielonka.proofs.nest.Nest.new.Goals as goal
 
 pub returns : goal.returns
 returns g c =
-    let game = g.A.Arena.game c.args.arena.now in
+    let game = g.A.Arena.game c.args.edges.now.arena.now in
     let board = c.in_ok-undecided.field-0 in
     let made = c.in_ok-undecided.ensures in
     let count = c.count.ensures.vertices in
@@ -18,7 +18,7 @@ returns g c =
     record {
       stack = rw c.new.ensures.items (nest_start board.tables board.winner.items c.count.ensures.well_formed levels
           (rw count at made.moves) made.trail winners c.in_ok-falling_order.ensures
-          (omega (arith, c.requires.levels, c.requires.counted)));
+          (omega (arith, c.args.edges.now.room.levels, c.args.edges.now.room.counted)));
       deep = rw c.new.ensures.items (depth_start game board.tables.level
           (λ v is_vertex. rw levels (get_or-replicate (vertex_count game) v UNPLACED 0 is_vertex)));
     }

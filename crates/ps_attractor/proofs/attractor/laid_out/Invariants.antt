@@ -1,6 +1,6 @@
 use Rattle.std.proofs.Common.{◌≡◌, length}
 use Rattle.ps_attractor.specs.Results.{AreLaidOut}
-use Rattle.ps_attractor.proofs.attractor.lay_out.Given as goal
+use Rattle.ps_attractor.proofs.attractor.laid_out.Given as goal
 
 abbrev pub invariant-loop-vertex : goal.invariant-loop-vertex
 invariant-loop-vertex g l = record {

@@ -1,0 +1,13 @@
+-- The aim of an attraction, for which the unplaced vertices are free.
+use Rattle.ps_attractor.specs.declared.aim.Aim.{Aim}
+use Rattle.ps_zielonka.specs.declared.attraction.Attraction.{Attraction}
+use Rattle.ps_zielonka.specs.declared.level.TheConstants.{UNPLACED}
+use Rattle.ps_zielonka.specs.Inner.Levels.{code_of}
+
+abbrev pub aim_of : Attraction → Aim
+aim_of attraction = record {
+  player = attraction.player;
+  begin = attraction.begin;
+  level = code_of attraction.level;
+  free = UNPLACED;
+}

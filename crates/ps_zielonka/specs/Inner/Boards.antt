@@ -1,0 +1,23 @@
+-- The board: an entry for each vertex, and what the steps on it change.
+use Rattle.std.specs.Prelude.{◌≡◌, ℕ, ◌<◌, ◌≤◌, length, slice_index}
+use Rattle.ps_game.specs.Games.{ParityGame, vertex_count}
+use Rattle.ps_attractor.specs.Tables.{TablesData, FitsGame}
+use Rattle.ps_zielonka.specs.declared.board.Board.{Board}
+use Rattle.ps_zielonka.specs.Inner.Nests.{IsMoved}
+
+-- the tables fit the game, and there is a winner for each vertex
+pub record IsBoardOf {W : Type 0} (game : ParityGame) (board : Board W) : Type 0 where
+  pub fits : FitsGame game board.tables
+  pub winners : length board.winner.items ≡ vertex_count game
+
+-- only the moves of the vertices in `Some` have changed
+pub record OnlyMoves {W : Type 0} (game : ParityGame) (old new : Board W) (Some : ℕ → Type 0) : Type 0 where
+  pub moved : IsMoved old.tables new.tables Some
+  pub winner : new.winner.items ≡ old.winner.items
+  pub fits : FitsGame game new.tables
+
+-- the turn begins within the trail, whose vertices have levels, and the limit is not less than any vertex
+pub record HasTurn (tables : TablesData) (limit turn : ℕ) : Type 0 where
+  pub within : turn ≤ length tables.trail
+  pub vertices : (j : ℕ) → j < length tables.trail → slice_index tables.trail j < length tables.level
+  pub room : length tables.level ≤ limit
