@@ -2,7 +2,7 @@
 --     choice_dash, choice_fails, choice_reads      a move
 --     past_id, .., entry_reads      the line of a vertex, after the fields that were read
 --     past_first, .., head_read      what precedes these lines, after the parts that were read
---     text_fails, text_reads, text_trails      the text
+--     text_fails, text_reads, text_trails      the whole text has an error, is parsed, or is followed by more bytes
 use Rattle.std.proofs.Common.{◌≡◌, ◌≢◌, ℕ, Bool, not, cond, eqb, ltb, List, [], ◌∷◌, length, Option, Some, None, Result}
 use Rattle.std.proofs.Common.{Ok, Err, IsErrAnd, refl, sym, ap, subst, ◌∙◌, arith, rules}
 use Rattle.std.specs.Prelude.{position}

@@ -1,6 +1,6 @@
 -- What a loop of the parser has read, and what it has yet to read.
---     fails      the exit of a `?`, at the first error of the part
---     priorities_fail, priorities_end      the numbers of a line of priorities
+--     fails      at a `?`, the function returns the first error of the part
+--     priorities_fail, priorities_end      a line of priorities has an error, or ends
 --     Listing      the rest of a list is yet to be read, after its front
 use Rattle.std.proofs.Common.{◌≡◌, ℕ, suc, ◌+◌, ◌-◌, ◌<◌, ◌≤◌, Bool, true, false, not, eqb, List, [], ◌∷◌, ◌++◌, length}
 use Rattle.std.proofs.Common.{get_or, drop, Option, Some, Result, Ok, Err, IsErrAnd, sym, subst, append_assoc, arith}

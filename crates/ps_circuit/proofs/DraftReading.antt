@@ -1,8 +1,8 @@
 -- Lemmas for the function that parses a text from the first byte to the last.
---     text_reads, text_trails      from the result of the grammar's part to the answer
+--     text_reads, text_trails      the answer follows from the result of the grammar's part
 --     Reached start now rest      after parsing from `start` to `now`, the part `rest` remains
 --     past_header, past_lines, all_reads      the text is read section by section
---     answered      the answer to a text
+--     answered      the function returns the answer to the text
 --     draft_fails, draft_trails      the ways in which the function can return
 use Rattle.std.proofs.Common.{◌≡◌, ℕ, ◌^◌, ◌≤◌, List, [], ◌∷◌, length, Option, None, Some, Result, Ok, Err, IsErrAnd}
 use Rattle.std.proofs.Common.{All, refl, sym, ap, subst, ◌∙◌, arith, length-append, rules}

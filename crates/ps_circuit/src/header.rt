@@ -14,8 +14,8 @@ use ps_text::cursor::Cursor;
 /// The largest number that a text may declare as its greatest variable.
 const MOST: u64 = 2_147_483_647;
 
-/// The numbers of the first line. A number of inputs, latches, outputs or gates that does not fit into 64 bits is
-/// stored as the greatest number of 64 bits.
+/// The numbers in the first line of a circuit's text. A number of inputs, latches, outputs or gates that does not fit
+/// into 64 bits is stored as the greatest number of 64 bits.
 #[derive(Clone, Copy)]
 pub struct Header {
     /// The greatest variable: M.

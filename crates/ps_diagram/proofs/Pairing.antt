@@ -105,7 +105,7 @@ pair_sides {P} {xs} {ys} more {t} {u} {v} w k m {a} {b} {p} {al} {ah} {bl} {bh} 
     (pair_of_more more (tree_of t al) (tree_of t bl) (tree_of v low) (rw (m.same low held) l))
     (rw (← k.same ah sa.high_held, ← k.same bh sb.high_held) h)
 
--- leaves that meet on one side of two nodes meet in the nodes
+-- leaves that occur together on one side of two nodes occur together in the nodes
 pub meet_side : {t : Table} {a b p al ah bl bh : ℕ} → IsSides t a p al ah → IsSides t b p bl bh → (v : Bool)
     (pair : ℕ × ℕ) → Meet (tree_of t (cond v ah al)) (tree_of t (cond v bh bl)) pair →
     Meet (tree_of t a) (tree_of t b) pair
@@ -118,7 +118,7 @@ pub adds_sides : {t u : Table} {xs ys zs : List (ℕ × ℕ)} → Keeps t u → 
 adds_sides k {ah = ah} {bh = bh} sa sb = adds_both (meet_side sa sb false)
     (λ pair m. meet_side sa sb true pair (rw (← k.same ah sa.high_held, ← k.same bh sb.high_held) m))
 
--- if two leaves meet, they meet at a letter over the table's propositions
+-- if two leaves occur at a common letter, they do so at a letter over the table's propositions
 pub meet_at : {t : Table} → IsSoundTable t → {a b : ℕ} → IsNode t a → IsNode t b → (pair : ℕ × ℕ) →
     Meet (tree_of t a) (tree_of t b) pair → MeetAt t a b pair
 meet_at {t} s {a} {b} ha hb pair m =

@@ -517,7 +517,8 @@ impl<'a> Tokens<'a> {
     }
 }
 
-/// The token for a lexeme, given the marks of the tokens before it.
+/// The token for a lexeme. The kind of the token also depends on the names that occurred before it, which `marks`
+/// records.
 fn token_of<'a>(source: &'a [u8], lexeme: Lexeme, history: History) -> Token<'a>
     requires { IsLexeme source.now lexeme }
     ensures kept { IsOwnKind source.now history lexeme.kind result }

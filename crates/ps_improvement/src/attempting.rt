@@ -77,8 +77,8 @@ fn most_room<A: Arena>(arena: &A) -> u64 {
     room
 }
 
-/// Improves the plan until nothing improves in any component. Components that no edge leaves come first. Returns
-/// whether the fuel sufficed.
+/// Improves the plan, component by component, until no choice in any component can be improved. Components that no edge
+/// leaves come first. Returns whether the fuel sufficed.
 fn settle_all<A: Arena>(
     alloc: Global,
     ground: &Ground<'_, A>,

@@ -1,5 +1,5 @@
 -- The laws of the parts of the grammar, and how parts are joined.
---     laws_sign      a part of one sign
+--     laws_sign      the laws of a part that consists of one sign
 --     laws_number, .., laws_node, joint_more, .., joint_id      the laws and joints, in the grammar's order
 use Rattle.std.proofs.Common.{◌≡◌, ℕ, List, [], ◌∷◌, ◌++◌, Option, None, Some, refl, sym, ◌∙◌, arith, rules}
 use Rattle.ps_text.specs.Parts.{Part, one, give, then_by, many, mapped, NoBad}

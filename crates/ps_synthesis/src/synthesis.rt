@@ -22,8 +22,8 @@ use std::alloc::Global;
 ///
 /// # Errors
 ///
-/// In this order: the first error of the text; the reason why the text has no automaton; the solver's fault, or
-/// `NotCertified`; and `CircuitTooLarge`. Out of memory is possible at any time.
+/// Fails, in this order, with the first error of the text; with the reason why the text has no automaton; with the
+/// solver's fault, or with `NotCertified`; or with `CircuitTooLarge`. Fails at any time if memory runs out.
 pub fn synthesise_by<S: Solver>(
     alloc: Global,
     text: &[u8],

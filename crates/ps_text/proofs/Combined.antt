@@ -1,5 +1,5 @@
 -- The laws of combined parts, with sets of signs that are no larger than necessary.
---     both_within, wider_first, wider_more      two sets within a third set; larger sets
+--     both_within, wider_first, wider_more      two sets are within a third set; sets may be replaced by larger ones
 --     laws_first      one sign, which is in a set if it is taken, and also if it is bad
 --     laws_forms      one of two parts, of which neither is empty
 --     laws_option      a part that no sign continues, or nothing

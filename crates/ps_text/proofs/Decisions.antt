@@ -1,8 +1,8 @@
 -- Decision procedures that find the error of a sign with the smallest number, or show that the sign has no error.
 --     Decided A      A holds, or it does not
---     decide_not, decide_as, decide_both, decide_one      decisions about combined facts
---     decide_true, decide_none      decisions about a test, and about an option
---     decide_below, decide_in      decisions about two numbers, and about a number in a list
+--     decide_not, decide_as, decide_both, decide_one      combinations of decidable facts are decidable
+--     decide_true, decide_none      the result of a test, and whether an option is None, are decidable
+--     decide_below, decide_in      the order of two numbers, and whether a list has a number, are decidable
 --     judge_none, judge_cause, judge_one, judge_as      no error; one error, if a fact holds; two sets of errors; a set
 --               with the same errors
 --     judge_if, judge_also      the errors of an optional value; errors that apply if a fact holds

@@ -5,7 +5,7 @@
 --               continues
 --     begins_left, begins_right      a beginning of P begins the two parts; so does a text of P and then a beginning of
 --               Q
---     read_then, fault_left, fault_right      the lemmas for IsRead and IsFault
+--     read_then, fault_left, fault_right      what two parts return, in terms of IsRead and IsFault
 use Rattle.std.proofs.Common.{◌≡◌, ◌⊎◌, List, [], ◌∷◌, ◌++◌, length, Option, Some, refl, ap, subst}
 use Rattle.std.proofs.Common.{inl, inr, append_assoc, append-nil, arith, rules}
 use Rattle.ps_text.specs.Answers.{Begins, first_of}

@@ -1,5 +1,5 @@
 -- Two splits of the same list: their fronts are equal, or one front continues where the other ends.
---     Compared, compared      the three cases
+--     Compared, compared      the three cases of two splits
 --     Placed, placed      the position of a sign of the list: inside the front, or after it
 --     inside_of      a sign before the end of the front is inside the front
 --     all_taken_all      a front as long as the list is the whole list, so a fact about all its signs is a fact about

@@ -1,6 +1,6 @@
 -- Ways that are found from the first vertex that has an edge to each vertex.
---     lowered_none, lowered_more      the successors of a vertex, one by one
---     firsts_none, firsts_more      the vertices, one by one
+--     lowered_none, lowered_more      the successors of a vertex are handled one by one
+--     firsts_none, firsts_more      the vertices are handled one by one
 --     fall      the entry of each vertex except 0 is an earlier vertex
 --     way_is      a way by these entries is a path
 use Rattle.std.proofs.Common.{◌≡◌, ℕ, ◌+◌, ◌-◌, ◌<◌, ◌≤◌, ◌⊎◌, inl, inr, List, length, get_or, set, refl, sym}

@@ -1,6 +1,6 @@
 -- The result for a product is a judgement on its circuit.
 --     winning      the judgement if the player wins all loops
---     judgement      the judgement in both cases
+--     judgement      the result for a product is a judgement, in both cases
 use Rattle.std.proofs.Common.{◌≡◌, ◌≢◌, ℕ, ◌%◌, ◌<◌, ◌↔◌, true, List, length, refl, subst, arith}
 use Rattle.std.proofs.Common.{Some}
 use Rattle.std.proofs.lemmas.Bool.{eq-eqb, eqb-true}

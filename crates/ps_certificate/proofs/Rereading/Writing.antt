@@ -4,7 +4,7 @@
 --     then, with_value      two parts are read, one after the other; a function is applied to the value of a part
 --     read_byte, read_word, read_number, read_fields, read_version, read_winner, read_choice, read_counts, read_pairs,
 --     read_entry, read_entries, read_text      these parts of the text are read back
---     reads_again      the whole text
+--     reads_again      parsing the whole text gives the certificate again
 use Rattle.std.proofs.Common.{◌≡◌, ◌≢◌, ℕ, zero, suc, ◌+◌, ◌^◌, ◌<◌, ◌⊎◌, Bool, true, false, cond, eqb, List, [], ◌∷◌}
 use Rattle.std.proofs.Common.{◌++◌, length, get_or, drop, Option, Some, None, Ok, refl, sym, ap, subst, inl, inr, ◌∙◌}
 use Rattle.std.proofs.Common.{append_assoc, add-zero, arith, rules}

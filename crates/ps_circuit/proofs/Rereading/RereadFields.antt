@@ -2,8 +2,8 @@
 --     from e at text      the stream of `text`, from the offset `at` to the end `e`
 --     Rereads part Good text rest      wherever `text` is, the part is parsed from it: its value satisfies `Good`, and
 --               `rest` remains
---     reread_then, reread_mapped      one part after another; a value under a function
---     reread_as, reread_branch      another text; one of several forms
+--     reread_then, reread_mapped      two parts are parsed, one after the other; a function is applied to a value
+--     reread_as, reread_branch      an equal text is parsed; one of several forms is parsed
 --     number_then, field_then      a number, or a space and a number, and what follows
 --     reread_end, reread_more, reread_no_more      the end of a line; a further field follows, or none
 use Rattle.std.proofs.Common.{◌≡◌, ℕ, ◌+◌, ◌^◌, ◌<◌, Bool, true, false, List, [], ◌∷◌, ◌++◌, length, refl, sym, ap}

@@ -1,6 +1,6 @@
 -- The laws of a whole text after the version: the header, then the body.
---     laws_file      the laws
---     joint_file      the body after the header
+--     laws_file      the laws of the whole text
+--     joint_file      how the body is joined to the header
 use Rattle.ps_text.specs.Parts.{mapped}
 use Rattle.ps_text.proofs.Combined.{joint_tight}
 use Rattle.ps_text.proofs.Following.{laws_tight}

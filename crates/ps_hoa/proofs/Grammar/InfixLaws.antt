@@ -1,7 +1,7 @@
 -- The laws of grammars with connectives: rows of operands, and operands, whose forms are distinguished by their first
 -- tokens.
---     laws_not, .., laws_right      single tokens
---     laws_both, laws_rows, laws_nested      rows of operands, and rows in parentheses
+--     laws_not, .., laws_right      the laws of single tokens
+--     laws_both, laws_rows, laws_nested      the laws of rows of operands, and of rows in parentheses
 --     laws_negation, laws_holding, laws_operand      an operand after `!`, an operand that contains another one, and
 --               any operand
 --     joint_bar      a leaf, if no deeper nesting is allowed

@@ -1,8 +1,8 @@
 -- The laws of states and of the whole body, and how their parts are joined.
 --     laws_state, laws_states, laws_ended, laws_body      the laws of these parts
---     joint_state, joint_state_label, joint_number, joint_name, joint_marks      the parts of a state, from first to
---               last
---     joint_body      the states and `--END--`
+--     joint_state, joint_state_label, joint_number, joint_name, joint_marks      how the parts of a state are joined,
+--               from first to last
+--     joint_body      how the states and `--END--` are joined
 use Rattle.std.proofs.Common.{rules, arith, ◌≡◌, ℕ, Bool, List, [], codes, Option, Some, refl}
 use Rattle.ps_label.specs.Expression.{Expression}
 use Rattle.ps_text.specs.Parts.{Part, give, then_by, many, mapped}
@@ -63,7 +63,7 @@ module _ (h : HeaderData) (b : BodyData) where
   laws_state_begins = laws_first (record { kind = Header; text = codes "State:" }) tt refl
       (λ t k. plain_named (codes "State:") refl t k.1) (λ t k. k) (λ t k. (tt, some_there (state_value t) k.1.0))
 
-  -- the rest of a state, from one of its parts on
+  -- what remains of a state after one of its parts
   module _ (label : Option Expression) (n : ℕ) where
     abbrev from_edges : List ℕ → Part Sign BodyData HoaCause
     from_edges ns = mapped (with_row b) (edges h b.edges (empty_row n label ns))

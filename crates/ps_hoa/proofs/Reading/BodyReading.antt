@@ -1,5 +1,5 @@
 -- Lemmas for each way in which the functions that parse edges can return.
---     int_signs, bracket_signs      single tokens
+--     int_signs, bracket_signs      the parts that consist of an `INT` or of a `[`
 --     int_begins      the next token is an `INT`
 --     target_reads, target_fails, target_alternates      a target, which `&` must not follow: it is parsed, it has an
 --               error, or `&` follows it

@@ -4,7 +4,7 @@
 --     stops_at, exits_at      the next part fails; its error is returned
 --     stops_last, exits_last, reads_last      the exits at the last part, to whose value a function is applied
 --     branch      one of several forms follows
---     word_left, word_read      a word, byte by byte
+--     word_left, word_read      a word is parsed byte by byte
 use Rattle.std.proofs.Common.{◌≡◌, ℕ, ◌+◌, ◌<◌, ◌≤◌, List, ◌∷◌, length, get_or, drop, Option, Result, Ok, Err, IsErrAnd}
 use Rattle.std.proofs.Common.{sym, subst, rules}
 use Rattle.std.proofs.lemmas.List.{drop_more, drop_all}
