@@ -18,9 +18,9 @@
 //!
 //! | Law | What it says |
 //! |---|---|
-//! | `automaton_is_there` | a file that was read and is admitted has an automaton, with a step for each state and letter |
+//! | `automaton_is_there` | an admitted file has an automaton, with a step for each state and letter |
 //! | `refusal_is_one` | each file is either admitted, or refused for exactly one cause |
-//! | `greatest_level_decides` | the greatest number in a part of a run is even exactly if the condition is true for the part's sets |
+//! | `greatest_level_decides` | in a part of a run, the greatest number is even exactly if the part is accepted |
 //!
 //! `build` joins the edges of a state one after another, as diagrams. So `build` does not visit every letter if a label
 //! uses only a few of many propositions. `accepts` reads the lap at most twice for each state and for the sink.

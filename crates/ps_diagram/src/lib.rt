@@ -13,7 +13,7 @@
 //! | `of_proposition(proposition)` | 1 where the proposition is true, else none |
 //! | `of_letter(letter)` | 1 at the given letter, else none |
 //! | `of_leaves(leaves)` | the list's entry at the index `letter`, or none past its end |
-//! | `overlay(first, second)` | the first node's, or else the second's; `Clash` exactly if the two differ at some letter |
+//! | `overlay(first, second)` | the first node's, or else the second's; `Clash` exactly if two leaves differ |
 //! | `choose(truth, one, other)` | the leaf of `one` where `truth` has a leaf, else the leaf of `other` |
 //! | `both(first, second, pairs)` | the index in `pairs` of the pair of both leaves; none where either is none |
 //! | `negated(node)` | 1 where the node has no leaf, else none |

@@ -10,7 +10,7 @@
 //! | `Product::game`, `inputs(vertex, number)` | the product's game; the inputs that a step to a successor reads |
 //! | `ProductFault::number`, `name` | the fault's number and name in psyn's list of faults |
 //! | `Truths::new(propositions)`, `proposition`, `both`, `negated` | makes truths, in a store of their own |
-//! | `Evaluator::new(circuit)`, `at(propositions, latches, truths)` | the truths of the outputs and of the next latches |
+//! | `Evaluator::new(circuit)`, `at(propositions, latches, truths)` | the truths of outputs and next latches |
 //!
 //! The law `outcome_is_the_step` says that at each letter these truths give the bits of the circuit's step.
 //!

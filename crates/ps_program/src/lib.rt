@@ -7,8 +7,8 @@
 //! | `Watched::new` | a [`Source`] or a [`Sink`] made from a reader or a writer of std |
 //! | `first_line`, `read_line` | the first line of an input, and the rest; the [`Line`] that the first line says |
 //! | `answer_to(input, built_in, replay)` | the [`Answer`] to an input: what is written, with its exit status |
-//! | `closed`, `check`, `judge`, `sim`, `lasso`, `verify`, `game` | the answer of a command that uses no solver, to its texts |
-//! | `solve`, `cert`, `synth` | the answer of a command that uses a solver |
+//! | `closed`, `check`, `judge`, `sim`, `lasso`, `verify`, `game` | the answers of commands that use no solver |
+//! | `solve`, `cert`, `synth` | the answers of commands that use a solver |
 //! | `lines_are_read`, `missing_text_is_told` | laws: how command lines are read; a command needs each of its texts |
 //! | `one_answer` | a law: an input has one answer, except for what a solver may choose |
 //!
