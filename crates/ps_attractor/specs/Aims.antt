@@ -1,5 +1,5 @@
--- The aim of an attractor in the tables, and the result: the attractor of the vertices of the trail from an index on. A
--- free vertex, which has the level `aim.free`, is in the subgame and not yet in the set.
+-- What an attractor computes from the tables, and its result: the attractor to the vertices of the trail from an index
+-- on. A free vertex, which has the level `aim.free`, is in the subgame and not yet in the set.
 use Rattle.std.specs.Prelude.{◌≡◌, ◌≢◌, ℕ, ◌<◌, ◌≤◌, ◌⊎◌, length, drop, Option, Bool, IsTrue, slice_index}
 use Rattle.ps_game.specs.Games.{ParityGame, vertex_count}
 use Rattle.ps_game.specs.Subgames.{IsWithin, LeadsInto, IsSubgame}

@@ -33,7 +33,7 @@ falls_in_the_end f i j m after below step falls =
     never_rises_along f (m + 1) (j - (m + 1)) (λ k k_after k_below. step k (omega arith) (omega arith)) in
     grind arith
 
--- a loop that the player loses, and the index of the loop's priority among the priorities by which the player loses
+-- a loop that the player loses, and the index of the loop's priority among the priorities that oppose the player
 record LostLoop (game : ParityGame) (certificate : CertificateData) (player : ℕ) (path : List ℕ)
     (i j place : ℕ) : Type 0 where
   pub fits : Fits game certificate

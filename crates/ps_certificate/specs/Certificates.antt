@@ -31,12 +31,13 @@ choice_of certificate v = (slice_index_or certificate.entries v no_entry).choice
 unfoldable pub counts_of : CertificateData → ℕ → List ℕ
 counts_of certificate v = (slice_index_or certificate.entries v no_entry).counts
 
--- the priorities by which a player loses: the odd ones for player 0, the even ones for player 1
+-- the priorities that oppose a player, who would lose a loop by them: the odd ones for player 0, the even ones for
+-- player 1
 unfoldable pub opposing : CertificateData → ℕ → List ℕ
 opposing certificate player = if player == 0 then certificate.odd else certificate.even
 
 -- one entry for each vertex, winners 0 or 1, moves that are vertices, exactly the priorities of the game, and one count
--- for each priority by which the winner loses
+-- for each priority that opposes the winner
 pub record Fits (game : ParityGame) (certificate : CertificateData) : Type 0 where
   pub entry_each : length certificate.entries ≡ vertex_count game
   pub winners : (v : ℕ) → v < vertex_count game → winner_of certificate v < 2
@@ -60,7 +61,7 @@ pub record IsClosed (game : ParityGame) (certificate : CertificateData) : Type 0
   pub moves : (v : ℕ) → v < vertex_count game → HasRightMove game certificate v
   pub stays : (v w : ℕ) → Remains game certificate v w → winner_of certificate w ≡ winner_of certificate v
 
--- the opposing priority with a given index: one of the priorities by which the winner of a vertex loses
+-- the priority at an index of the list of those that oppose the winner of the vertex
 abbrev pub opposing_at : CertificateData → ℕ → ℕ → ℕ
 opposing_at certificate v k = slice_index (opposing certificate (winner_of certificate v)) k
 

@@ -7,15 +7,15 @@
 -- Each line ends with one newline, fields are separated by one space, and numbers have no leading zeros. The second
 -- line gives the number of vertices, and the next two list the priorities of the game in ascending order. One line for
 -- each vertex follows, in the game's order: its id, the winner (0 or 1), the winner's move, and one count for each
--- priority by which the winner loses. The move is the id of a vertex or `-`. The compact text, on the right, has only
--- the nonzero counts, each after its priority, and these priorities ascend. A text that does not have this form is
--- rejected with fault 53 (`Syntax`). The form allows any number as the number of vertices, as a priority, as an id and
--- as a move, and any number of listed priorities. Three kinds of numbers are rejected with fault 53 at their first
--- digit. The first is a number that does not fit in 64 bits, and the second is a count of 0 after its priority. The
--- third is a count's priority that is not greater than the previous one in the line, if a space, a newline or a colon
--- follows the priority. A text is rejected with fault 54 (`OtherGame`) at a number that does not fit the game, if a
--- space, a newline or a colon follows the number. The fault is also 54 at a newline that comes before all priorities
--- were given.
+-- priority that opposes the winner: odd ones if player 0 wins, even ones if player 1 wins. The move is the id of a
+-- vertex or `-`. The compact text, on the right, has only the nonzero counts, each after its priority, and these
+-- priorities ascend. A text that does not have this form is rejected with fault 53 (`Syntax`). The form allows any
+-- number as the number of vertices, as a priority, as an id and as a move, and any number of listed priorities. Three
+-- kinds of numbers are rejected with fault 53 at their first digit. The first is a number that does not fit in 64 bits,
+-- and the second is a count of 0 after its priority. The third is a count's priority that is not greater than the
+-- previous one in the line, if a space, a newline or a colon follows the priority. A text is rejected with fault 54
+-- (`OtherGame`) at a number that does not fit the game, if a space, a newline or a colon follows the number. The fault
+-- is also 54 at a newline that comes before all priorities were given.
 use Rattle.std.specs.Prelude.{◌≡◌, ◌≢◌, ℕ, zero, suc, ◌^◌, ◌<◌, ◌≤◌, ◌⊎◌, List, [], ◌∷◌, ◌++◌, length, map, drop}
 use Rattle.std.specs.Prelude.{Option, Some, None, Result, Bool, true, false, ◌==◌, if◌then◌else◌, slice_get, position}
 use Rattle.std.specs.List.{Contains}
@@ -121,8 +121,8 @@ abbrev pub counts : ℕ → Field (List ℕ)
 counts zero = mapped (λ _. []) (byte 10)
 counts (suc n) = then_by (byte 32) (λ _. then_by (number Never) (λ count. mapped (λ others. count ∷ others) (counts n)))
 
--- the priority of a count is complete, but is not greater than the previous one, or is not a priority by which the
--- winner loses
+-- the priority of a count is complete, but is not greater than the previous one, or is not a priority that opposes the
+-- winner
 abbrev pub WrongPriority : List ℕ → Pairs → Verdict
 WrongPriority ps pairs more n f =
     EndsField more × (((f ≡ Syntax) × DoesNotRise pairs n) ⊎ ((f ≡ OtherGame) × ¬ Contains ps n))
@@ -142,7 +142,7 @@ abbrev pub counts_in : Bool → List ℕ → Field (List ℕ)
 counts_in false ps = counts (length ps)
 counts_in true ps = then_by (many (pair ps) no_pairs) (λ pairs. mapped (λ _. map pairs.count ps) (byte 10))
 
--- the priorities by which the winner loses
+-- the priorities that oppose the winner
 abbrev pub lost_by : List ℕ → List ℕ → ℕ → List ℕ
 lost_by odd even winner = if winner == 0 then odd else even
 

@@ -33,7 +33,7 @@ counts_text true ps cs = pairs ps cs
 abbrev pub IsWord : ℕ → Type 0
 IsWord n = n < 2 ^ 64
 
--- the winner is 0 or 1, the move is less than `count`, and there is a count for each priority by which the winner loses
+-- the winner is 0 or 1, the move is less than `count`, and there is a count for each priority that opposes the winner
 pub record IsWritable (count : ℕ) (odd even : List ℕ) (entry : EntryData) : Type 0 where
   pub winner : entry.winner < 2
   pub choice : IfSome entry.choice (λ w. w < count)

@@ -54,7 +54,7 @@ impl Certificate {
         self.entries.counts(vertex)
     }
 
-    /// The priorities by which a player loses, ascending.
+    /// The priorities that oppose a player, ascending.
     pub fn opposing(&self, player: u8) -> &[u64]
         ensures { result.now ≡ opposing self.now player }
     {

@@ -112,7 +112,7 @@ fn lists_priorities<A: Arena>(arena: &A, parity: u64, list: &[u64]) -> bool
 }
 
 /// Whether the entry of a vertex has 0 or 1 as its winner, a vertex or none as its move, and one count for each
-/// priority by which the winner loses.
+/// priority that opposes the winner.
 fn entry_fits(certificate: &Certificate, vertices: usize, vertex: usize) -> bool
     requires { vertex < length certificate.now.entries }
     ensures { IsTrue result ↔ EntryFits vertices certificate.now vertex }
@@ -128,8 +128,8 @@ fn entry_fits(certificate: &Certificate, vertices: usize, vertex: usize) -> bool
 }
 
 /// Whether a certificate fits a game: it has one entry for each vertex, winners 0 or 1, and moves that are vertices.
-/// The certificate lists exactly the game's priorities in ascending order, and has one count for each priority by which
-/// the winner loses. Allocates no memory.
+/// The certificate lists exactly the game's priorities in ascending order, and has one count for each priority that
+/// opposes the winner. Allocates no memory.
 pub fn fits<A: Arena>(arena: &A, certificate: &Certificate) -> bool
     ensures { IsTrue result ↔ Fits (A.game arena.now) certificate.now }
 {

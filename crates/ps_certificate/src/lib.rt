@@ -1,10 +1,10 @@
 //! Certificates of parity games, which state who wins each vertex, by which move, and why.
 //!
-//! The reason is given by counts: each vertex has one count for each priority by which its winner loses. An edge
-//! remains if it is the winner's move in the certificate, or leaves a vertex that the loser owns. For each priority,
-//! the count does not rise along a remaining edge whose two ends have no greater priority, and it falls if the edge
-//! also leaves a vertex of that priority. docs/CERTIFICATES.md describes the format and the rule, for those who write
-//! another checker.
+//! The reason is given by counts: each vertex has one count for each priority that opposes its winner, that is, for
+//! each priority of the other player's parity. An edge remains if it is the winner's move in the certificate, or leaves
+//! a vertex that the loser owns. For each priority, the count does not rise along a remaining edge whose two ends have
+//! no greater priority, and it falls if the edge also leaves a vertex of that priority. docs/CERTIFICATES.md describes
+//! the format and the rule, for those who write another checker.
 //!
 //! | Call | What it gives |
 //! |---|---|

@@ -14,7 +14,7 @@ pub(crate) struct PlacedCount {
     pub(crate) count: u64,
 }
 
-/// The counts of an entry, one for each priority by which its winner loses.
+/// The counts of an entry, one for each priority that opposes its winner.
 #[derive(Debug, Drop)]
 pub struct Row<'a> {
     pub(crate) width: usize,

@@ -33,7 +33,7 @@ struct Known {
 }
 
 impl Known {
-    /// The priorities by which a player loses, ascending.
+    /// The priorities that oppose a player, ascending.
     fn lost_by(&self, player: u8) -> &[u64]
         ensures { result.now ≡ parts.lost_by self.now.odd.items self.now.even.items player }
     {

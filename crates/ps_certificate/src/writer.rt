@@ -147,14 +147,14 @@ fn write_entries(
     Ok(())
 }
 
-/// The priorities by which a player loses.
+/// The priorities that oppose a player.
 fn lost_by<'a>(odd: &'a [u64], even: &'a [u64], player: u8) -> &'a [u64]
     ensures { result.now ≡ lost_by odd.now even.now player }
 {
     if player == 0 { odd } else { even }
 }
 
-/// Writes the line of a vertex whose winner loses by the given priorities.
+/// Writes the line of a vertex, given the priorities that oppose its winner.
 fn write_entry(
     out: &mut Vec<u8>,
     game: &NamedGame,

@@ -11,8 +11,8 @@ use std::hash::Hash;
 /// How many nodes are made before the table keeps any.
 const PASSED: u32 = 64;
 
-/// The nodes that were made, each by the key from which it was made. The first few are not kept, so that a small
-/// diagram needs no table. They are made again if their keys occur again.
+/// The nodes that were made, each by the key from which it was made. The first few nodes are not kept, so that a small
+/// diagram needs no table. A node that was not kept is made again if its key occurs again.
 #[derive(Drop)]
 pub(crate) struct Memo<K: Eq + Hash> {
     /// The kept nodes, by their keys.

@@ -7,9 +7,10 @@
 //! | `Ids::place(id)`, `has(id)` | the index of an id, or none; whether a number is an id |
 //! | `Ids::list`, `into_list` | the ids in order, all distinct |
 //!
-//! An id whose index is its distance from the start (0, or `first`) is found in constant time. The same holds for an id
-//! that was near the start when it was added: its distance from the start was less than four times the number of ids,
-//! including the new id. All other ids are found in a B-tree in logarithmic time, for every choice of ids.
+//! An id whose index is its distance from the start (0, or `first`) is found in constant time. An id that was near the
+//! start when it was added is found in constant time too. Near means that its distance from the start was less than
+//! four times the number of ids, including the new id. All other ids are found in a B-tree in logarithmic time, for
+//! every choice of ids.
 #![tactic(auto)]
 
 mod ids;

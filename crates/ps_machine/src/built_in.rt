@@ -142,7 +142,7 @@ fn certificate_within<A: Arena>(
     }
 }
 
-/// The certificate from the recursion, or None if the recursion reaches its limit first.
+/// The certificate that the recursion finds, or None if it reaches its limit first.
 fn solved_within<A: Arena>(
     alloc: Global,
     arena: &A,
@@ -211,7 +211,7 @@ fn tried<A: Arena>(
     }
 }
 
-/// The certificate of a game from the recursion, however long the recursion takes.
+/// The certificate that the recursion finds for a game, however long the recursion takes.
 fn certificate_without_bound<A: Arena>(alloc: Global, arena: &A) -> Result<Certificate, SolveFault>
     ensures certificate { IfOk result (IsLeastCertificate (A.game arena.now)) }
     ensures memory { IfErr result (λ fault. fault ≡ faults.OutOfMemory) }

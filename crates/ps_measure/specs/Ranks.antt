@@ -1,4 +1,4 @@
--- The least counts of a player's region for the priorities by which the player loses, and cycles that the player loses.
+-- The least counts of a player's region for the priorities that oppose the player, and cycles that the player loses.
 use Rattle.std.specs.Prelude.{◌≡◌, ℕ, ◌+◌, ◌-◌, ◌*◌, ◌%◌, ◌<◌, ◌≤◌, ◌&&◌, ◌==◌, List, length, map, Option, None, Some}
 use Rattle.std.specs.Prelude.{Bool, IsTrue, nat_lt, slice_get, slice_index}
 use Rattle.ps_game.specs.Games.{ParityGame, vertex_count, priority_of}

@@ -1,15 +1,16 @@
 //! The least counts of a player's region, or a cycle that the player loses.
 //!
 //! [`ranks`] considers the edges that remain inside a region when its player moves according to a table. For each
-//! priority by which the player loses, [`ranks`] returns the least counts that keep the rule of counts. The result also
+//! priority that opposes the player, [`ranks`] returns the least counts that keep the rule of counts. The result also
 //! states how often a count was raised. If the player loses a cycle of such edges, no counts keep the rule, and
 //! [`ranks`] returns such a cycle.
 //!
 //! The counts for one priority are a progress measure (Jurdzinski) for that priority, but the least counts are not
 //! computed by lifting them step by step. If there are many priorities, vertices are first grouped by priority. For
 //! each priority, one search follows the edges backwards from the vertices of that priority. One pass over the strong
-//! components, in the order of that search, then gives each vertex its count. For each priority this takes time
-//! proportional to the number of vertices and edges. Memory is taken by the nonzero counts and by the reversed edges.
+//! components, in the order in which the search finds them, then gives each vertex its count. For each priority this
+//! takes time proportional to the number of vertices and edges. Memory is taken by the nonzero counts and by the
+//! reversed edges.
 //!
 //! | Call | What it gives |
 //! |---|---|

@@ -98,7 +98,7 @@ fn raise_by(cells: &CountCells, head: usize, row: &mut Vec<u64>)
     }
 }
 
-/// The priorities by which a player loses, and the counts of each vertex for them.
+/// The priorities that oppose a player, and the counts of each vertex for them.
 #[derive(Debug, Drop)]
 pub struct Ranks {
     /// The priorities of the game by which the player loses, in ascending order.

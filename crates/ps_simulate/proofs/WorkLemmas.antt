@@ -17,7 +17,7 @@ pub length-work_out : (rows : List Row) (values : List Bool) → length (work_ou
 length-work_out [] values = refl
 length-work_out (r ∷ rows) values = length-work_out rows (work_row values r) ∙ length-set values r.target _
 
--- a value that is not a target does not change
+-- evaluating rows does not change a value that is the target of no row
 pub work_out-other : (rows : List Row) (values : List Bool) (p : ℕ) →
     ((k : ℕ) → k < length rows → (numbered_row rows k).target ≢ p)
     → get_or (work_out rows values) p false ≡ get_or values p false

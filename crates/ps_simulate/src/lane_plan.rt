@@ -94,7 +94,7 @@ fn places_up_to(alloc: Global, count: usize) -> Result<Vec<usize>, AllocError>
     Ok(places)
 }
 
-/// The literal of a wire after the renumbering.
+/// The literal of a wire, with the renumbered index of its variable.
 fn literal(places: &[usize], wire: Wire) -> Literal
     requires places { All (λ p. p < 2 ^ 31) places.now }
     requires within { wire.place < length places.now }
@@ -108,7 +108,7 @@ fn literal(places: &[usize], wire: Wire) -> Literal
     }
 }
 
-/// The literals of some wires after the renumbering. Fails if out of memory.
+/// The literals of some wires, with the renumbered indices of their variables. Fails if out of memory.
 fn literals(alloc: Global, places: &[usize], wires: &[Wire]) -> Result<Vec<Literal>, AllocError>
     requires places { All (λ p. p < 2 ^ 31) places.now }
     requires within { All (λ w. w.place < length places.now) wires.now }
@@ -121,7 +121,7 @@ fn literals(alloc: Global, places: &[usize], wires: &[Wire]) -> Result<Vec<Liter
     Ok(literals)
 }
 
-/// The operands of some rows after the renumbering. Fails if out of memory.
+/// The operands of some rows, with renumbered indices. Fails if out of memory.
 fn gates_of(alloc: Global, places: &[usize], rows: &[Row]) -> Result<Vec<Operands>, AllocError>
     requires places { All (λ p. p < 2 ^ 31) places.now }
     requires within { All (IsRowInTable (length places.now)) rows.now }

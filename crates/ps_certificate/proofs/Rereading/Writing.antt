@@ -263,8 +263,8 @@ read_counts_in true ps {cs} {rest} r same small fits = subst (λ xs. IsReadFrom 
 
 module _ (compact : Bool) (ids odd even : List ℕ) (ids_small : All IsWord ids) (odd_rises : Rises odd)
     (even_rises : Rises even) (odd_small : All IsWord odd) (even_small : All IsWord even) where
-  -- the entry can be written; it has one count for each priority by which the winner loses, and the id of its move is
-  -- the id of a vertex
+  -- the entry can be written; it has one count for each priority that opposes the winner, and the id of its move is the
+  -- id of a vertex
   record IsReadable (entry : EntryData) : Type 0 where
     winner : entry.winner < 2
     counts : length entry.counts ≡ length (lost_by odd even entry.winner)

@@ -54,7 +54,7 @@ module _ {order : Order} {a : AutomatonData} {mask : ℕ} {t u : Table} {rests n
       ];
     }
 
--- the classes of one more state, which were computed while the table grew, and their stored rests
+-- the classes of one more state are computed while the table grows, and their rests are stored
 module _ {order : Order} {a : AutomatonData} {mask : ℕ} {s t u : Table} {rests now : ℕ × ℕ → Option ℕ} {q node : ℕ}
     (c : Classes) {l : List Class} (keeps : Keeps t u) (fit : IsFit order a mask t) (state : q ≤ a.states)
     (same : s ≡ a.store) (is : node ≡ node_of a q) (made : AreClasses s u node mask c.places c.list.items)
