@@ -1,8 +1,7 @@
 -- The gates of a machine's circuit in the order in which they are built, without a limit on their number.
 --     over_variables variables f d      the literal of the Boolean function f of these variables
 --     next_bit b j, output_bit b p      a bit of the machine's step, by memory state and input letter
---     code_made b f latches code d      the literal of such a bit, for the memory states whose codes are `code` plus a
---               number less than 2^latches
+--     code_made b f latches code d      the literal of such a bit, for the codes `code` to `code` + 2^latches - 1
 --     next_wires, output_wires b latches      all literals: the next values of the latches, and then the outputs
 --     IsWired b c      the literals and gates of the circuit are these, in their order
 --     IsOutOfLiterals b      the gates need too many variables, so that there is no circuit

@@ -1,7 +1,6 @@
 -- The correct results of `build`: the automaton of a file, or the first of three faults for which the file has none.
 --     AreAlike row one other      two edges of a row have the same target, and the same sets with those of the row
---     Clash file q first second      two edges of the state q, given by their indices, are both taken at some letter
---               and differ
+--     Clash file q first second      two edges of the state q, given by their indices, share a letter and differ
 --     IsDeterministic file      no edges clash
 --     IsAdmitted file      the file has none of the three faults
 --     IsRefused file fault      the file has this fault, and none of the faults before it

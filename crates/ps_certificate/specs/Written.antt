@@ -4,8 +4,7 @@
 --     entry_line compact odd even ids id entry      the line of the vertex with the given id
 --     IsWritable count odd even entry      the condition under which the line of an entry can be written
 --     IsWord n, HasWords ids c      numbers that fit in 64 bits
---     text_in compact game c      the first line, the number of vertices, the odd and the even priorities, and a line
---               for each vertex
+--     text_in compact game c      the first line, the number of vertices, the priorities, and a line for each vertex
 --     certificate_text, compact_text      the plain text and the compact text
 use Rattle.std.specs.Prelude.{◌≡◌, ℕ, ◌+◌, ◌^◌, ◌<◌, Bool, true, false, ◌==◌, if◌then◌else◌, List, [], ◌∷◌, ◌++◌}
 use Rattle.std.specs.Prelude.{length, decimal, Option, Some, None, IfSome, slice_index}

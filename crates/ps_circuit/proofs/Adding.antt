@@ -1,8 +1,7 @@
 -- The definitions and readings that the lines of one kind add to those of the earlier lines.
 --     LineKind X      for a kind of lines: the literals that items define, and the literals that items read
 --     AddsItem kind c d x      d has one item more than c, the item x
---     Added kind before read d      d has the definitions in `before` and the readings in `read`, followed by those of
---               its items
+--     Added kind before read d      d has the definitions `before` and readings `read`, and then those of its items
 --     input_kind, latch_kind, output_kind, gate_kind      the four kinds of lines
 use Rattle.std.proofs.Common.{arith, ◌≡◌, ℕ, List, [], ◌∷◌, ◌++◌, map, flat_map, refl, rules, append_assoc}
 use Rattle.std.proofs.lemmas.List.{map-append}

@@ -1,6 +1,5 @@
 -- A circuit of gates under construction.
---     Drafted      the number of given variables, and the two literals of each gate; the gates have the next variables,
---               in order
+--     Drafted      the number of given variables, and the two literals of each gate, in order
 --     bit v literal      the value of a literal, if each variable has the value that v gives
 --     MeetsEquations d v      variable 0 is false, and each gate is the conjunction of its two literals
 --     Extends old new      the existing gates remain, with the same variables

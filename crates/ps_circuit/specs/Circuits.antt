@@ -1,6 +1,5 @@
 -- The definition of a circuit.
---     CircuitData      the value of a circuit: its greatest variable, its literals, and an optional name for each
---               input, latch and output
+--     CircuitData      the value of a circuit: its greatest variable, its literals, and the optional names
 --     definitions, readings      the literals that define a variable, and the literals that are read
 --     ReadsGate gates i j, Way      gate i reads gate j; a gate depends on another gate
 --     IsDraft, IsCircuit      all conditions except that no gate depends on itself; all conditions

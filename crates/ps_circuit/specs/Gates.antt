@@ -1,8 +1,7 @@
 -- The gates that a builder makes, in order, without a limit on their number.
 --     Made      the gates so far, and a literal over them
 --     gate_of d s      the literal of the gate that reads the two literals in `s`
---     and_of d x y, or_of d x y, mux_of d s high low      the literals of a conjunction, of a disjunction, and of a
---               choice by s
+--     and_of d x y, or_of d x y, mux_of d s high low      the literals of conjunction, disjunction, and choice by s
 use Rattle.std.specs.Prelude.{ℕ, ◌+◌, ◌*◌, ◌==◌, ◌&&◌, ◌||◌, nat_lt, Bool, if◌then◌else◌, [], ◌∷◌, ◌++◌}
 use Rattle.std.specs.Prelude.{◌≡◌, ◌<◌, Err, IfOk, Result}
 use Rattle.std.specs.List.{list_any, position_or_len}

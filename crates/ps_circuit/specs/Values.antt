@@ -1,9 +1,7 @@
 -- The values of a circuit, and its traces.
 --     bit_of values literal      the value of a literal, if the list has a bit for each variable
---     AreValues c inputs latches values      the list has a bit for each variable of the circuit, and satisfies the
---               circuit's equations
---     HasOneValues c      there are values, and any two lists of values agree on each literal whose variable is 0 or
---               defined
+--     AreValues c inputs latches values      the list has a bit for each variable, and satisfies the equations of c
+--     HasOneValues c      c has values, and any two lists of values agree on all known literals
 --     Steps c latches inputs outputs next      the outputs of a step, and the latches after the step
 --     IsTrace c moments      the latches begin with their resets, and are updated by their next literals
 -- A variable that is not defined may have either value, since no literal of a circuit reads it.

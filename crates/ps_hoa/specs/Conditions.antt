@@ -2,8 +2,7 @@
 --     cond ::= BOOLEAN | ("Inf" | "Fin") "(" "!"? INT ")" | "(" cond ")" | cond "&" cond | cond "|" cond
 -- `&` binds tighter than `|`. Operands that are joined by `&` form one conjunction, and operands that are joined by `|`
 -- form one disjunction. A condition in parentheses is a single operand.
---     condition room      a condition in which `(` may be nested to the depth `room`; the parentheses of `Inf` and
---               `Fin` don't count
+--     condition room      a condition with `(` nested at most `room` deep, not counting `Inf(` and `Fin(`
 use Rattle.std.specs.Prelude.{ℕ, ◌≡◌, ◌<◌, Bool, true, false, List, [], ◌∷◌, codes, if◌then◌else◌, Option}
 use Rattle.std.specs.Prelude.{None, Some}
 use Rattle.std.specs.Str.{bytes_eq}

@@ -1,8 +1,7 @@
 -- The grammar of labels and acceptance conditions without a limit, together with the nesting depth of `!` and `(`. The
 -- depth counts each `!` and each `(` from the sign to the end of its operand, except for the parentheses of `Inf` and
 -- `Fin`. Up to the depth `room`, the grammars of `Labels` and `Conditions` equal this grammar.
---     IsLabel names deep text v, IsCondition deep text v      the tokens are a label or a condition with the meaning
---               `v` and the nesting depth `deep`
+--     IsLabel names deep text v, IsCondition deep text v      the text has the meaning v and the nesting depth `deep`
 --     Within room Nests      the nesting depth is at most `room`
 use Rattle.std.specs.Prelude.{ℕ, ◌≡◌, ◌≤◌, ◌⊎◌, suc, max, true, List, [], ◌∷◌, ◌++◌, Some}
 use Rattle.ps_label.specs.Expression.{Expression, not_of}

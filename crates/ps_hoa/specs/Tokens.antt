@@ -4,11 +4,9 @@
 --     IsBlankRun text      blanks and comments
 --     IsName text      a letter or `_`, followed by letters, digits, `_` and `-`
 --     IsLongestToken kind text rest      a token of this kind, followed by rest: the longest token that can begin here
---     IsToken kind text rest      as `IsLongestToken`, or a token that is never allowed: a comment that is not closed,
---               or a byte that begins no token
+--     IsToken kind text rest      as `IsLongestToken`, or an unclosed comment, or a byte that begins no token
 --     AreTokens at bytes pieces      the tokens of `bytes`, with blanks between them; `at` is the offset of the bytes
---     in_context history pieces      the given tokens, with other kinds for the second occurrence of a name that may
---               occur only once, and for every token after `--END--`
+--     in_context history pieces      these tokens, where repeated names and tokens after `--END--` have other kinds
 use Rattle.std.specs.Prelude.{◌≡◌, ℕ, suc, ◌+◌, ◌<◌, ◌⊎◌, ◌≢◌, ◌||◌, Bool, true, false, List, [], ◌∷◌, ◌++◌, length}
 use Rattle.std.specs.Prelude.{codes, if◌then◌else◌, nat_eq, get_or, set, Option, None, Some}
 use Rattle.std.specs.Str.{bytes_eq}

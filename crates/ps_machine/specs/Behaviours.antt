@@ -2,10 +2,8 @@
 --     Behaviour      a machine's propositions, its player, whether that player moves first; and, for each memory state
 --               and letter of the other player, the next memory state and the letter that is output
 --     IsMachine b      this is the behaviour of a finite machine
---     IsLasso b stem lap      the letters of a run from memory state 0 that is in the same memory state before and
---               after the lap
---     LassosWon file b      the automaton accepts each of these words if the machine is the controller's (player 0),
---               and none of them otherwise
+--     IsLasso b stem lap      a run from memory state 0 is in the same memory state before and after the lap
+--     LassosWon file b      all words of a controller's machine are accepted, or none of an environment's
 use Rattle.std.specs.Prelude.{◌≡◌, ◌≢◌, ℕ, ◌+◌, ◌^◌, ◌<◌, ◌≤◌, ◌⊎◌, ◌↔◌, Bool, false, IsTrue, List, ◌++◌, length}
 use Rattle.std.specs.Prelude.{slice_index}
 use Rattle.std.specs.List.{AllPairs}

@@ -1,7 +1,6 @@
 -- The tokens of the text that is written for a game.
 --     Lexed before bytes ss      the tokens of `bytes`, after the bytes `before`, are these signs
---     comma_signs, list_signs, name_signs, node_signs, nodes_signs      the tokens of each part of the text, followed
---               by further tokens
+--     comma_signs, list_signs, name_signs, node_signs, nodes_signs      the tokens of each part, before further ones
 --     node_made, nodes_made      the nodes that are parsed from the written lines
 --     written_tokens      the tokens of the whole text
 use Rattle.std.proofs.Common.{◌≡◌, ℕ, suc, ◌+◌, ◌^◌, ◌<◌, Bool, true, false, List, [], ◌∷◌, ◌++◌, length, get_or, map}

@@ -1,6 +1,5 @@
 -- Why there is no product.
---     IsProductRefusal order role a c fault      the fault is the first that applies: wrong symbols come before the
---               order of moves
+--     IsProductRefusal order role a c fault      the first fault that applies: wrong symbols, then the order of moves
 --     asked_of role      the circuit's player, 0 for a controller; the opponent owns all vertices
 use Rattle.std.specs.Prelude.{ℕ, ⊤, IsTrue}
 use Rattle.ps_automaton.specs.Automata.{AutomatonData}

@@ -6,8 +6,7 @@
 --     AgreeInWinners compact game a b      in two certificates of the game, each vertex has the same winner
 --     AgreeAsLosing order role file c a b      on both stimuli, the circuit has the wrong verdict
 --     HasOneAnswer solvers      any two answers are equal, or agree as above, or one of them is the line of a fault
---     HasOneCertified solvers      with a given certificate, `synth` has one answer, if the solver replays what it is
---               fed
+--     HasOneCertified solvers      with a given certificate, `synth` has one answer if the solver replays it
 --     NeedsItsTexts solvers      a command with fewer texts than the table wants has one answer, the missing text
 use Rattle.std.specs.Prelude.{◌≡◌, ◌<◌, ◌⊎◌, ◌+◌, ◌-◌, ℕ, Bool, true, false, List, Option, Result, Ok, Err, filter}
 use Rattle.std.specs.Prelude.{length}

@@ -1,7 +1,6 @@
 -- The command that judges a solution of a game.
 --     ReadsSolved texts      the text of a game, and the text of a solution of that game
---     Judges compact named given      the certificate of the solution, or its first flaw, or a cycle that a player
---               loses
+--     Judges compact named given      the solution's certificate, or its first flaw, or a lost cycle
 --     AnswersJudge compact texts      the answer to `judge`
 use Rattle.std.specs.Prelude.{◌≡◌, ◌⊎◌, ◌<◌, ⊤, ℕ, Bool, List, length, Result, Ok, Err, codes, map}
 use Rattle.std.specs.List.{All}

@@ -5,8 +5,7 @@
 --     claimed game won first second      the claim, as a certificate without priorities and counts
 --     AreSizedFor game won first second      the three lists have an entry for each vertex
 --     IsSolution game won first second      each player holds the vertices that it wins by its table
---     IsCycleOf game won first second player cycle      each remaining edge leads to a vertex with the same winner, but
---               the player loses a cycle of such edges
+--     IsCycleOf game won first second player cycle      the solution is closed, but the player loses this cycle
 --     IsRefusal game won first second fault      the fault states what is wrong with the solution
 --     IsCertificateOf game won first second c      the certificate of a solution that holds
 use Rattle.std.specs.Prelude.{◌≡◌, ℕ, ◌<◌, ◌==◌, if◌then◌else◌, List, [], length, map, Option, None, Bool, not}

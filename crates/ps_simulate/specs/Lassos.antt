@@ -1,6 +1,5 @@
 -- The verdict of an automaton on a circuit, a stem that is read once, and a lap that is read repeatedly.
---     IsLetterOf names c m letter      the letter of a step: the bit of a proposition is that of the input or output
---               with its name
+--     IsLetterOf names c m letter      each proposition has the bit of the input or output of its name in the step
 --     RepeatsLatches c stem lap i j trace      the first repetition: the latches before lap j are those before lap i
 --     IsVerdictOf file c stem lap verdict      whether the trace so far is accepted, as a lasso that returns to lap i
 use Rattle.std.specs.Prelude.{◌≡◌, ◌≢◌, ℕ, zero, suc, ◌+◌, ◌-◌, ◌*◌, ◌^◌, ◌<◌, ◌↔◌, Bool, false, IsTrue, List, [], ◌∷◌}

@@ -1,7 +1,6 @@
 -- The inputs and outputs of a circuit that carry the names of an automaton's propositions.
 --     IsSymbol names symbols k p      symbol k is the name of proposition p
---     AreNamesOnce names controllable wanted symbols      the symbols are the names of the controllable propositions
---               (or of the others, if wanted is false), each exactly once, in any order
+--     AreNamesOnce names controllable wanted symbols      the symbols name all propositions of the wanted kind, once
 --     HasSymbols role names controllable c      the circuit has the inputs and outputs of its role
 use Rattle.std.specs.Prelude.{◌≡◌, ℕ, ◌<◌, Bool, true, false, List, [], length, Option, None, Some, slice_index_or}
 use Rattle.ps_hoa.specs.Files.{is_among}

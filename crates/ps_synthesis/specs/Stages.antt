@@ -4,8 +4,7 @@
 --     IsSolverFault May game fault      why a solver's answer is not a valid certificate
 --     IsFaultFor game given fault      the fault of synthesis that a solver's fault becomes, or out of memory
 --     IsCircuitOf order a game certificate circuit      the circuit of the machine of the certificate
---     HasNoCircuit order a game certificate      the circuit of the certificate's machine needs more variables than
---               there are literals
+--     HasNoCircuit order a game certificate      the circuit of the certificate's machine needs too many variables
 --     IsCircuitFault order a game certificate fault      why there is no circuit
 --     of_text, of_automaton, of_circuit      the faults of the layers below
 use Rattle.std.specs.Prelude.{◌≡◌, ℕ, List, Err, map, slice_index}

@@ -6,8 +6,7 @@
 --               left_otherwise, right_otherwise      the next sign does not begin the other form, which is never empty
 --               item_entered      the next sign begins an item of `many`
 --     reads_as, stops_as_well, meets_as w m      a result for P is also a result for Q
---     many_ends, many_reads, many_fails      `many` ends if no item begins; it continues after an item; an item that
---               begins fails
+--     many_ends, many_reads, many_fails      `many` ends if no item begins, continues after an item, or fails in one
 --     times_reads, times_fails      `times` continues after an item; an item fails
 --     carries_many, carries_times      the invariant of a loop still holds after an item
 --     reads_shrinks      parsing a part that takes a sign leaves fewer pieces, which is the measure of a loop

@@ -2,13 +2,11 @@
 --     stops_by, stops_at, quiet_by, quiet_at      no text continues with the next sign; the next sign is not an error
 --     read_quiet      the sign after the parsed text is not an error of the part
 --     fault_begins      the signs before a first fault begin the part
---     fault_from      the first fault of P is also the first fault of R, if R has only texts and errors of P at this
---               position
+--     fault_from      the first fault of P is that of R, if R has only texts and errors of P here
 --     Covers there P Q      at the next sign `there`, Q has only texts and errors of P
 --     read_as, fault_as      a result of P is a result of Q, and a fault of P is a fault of Q
 --     after P left      the remainder of P after the signs `left`
---     read_after, fault_after      a result for the remainder is a result for P, which has no error before that
---               position
+--     read_after, fault_after      a result for the remainder is a result for P, if P has no error before it
 use Rattle.std.proofs.Common.{◌≡◌, ℕ, ◌+◌, ◌⊎◌, List, [], ◌∷◌, ◌++◌, length, Option, Some, refl, ap, subst}
 use Rattle.std.proofs.Common.{inl, ◌∙◌, append_assoc, arith, length-append, rules}
 use Rattle.ps_text.specs.Answers.{Begins, first_of}

@@ -1,10 +1,8 @@
 -- `then_by P Q` is parsed if P and then Q are parsed. The first fault of `then_by P Q` is the first fault of P, or the
 -- first fault of Q after P.
 --     joint      two parts that satisfy the laws have a joint
---     text_behind, cause_behind      after a text of P, a text or error of the two parts belongs to Q, unless P
---               continues
---     begins_left, begins_right      a beginning of P begins the two parts; so does a text of P and then a beginning of
---               Q
+--     text_behind, cause_behind      unless P continues, a text or error of both parts after a text of P is Q's
+--     begins_left, begins_right      a beginning of P begins the two parts; so does a text of P, then one of Q
 --     read_then, fault_left, fault_right      what two parts return, in terms of IsRead and IsFault
 use Rattle.std.proofs.Common.{◌≡◌, ◌⊎◌, List, [], ◌∷◌, ◌++◌, length, Option, Some, refl, ap, subst}
 use Rattle.std.proofs.Common.{inl, inr, append_assoc, append-nil, arith, rules}

@@ -2,8 +2,7 @@
 --     Compared, compared      the three cases of two splits
 --     Placed, placed      the position of a sign of the list: inside the front, or after it
 --     inside_of      a sign before the end of the front is inside the front
---     all_taken_all      a front as long as the list is the whole list, so a fact about all its signs is a fact about
---               all signs
+--     all_taken_all      a fact about all signs of a front as long as the list is a fact about the list
 use Rattle.std.proofs.Common.{◌≡◌, ℕ, suc, ◌+◌, ◌<◌, ◌≤◌, List, [], ◌∷◌, ◌++◌, length, take, drop, refl, sym, ap, subst}
 use Rattle.std.proofs.Common.{◌∙◌, arith, append-nil, length-append, Some, rules}
 use Rattle.std.specs.List.{All}

@@ -1,16 +1,12 @@
 -- The answer to a text, for every format: the meaning of the text, or its first error.
---     Piece, Stream      a sign of a text with the offset of its first byte; the pieces of a text, and the offset of
---               its end
+--     Piece, Stream      a sign of a text with its offset; the pieces of a text, and the offset of its end
 --     Begins IsText front      some text of the grammar begins with the signs `front`
---     NoneGoesOn IsText front there      no text begins with `front` and then the sign `there`; for None: `front` is
---               not a text
---     IsUnexpected IsText front there      some text begins with `front`, but the grammar does not allow the sign
---               `there` (or the end) after `front`
+--     NoneGoesOn IsText front there      no text begins with `front` and `there`; for None: `front` is not a text
+--     IsUnexpected IsText front there      some text begins with `front`, but none continues with the sign `there`
 --     IsClean IsCause all      the text has no error
 --     IsFirst number IsCause front rest f      f is an error between `front` and `rest`, and no other error precedes it
 --     IsFirstAt number IsCause stream found      as `IsFirst`, for signs with offsets
---     Answers IsText IsCause number stream answer      `answer` is Ok with the meaning of the text, or Err with its
---               first error
+--     Answers IsText IsCause number stream answer      Ok with the meaning of the text, or Err with its first error
 -- A format defines its signs: a sign is a token, a byte or a line, together with what a parser can see after it. IsText
 -- states when a list of signs is a text of the grammar, and what the text means. IsCause states when there is an error
 -- after some signs, at the next sign or at the end. If one sign has two errors, the error with the smaller number is

@@ -1,7 +1,6 @@
 -- Texts whose signs are single bytes: their signs, and the parts made of bytes and of runs of bytes.
 --     stream_at at bytes      the signs of the bytes, of which the first is at the offset `at`
---     stream_of text      the signs of a text. If its last line has no newline, a newline is added, at the offset of
---               the end
+--     stream_of text      the signs of a text, with a newline added to its last line if that has none
 --     byte_causes number syntax      the causes of a format in which no byte is an error by itself
 --     byte b, word bytes      the byte b; the given bytes in order
 --     run p see Bad      the longest run of bytes that pass p, at least one. Its value is given by `see` from its

@@ -5,11 +5,9 @@
 --               program is out of memory. For Ok x the contract is `Reads part old (view x) new`, for Err e it is
 --               `Stops causes part old (found e)`
 --     Parses causes part old result new      the contract `Meets`, if the values and errors are those of the grammar
---     Carries causes whole start rest now      the invariant of a loop: the result of parsing `rest` from `now` is also
---               the result of parsing `whole` from `start`
+--     Carries causes whole start rest now      parsing `rest` from `now` gives what parsing `whole` from `start` gives
 --     tail stream      the stream without its next piece
---     refusal_at causes stream      the error for a next sign, or an end, that the grammar does not allow; with its
---               offset
+--     refusal_at causes stream      the error, with its offset, for a sign or an end that is not allowed
 use Rattle.std.specs.Prelude.{◌≡◌, List, [], ◌∷◌, ◌++◌, Option, None, Some, Result, Ok, Err}
 use Rattle.ps_text.specs.Answers.{Piece, Stream, Found, signs, next_of, offset_of}
 use Rattle.ps_text.specs.Parts.{Part, Causes, IsRead, IsFault, refusal_of}

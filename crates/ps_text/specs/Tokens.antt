@@ -3,8 +3,7 @@
 --     IsToken before sign text rest      between the bytes `before` and `rest`, `text` is the token `sign`. With this
 --               relation a format states that a token is the longest one, which tokens are never allowed, and how a
 --               token depends on the bytes around it
---     AreTokens IsBlank IsToken bytes stream      the stream has the tokens of the bytes, in order, possibly with
---               blanks around them
+--     AreTokens IsBlank IsToken bytes stream      the stream has the bytes' tokens, perhaps with blanks around them
 --     TokensDiffer IsBlank IsToken      at most one token begins at a position, and no token begins with a blank. Then
 --               a text has at most one list of tokens, as the law `one_tokenisation` states
 use Rattle.std.specs.Prelude.{◌≡◌, ℕ, List, [], ◌∷◌, ◌++◌, length}

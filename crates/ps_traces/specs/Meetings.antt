@@ -1,8 +1,7 @@
 -- Finite-state controllers, and their meetings with the circuit of an environment. Letters are lists of bits in the
 -- circuit's order: a controller reads one bit for each output of the circuit, and outputs one bit for each input of the
 -- circuit.
---     FiniteController      a size, a first memory state, and tables from a memory state and the letter read to a
---               memory state and a letter
+--     FiniteController      a size, a first memory state, and tables for the next state and the output letter
 --     IsController order c k      the tables stay within their ranges; if outputs come before inputs, the letter that
 --               the controller outputs depends only on the memory state
 --     GoesJointly c k latches memory moments to last      the joint trace from these latches and this memory state

@@ -1,6 +1,5 @@
 -- The machines of a player.
---     IsMachineFor order role file m      the machine has the file's names, reads the propositions that the role reads,
---               and moves first exactly if the role does
+--     IsMachineFor order role file m      the machine has the file's names, and the role's inputs and order of moves
 use Rattle.std.specs.Prelude.{◌≡◌, ℕ, ◌<◌, Bool, not, List, length}
 use Rattle.ps_hoa.specs.Files.{FileData, is_among}
 use Rattle.ps_machine.specs.Behaviours.{Behaviour}

@@ -2,8 +2,7 @@
 --     IsSection kind all before read d      the lines of one kind were parsed: their items are `all`, and the
 --               definitions and readings so far are `before` and `read`, followed by those of the items
 --     reread_section      the lines of one kind are parsed as they were written
---     reread_inputs, reread_latches, reread_outputs, reread_gates      the lines of each of the four kinds are parsed
---               as they were written
+--     reread_inputs, reread_latches, reread_outputs, reread_gates      the lines of each kind are parsed as written
 use Rattle.std.proofs.Common.{◌≡◌, ℕ, ◌+◌, ◌*◌, ◌<◌, ◌≤◌, ◌⊎◌, List, [], ◌∷◌, ◌++◌, length, get_or, map, rules}
 use Rattle.std.proofs.Common.{flat_map, All, Contains, refl, sym, ap, subst, inl, inr, ◌∙◌, arith, append_assoc}
 use Rattle.std.proofs.Common.{append-nil, length-append}

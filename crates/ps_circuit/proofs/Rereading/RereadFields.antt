@@ -1,7 +1,6 @@
 -- Lemmas about parsing the fields of a written line.
 --     from e at text      the stream of `text`, from the offset `at` to the end `e`
---     Rereads part Good text rest      wherever `text` is, the part is parsed from it: its value satisfies `Good`, and
---               `rest` remains
+--     Rereads part Good text rest      the part is parsed from `text`: its value is `Good`, and `rest` remains
 --     reread_then, reread_mapped      two parts are parsed, one after the other; a function is applied to a value
 --     reread_as, reread_branch      an equal text is parsed; one of several forms is parsed
 --     number_then, field_then      a number, or a space and a number, and what follows

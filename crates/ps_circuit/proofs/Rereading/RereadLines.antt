@@ -1,8 +1,7 @@
 -- Lemmas about parsing the first line and each number line of a written circuit.
 --     IsWritable      the counts fit into 64 bits
 --     reread_header      the first line is parsed as it was written
---     IsNew kind most d x      after the lines d, the item x may define its literals, and the literals that it reads
---               are allowed
+--     IsNew kind most d x      after the lines d, item x may define its literals, and read its other literals
 --     reread_input, reread_latch, reread_output, reread_gate      a line of each kind is parsed as it was written
 use Rattle.std.proofs.Common.{◌≡◌, ℕ, ◌^◌, ◌<◌, ◌≤◌, Bool, true, false, if◌then◌else◌, List, [], ◌∷◌, ◌++◌, rules}
 use Rattle.std.proofs.Common.{length, refl, sym, subst, arith, append_assoc}

@@ -2,8 +2,7 @@
 -- tokens.
 --     laws_not, .., laws_right      the laws of single tokens
 --     laws_both, laws_rows, laws_nested      the laws of rows of operands, and of rows in parentheses
---     laws_negation, laws_holding, laws_operand      an operand after `!`, an operand that contains another one, and
---               any operand
+--     laws_negation, laws_holding, laws_operand      an operand after `!`, one that contains another, any operand
 --     joint_bar      a leaf, if no deeper nesting is allowed
 use Rattle.std.proofs.Common.{rules, arith, ◌≡◌, ℕ, zero, suc, Bool, true, List, Option, None, Some, refl}
 use Rattle.ps_text.specs.Parts.{Part, then_by}

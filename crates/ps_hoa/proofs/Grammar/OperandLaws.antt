@@ -2,8 +2,7 @@
 -- parses a row: its invariant, and each way in which the function can return.
 --     Known, Tight      the laws of a part, stated with sets of kinds
 --     laws_behind, laws_held, laws_row      the laws of a token with a part, of a part with `)`, and of a row
---     joint_expect, joint_closed, joint_operands      what follows a token, a `)` after a part, further operands after
---               the first operand
+--     joint_expect, joint_closed, joint_operands      what follows a token, a part with `)`, and the first operand
 --     row_fails, row_alone, row_begins, row_goes_on, row_stops, row_ends      the loop goes on, fails or ends
 use Rattle.std.proofs.Common.{arith, ◌≡◌, Bool, true, false, cond, List, Option, None, Some, inl}
 use Rattle.ps_text.specs.Answers.{Stream, Found, next_of, signs}

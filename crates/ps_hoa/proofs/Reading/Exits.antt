@@ -9,8 +9,7 @@
 --     entered      a token that begins the first of two parts begins both
 --     value_is      the parsed part has this value
 --     Loop item      the laws of the items of a loop
---     loop_more, loop_fails, loop_ends, loop_shrinks      the loop after one more item, at an item that fails, and at
---               its end; and the decreasing measure of the loop
+--     loop_more, loop_fails, loop_ends, loop_shrinks      the loop after one more item, at a wrong item, at its end
 use Rattle.std.proofs.Common.{arith, ◌≡◌, ◌<◌, length, Option, Result, IsErrAnd}
 use Rattle.ps_text.specs.Answers.{Stream, Found, next_of as there_of}
 use Rattle.ps_text.specs.Parts.{Part, then_by, mapped, many}

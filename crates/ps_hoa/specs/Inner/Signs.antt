@@ -1,8 +1,7 @@
 -- Definitions that the parser of single tokens uses.
 --     IsTestOf test kind      only this kind passes the test
 --     inside text      a text without its first and its last byte
---     IsLeaf part      each text of the part begins with a token that is an operand by itself, and cannot be continued
---               by any further token
+--     IsLeaf part      each text of the part begins with a token of an operand, and nothing continues it
 use Rattle.std.specs.Prelude.{ℕ, ◌≡◌, Bool, true, false, List, drop}
 use Rattle.ps_text.specs.Parts.{Part}
 use Rattle.ps_text.proofs.Laws.{Laws, Nothing}

@@ -5,10 +5,8 @@
 --     GoesOn game certificate v w      a path that follows the table of the winner of vertex 0 can continue from v to w
 --     AreMemories is_first keys used kept anchors      the vertex of each memory state, and its anchor
 --     IsPlan ..      the data from which the machine is made
---     IsDrawn .. v node      the diagram leads each letter of the other player to the right row for the memory state
---               whose vertex is v
---     IsReply .. q x r p, IsReplyRow .. q x row      the step of a player who moves second, after the letter x, and the
---               row for this step
+--     IsDrawn .. v node      the diagram leads each letter to the right row for the memory state of v
+--     IsReply .. q x r p, IsReplyRow .. q x row      the second player's step after the letter x, and its row
 use Rattle.std.specs.Prelude.{◌≡◌, ◌≢◌, ℕ, ◌+◌, ◌<◌, ◌≤◌, ◌↔◌, ◌==◌, Bool, true, false, List, [], ◌∷◌, length, Some}
 use Rattle.std.specs.Prelude.{◌++◌, slice_get, slice_index}
 use Rattle.std.specs.List.{All, AllPairs, Contains}

@@ -1,6 +1,5 @@
 -- Lawful parts, and how they are joined into larger parts.
---     Lawful number syntax part First More Null      the laws of the part with these sets of signs, and its outcome for
---               each list of signs
+--     Lawful number syntax part First More Null      the part satisfies the laws with these sets, and has outcomes
 --     Chain number syntax P Q First More Null      P and then Q: their joint, and that the two are lawful as one part
 --     larger      the part is also lawful with larger sets
 --     chained, next, tight      a chain of any two parts; neither part is empty; no sign continues the first part
