@@ -81,7 +81,7 @@ code-suc m w latches latch code upper s d es eu e = grind arith
 
 -- ## One function after another
 
--- the given literals, and then the rest
+-- the result of wiring, with the given literals inserted before its own
 abbrev pub behind : List ℕ → Wired → Wired
 behind literals rest = record { draft = rest.draft; literals = literals ++ rest.literals }
 

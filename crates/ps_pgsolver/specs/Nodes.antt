@@ -39,8 +39,8 @@ pub record IsNewNode (ids : List ℕ) (node : NodeData) : Type 0 where
   pub new : ¬ Contains ids node.id
   pub is_node : IsReadNode node
 
--- Each item of a list is one of the given ids. The next two definitions state this property of the successors of one
--- node, and of the successors of all nodes.
+-- Each item of a list is one of the given ids; `KnowsNode` and `KnowsAll` state this of the successors of one node, and
+-- of all nodes.
 abbrev pub KnowsEach : List ℕ → List ℕ → Type 0
 KnowsEach ids list = All (λ id. Contains ids id) list
 

@@ -142,7 +142,7 @@ with_one_more : (app : App) (usages : List Usage) (usage : Usage) →
 with_one_more app [] usage = refl
 with_one_more app (first ∷ usages) usage = with_one_more (more app first.name first.flags) usages usage
 
--- the table up to a row, and then this row
+-- the table of the first rows, extended by the next row
 pub row_added : (old new app : App) (rows : List Row) (i : ℕ) (default : Row) → i < length rows →
     new ≡ more old (get_or rows i default).name.now (map (λ flag. flag.now) (get_or rows i default).flags.now) →
     old ≡ with_commands app (map usage_of (take i rows)) → new ≡ with_commands app (map usage_of (take (i + 1) rows))

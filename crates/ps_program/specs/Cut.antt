@@ -28,7 +28,7 @@ is_separator text place = begins_line text place
 abbrev pub HasNoSeparator : List ℕ → Type 0
 HasNoSeparator text = (place : ℕ) → place < length text → is_separator text place ≡ false
 
--- the text consists of the first text, its first line `%%`, and the second text
+-- the first line `%%` of the text separates its first part from its second
 pub record Cuts (text first second : List ℕ) : Type 0 where
   pub separator : ℕ
   pub within : separator < length text

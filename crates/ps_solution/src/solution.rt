@@ -8,7 +8,8 @@ use std::marker::Model;
 pub struct Solution {
     /// The vertices that player 0 is claimed to win; player 1 is claimed to win all others.
     pub won: Region,
-    /// The move of each vertex, or none. The parser did not check whether the winner of a vertex owns it.
+    /// The move of each vertex, or none. The parser accepts a move even if the claimed winner of the vertex doesn't own
+    /// it.
     pub moves: Strategy,
 }
 

@@ -33,7 +33,7 @@ pub joint : {T A B F : Type 0} {odd : T → Type 0} {P : Part T A F} {Q : A → 
 joint {T} {A} {P = P} {M1 = M1} l r apart = grind (arith, append_assoc)
 
 module _ {T A B F : Type 0} {P : Part T A F} {Q : A → Part T B F} (j : Joint P Q) where
-  -- Q does not begin inside a beginning of P
+  -- after a text of P, Q does not begin with a sign with which P could continue
   not_inside : {front left right z : List T} {t : T} {a : A} (m : List T) → P.IsText left a → Begins P.IsText front →
       front ≡ left ++ t ∷ m → Begins (Q a).IsText right → right ≡ t ∷ z → ⊥
   not_inside {left = left} {z = z} {t = t} {a = a} m h b e c f = j.text_apart left m z t a h (rw e at b) (rw f at c)

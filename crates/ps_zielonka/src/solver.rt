@@ -95,7 +95,7 @@ fn answer_within<A: Arena, W: Width>(
     Ok(Some(answer))
 }
 
-/// A nest in which each vertex is decided. Fails if out of memory.
+/// A nest that has decided the winner of each vertex. Fails if out of memory.
 fn solved_nest<A: Arena, W: Width>(alloc: Global, arena: &A) -> Result<Nest<W>, AllocError>
     requires { HasRoom (A.game arena.now) W.LIMIT }
     ensures { IfOk result (IsDone (A.game arena.now)) }

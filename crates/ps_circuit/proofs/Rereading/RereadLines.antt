@@ -89,7 +89,7 @@ fields_is (x ∷ xs) rest = search (rules, append_assoc, fields_is xs rest)
 line_is : (x : ℕ) (xs rest : List ℕ) → line x xs ++ rest ≡ decimal x ++ fields_text xs (10 ∷ rest)
 line_is x xs rest = grind (arith, append_assoc, fields_is)
 
--- the text that follows the next literal of a latch
+-- the text of a reset value, with the end of the line; a reset value 0 isn't written
 abbrev reset_text : Bool → List ℕ → List ℕ
 reset_text r rest = if r then 32 ∷ decimal 1 ++ 10 ∷ rest else 10 ∷ rest
 

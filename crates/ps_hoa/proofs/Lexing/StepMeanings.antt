@@ -1,4 +1,4 @@
--- Each step over the bytes is sound: a blank part begins there, or the longest possible token.
+-- Each step of the scan is sound: it skips a blank part, or finds the longest token that begins at its offset.
 --     sound      the step at any bytes is sound
 --     begins_is      the bytes begin with a given word
 --     skip_within, found_within      a step stays within the bytes, and moves on while there are some

@@ -1,6 +1,6 @@
 -- The exits of a parsing function, stated for the remainder of the part that it parses.
 --     Left number syntax whole start left now      a result of `left` from `now` is a result of `whole` from `start`
---     unread, past      before the first part, and after the next part was parsed
+--     unread, past      at the start, the whole is left; after the first of two parts was read, the second is left
 --     stops_at, exits_at      the next part fails; its error is returned
 --     stops_last, exits_last, reads_last      the exits at the last part, to whose value a function is applied
 --     branch      one of several forms follows
