@@ -42,8 +42,9 @@ next_bit b j memory x = is_in j (b.next memory x)
 abbrev pub output_bit : Behaviour → ℕ → StepBit
 output_bit b p memory x = is_in p (b.plays memory x)
 
--- The literal of a bit, for the memory states whose codes are `code` plus a number less than 2^latches. The outermost
--- choice is by the highest of these latches. For one memory state, the bit is a function of the inputs.
+-- The literal of a bit, for the memory states whose codes are `code` plus a number less than 2^latches. If there are
+-- several such memory states, the highest of these latches chooses between two halves of them; for one memory state,
+-- the bit is a function of the inputs.
 unfoldable pub code_made : Behaviour → StepBit → ℕ → ℕ → Drafted → Made
 code_made b f zero code d =
     over_variables (range_with_len 1 (length b.inputs)) (λ bits. f (memory_of_code b code) (letter_over b.inputs bits))

@@ -1,7 +1,6 @@
 -- When an automaton, as its text states it, accepts a word that repeats.
 --     IsRun file w count states sets      a run over the first `count` letters of the word w
---     IsAccepted file stem lap      the lap is not empty; some run reads the stem and some laps to a state, and then at
---               least one more lap back to this state; and the condition is true for the sets met in that last part
+--     IsAccepted file stem lap      some run returns to a state, and the condition is true for what it meets on the way
 use Rattle.std.specs.Prelude.{◌≡◌, ℕ, zero, suc, ◌+◌, ◌*◌, ◌<◌, Bool, IsTrue, List, [], ◌∷◌, length}
 use Rattle.ps_hoa.specs.Files.{FileData}
 use Rattle.ps_hoa.specs.Edges.{Goes}
@@ -18,6 +17,9 @@ abbrev pub part : (ℕ → ℕ → Bool) → ℕ → ℕ → List (ℕ → Bool)
 part sets from zero = []
 part sets from (suc count) = sets from ∷ part sets (from + 1) count
 
+-- The word consists of `stem`, and then of `lap` for ever; `lap` is not empty. Some run reads the stem and some laps to
+-- a state, and then at least one more lap back to this state. The condition is true for the sets that this last part
+-- meets.
 pub record IsAccepted (file : FileData) (stem lap : List ℕ) : Type 0 where
   pub has_letter : 0 < length lap
   pub before : ℕ

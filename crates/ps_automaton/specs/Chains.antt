@@ -8,7 +8,7 @@ use Rattle.std.specs.Prelude.{if◌then◌else◌, nat_eq}
 use Rattle.ps_hoa.specs.Conditions.{SetData, Condition, Conditions, constant, infinitely, finitely, all_hold, any_holds}
 use Rattle.ps_hoa.specs.Conditions.{last, more}
 
--- a set, and whether a part of a run is accepted if this link decides
+-- the set `colour`, and whether a part of a run is accepted if it meets this set and no set of an earlier link
 pub record ChainLink : Type 0 where
   pub colour : ℕ
   pub accepts : Bool

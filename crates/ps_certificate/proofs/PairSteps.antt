@@ -1,7 +1,7 @@
 -- How the pair of a priority and its count is read, and how reading it fails.
 --     zero_fails, positive_reads      a count, which must not be 0
---     priority_fails, priority_open, priority_low, priority_unknown, priority_reads      the priority of a count has an
---               error, or is parsed
+--     priority_fails, .., priority_unknown      the priority of a count has an error
+--     priority_reads      the priority of a count is parsed
 --     past_priority, past_colon, pair_priority      what remains of a pair after its priority, and after its colon
 use Rattle.std.proofs.Common.{◌≡◌, ℕ, ◌≤◌, ◌⊎◌, true, false, List, Option, Some, ap, ◌∙◌, Result, Err, IsErrAnd, refl}
 use Rattle.std.proofs.Common.{sym, subst, inl, inr, arith, rules}

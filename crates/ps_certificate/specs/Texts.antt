@@ -4,6 +4,7 @@
 --     odd p p ..                      odd p p ..
 --     even p p ..                     even p p ..
 --     id winner move m m ..           id winner move p:m p:m ..
+--
 -- Each line ends with one newline, fields are separated by one space, and numbers have no leading zeros. The second
 -- line gives the number of vertices, and the next two list the priorities of the game in ascending order. One line for
 -- each vertex follows, in the game's order: its id, the winner (0 or 1), the winner's move, and one count for each

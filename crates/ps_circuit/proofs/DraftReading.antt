@@ -82,7 +82,7 @@ pub text_unread : {start : Stream Seen} → Left circuit_text start (then_by hea
 unfolding circuit_text
 text_unread = unread
 
--- the four sections of number lines, and what follows them
+-- the text after the header, from the input lines on
 abbrev pub body_inputs : HeaderData → Lines ℕ → Field DraftData
 body_inputs h c = then_by (times h.inputs (input_line h.most) c) (body_latches h)
 

@@ -6,20 +6,21 @@
 --     A lines   lhs rhs0 rhs1
 --     symbols   iK name | lK name | oK name
 --     c         and then anything
+--
 -- A gap is one or more spaces or tabs. Each field of a number line comes after a gap, and a number line may end with a
 -- gap. Numbers may be of any size and have leading zeros. The last newline may be missing. There are as many lines as
 -- the numbers I, L, O and A state, however large these numbers are. A name follows one space, reaches to the end of the
 -- line, and has at least one byte.
---     61 (`Syntax`)      a byte that is not allowed here, or an early end; the letter of a symbol whose K is too large
---               or already has a name
---     62 (`Literal`)      a literal above 2M + 1; an M of 2^31 or more; an input, latch or left side that is odd or
---               below 2; a reset that is not 0, 1 or the latch
+--     61 (`Syntax`)      a byte not allowed here, an early end, or a symbol whose K is too large or already has a name
+--     62 (`Literal`)      a literal above 2M + 1, an M of 2^31 or more, or a wrong input, latch, left side or reset
 --     63 (`DefinedTwice`)      an input, latch or left side whose variable was defined before
 --     66 (`UnsetLatch`)      a reset that is the latch
 --     67 (`Sections`)      a B, C, J or F that is not 0
--- The errors 62, 63, 66 and 67 are reported at the first digit of the wrong number. The first error in the text is
--- reported. If there are several errors at the same offset, the error with the smallest number is reported. If there
--- are none of these errors, one of the following can be reported, in this order:
+--
+-- An input, latch or left side must be even and at least 2, and a reset must be 0, 1 or the latch itself. The errors
+-- 62, 63, 66 and 67 are reported at the first digit of the wrong number, and the error 61 of a symbol at the symbol's
+-- letter. The first error in the text is reported. If there are several errors at the same offset, the error with the
+-- smallest number is reported. If there are none of these errors, one of the following can be reported, in this order:
 --     64 (`Undefined`)      the first literal that is read and whose variable is neither defined nor 0
 --     65 (`Cyclic`)      the line of the first gate that depends on itself
 use Rattle.std.specs.Prelude.{◌≡◌, ◌≢◌, ℕ, zero, suc, ◌+◌, ◌*◌, ◌^◌, ◌<◌, ◌≤◌, ◌⊎◌, List, [], ◌∷◌, ◌++◌, Bool, false}

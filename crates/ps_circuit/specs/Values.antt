@@ -4,6 +4,7 @@
 --     HasOneValues c      c has values, and any two lists of values agree on all known literals
 --     Steps c latches inputs outputs next      the outputs of a step, and the latches after the step
 --     IsTrace c moments      the latches begin with their resets, and are updated by their next literals
+--
 -- A variable that is not defined may have either value, since no literal of a circuit reads it.
 use Rattle.std.specs.Prelude.{◌≡◌, ℕ, ◌+◌, ◌&&◌, Bool, false, not, if◌then◌else◌, List, [], ◌∷◌, map, length}
 use Rattle.std.specs.Prelude.{slice_index_or, All}

@@ -28,8 +28,8 @@ pub(crate) struct Cut {
 }
 
 impl Store {
-    /// The diagram that has the leaf of `one`, or none, at letters at which `truth` has a leaf, and that of `other`
-    /// elsewhere.
+    /// A diagram that chooses between two others: at a letter at which `truth` has a leaf it agrees with `one`, and at
+    /// every other letter it agrees with `other`.
     pub fn choose(&mut self, truth: Node, one: Node, other: Node) -> Result<Node, AllocError>
         requires truth { IsNode self.old truth }
         requires one { IsNode self.old one }

@@ -1,10 +1,8 @@
 -- The properties of the arguments of each header item. There is a section for each item, and a row in `form`.
---     IsForm h part      the properties of a part that follows an item's name, if the earlier items gave h: its laws,
---               of which only the tokens that continue it matter; an outcome for each list of tokens; and the invariant
---               of the items so far
---     form h item      the arguments of this item have these properties; judge_item: the errors at its name
---     joint_.., .._loop, .._begins, .._serves      lemmas about the parts of the arguments, for the functions that
---               parse them
+--     IsForm h part      the properties of a part that follows an item's name, if the earlier items gave h
+--     form h item      the arguments of this item have these properties
+--     judge_item      the error at an item's name can be decided
+--     joint_.., .._loop, .._begins, .._serves      lemmas for the functions that parse the arguments
 use Rattle.std.proofs.Common.{arith, rules, ◌≡◌, ◌<◌, true, Bool, ℕ, List, [], length, Some, refl, sym, ap, ◌∙◌}
 use Rattle.ps_text.specs.Answers.{Stream, next_of as there_of}
 use Rattle.ps_text.specs.Parts.{Part, give, times, many, mapped, barred}
@@ -70,6 +68,8 @@ ItemMore = Of is_argument
 abbrev pub Anything : Sign → Type 0
 Anything t = Unit {0}
 
+-- Of the part's laws, only the tokens that continue the part matter. The part has an outcome for each list of tokens,
+-- and keeps the invariant of the items so far.
 pub record IsForm (h : HeaderData) (part : Part Sign HeaderData HoaCause) : Type 0 where
   pub laws : Laws Odd part Anything ItemMore (Unit {0})
   pub has : Has part

@@ -2,6 +2,7 @@
 --     state ::= "State:" ("[" label "]")? INT STRING? sets? edge*
 --     edge  ::= ("[" label "]")? INT sets?
 --     sets  ::= "{" INT* "}"
+--
 -- The label of a state is the label of each of its edges. If neither a state nor its edges have labels, the edges have
 -- implicit labels: edge k is taken at the letter k, in which proposition i is bit i.
 --     BodyData      the rows so far, and the number of their edges

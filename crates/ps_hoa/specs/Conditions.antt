@@ -1,5 +1,6 @@
 -- Acceptance conditions:
 --     cond ::= BOOLEAN | ("Inf" | "Fin") "(" "!"? INT ")" | "(" cond ")" | cond "&" cond | cond "|" cond
+--
 -- `&` binds tighter than `|`. Operands that are joined by `&` form one conjunction, and operands that are joined by `|`
 -- form one disjunction. A condition in parentheses is a single operand.
 --     condition room      a condition with `(` nested at most `room` deep, not counting `Inf(` and `Fin(`

@@ -3,6 +3,7 @@
 --     IsTaken file row edge letter      an edge of this row is taken at this letter
 --     is_marked row edge set      an edge of this row is in this set
 --     Goes file q letter marks next      at this letter, an edge with these sets leads from q to `next`
+--
 -- A letter is a number whose bit i is proposition i.
 use Rattle.std.specs.Prelude.{◌≡◌, ℕ, ◌^◌, ◌<◌, ◌||◌, Bool, IsTrue, List, [], ◌∷◌, length, nat_eq, if◌then◌else◌}
 use Rattle.std.specs.Prelude.{Option, None, Some, slice_get}

@@ -2,6 +2,7 @@
 --     item ::= "States:" INT | "Start:" INT | "AP:" INT STRING* | "Alias:" ANAME label | "Acceptance:" INT cond
 --            | "controllable-AP:" INT* | "tool:" STRING STRING? | "name:" STRING
 --            | HEADERNAME (BOOLEAN | INT | STRING | IDENTIFIER)*
+--
 -- Items may be in any order; an alias must come before its use.
 --     HeaderData      the values that the items so far give; header_data: those of a stored header
 --     item_in s      the item with this name

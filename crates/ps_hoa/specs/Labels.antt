@@ -1,5 +1,6 @@
 -- Label expressions:
 --     label ::= BOOLEAN | INT | ANAME | "!" label | "(" label ")" | label "&" label | label "|" label
+--
 -- `!` binds tightest, then `&`, then `|`. Operands that are joined by `&` form one conjunction, and operands that are
 -- joined by `|` form one disjunction. An expression in parentheses is a single operand.
 --     label scope room      a label in which `!` and `(` may be nested to the depth `room`

@@ -1,9 +1,10 @@
 -- When two machines behave in the same way.
---     BehavesAs b c      the machines have the same propositions and player; from each memory state, for every letter
---               read, they go to the same memory state and output the same letter
+--     BehavesAs b c      the machines have equal propositions, players, memory states and steps
 use Rattle.std.specs.Prelude.{◌≡◌, ℕ, ◌<◌}
 use Rattle.ps_machine.specs.Behaviours.{Behaviour}
 
+-- From each memory state, for every letter read, the two machines go to the same memory state and output the same
+-- letter.
 pub record BehavesAs (b c : Behaviour) : Type 0 where
   pub names : b.names ≡ c.names
   pub inputs : b.inputs ≡ c.inputs

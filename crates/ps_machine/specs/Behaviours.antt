@@ -1,6 +1,5 @@
 -- What the finite machine of a player does, for one order of moves, and the words that the machine makes.
---     Behaviour      a machine's propositions, its player, whether that player moves first; and, for each memory state
---               and letter of the other player, the next memory state and the letter that is output
+--     Behaviour      a machine's propositions and player, and its steps at the letters of the other player
 --     IsMachine b      this is the behaviour of a finite machine
 --     IsLasso b stem lap      a run from memory state 0 is in the same memory state before and after the lap
 --     LassosWon file b      all words of a controller's machine are accepted, or none of an environment's

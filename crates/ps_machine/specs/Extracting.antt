@@ -2,6 +2,7 @@
 --     IsUsed game certificate v      v ends a path from vertex 0 that follows the table of the winner of vertex 0
 --     IsRepresentative .. v      v is the smallest of the used first-player vertices that share its memory state
 --     IsMachineOf board mover keys game certificate m      the machine, whose memory states are the kept vertices
+--
 -- A winner who moves first remembers the current vertex. A winner who moves second remembers only the state of the
 -- vertex.
 use Rattle.std.specs.Prelude.{◌≡◌, ℕ, ◌+◌, ◌-◌, ◌<◌, ◌==◌, Bool, true, false, not, List, length, Some, slice_index}

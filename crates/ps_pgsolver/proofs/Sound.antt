@@ -1,5 +1,5 @@
--- Two facts about parts of the grammar: the value of a text without errors has certain properties, and a part has the
--- same texts when the ids are known.
+-- In a text without errors, the successors of all nodes are known ids. The game that a text describes does not depend
+-- on which ids are known.
 use Rattle.std.proofs.Common.{◌≡◌, ℕ, zero, suc, true, false, ltb, List, [], ◌∷◌, ◌++◌, Option, None, Some, refl, sym}
 use Rattle.std.proofs.Common.{rules, ap, subst, inl, inr, ⊎_elim, ◌∙◌, append_assoc, arith}
 use Rattle.std.proofs.lemmas.Bool.{cases_Bool, ltb-true, ltb-false}

@@ -1,6 +1,7 @@
 -- PGSolver's game texts: their grammar, and its possible errors.
 --     game ::= ("parity" N ";")? ("start" N ";")? node+
 --     node ::= N N N N ("," N)* name? ";"
+--
 -- The fields of a node are its id, priority, owner and successors. The value of a text is the list of its nodes.
 -- `known` is the list of the ids of the text's nodes, or none if these ids are not known yet. If the ids are known,
 -- each successor must be one of them.

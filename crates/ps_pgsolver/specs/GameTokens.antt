@@ -2,6 +2,7 @@
 --     IsByteRun p text rest      text is a run of bytes that pass p, and rest does not begin with such a byte
 --     IsToken before sign text rest      text is the token `sign`, between the bytes `before` and `rest`
 --     AreGameTokens text stream      the tokens of a whole text, with blanks between them
+--
 -- A number is a longest run of digits, a word is a longest run of letters, and a name is between quotes. Some tokens
 -- are never allowed: a word directly after a number, a number directly after a word, a name without its closing quote,
 -- and any other byte.

@@ -40,7 +40,7 @@ position_at {order = order} is k i at =
     ∙ ap (λ x. Some x) e in
     omega (arith, less, is.once j k i there at))) (λ _. eq-eqb _ _ here)
 
--- the places that a gate reads have a lower rank than the gate's place
+-- a gate reads only places whose rank is lower than the rank of the gate's own place
 pub rank_falls : {c : CircuitData} {order : List ℕ} → IsOrder (ReadsGate c.gates) (length c.gates) order →
     (place lower : ℕ) → IsBelow c place lower → rank c order lower < rank c order place
 rank_falls {c} {order} is place lower b = elim b.below [

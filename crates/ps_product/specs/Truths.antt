@@ -2,8 +2,7 @@
 --     truth_at t truth letter      whether the truth is true at the letter
 --     IsTruth t truth      the truth is `Never`, `Always`, or a node that is true at some but not all letters
 --     bits_at propositions letter      the bits of these propositions at a letter
---     IsTruthOf c propositions latches t truth literal      at each letter of these propositions, which the circuit
---               reads as its inputs, the truth is the bit of the literal at these latches
+--     IsTruthOf c propositions latches t truth literal      the truth is the literal's bit at each letter
 --     AreTruthsOf, IsOutcome      as `IsTruthOf`, for lists; for the outputs and the next latches
 use Rattle.std.specs.Prelude.{◌≡◌, ℕ, ◌^◌, ◌<◌, Bool, true, false, not, is_some, if◌then◌else◌, List, length, map}
 use Rattle.std.specs.Prelude.{slice_get, Some}
@@ -39,6 +38,8 @@ bit_by_wire w b = if w.is_negated then not b else b
 abbrev pub bits_at : List ℕ → ℕ → List Bool
 bits_at propositions letter = map (λ p. is_in p letter) propositions
 
+-- At each letter, the circuit reads the bits of these propositions as its inputs, and the truth is the bit of the
+-- literal at these latches.
 pub record IsTruthOf (c : CircuitData) (propositions : List ℕ) (latches : List Bool) (t : Table) (truth : Truth)
     (literal : ℕ) : Type 0 where
   pub is_truth : IsTruth t truth
@@ -51,7 +52,7 @@ pub record AreTruthsOf (c : CircuitData) (propositions : List ℕ) (latches : Li
   pub each : (k literal : ℕ) (truth : Truth) → slice_get truths k ≡ Some truth → slice_get literals k ≡ Some literal →
       IsTruthOf c propositions latches t truth literal
 
--- the bits of truths at a letter
+-- whether each of the truths is true at the letter
 abbrev pub bits_of : Table → List Truth → ℕ → List Bool
 bits_of t truths letter = map (λ truth. truth_at t truth letter) truths
 

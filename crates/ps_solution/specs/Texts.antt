@@ -1,6 +1,7 @@
 -- PGSolver's solutions of a game: their grammar, and its possible errors.
 --     solution ::= ("paritysol" N ";")? entry+
 --     entry ::= N W N? ";"
+--
 -- The fields of an entry are the id of a vertex, its winner W, which is the number 0 or 1, and a move, which is the id
 -- of a vertex. `ids` are the ids of the game's vertices, in order. The value of a text is its entries for these
 -- vertices.

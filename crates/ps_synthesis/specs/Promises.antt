@@ -1,8 +1,6 @@
 -- What a report guarantees about the text from which it is made.
 --     IsAcceptedText text file      the text is that of a file that has an automaton
---     KeepsPromise May order compact text report      the printed game is the automaton's; the printed certificate
---               divides its vertices into two regions, each of which is won by the printed moves; the printed circuit
---               is that of the player who wins vertex 0
+--     KeepsPromise May order compact text report      the printed game, certificate and circuit are right
 use Rattle.std.specs.Prelude.{◌≡◌, ◌↔◌, ℕ, Bool, IsTrue, List, Ok}
 use Rattle.ps_automaton.specs.Answers.{IsAdmitted}
 use Rattle.ps_certificate.specs.Certificates.{CertificateData}
@@ -23,6 +21,8 @@ pub record IsAcceptedText (text : List ℕ) (file : FileData) : Type 0 where
   pub reads : ReadsFile text (Ok file)
   pub admitted : IsAdmitted file
 
+-- The printed game is the automaton's. The printed certificate divides its vertices into two regions, each of which is
+-- won by the printed moves. The printed circuit plays for the player who wins vertex 0.
 pub record KeepsPromise (May : MayAnswer) (order : Order) (compact : Bool) (text : List ℕ) (report : Report) : Type 0
   where
     pub file : FileData

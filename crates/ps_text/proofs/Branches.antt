@@ -1,10 +1,9 @@
 -- The exits of a parsing function at a choice and in a loop. The module Meeting has lemmas of the same names for a
 -- `Meets` whose view is written out.
---     Stands there P Q      at the next sign `there`, parsing P has the same result as parsing Q. It is proved by
---               left_entered, right_entered      the next sign begins this form of `either`, or is an error of this
---               form
---               left_otherwise, right_otherwise      the next sign does not begin the other form, which is never empty
---               item_entered      the next sign begins an item of `many`
+--     Stands there P Q      at the next sign `there`, parsing P has the same result as parsing Q
+--     left_entered, right_entered      `Stands`: the next sign begins this form of `either`, or is an error of it
+--     left_otherwise, right_otherwise      `Stands`: the next sign does not begin the other form, which is never empty
+--     item_entered      `Stands`: the next sign begins an item of `many`
 --     reads_as, stops_as_well, meets_as w m      a result for P is also a result for Q
 --     many_ends, many_reads, many_fails      `many` ends if no item begins, continues after an item, or fails in one
 --     times_reads, times_fails      `times` continues after an item; an item fails

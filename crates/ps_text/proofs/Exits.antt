@@ -1,23 +1,24 @@
 -- The exits of a parsing function. The contract of a parsing function is `Meets found causes view part old result new`:
 -- a `Reads` for an Ok, and a `Stops` for an Err. The contracts of the functions that are called have the same form:
 -- `c.call.ensures` and `c.in_err-call.ensures`.
---     reads_then j m n      the first call parsed its part (m), and the other calls parsed the remaining part (n). Nest
---               this lemma for successive calls. j is the `Joint` of the two parts (proofs/Laws.antt)
+--     reads_then j m n      the first call parsed its part (m), and the other calls parsed the remaining part (n)
 --     stops_first causes j old o s      the first call failed, so the function fails
 --     stops_behind causes j m o s      the first call parsed its part, and a later call failed
 --     reads_next, stops_bad, stops_refusal      one sign: it is taken; it is bad; it is not allowed, or the text ends
 --     reads_give, reads_mapped, stops_mapped      no sign was taken; another function is applied to the value
---     exits found causes view part old new e r s c      the exit of a `?`. s is the Stops of the error e, and c states
---               that the result r is this error, `c.from_residual.ensures.1`. For example, these calls parse
---               `line = then_by number (λ n. mapped (λ _. n) semicolon)`:
---                   let n = number(tokens)?; semicolon(tokens)?; Ok(n)
---               With the joint j of the two parts, their proof is:
---                   returns-in_err-n c = exits found causes view line _ _ _ _
---                       (stops_first causes j _ _ c.in_err-n.ensures) c.from_residual.ensures.1
---                   returns c = reads_then j c.in_ok-n.ensures (reads_mapped _ c.in_ok-semicolon.ensures)
+--     exits found causes view part old new e r s c      the exit of a `?`, which returns the error e as the result r
 --     then_meets      the result of the last call is returned unchanged
---     carries_start, carries_then, carries_reads, carries_stops      the invariant of a loop: before the loop, after a
---               call, and at the exits of the loop
+--     carries_start, carries_then, carries_reads, carries_stops      the invariant of a loop, and its exits
+--
+-- Nest `reads_then` for successive calls; j is the `Joint` of the two parts (proofs/Laws.antt). In `exits`, s is the
+-- Stops of the error, and c states that the result is this error, `c.from_residual.ensures.1`. For example, these calls
+-- parse `line = then_by number (λ n. mapped (λ _. n) semicolon)`:
+--         let n = number(tokens)?; semicolon(tokens)?; Ok(n)
+--
+-- With the joint j of the two parts, their proof is:
+--         returns-in_err-n c = exits found causes view line _ _ _ _
+--             (stops_first causes j _ _ c.in_err-n.ensures) c.from_residual.ensures.1
+--         returns c = reads_then j c.in_ok-n.ensures (reads_mapped _ c.in_ok-semicolon.ensures)
 use Rattle.std.proofs.Common.{arith, ◌≡◌, ◌≤◌, List, [], ◌∷◌, ◌++◌, Option, None, Some, Result, Ok, Err, IsErrAnd, refl}
 use Rattle.std.proofs.Common.{sym, ap, ◌∙◌, append_assoc, rules}
 use Rattle.std.proofs.lemmas.Result.{err_from_is_err_and}

@@ -1,12 +1,7 @@
 -- The laws of a part, as a record, and the laws of two parts in a row.
---     Laws odd part First More Null      each list of signs has at most one value. First holds for each sign that
---               begins a text of the part, or that is an error of the part at its start. More holds for each sign that
---               continues a text of the part, or that is an error after such a text. Null holds if the empty list is a
---               text. The sets may be larger than that (`weaker`). Each error follows a beginning of a text. `odd` are
---               the signs that are errors by themselves: they occur in no text, and no part has an error there. The
---               part has at least one text
---     Joint P Q      what `then_by P Q` requires: no sign both continues P and begins Q. The lemma `joint` derives it
---               from the laws
+--     Laws odd part First More Null      the laws of a part; First and More are the signs that begin and continue it
+--     Joint P Q      no sign both continues P and begins Q; the lemma `joint` derives this from the laws
+--
 -- State the laws of each production of a grammar once, as in `laws_entry : Laws odd entry EntryFirst EntryMore ⊥`.
 -- Prove them with the lemma of its outermost combinator (proofs/Combined.antt) and with `weaker`, for sets that the
 -- format defines.
@@ -14,6 +9,11 @@ use Rattle.std.proofs.Common.{◌≡◌, ◌⊎◌, List, [], ◌∷◌, ◌++�
 use Rattle.ps_text.specs.Answers.{Begins}
 use Rattle.ps_text.specs.Parts.{Part}
 
+-- Each list of signs has at most one value. First holds for each sign that begins a text of the part, or that is an
+-- error of the part at its start. More holds for each sign that continues a text of the part, or that is an error after
+-- such a text. Null holds if the empty list is a text. The sets may be larger than that (`weaker`). Each error follows
+-- a beginning of a text. The signs `odd` are errors by themselves: they occur in no text, and no part has an error
+-- there. The part has at least one text.
 pub record Laws {T V F : Type 0} (odd : T → Type 0) (part : Part T V F) (First More : T → Type 0)
     (Null : Type 0) : Type 0 where
   pub some : Begins part.IsText []

@@ -1,7 +1,6 @@
 -- Each part of a grammar has an outcome for each list of signs: it is parsed, or its first fault is found. The proof is
 -- by recursion over the grammar. Only single signs need a decision: which error has the smallest number (Judged).
---     has_give, has_one, has_mapped, has_then, has_either, has_times, has_many, has_barred      one lemma for each
---               combinator
+--     has_give, .., has_barred      a part that this combinator makes has an outcome for each list of signs
 --     entered_or_broken      the next sign enters a part that takes a sign, or the part is broken there
 --     has_refusal      the outcome if the next sign does not begin the part
 --     some_answer      each text that is one part has an answer; some_answer_of is the law of ps_text

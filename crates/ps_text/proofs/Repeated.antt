@@ -4,6 +4,7 @@
 --     read_nothing, read_none      if no item begins here, `many` is parsed as the empty list
 --     joint_many, joint_times      the joint of an item and the items after it
 --     read_item      `many` is parsed if an item and then `many` are parsed
+--
 -- The laws of `many` are those of `upto n`, up to n items: each text and error of `many` is one of `upto n` for some n.
 use Rattle.std.proofs.Common.{rules, ◌≡◌, ℕ, zero, suc, ◌+◌, ◌<◌, ◌≤◌, List, [], ◌∷◌, ◌++◌, length, Option, Some, refl}
 use Rattle.std.proofs.Common.{sym, ap, inl, inr, ⊎_elim, arith}

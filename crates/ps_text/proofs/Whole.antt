@@ -3,6 +3,7 @@
 --     first_fault      the first fault of the part is the first error of the text
 --     trailing      the part was parsed, and a sign follows: the first error is that this sign is not allowed
 --     answers_ok, answers_fault, answers_trailing      as the three lemmas above, from the contract `Meets`
+--
 -- The laws of the part are required with `Own causes` for `odd`: the signs that are errors by themselves.
 use Rattle.std.proofs.Common.{rules, ◌≡◌, ◌<◌, ◌≤◌, ◌⊎◌, List, [], ◌∷◌, ◌++◌, length, Option, None, Some, Ok, Err}
 use Rattle.std.proofs.Common.{refl, sym, ap, subst, inl, inr, ◌∙◌, append_assoc, append-nil, arith, length-append, drop}

@@ -7,6 +7,7 @@
 --     IsFirst number IsCause front rest f      f is an error between `front` and `rest`, and no other error precedes it
 --     IsFirstAt number IsCause stream found      as `IsFirst`, for signs with offsets
 --     Answers IsText IsCause number stream answer      Ok with the meaning of the text, or Err with its first error
+--
 -- A format defines its signs: a sign is a token, a byte or a line, together with what a parser can see after it. IsText
 -- states when a list of signs is a text of the grammar, and what the text means. IsCause states when there is an error
 -- after some signs, at the next sign or at the end. If one sign has two errors, the error with the smaller number is

@@ -3,9 +3,7 @@
 --     stream_of text      the signs of a text, with a newline added to its last line if that has none
 --     byte_causes number syntax      the causes of a format in which no byte is an error by itself
 --     byte b, word bytes      the byte b; the given bytes in order
---     run p see Bad      the longest run of bytes that pass p, at least one. Its value is given by `see` from its
---               offset and its bytes. Bad states which errors the run can have; such an error is a fault at the run's
---               first byte, whatever follows
+--     run p see Bad      the longest run of bytes that pass p, with at least one byte
 use Rattle.std.specs.Prelude.{◌≡◌, ℕ, ◌+◌, ◌<◌, Bool, false, List, [], ◌∷◌, ◌++◌, length, map, Option, None, Some, ◌==◌}
 use Rattle.std.specs.Prelude.{◌&&◌, ◌||◌, nat_le, not, if◌then◌else◌}
 use Rattle.ps_text.specs.Answers.{Piece, Stream}
@@ -82,6 +80,8 @@ pub record IsByteRun {V : Type 0} (p : ℕ → Bool) (see : ℕ → List ℕ →
   pub all : AllOf p (bytes_of text)
   pub value : v ≡ see (first_at text) (bytes_of text)
 
+-- The value of a run is given by `see` from its offset and its bytes. Bad states which errors the run can have; such an
+-- error is a fault at the run's first byte, whatever follows.
 abbrev pub run : {V C : Type 0} → (ℕ → Bool) → (ℕ → List ℕ → V) → (List ℕ → C → Type 0) → Part Seen V C
 run p see Bad = record { IsText = IsByteRun p see; IsCause = λ front s f. (front ≡ []) × IsBadRun p Bad s f }
 

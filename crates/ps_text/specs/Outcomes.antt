@@ -1,9 +1,9 @@
 -- The outcome of a part at the start of a list of signs, and the statement that each text has an answer.
 --     Outcome causes part all      the part is parsed at the start of `all`, or has a first fault in `all`
 --     HasOutcomes causes part      the part has an outcome for each list of signs
---     IsOrderly causes part      a sign that is an error by itself occurs in no text of the part, and the part has no
---               error of its own at such a sign. Each error of the part follows a beginning of a text of the part
+--     IsOrderly causes part      each error follows a beginning of a text, and is not at a sign that is an error itself
 --     HasSomeAnswer IsText IsCause number      each text has an answer: its meaning or its first error
+--
 -- The outcome of a part does not depend on memory: it is the result of a parser that does not run out of memory.
 use Rattle.std.specs.Prelude.{◌≡◌, ℕ, List, ◌∷◌, ◌++◌, Option, Some, Result}
 use Rattle.ps_text.specs.Answers.{Begins, Stream, Found, Answers}
@@ -16,6 +16,8 @@ pub data Outcome {T V F : Type 0} (causes : Causes T F) (part : Part T V F) (all
 pub record HasOutcomes {T V F : Type 0} (causes : Causes T F) (part : Part T V F) : Type 0 where
   pub outcome : (all : List T) → Outcome causes part all
 
+-- A sign that is an error by itself occurs in no text of the part, and the part has no error of its own at such a sign.
+-- Each error of the part follows a beginning of a text of the part.
 pub record IsOrderly {T V F : Type 0} (causes : Causes T F) (part : Part T V F) : Type 0 where
   pub behind : (front : List T) (t : T) (f : F) → part.IsCause front t f → Begins part.IsText front
   pub in_no_text : (front rest : List T) (t : T) (v : V) (f : F) → part.IsText (front ++ t ∷ rest) v →

@@ -1,28 +1,25 @@
 -- Grammars composed of parts. A part is a grammar together with the errors that its texts can have. Combinators join
 -- parts, so that a grammar reads like the grammar in the standard of the format.
---     Part      IsText: these signs are a text of the part with this value. IsCause: after these signs of the part, the
---               next sign is an error of this kind. A sign that the grammar itself does not allow is not an error of a
---               part
---     Causes      the causes of a format: their numbers, the error that a sign is by itself wherever it occurs, and the
---               error for a sign (or an end) that the grammar does not allow
+--     Part      which lists of signs are a text with a given value, and which errors can follow which signs
+--     Causes      the causes of a format, with their numbers
 --     IsWrong causes part      an error of a text whose grammar is the part: the IsCause of `Answers`
---     IsRead part all v rest      the part was parsed at the start of `all`: its longest text, without an error up to
---               and including the next sign
+--     IsRead part all v rest      the part was parsed at the start of `all`, and `rest` is left
 --     IsFault causes part all f rest      the part has its first fault in `all`, and `rest` begins there
+--
 -- The combinators:
 --     give v      no sign, with the value v
---     one take Bad      one sign, whose value `take` gives. Bad states which errors a sign has here, whether `take`
---               accepts the sign or not
+--     one take Bad      one sign, whose value `take` gives; Bad states which errors a sign has here
 --     then_by P (λ a. Q a)      P and then Q, which may depend on the value a of P; the value is that of Q
 --     either P Q      a text of P or a text of Q
---     times n item c, many item c      n items, or any number of items, in a row. `item c` is the item in the context
---               c. Its value is the context of the next item, and the last context is the value of the whole
+--     times n item c, many item c      n items, or any number of items, in a row; c is the context of the first
 --     mapped h P      P with the value h v in place of v
 --     barred P Bad      P with additional errors, which Bad finds at the sign after P, given the value of P
+--
 -- For example, the grammar of a list of numbers such as `1, 2, 3;` is as follows:
 --         number = one number_of IsTooLarge
 --         more ns = then_by comma (λ _. mapped (λ n. ns ++ n ∷ []) number)
 --         list = then_by number (λ n. then_by (many more (n ∷ [])) (λ ns. mapped (λ _. ns) semicolon))
+--
 -- For each production, a private clause of the parser states that the production was parsed, or that its first fault
 -- was found (specs/Readers.antt). The theorems in proofs/ combine these statements, and derive `Answers` for a text
 -- whose grammar is one part.
@@ -31,10 +28,14 @@ use Rattle.std.specs.Prelude.{Result}
 use Rattle.std.specs.Option.{unwrap_or}
 use Rattle.ps_text.specs.Answers.{Begins, IsUnexpected, Stream, Found, Answers, first_of}
 
+-- IsText: these signs are a text of the part with this value. IsCause: after these signs of the part, the next sign is
+-- an error of this kind. A sign that the grammar itself does not allow is not an error of a part.
 pub record Part (T V F : Type 0) : Type 1 where
   pub IsText : List T → V → Type 0
   pub IsCause : List T → T → F → Type 0
 
+-- the number of each cause, the error that a sign is by itself wherever it occurs, and the error for a sign (or an end)
+-- that the grammar does not allow
 pub record Causes (T F : Type 0) : Type 0 where
   pub number : F → ℕ
   pub own : T → Option F
@@ -111,6 +112,7 @@ pub record IsFault {T V F : Type 0} (causes : Causes T F) (part : Part T V F) (a
 abbrev pub give : {T V F : Type 0} → V → Part T V F
 give v = record { IsText = λ text x. (text ≡ []) × (x ≡ v); IsCause = λ _ _ _. ⊥ }
 
+-- a sign can have an error here whether `take` accepts it or not
 abbrev pub one : {T V F : Type 0} → (T → Option V) → (T → F → Type 0) → Part T V F
 one {T} take Bad = record {
   IsText = λ text v. (t : T) × (text ≡ t ∷ []) × (take t ≡ Some v);
@@ -151,6 +153,8 @@ either P Q = record {
   IsCause = λ front t f. P.IsCause front t f ⊎ Q.IsCause front t f;
 }
 
+-- `item c` is the item in the context c. Its value is the context of the next item, and the last context is the value
+-- of all items.
 abbrev pub times : {T C F : Type 0} → ℕ → (C → Part T C F) → C → Part T C F
 times zero item c = give c
 times (suc n) item c = then_by (item c) (λ d. times n item d)

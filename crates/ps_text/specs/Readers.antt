@@ -1,9 +1,6 @@
 -- What a parsing function states about the part that it parses: the part was parsed, or its first fault was found.
 -- `old` and `new` are the unread pieces when the function begins and when it returns: the Model of the code's tokens.
---     Meets found causes view part old result new      the contract of a parsing function. `view` maps the function's
---               value to the value of the grammar. `found` maps an error to the error of the text, or to None if the
---               program is out of memory. For Ok x the contract is `Reads part old (view x) new`, for Err e it is
---               `Stops causes part old (found e)`
+--     Meets found causes view part old result new      the contract of a parsing function
 --     Parses causes part old result new      the contract `Meets`, if the values and errors are those of the grammar
 --     Carries causes whole start rest now      parsing `rest` from `now` gives what parsing `whole` from `start` gives
 --     tail stream      the stream without its next piece
@@ -47,6 +44,8 @@ Stops causes part old (Some found) = StopsWith causes part old found
 abbrev pub Reads : {T V F : Type 0} → Part T V F → Stream T → V → Stream T → Type 0
 Reads part old v new = IsSuffix old new × IsRead part (signs old.pieces) v (signs new.pieces)
 
+-- `view` maps the function's value to the value of the grammar. `found` maps an error of the function to the error of
+-- the text, or to None if the program is out of memory.
 abbrev pub Meets : {T V F X E : Type 0} → (E → Option (Found F)) → Causes T F → (X → V) → Part T V F → Stream T →
     Result X E → Stream T → Type 0
 Meets found causes view part old (Ok x) new = Reads part old (view x) new

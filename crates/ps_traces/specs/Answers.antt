@@ -1,9 +1,7 @@
 -- The properties of the winner's circuit. The winner's circuit is a controller if the automaton can be realised, and
 -- otherwise an environment.
 --     role_of player      player 0 is the controller
---     IsWitness order file player c      the circuit has the shape of its role; all of its words are accepted, or none;
---               each input extends to a lasso word; and the meeting of an environment with every finite-state
---               controller extends to a lasso word, which is rejected
+--     IsWitness order file player c      the circuit has its role's shape, and all of its words are accepted, or none
 use Rattle.std.specs.Prelude.{◌≡◌, ◌≢◌, ℕ, List, if◌then◌else◌, nat_eq}
 use Rattle.ps_hoa.specs.Files.{FileData}
 use Rattle.ps_circuit.specs.Circuits.{CircuitData, IsCircuit}
@@ -24,6 +22,8 @@ pub record LosesMeeting (file : FileData) (c : CircuitData) (k : FiniteControlle
   pub one : (count : ℕ) → IsOneMeeting c k count
   pub rejected : IsRejected file c k
 
+-- All words of a controller's circuit are accepted, and none of an environment's. Each input extends to a lasso word.
+-- The meeting of an environment with every finite-state controller extends to a lasso word, which is rejected.
 pub record IsWitness (order : Order) (file : FileData) (player : ℕ) (c : CircuitData) : Type 0 where
   pub is_circuit : IsCircuit c
   pub shape : HasShape order (role_of player) file c

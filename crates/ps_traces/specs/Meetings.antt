@@ -2,8 +2,7 @@
 -- circuit's order: a controller reads one bit for each output of the circuit, and outputs one bit for each input of the
 -- circuit.
 --     FiniteController      a size, a first memory state, and tables for the next state and the output letter
---     IsController order c k      the tables stay within their ranges; if outputs come before inputs, the letter that
---               the controller outputs depends only on the memory state
+--     IsController order c k      the tables stay within their ranges, and the controller outputs its letters in time
 --     GoesJointly c k latches memory moments to last      the joint trace from these latches and this memory state
 --     MeetsInLasso c k      the joint trace extends to a lasso trace, which also returns to the same memory state
 --     IsRejected file c k      the automaton does not accept the word of the meeting's lasso trace

@@ -1,6 +1,5 @@
 -- The shape of the circuit of a player.
---     HasShape order role file c      the inputs and outputs are those of the role, by name; and if that player moves
---               first, the outputs are equal for all inputs whenever the latches are equal
+--     HasShape order role file c      the inputs and outputs are those of the role, by name, and outputs come in time
 --     SeesNoInputWhereReached c      at latches that some trace reaches, the outputs do not depend on the inputs
 use Rattle.std.specs.Prelude.{◌≡◌, Bool, true, false, IsTrue, List}
 use Rattle.ps_hoa.specs.Files.{FileData}

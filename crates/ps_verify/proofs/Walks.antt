@@ -1,7 +1,6 @@
 -- The letters of a trace of the circuit lead from vertex to vertex of the product.
 --     Counted      counts that keep the rule for a priority
---     left      the count of a vertex, as it is after the vertex was entered: it does not rise along an edge, and it
---               falls along an edge of the given priority
+--     left      the count of a vertex after it was entered; it falls along an edge of the given priority
 --     walk      the vertex to which letters lead, and how the count falls on the way
 use Rattle.std.proofs.Common.{◌≡◌, ℕ, ◌+◌, ◌<◌, ◌≤◌, ◌⊎◌, inl, inr, Bool, List, [], ◌∷◌, length, refl, ◌∙◌}
 use Rattle.std.proofs.Common.{arith, Some}

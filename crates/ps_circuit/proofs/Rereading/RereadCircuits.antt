@@ -1,6 +1,5 @@
 -- Lemmas about parsing the number lines of a written circuit, all lines of one kind at a time.
---     IsSection kind all before read d      the lines of one kind were parsed: their items are `all`, and the
---               definitions and readings so far are `before` and `read`, followed by those of the items
+--     IsSection kind all before read d      the lines of one kind were parsed, and gave the items `all`
 --     reread_section      the lines of one kind are parsed as they were written
 --     reread_inputs, reread_latches, reread_outputs, reread_gates      the lines of each kind are parsed as written
 use Rattle.std.proofs.Common.{◌≡◌, ℕ, ◌+◌, ◌*◌, ◌<◌, ◌≤◌, ◌⊎◌, List, [], ◌∷◌, ◌++◌, length, get_or, map, rules}
@@ -72,6 +71,7 @@ module _ {c : CircuitData} (draft : IsDraft c) where
 
 -- ## The lines of one kind
 
+-- the parsed items are `all`; the definitions and readings are `before` and `read`, followed by those of the items
 pub record IsSection {X : Type 0} (kind : LineKind X) (all : List X) (before read : List ℕ) (d : Lines X) : Type 0 where
   pub items : d.items ≡ all
   pub defined : d.defined ≡ map variable (before ++ kind.defines all)

@@ -3,8 +3,9 @@
 --     within, within_both, apart      a set, or two sets, are within another set; two sets have no common kind
 --     test_of      a set has exactly one kind
 --     plain      no kind of the set is an error by itself
---     laws_sign, laws_value, laws_expect      the laws of a token whose kind is in a set: any token; a token that can
---               have an error only if it has a value; a token without a value
+--     laws_sign      the laws of a token whose kind is in a set
+--     laws_value      the laws of a token whose kind is in a set, and which has no error unless it has a value
+--     laws_expect      the laws of a token whose kind is in a set, and which has no value
 --     laws_behind_option      a part that follows a part which may be empty
 use Rattle.std.proofs.Common.{rules, ◌≡◌, ℕ, zero, suc, ◌<◌, Bool, true, not, cond, List, [], ◌∷◌, length, get_or}
 use Rattle.std.proofs.Common.{Option, None, Some, is_some, sym, ap, subst, ◌∙◌, arith, ◌&&◌, ◌||◌}

@@ -1,7 +1,6 @@
 -- For each list of tokens, labels and acceptance conditions have an outcome: they are parsed, or they have a first
 -- error.
---     has_signs, has_int, has_string, has_expect, has_loop      these parts have an outcome: a single token, a number,
---               a string, a token of a given kind, a loop
+--     has_signs, has_int, has_string, has_expect, has_loop      tokens, numbers, strings and loops have an outcome
 --     has_infix      rows of the operands of a grammar have an outcome
 --     has_label, has_condition      labels and acceptance conditions have an outcome
 use Rattle.std.proofs.Common.{arith, Option, None, Some, ℕ, zero, suc, Bool, true, false, List}

@@ -4,6 +4,7 @@
 --     header_fails, body_fails      the header, or the body after it, has a first error
 --     ends_answers      header and body were parsed, and the text ends after them
 --     trails_answers      header and body were parsed, and a token follows them
+--
 -- The hypothesis `reads` states that the meaning of the tokens after the version, or the first error in them, is the
 -- answer to the text.
 use Rattle.std.proofs.Common.{◌≡◌, ℕ, List, [], ◌∷◌, Some, Result, Ok, Err, IsErrAnd, refl, sym, ap, subst, ◌∙◌, rules}

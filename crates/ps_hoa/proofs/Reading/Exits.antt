@@ -3,8 +3,10 @@
 --     serves_as, itself, serves_both      `Serves` holds because of the next token; for a part and itself; in two steps
 --     serves_meets      a result that meets the contract of P also meets that of Q
 --     Leads P old Q now      if Q, read from `now`, stops at an error, then P, read from `old`, stops at the same error
---     here, first, behind, under, instead      `Leads` holds for P itself, for the first of two parts, for a part after
---               one that was parsed, for a part with another view of its value, and for a part that replaces another
+--     here, first      a part leads to itself, and two parts in a row lead to the first
+--     behind      two parts in a row, of which the first was parsed, lead to what the second leads to
+--     under      a part leads to the same part with another value
+--     instead      if each result of P is also a result of Q, then Q leads to what P leads to
 --     exit      at a `?`: the function returns the error that was found
 --     entered      a token that begins the first of two parts begins both
 --     value_is      the parsed part has this value

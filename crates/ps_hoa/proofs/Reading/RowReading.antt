@@ -1,6 +1,5 @@
 -- The loop that parses operands with a connective between them.
---     IsRow sign operand old vs now      the operands with the values `vs` were parsed from `old` to `now`; if there is
---               only one operand, the next token is the connective
+--     IsRow sign operand old vs now      the operands with the values `vs` were parsed from `old` to `now`
 --     Row sign operand      the hypotheses of the lemmas about rows
 --     first_fails, first_alone      the first operand fails, or is the only operand
 --     row_starts, row_more, row_shrinks      the invariant of the loop and its measure
@@ -43,6 +42,7 @@ pub record Row {V : Type 0} (sign : Kind → Bool) (kind : Kind) (operand : Part
   pub laws : Laws Odd operand First More ⊥
   pub apart : Apart More (Of sign)
 
+-- if only one operand was parsed, the next token is the connective
 pub record IsRow {V : Type 0} (sign : Kind → Bool) (operand : Part Sign V HoaCause) (old : Stream Sign) (vs : List V)
     (now : Stream Sign) : Type 0 where
   pub carries : Carries hoa_causes (operands sign operand) old (many (λ ws. further sign operand ws) vs) now

@@ -3,8 +3,7 @@
 --     Chain number syntax P Q First More Null      P and then Q: their joint, and that the two are lawful as one part
 --     larger      the part is also lawful with larger sets
 --     chained, next, tight      a chain of any two parts; neither part is empty; no sign continues the first part
---     given, mapped_by, either_of, or_nothing, many_by, many_of, one_sign, run_by      the laws of the other
---               combinators
+--     given, mapped_by, either_of, or_nothing, many_by, many_of, one_sign, run_by      the laws of other combinators
 --     byte_of, word_of, word_from, chain_word      the laws of bytes and words
 use Rattle.std.proofs.Common.{◌≡◌, ◌⊎◌, ℕ, Bool, true, List, [], ◌∷◌, Option, Some, rules}
 use Rattle.ps_text.specs.Parts.{Part, give, one, then_by, either, many, mapped}
