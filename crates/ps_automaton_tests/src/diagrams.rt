@@ -97,7 +97,7 @@ fn paired(alloc: Global, store: &mut Store) -> Result<([Option<u64>; 2], usize),
     Ok(([store.eval(paired, 1), store.eval(paired, 0)], pairs.len()))
 }
 
-/// The results of all calls, over two propositions.
+/// The results of the operations on diagrams, with two propositions.
 #[derive(Debug, Drop, PartialEq, Eq)]
 struct Answered {
     changed: [Option<u64>; 3],

@@ -49,13 +49,13 @@ pub own_move : (game : ParityGame) (certificate : CertificateData) (v : ℕ) →
     owner_of game v ≡ winner_of certificate v → (w : ℕ) × (choice_of certificate v ≡ Some w) × HasEdge game v w
 own_move game certificate v right own = some_of (choice_of certificate v) (HasEdge game v) (right.own own)
 
--- a move that is not right is wrong
+-- a vertex that has no right move has a wrong one
 pub HasWrongMove-from_not_right : (game : ParityGame) (certificate : CertificateData) (v : ℕ) →
     ¬ HasRightMove game certificate v → HasWrongMove game certificate v
 HasWrongMove-from_not_right game certificate v not_right =
     grind (arith, cases_eq (owner_of game v) (winner_of certificate v))
 
--- a move that is right is not wrong
+-- a vertex that has a right move has no wrong one
 pub not_wrong_when_right : {game : ParityGame} {certificate : CertificateData} {v : ℕ} →
     HasRightMove game certificate v → HasWrongMove game certificate v → ⊥
 not_wrong_when_right h k = search rules

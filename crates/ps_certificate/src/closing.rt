@@ -85,9 +85,9 @@ pub(crate) fn unsound_at<A: Arena>(
     }
 }
 
-/// Checks that no move is wrong, and that each remaining edge leads to a vertex with the same winner. Otherwise returns
-/// the first flaw by vertex. At the same vertex, a wrong move precedes the edges to the other winner, which are in the
-/// order of successors. Ignores priorities and counts. Allocates no memory.
+/// Checks that no move is wrong, and that each remaining edge leads to a vertex with the same winner. The error is the
+/// flaw of the first vertex that has one. At the same vertex, a wrong move precedes the edges to the other winner,
+/// which are in the order of successors. Ignores priorities and counts. Allocates no memory.
 ///
 /// # Errors
 ///

@@ -51,13 +51,13 @@ impl Noted {
 
 /// A kind of number lines: inputs, latches, outputs or gates.
 pub trait Line {
-    /// The content of a line of this kind.
+    /// The value that is read from one line.
     type Item: Drop;
 
-    /// The grammar of one more line of this kind, given what was read before it.
+    /// The grammar of the next line, given what was read before it.
     ghost part: { ℕ → Lines Self.Item → Field (Lines Self.Item) };
 
-    /// What a further line adds to the lines before it.
+    /// What the next line adds to the lines before it.
     ghost adds: { ℕ → Lines Self.Item → Lines Self.Item → Type 0 };
 
     /// Reads a line.

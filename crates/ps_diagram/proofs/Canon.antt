@@ -36,7 +36,7 @@ from-blind level n (choice p low high) o f g e =
 pub blind-from : (level n : ℕ) (t : Tree) → IsFrom level n t → IsBlind level t
 blind-from level n t o f g e = from-blind level n t o f g (λ q h b. e q h)
 
--- the leaf of a side is the leaf of the test at the letter whose tested proposition is set to this side
+-- at a letter in which the tested proposition is set to v, a test has the leaf of its side for v
 pub side_leaf : (p : ℕ) (v : Bool) (t low high : Tree) → IsTestOf p low high t → IsBlind (p + 1) low →
     IsBlind (p + 1) high → (f : ℕ → Bool) → leaf_at t (changed f p v) ≡ cond v (leaf_at high f) (leaf_at low f)
 side_leaf p v t low high h bl bh f = grind (arith, changed-here, changed-later)

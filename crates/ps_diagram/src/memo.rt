@@ -39,7 +39,7 @@ impl<K: Eq + Hash + Copy + Drop> Memo<K> {
         self.table.get(&key).copied()
     }
 
-    /// Keeps the node of a key, unless it is one of the first few.
+    /// Keeps the node of a key. The first `PASSED` calls keep nothing.
     pub(crate) fn put(&mut self, key: K, node: Node) -> Result<(), AllocError>
         ensures put { (q : K) → (get K.eq self.new.table q ≡ get K.eq self.old.table q)
             ⊎ ((K.eq key q ≡ true) × (get K.eq self.new.table q ≡ Some node)) }

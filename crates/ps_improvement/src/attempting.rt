@@ -31,9 +31,9 @@ pub enum Attempted {
     Found {
         /// The vertices that player 0 may win.
         won: Region,
-        /// The moves by which player 0 may win these vertices.
+        /// The moves by which player 0 may win the vertices in `won`.
         first: Strategy,
-        /// The moves by which player 1 may win the other vertices.
+        /// The moves by which player 1 may win the vertices outside `won`.
         second: Strategy,
     },
     /// The fuel, or the number of cells that it allows, was used up before a result was reached.

@@ -125,8 +125,8 @@ impl Plan {
         Ok(true)
     }
 
-    /// The new row of a vertex, which follows from the choice of the vertex's owner, if the new row is worth less than
-    /// the present value.
+    /// The row that follows from the choice of the vertex's owner, or none if that row is not worth less than the
+    /// vertex's present value.
     fn lower_row<A: Arena>(
         &self,
         arena: &A,

@@ -25,7 +25,8 @@ const GROWTH: u64 = 64;
 /// a vertex is placed about ten times on average.
 const PLACED_EACH: u64 = 256;
 
-/// How many more times the recursion may place a vertex in the first round, whatever the size of the game.
+/// How many times the recursion may place a vertex in the first round, in addition to `PLACED_EACH` for each vertex of
+/// the game.
 const PLACED_BESIDE: u64 = 1024;
 
 /// How many cells an attempt may read or write, for each time that the recursion may place a vertex. With this number,

@@ -61,7 +61,7 @@ module _ {game : ParityGame} {player : ℕ} {set : ℕ → Bool} {table : ℕ �
     bounded = λ v. omega (arith, least.bounded v, same v);
   }
 
-  -- the rows with the counts for one more priority
+  -- the rows are right for one more priority, if the counts for it were added to them
   pub ranked_more : {priorities : List ℕ} {old new : List Row} {place raises raised : ℕ} {counts : ℕ → ℕ} →
       AreLeastFor game player set table (slice_index priorities place) counts → HasColumn old new place counts →
       raised ≡ raised_below counts (vertex_count game) → AreRanked game player set table priorities old place raises →

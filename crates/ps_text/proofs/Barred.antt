@@ -1,8 +1,10 @@
 -- `barred P Bad` adds the errors that `Bad` states at the sign after P. P does not continue with a sign at which `Bad`
 -- states an error.
---     laws_barred; read_barred      P is parsed, and `Bad` states no error at the sign after it
---     fault_barred      P's own fault; fault_bar      `Bad` states an error at the sign after P
---     reads_barred, stops_barred, stops_bar      these results, at the exits of a parsing function
+--     laws_barred      the laws of `barred P Bad`
+--     read_barred      P is parsed, and `Bad` states no error at the sign after it
+--     fault_barred      the fault is P's own
+--     fault_bar      `Bad` states an error at the sign after P
+--     reads_barred, stops_barred, stops_bar      the exits of a parsing function in these three cases
 use Rattle.std.proofs.Common.{◌≡◌, ◌+◌, ◌≤◌, ◌⊎◌, List, [], ◌∷◌, ◌++◌, length, Option, Some, sym, ap, subst, inl}
 use Rattle.std.proofs.Common.{inr, ⊎_elim, ◌∙◌, append_assoc, arith, rules}
 use Rattle.ps_text.specs.Answers.{Begins, Stream, Found, first_of, next_of, offset_of}

@@ -1,6 +1,6 @@
 -- The laws of single tokens of the header: names, numbers, strings and aliases.
 --     Named name      the tokens that are this name
---     laws_item_name, laws_int, laws_string, laws_proposition_name, laws_new_alias      the laws of these tokens
+--     laws_item_name, laws_int, laws_string, laws_proposition_name, laws_new_alias      the laws of single tokens
 --     laws_alternating      a token that `&` must not follow
 --     item_header      the name of an item is a name
 use Rattle.std.proofs.Common.{arith, ◌≡◌, ℕ, ◌||◌, Bool, true, false, cond, List, [], codes, Option, None, Some}

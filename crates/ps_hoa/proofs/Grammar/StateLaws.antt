@@ -1,5 +1,5 @@
 -- The laws of states and of the whole body, and how their parts are joined.
---     laws_state, laws_states, laws_ended, laws_body      the laws of these parts
+--     laws_state, laws_states, laws_ended, laws_body      the laws of one state, of all states, and of the body
 --     joint_state, joint_state_label, joint_number, joint_name, joint_marks      how the parts of a state are joined
 --     joint_body      how the states and `--END--` are joined
 use Rattle.std.proofs.Common.{rules, arith, ◌≡◌, ℕ, Bool, List, [], codes, Option, Some, refl}

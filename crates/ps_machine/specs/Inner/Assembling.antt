@@ -2,7 +2,7 @@
 --     AreDrawn .. t rows nodes n      the first n memory states have their diagrams, and the rows are the player's
 --     AreListedBelow n is list      the numbers less than n with that property, ascending
 --     IsAssembled .. m      the machine's propositions, diagrams and rows are right
---     machine_of player is_first propositions diagrams      the machine with these parts
+--     machine_of player is_first propositions diagrams      the player's machine with these propositions and diagrams
 --     HasRoles is_first board inputs outputs      which propositions are read and which are output
 use Rattle.std.specs.Prelude.{◌≡◌, ℕ, ◌<◌, ◌≤◌, Bool, not, List, length, map, slice_index, IsTrue}
 use Rattle.std.specs.List.{All, AllPairs}

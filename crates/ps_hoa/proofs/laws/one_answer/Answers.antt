@@ -1,4 +1,4 @@
--- This law is the lemma `one_reading`.
+-- The law `one_answer` is the lemma `one_reading`.
 use Rattle.ps_hoa.proofs.Outcomes.OneReading.{one_reading}
 use Rattle.ps_hoa.proofs.laws.one_answer.Goals as goal
 

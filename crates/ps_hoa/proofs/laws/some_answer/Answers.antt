@@ -1,4 +1,4 @@
--- This law is the lemma `some_reading`.
+-- The law `some_answer` is the lemma `some_reading`.
 use Rattle.ps_hoa.proofs.Outcomes.SomeReading.{some_reading}
 use Rattle.ps_hoa.proofs.laws.some_answer.Goals as goal
 

@@ -1,4 +1,4 @@
--- This law is the lemma `sound_file`.
+-- The law `sound_files` is the lemma `sound_file`.
 use Rattle.ps_hoa.proofs.Soundness.SoundFiles.{sound_file}
 use Rattle.ps_hoa.proofs.laws.sound_files.Goals as goal
 

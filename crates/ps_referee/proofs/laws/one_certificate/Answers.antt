@@ -1,4 +1,4 @@
--- The law is the lemma `one_certificate`.
+-- The law `one_certificate` is the lemma `one_certificate`.
 use Rattle.ps_referee.proofs.OneVerdict.{one_certificate}
 use Rattle.ps_referee.proofs.laws.one_certificate.Goals as goal
 

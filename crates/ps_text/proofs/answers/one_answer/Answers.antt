@@ -1,4 +1,4 @@
--- The law is proved by a lemma.
+-- The law `one_answer` is proved by a lemma.
 use Rattle.ps_text.proofs.OneAnswer.{has_one_answer}
 use Rattle.ps_text.proofs.answers.one_answer.Goals as goal
 

@@ -1,4 +1,4 @@
--- The law is proved by a lemma.
+-- The law `some_answer` is proved by a lemma.
 use Rattle.ps_text.proofs.Outcomes.{some_answer_of}
 use Rattle.ps_text.proofs.answers.some_answer.Goals as goal
 

@@ -1,4 +1,4 @@
--- The law is proved by a lemma.
+-- The law `one_tokenisation` is proved by a lemma.
 use Rattle.ps_text.proofs.OneTokenisation.{has_one_tokenisation}
 use Rattle.ps_text.proofs.tokens.one_tokenisation.Goals as goal
 
