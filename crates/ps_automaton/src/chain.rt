@@ -25,7 +25,7 @@ pub(crate) struct Link {
 pub(crate) struct Chain {
     /// The links, in order.
     pub links: Vec<Link>,
-    /// Whether a part is accepted in which no link's set is met.
+    /// Whether a part of a run is accepted if it meets no link's set.
     pub base: bool,
 }
 
@@ -129,7 +129,7 @@ fn link_of(operand: &Cond, accepts: bool) -> Option<Link>
     }
 }
 
-/// Appends the link of a single set to `links`, and returns the base.
+/// Appends the link of a single set to `links`, and returns the base of the chain.
 fn one_link(
     set: u32,
     complemented: bool,

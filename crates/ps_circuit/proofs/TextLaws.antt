@@ -1,6 +1,6 @@
 -- The laws of the parts of an AIGER text: the bytes that can begin a part, and the bytes that can continue it. The laws
 -- of the smallest parts are in SignLaws.
---     fields      the chain of a gap, a number, and what follows it
+--     fields      the laws of a gap, a number, and the text after them
 --     chain_..      a part of a production and what follows it
 use Rattle.std.proofs.Common.{◌≡◌, ℕ, zero, suc, Bool, false, eqb, List, Some, refl, inl, inr, rules}
 use Rattle.std.specs.Prelude.{codes}

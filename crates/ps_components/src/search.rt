@@ -20,7 +20,8 @@ pub struct Pending {
     to: usize,
 }
 
-/// A path of components. The items of a component can reach one another, and they begin at the bound of the component.
+/// A path of components. Each component is a range of the active items, which begins at the component's entry in
+/// `bounds`; its items can reach one another.
 #[derive(Drop)]
 pub struct Search {
     /// The state of each item.

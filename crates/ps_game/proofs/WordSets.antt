@@ -1,4 +1,4 @@
--- Sets of vertices in words, and how a change of a word changes the set.
+-- Sets of vertices that are stored in machine words, and how a change of a word changes the set.
 use Rattle.std.proofs.Common.{◌≡◌, ◌≢◌, ℕ, zero, suc, ◌+◌, ◌-◌, ◌*◌, ◌/◌, ◌%◌, ◌^◌, ◌<◌, ◌≤◌, Bool, true, rules, false}
 use Rattle.std.proofs.Common.{not, cond, ◌==◌, ◌&&◌, List, [], ◌∷◌, ◌++◌, map, length, take, get_or, set, max}
 use Rattle.std.proofs.Common.{length-set, add-zero, w64, refl, sym, ap, ap₂, ◌∙◌, subst, arith}

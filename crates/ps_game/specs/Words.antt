@@ -1,4 +1,4 @@
--- Sets of vertices in words of 64 bits: vertex 64·w + b is bit b of word w.
+-- Sets of vertices that are stored in words of 64 bits: vertex 64·w + b is bit b of word w.
 use Rattle.std.specs.Prelude.{◌≡◌, ℕ, ◌+◌, ◌*◌, ◌/◌, ◌%◌, ◌^◌, ◌≤◌, ◌<◌, ◌==◌, Bool, false, List, length, map}
 use Rattle.std.specs.Prelude.{slice_index}
 use Rattle.std.specs.Int.{bit_at}

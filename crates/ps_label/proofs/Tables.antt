@@ -44,7 +44,7 @@ truths_grow known letter (e ∷ es) =
     let r = truths_grow (known ++ b ∷ []) letter es in
     (b ∷ r.0, r.1 ∙ append_assoc known (b ∷ []) r.0, ap suc r.2)
 
--- each entry of the table is the truth of its alias by the same table
+-- each entry of the table is the truth of its alias's expression, computed with the same table
 table_from : (known : List Bool) (letter : ℕ) (es : List Expression) → AreOverFrom (length known) 64 es →
     (k : ℕ) → k < length es → get_or (truths_behind known letter es) (length known + k) false ≡ truth
     (truths_behind known letter es) letter (get_or es k (constant false))

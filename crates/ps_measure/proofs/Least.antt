@@ -55,7 +55,7 @@ module _ (r : RemainingData) (low : LowData) (is_game : IsGame r.game) (levels :
   light_none : (v : ℕ) → v < vertex_count r.game → priority_of r.game v ≢ low.priority → low_weight low v ≡ 0
   light_none v below apart = search (rules, ne_eqb)
 
-  -- counts that keep the rule grow along the links of the graph
+  -- numbers that keep the rule of counts are counts of the graph of links
   from_rule : (other : ℕ → ℕ) → KeepRuleWithin r.game r.player (has r.region) (move_at r.strategy) low.priority other →
       AreCounts (low_graph low) (low_weight low) other
   from_rule other keep w v link =

@@ -125,7 +125,7 @@ impl Problem {
         self.report_of_certified(alloc, certificate, compact)
     }
 
-    /// The report that a previously checked certificate gives.
+    /// The report for a certificate that was checked before.
     ///
     /// # Errors
     ///

@@ -16,9 +16,9 @@ use crate::report::Report;
 use ps_machine::{Order, Solver};
 use std::alloc::Global;
 
-/// The report of an HOA text. The report has three texts. The first is the game of the automaton in a given order of
-/// moves. The second is the certificate that the given solver returns for the game, plain or compact. The third is the
-/// circuit of the player who wins the start vertex.
+/// The report of an HOA text has three texts: the game of the automaton in the given order of moves; the certificate
+/// that the given solver returns for this game, plain or compact; and the circuit of the player who wins the start
+/// vertex.
 ///
 /// # Errors
 ///

@@ -173,8 +173,8 @@ impl<W: Width> Board<W> {
         None
     }
 
-    /// Takes back the vertices of the trail from index `turn` on. Those that the player won are then no longer placed;
-    /// the others are placed again, at the given level. Fails if out of memory.
+    /// Takes back the vertices of the trail from index `turn` on: a vertex that the player won is then no longer
+    /// placed, and any other vertex is placed again, at the given level. Fails if out of memory.
     pub fn reopen(&mut self, frame: &Frame, level: Level) -> Result<(), AllocError>
         requires turn { HasTurn self.old.tables W.LIMIT frame.now.turn }
         requires winners { length self.old.winner.items ≡ length self.old.tables.level }
