@@ -2,7 +2,8 @@
 --     CircuitData      the value of a circuit: its greatest variable, its literals, and the optional names
 --     definitions, readings      the literals that define a variable, and the literals that are read
 --     ReadsGate gates i j, Way      gate i reads gate j; a gate depends on another gate
---     IsDraft, IsCircuit      all conditions except that no gate depends on itself; all conditions
+--     IsDraft      all conditions on a circuit, except that no gate depends on itself
+--     IsCircuit      all conditions on a circuit
 use Rattle.std.specs.Prelude.{◌≡◌, ◌≢◌, ℕ, ◌+◌, ◌*◌, ◌%◌, ◌<◌, ◌≤◌, ◌⊎◌, ◌^◌, List, [], ◌∷◌, ◌++◌, length, map}
 use Rattle.std.specs.Prelude.{slice_get, Option, None, Some, All, AllPairs, Contains}
 use Rattle.std.specs.List.{flat_map}

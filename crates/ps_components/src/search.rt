@@ -269,7 +269,7 @@ fn reset(statuses: &mut Statuses, items: &[usize])
     }
 }
 
-/// Closes the given items, in the component with the given number. Fails if out of memory.
+/// Statuses the given items as closed: they belong to the component with the given number. Fails if out of memory.
 fn close_items(statuses: &mut Statuses, items: &[usize], number: usize) -> Result<(), AllocError>
     requires within { (k v : ℕ) → slice_get items.now k ≡ Some v → v < length statuses.old }
     requires number { number < 2 ^ 63 }

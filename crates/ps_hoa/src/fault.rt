@@ -17,7 +17,7 @@ pub enum HoaCause {
     Token,
     /// A token is not allowed here, or the text ends too early.
     Syntax,
-    /// A number has several digits and begins with `0` (tokens: `INT`).
+    /// A number has several digits and begins with `0` (the token `INT`).
     Number,
     /// A header item that may occur only once occurs a second time (header).
     HeaderTwice,
@@ -27,7 +27,7 @@ pub enum HoaCause {
     UnknownHeader,
     /// A limit is exceeded.
     Limit,
-    /// The text was aborted: `--ABORT--` (body).
+    /// The body has the token `--ABORT--`, so the text was aborted.
     Aborted,
     /// `&` follows a state, so the automaton is alternating (body).
     Alternating,

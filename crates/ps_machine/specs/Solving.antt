@@ -6,7 +6,7 @@
 --     NamesVertices game r      if the answer is a cycle, it is not empty and has only vertices of the game
 --     Replays game fed r      the answer is the result of parsing the text that was fed
 --     own_solver      what is known about psyn's own solver
---     replay_of text      what is known about the solver that parses the text that it was fed, if that is `text`
+--     replay_of text      what is known about a solver that was fed `text` and returns the result of parsing it
 use Rattle.std.specs.Prelude.{◌≡◌, ℕ, ◌<◌, true, false, List, length, Option, None, Some, Result, Ok, Err}
 use Rattle.std.specs.List.{All}
 use Rattle.ps_game.specs.Games.{NamedGameData, vertex_count}

@@ -150,7 +150,7 @@ fn command_with<'a>(
     Ok(command)
 }
 
-/// The line that the parsed words say.
+/// The command line as a `Line`, from its parsed words.
 fn line_of(matches: &ArgMatches) -> Line
     ensures { result ≡ line_said (subcommand_rows_of matches.now) }
 {

@@ -121,7 +121,7 @@ fn literals(alloc: Global, places: &[usize], wires: &[Wire]) -> Result<Vec<Liter
     Ok(literals)
 }
 
-/// The operands of some rows, with renumbered indices. Fails if out of memory.
+/// The operands of the given rows, with each index replaced by its entry in `places`. Fails if out of memory.
 fn gates_of(alloc: Global, places: &[usize], rows: &[Row]) -> Result<Vec<Operands>, AllocError>
     requires places { All (λ p. p < 2 ^ 31) places.now }
     requires within { All (IsRowInTable (length places.now)) rows.now }

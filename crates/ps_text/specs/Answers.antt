@@ -1,7 +1,7 @@
 -- The answer to a text, for every format: the meaning of the text, or its first error.
 --     Piece, Stream      a sign of a text with its offset; the pieces of a text, and the offset of its end
 --     Begins IsText front      some text of the grammar begins with the signs `front`
---     NoneGoesOn IsText front there      no text begins with `front` and `there`; for None: `front` is not a text
+--     NoneGoesOn IsText front there      no text begins with `front` and `there`; at the end, `front` is not a text
 --     IsUnexpected IsText front there      some text begins with `front`, but none continues with the sign `there`
 --     IsClean IsCause all      the text has no error
 --     IsFirst number IsCause front rest f      f is an error between `front` and `rest`, and no other error precedes it
@@ -54,12 +54,14 @@ pub record Begins {T V : Type 0} (IsText : List T → V → Type 0) (front : Lis
   pub value : V
   pub is_text : IsText (front ++ more) value
 
--- no text of the grammar begins with `front` and then the sign `there`; for None: `front` is not a text of the grammar
+-- no text of the grammar begins with `front` and then the sign `there`; if no sign follows, `front` is not a text of
+-- the grammar
 abbrev pub NoneGoesOn : {T V : Type 0} → (List T → V → Type 0) → List T → Option T → Type 0
 NoneGoesOn {T} {V} IsText front None = (v : V) → IsText front v → ⊥
 NoneGoesOn IsText front (Some t) = Begins IsText (front ++ t ∷ []) → ⊥
 
--- some text of the grammar begins with `front`, but none with `front` and then `there`; for None: `front` is not a text
+-- some text of the grammar begins with `front`, but none with `front` and then `there`; if no sign follows, `front` is
+-- not a text
 pub record IsUnexpected {T V : Type 0} (IsText : List T → V → Type 0) (front : List T) (there : Option T) : Type 0 where
   pub before : Begins IsText front
   pub none : NoneGoesOn IsText front there

@@ -1,4 +1,4 @@
--- The last pending call is solved, or the moves at its tops are written: no top is lost.
+-- The end of a turn that loses no top: its pending call is solved, and then the moves at its tops are written.
 use Rattle.std.proofs.Common.{◌≡◌, ◌≢◌, ℕ, ◌+◌, ◌-◌, ◌*◌, ◌<◌, ◌≤◌, ◌⊎◌, inl, inr, List, [], ◌∷◌, ◌++◌, true, length}
 use Rattle.std.proofs.Common.{Some, get_or, refl, sym, ap, arith, rules}
 use Rattle.std.specs.Prelude.{IsTrue}

@@ -99,9 +99,9 @@ impl<W: Width> Nest<W> {
     }
 
     /// Begins a turn at index `cursor` of the order, which has an unplaced vertex of the greatest priority. Computes
-    /// the attractor of the player who wins by the greatest priority to all vertices of that priority. Except in the
-    /// first call, the target also has vertices of lower priorities, down to the first priority of the other parity.
-    /// Fails if out of memory.
+    /// the attractor of the player who wins by the greatest priority to all vertices of that priority. In every call
+    /// except the first, the target of the attractor also has vertices of lower priorities, down to the first priority
+    /// of the other parity. Fails if out of memory.
     fn begin_turn<A: Arena>(
         &mut self,
         edges: &Adjacency<'_, A, W>,
