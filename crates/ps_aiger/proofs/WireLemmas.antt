@@ -39,6 +39,6 @@ wired-many b latches (f ∷ fs) d = ap suc (wired-many b latches fs (code_made b
 pub next_many : (b : Behaviour) (latches : ℕ) → length (next_wires b latches).literals ≡ latches
 next_many b latches = grind (arith, wired-many, length-map-range_with_len)
 
--- the variables that are not gates are those of the inputs and latches
+-- the drafted circuit is given one variable for each input and latch
 pub output_given : (b : Behaviour) (latches : ℕ) → (output_wires b latches).draft.given ≡ length b.inputs + latches
 output_given b latches = grind (arith, wired-extends)

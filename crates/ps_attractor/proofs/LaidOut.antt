@@ -73,7 +73,7 @@ first_place_more trail places count k within size low so_far v i after inside is
 pub in_or_not : (region : List Bool) (v : ℕ) → IsTrue (has region v) ⊎ (has region v ≡ false)
 in_or_not region v = search rules
 
--- the tables are those of an attractor, and the region is read from them
+-- the tables belong to an attractor, and the region is read from them
 record Answer (game : ParityGame) (player : ℕ) (subgame target : List Bool) (new : TablesData)
     (region : List Bool) : Type 0 where
   is_subgame : IsSubgame game (has subgame)

@@ -64,7 +64,7 @@ pub record AreMovesTo (game : ParityGame) (tables : TablesData) (player : ℕ) (
 abbrev pub rank_at : List ℕ → ℕ → ℕ
 rank_at rank v = slice_index rank v
 
--- the region, the moves and the ranks are those of the tables
+-- the region, the moves and the ranks are read from the tables
 pub record IsReadOff (game : ParityGame) (tables : TablesData) (player : ℕ) (target : List Bool)
     (a : Attracted) : Type 0
   where

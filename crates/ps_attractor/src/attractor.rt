@@ -25,7 +25,7 @@ const OUTSIDE: usize = 0;
 /// The level of the vertices in the set.
 const PLACED: usize = 1;
 
-/// The level of the free vertices: those of the subgame that are not in the set.
+/// The level of the free vertices, which are in the subgame but not in the set.
 const FREE: usize = 2;
 
 /// The vertices from which a player can force every play within a subgame to a target, with moves and ranks.

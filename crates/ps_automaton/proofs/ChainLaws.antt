@@ -43,7 +43,7 @@ first_left_out : (base : Bool) (link : ChainLink) (links : List ChainLink) (edge
 first_left_out base link links [] unmet = refl
 first_left_out base link links (has ∷ edges) unmet = grind (arith, first_left_out base link links edges)
 
--- without links, each number is that of the base
+-- in a chain without links, each edge has the number of the base
 greatest_of_base : (base : Bool) (has : ℕ → Bool) (edges : List (ℕ → Bool)) →
     greatest base [] (has ∷ edges) ≡ base_number base
 greatest_of_base base has [] = omega arith

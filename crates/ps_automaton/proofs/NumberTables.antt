@@ -59,7 +59,8 @@ record Attained (base : Bool) (links : List ChainLink) (has : ℕ → Bool) : Ty
   has_it : has set ≡ true
   is : level_by base links has ≡ alone base links set
 
--- if the edge has the first link's set, the number is that of the first link; otherwise the other links give the number
+-- if the edge has the first link's set, its number is the number of the first link; otherwise the other links give its
+-- number
 attained : (base : Bool) (links : List ChainLink) (has : ℕ → Bool) → AreSetsBelow 64 links →
     (level_by base links has ≡ base_number base) ⊎ Attained base links has
 attained base [] has small = inl refl

@@ -45,7 +45,7 @@ leaf_within {row} {targets} {t} {node} union letter small = by_leaf (leaf_of t n
         (IsTargetAt row (union.joined.from letter k small e).edge targets) (leaf_of t node letter) e (grind arith) in
         slice_get_within targets k there.0 there.1
 
--- the leaf of a whole row at a letter: that of the edge that is taken, or none if no edge is taken
+-- the leaf of a whole row at a letter: the leaf of the edge that is taken, or none if no edge is taken
 module _ {file : FileData} (sound : IsSoundFile file) {row : RowData} (row_sound : IsSoundRow file row) {chain : Chain}
     (few : AreSetsBelow 64 chain.links) {targets : List Target} {place_at : ℕ → Option ℕ}
     (joined : AreJoined file row (length row.edges) targets place_at) {steps : List Step}

@@ -2,7 +2,7 @@
 -- link is a set of edges together with a flag. For a part of a run, the first link whose set is met decides, and its
 -- flag states whether the part is accepted. If no such set is met, the base decides.
 --     chain_of condition      the chain of the condition, if the condition is a chain
---     level chain has      the number of an edge: that of the first link whose set the edge has, or that of the base
+--     level chain has      the number of an edge, given by the first link whose set the edge has, or by the base
 use Rattle.std.specs.Prelude.{ℕ, ◌+◌, ◌%◌, max, Bool, true, false, not, List, [], ◌∷◌, ◌++◌, Option, None, Some}
 use Rattle.std.specs.Prelude.{if◌then◌else◌, nat_eq}
 use Rattle.ps_hoa.specs.Conditions.{SetData, Condition, Conditions, constant, infinitely, finitely, all_hold, any_holds}
@@ -102,7 +102,7 @@ abbrev mutual
   one_of_them met last = false
   one_of_them met (more c cs) = if holds met c then true else one_of_them met cs
 
--- the truth value that a chain gives: that of the first link whose set is met, or of the base
+-- the truth value of a chain, which is given by the first link whose set is met, or by the base
 abbrev pub chain_holds : Bool → List ChainLink → (ℕ → Bool) → Bool
 chain_holds base [] met = base
 chain_holds base (link ∷ links) met = if met link.colour then link.accepts else chain_holds base links met
@@ -116,7 +116,8 @@ is_even n = nat_eq (n % 2) 0
 abbrev pub base_number : Bool → ℕ
 base_number base = if base then 0 else 1
 
--- the number of a link: that of the next link, or of the base, if both accept or both do not; otherwise one more
+-- the number of a link: the number of the next link (or of the base) if both accept or neither does, and otherwise one
+-- more
 abbrev pub raised : Bool → ℕ → ℕ
 raised true next = if is_even next then next else next + 1
 raised false next = if is_even next then next + 1 else next

@@ -43,7 +43,7 @@ pub record Compared (game : ParityGame) (certificate : CertificateData) (v w : �
   pub lower : (j : ℕ) → j < start → slice_index priorities j < top
   pub higher : (j : ℕ) → start ≤ j → j < length priorities → top ≤ slice_index priorities j
 
--- if the priority at index `start` is that of the vertex, the count at `start` falls along the edge
+-- if the vertex has the priority at index `start`, the count at `start` falls along the edge
 abbrev pub FallsAtStart : ParityGame → ℕ → List ℕ → List ℕ → List ℕ → ℕ → Type 0
 FallsAtStart game v priorities before after start = start < length priorities →
     slice_index priorities start ≡ priority_of game v → slice_index after start < slice_index before start

@@ -1,5 +1,5 @@
 -- The lawfulness of the parts of a certificate's text (`ps_text`).
---     Lawful, Chain, Left      the definitions of ps_text, for parts whose errors are those of certificates
+--     Lawful, Chain, Left      the definitions of ps_text, for parts of certificates and their errors
 use Rattle.ps_text.specs.Answers.{Stream}
 use Rattle.ps_text.specs.Bytes.{Seen}
 use Rattle.ps_text.proofs.Bytes.Lawful as lawful

@@ -1,5 +1,5 @@
 -- Abbreviations for the laws of the parts of a circuit's text (`ps_text`).
---     Lawful, Chain, Left      the definitions of ps_text, for parts whose errors are those of circuit texts
+--     Lawful, Chain, Left      the definitions of ps_text, for parts of circuit texts and their errors
 --     Judges Wrong      it is decidable which numbers are errors
 use Rattle.std.proofs.Common.{ℕ}
 use Rattle.ps_text.specs.Answers.{Stream}

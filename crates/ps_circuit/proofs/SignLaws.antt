@@ -1,7 +1,7 @@
 -- The laws of the smallest parts of an AIGER text: sets of bytes, single bytes, words, numbers, gaps and ends of lines.
 --     Separates      a space, a tab or a newline, which end a number
 --     AtBody, AtTail      the first bytes that can follow the first line, and the number lines
---     numbers, optional      the chain of a number and what follows; that of an optional field and what follows
+--     numbers, optional      the laws of a number, or an optional field, and the text after it
 use Rattle.std.proofs.Common.{◌≡◌, ℕ, ◌⊎◌, Bool, true, false, refl, sym, ap, inl, inr, ◌∙◌, rules}
 use Rattle.std.proofs.lemmas.Bool.{eqb-true}
 use Rattle.ps_text.specs.Parts.{give, then_by, either, mapped}

@@ -71,8 +71,8 @@ abbrev pub IsChoice : Drafted → (s high low x y : ℕ) → Type 0
 IsChoice d s high low x y =
     (v : ℕ → Bool) → MeetsEquations d v → (bit v x || bit v y) ≡ (if bit v s then bit v high else bit v low)
 
--- A choice needs a new gate if there is no gate yet for one of its three conjunctions. The three conjunctions are that
--- of `s` and `high`, that of `low` and the negation of `s`, and the one whose negation is the choice.
+-- A choice needs a new gate if there is no gate yet for one of its three conjunctions. The first is of `s` and `high`,
+-- the second is of `low` and the negation of `s`, and the choice is the negation of the third.
 pub data NeedsChoice (d : Drafted) (s high low : ℕ) : Type 0 where
   for_high : NeedsGate d s high → NeedsChoice d s high low
   for_low : NeedsGate d (negated s) low → NeedsChoice d s high low

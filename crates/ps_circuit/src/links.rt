@@ -41,7 +41,7 @@ fn variables_of(alloc: Global, gates: &[Gate]) -> Result<Ids, AllocError>
     Ok(variables)
 }
 
-/// The links of the gates. The index of a gate is that of its variable in the list `variables`.
+/// The links of the gates. A gate's index is the index of its variable in the list `variables`.
 fn links_to(alloc: Global, gates: &[Gate], variables: &Ids) -> Result<Vec<Links>, AllocError>
     ensures { IfOk result (λ links. links.items ≡ links_by (place_in variables.now) gates.now) }
 {

@@ -85,7 +85,7 @@ truths_push {t} {u} {nodes} {node} {known} k h held leaf =
           node refl refl (λ i within. old.leaf i letter within) (leaf letter) j (omega arith);
     }
 
--- the truth value of an alias is that of its expression
+-- an alias has the truth value of its expression
 pub alias_truth : (labels : List Label) (letter k : ℕ) {x : Label} → AreOrdered (expressions labels) →
     k < length labels → x ≡ get_or labels k x → get_or (alias_truths (expressions labels) letter) k false ≡ truth
     (alias_truths (expressions labels) letter) letter (expression x)

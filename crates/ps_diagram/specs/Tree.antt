@@ -32,6 +32,6 @@ IsBlind level t = (f g : ℕ → Bool) → ((q : ℕ) → level ≤ q → f q �
 abbrev pub HaveSameLeaves : Tree → Tree → Type 0
 HaveSameLeaves t u = (f : ℕ → Bool) → leaf_at t f ≡ leaf_at u f
 
--- the leaves of the tree are those of `low` if p is false, and those of `high` if p is true
+-- the tree has the leaves of `low` if p is false, and the leaves of `high` if p is true
 abbrev pub IsTestOf : ℕ → Tree → Tree → Tree → Type 0
 IsTestOf p low high t = (f : ℕ → Bool) → leaf_at t f ≡ cond (f p) (leaf_at high f) (leaf_at low f)

@@ -33,7 +33,8 @@ WinsLoop game player path i j = loop_priority game path i j % 2 ≡ player
 abbrev pub other_player : ℕ → ℕ
 other_player player = 1 - player
 
--- at each position before the last one, if the player owns the vertex there, the next vertex is that of the table
+-- at each position before the last one, if the player owns the vertex there, the next vertex is the player's move in
+-- the table
 abbrev pub Follows : ParityGame → ℕ → (ℕ → Option ℕ) → List ℕ → Type 0
 Follows game player table path =
     (k : ℕ) → k + 1 < length path → owner_of game (slice_index path k) ≡ player →

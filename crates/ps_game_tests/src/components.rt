@@ -5,8 +5,8 @@ ghost use Rattle.std.specs.Prelude.{◌≡◌, ℕ, ◌+◌, ◌*◌, ◌/◌, �
 use ps_components::{Arrangement, Graph, arrange, components_from, components_of, way_back};
 use std::alloc::Global;
 
-/// Two entries for each vertex: each is a target of the vertex, or a number that is not a vertex and means that there
-/// is no target.
+/// Two entries for each vertex: each is a target of the vertex, or a number that is not a vertex, which means no
+/// target.
 #[derive(Drop)]
 struct Table<'a> {
     targets: &'a [usize],

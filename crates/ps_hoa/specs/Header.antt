@@ -4,7 +4,8 @@
 --            | HEADERNAME (BOOLEAN | INT | STRING | IDENTIFIER)*
 --
 -- Items may be in any order; an alias must come before its use.
---     HeaderData      the values that the items so far give; header_data: those of a stored header
+--     HeaderData      the values that the items so far give
+--     header_data      the values of a stored header
 --     item_in s      the item with this name
 --     behind_name h item      the arguments of this item, after items that give h
 --     item h      one more item

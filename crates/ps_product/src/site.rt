@@ -97,7 +97,7 @@ impl<'s, 'c> Site<'s, 'c> {
         Ok(None)
     }
 
-    /// The truth at a place that belongs to no gate: that of the constant, an input or a latch.
+    /// The truth at a place that belongs to the constant, an input or a latch.
     fn given(self, truths: &mut Truths, place: u32) -> Result<Truth, AllocError>
         requires site { IsSite self truths.old }
         requires front { place < front_of self.net.now }

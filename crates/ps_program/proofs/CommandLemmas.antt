@@ -30,7 +30,7 @@ use Rattle.ps_program.specs.CommandLine.{words_with, AreRead, Says, LinesAreRead
 use Rattle.ps_program.specs.Inner.Usages.{usage_of, with_flags}
 use Rattle.ps_program.specs.declared.commands.Usage.{Usage as Row}
 
--- clap's answers by the table are those of a simple command
+-- by the table, clap answers as it does for a simple command
 pub table-simple : is_simple table ≡ true
 unfolding table clap_on_literals
 table-simple = refl

@@ -27,7 +27,7 @@ longer [] (x ∷ xs) more = refl
 longer (n ∷ name) [] more = absurd (omega arith)
 longer (n ∷ name) (x ∷ xs) more = none_more (nat_eq n x) (longer name xs (omega arith))
 
--- the names that the parser knows: those of the commands
+-- the names of the commands, which the parser knows
 names_met : List Usage → Names
 names_met usages = map (λ usage. (usage.name, [])) usages
 

@@ -45,7 +45,7 @@ some_within v is_game (Some w) is = is_game.within v w is
 module _ {game : ParityGame} (is_game : IsGame game) {player : ℕ} {set : ℕ → Bool} {table : ℕ → Option ℕ}
     {priorities : List ℕ} {rows : List (List ℕ)} {c : CertificateData} (holds : Holds game player set table)
     (ranks : AreRanks game player set table priorities rows) where
-  -- the remaining edges of the certificate are those of the table
+  -- the certificate and the table have the same remaining edges
   remains_for : {v w : ℕ} → IsSide game player set table priorities rows c v → Remains game c v w →
       RemainsFor game player table v w
   remains_for s r = search rules

@@ -57,8 +57,8 @@ pub(crate) fn entries_of<A: Arena>(
     Ok(entries)
 }
 
-/// Replaces the contents of a list by the counts of a vertex: those of the first table if player 0 wins it, and
-/// otherwise those of the second table.
+/// Replaces the contents of a list by the counts of a vertex, which are in the first table if player 0 wins the vertex,
+/// and otherwise in the second table.
 fn winner_row(
     vertex: usize,
     won: &Region,

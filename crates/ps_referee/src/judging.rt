@@ -18,8 +18,7 @@ use std::alloc::{AllocError, Global};
 
 /// Judges a solution, and returns its certificate. The solution consists of the vertices that player 0 wins, and of a
 /// table of moves for each player; player 1 wins all other vertices. The certificate has the winners and moves of the
-/// solution, and the least counts. The only moves that are checked are those of a winner at vertices that the winner
-/// owns.
+/// solution, and the least counts. Only the moves of the winners at their own vertices are checked.
 ///
 /// # Errors
 ///

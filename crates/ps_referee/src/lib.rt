@@ -14,8 +14,8 @@
 //! | `one_certificate` | a law: a solution has at most one certificate |
 //! | `one_verdict` | a law: a solution never has both a flaw and a lost cycle; if it holds, it has neither |
 //!
-//! Moves may be any numbers. The only moves that are checked are those of a winner at vertices that the winner owns. A
-//! cycle that player 1 loses is reported only if player 0 holds the vertices that player 0 is claimed to win.
+//! Moves may be any numbers. Only the moves of the winners at their own vertices are checked. A cycle that player 1
+//! loses is reported only if player 0 holds the vertices that player 0 is claimed to win.
 //!
 //! Both calls take as long as `ps_measure::ranks` for both players, and call no solver.
 #![tactic(auto)]

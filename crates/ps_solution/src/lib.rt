@@ -1,6 +1,6 @@
 //! Solutions of games in PGSolver's format. A text may begin with `paritysol N;`. The text has an entry for each vertex
 //! of a game, in any order. An entry consists of the id, the winner, an optional move, and a semicolon. Tokens and
-//! blanks are those of game texts.
+//! blanks are as in game texts.
 //!
 //! | Call | What it gives |
 //! |---|---|

@@ -1,7 +1,7 @@
 -- A synthesis problem: an automaton, the player who moves first, and the game that they define.
 --     ProblemData      a problem, with the key of each vertex of the game
---     IsProblem p      the game is that of the automaton in the problem's order of moves
---     IsProblemOf order text p      the automaton is that of the text
+--     IsProblem p      the game belongs to the automaton, in the problem's order of moves
+--     IsProblemOf order text p      the automaton belongs to the text
 --     ReturnsOnly game certificate      the possible answers of a solver that only returns this certificate, for this
 --               game
 --     IsReportFault p certificate fault      why a certificate of a problem gives no report

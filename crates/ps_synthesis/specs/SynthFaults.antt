@@ -1,5 +1,5 @@
 -- Why a text gets no report. Each fault has its reason.
---     HasNoAutomaton text fault      the text is that of a file that has no automaton
+--     HasNoAutomaton text fault      the text describes a file that has no automaton
 --     OfGame order text P      an accepted text has a game for which P holds
 --     IsLost May game ids      the solver returned a cycle in the game whose vertices have these ids
 --     IsNotCertified May game      the solver returned a certificate that does not fit or is not valid

@@ -2,7 +2,7 @@
 --     stops_by, stops_at, quiet_by, quiet_at      no text continues with the next sign; the next sign is not an error
 --     read_quiet      the sign after the parsed text is not an error of the part
 --     fault_begins      the signs before a first fault begin the part
---     fault_from      the first fault of P is that of R, if R has only texts and errors of P here
+--     fault_from      R has the first fault of P, if R has only texts and errors of P here
 --     Covers there P Q      at the next sign `there`, Q has only texts and errors of P
 --     read_as, fault_as      a result of P is a result of Q, and a fault of P is a fault of Q
 --     after P left      the remainder of P after the signs `left`

@@ -5,7 +5,7 @@
 --     joint_many, joint_times      the joint of an item and the items after it
 --     read_item      `many` is parsed if an item and then `many` are parsed
 --
--- The laws of `many` are those of `upto n`, up to n items: each text and error of `many` is one of `upto n` for some n.
+-- `many` has the laws of `upto n`, which is up to n items: each text and error of `many` is one of `upto n` for some n.
 use Rattle.std.proofs.Common.{rules, ◌≡◌, ℕ, zero, suc, ◌+◌, ◌<◌, ◌≤◌, List, [], ◌∷◌, ◌++◌, length, Option, Some, refl}
 use Rattle.std.proofs.Common.{sym, ap, inl, inr, ⊎_elim, arith}
 use Rattle.ps_text.specs.Answers.{first_of}

@@ -1,5 +1,5 @@
--- What a fault states about a text: the cause and its offset, or nothing if the program is out of memory. The number
--- and name of a fault in psyn's list of faults are those of its cause, or those of "out of memory".
+-- What a fault states about a text: the cause and its offset, or nothing if the program is out of memory. In psyn's
+-- list of faults, a fault has the number and name of its cause, or of "out of memory".
 use Rattle.std.specs.Prelude.{ℕ, List, Option, None, Some, Result, Ok, Err, codes}
 use Rattle.ps_text.specs.declared.faults.Fault.{Fault}
 use Rattle.ps_text.specs.declared.faults.Fault.TheVariants.{Text, OutOfMemory}

@@ -1,7 +1,8 @@
 -- What a parsing function states about the part that it parses: the part was parsed, or its first fault was found.
 -- `old` and `new` are the unread pieces when the function begins and when it returns: the Model of the code's tokens.
 --     Meets found causes view part old result new      the contract of a parsing function
---     Parses causes part old result new      the contract `Meets`, if the values and errors are those of the grammar
+--     Parses causes part old result new      the contract of a function that returns the grammar's own values and
+--               errors
 --     Carries causes whole start rest now      parsing `rest` from `now` gives what parsing `whole` from `start` gives
 --     tail stream      the stream without its next piece
 --     refusal_at causes stream      the error, with its offset, for a sign or an end that is not allowed
@@ -51,7 +52,7 @@ abbrev pub Meets : {T V F X E : Type 0} → (E → Option (Found F)) → Causes 
 Meets found causes view part old (Ok x) new = Reads part old (view x) new
 Meets found causes view part old (Err e) new = Stops causes part old (found e)
 
--- the part was parsed, or its first fault was found; the value is that of the grammar
+-- the part was parsed, or its first fault was found; the value is as the grammar gives it
 abbrev pub Parses : {T V F : Type 0} → Causes T F → Part T V F → Stream T → Result V (Option (Found F)) →
     Stream T → Type 0
 Parses causes part old (Ok v) new = Reads part old v new

@@ -1,5 +1,5 @@
 -- The shape of the circuit of a player.
---     HasShape order role file c      the inputs and outputs are those of the role, by name, and outputs come in time
+--     HasShape order role file c      the circuit has the role's inputs and outputs, by name, and outputs come in time
 --     SeesNoInputWhereReached c      at latches that some trace reaches, the outputs do not depend on the inputs
 use Rattle.std.specs.Prelude.{◌≡◌, Bool, true, false, IsTrue, List}
 use Rattle.ps_hoa.specs.Files.{FileData}

@@ -11,8 +11,8 @@ use Rattle.ps_certificate.proofs.SparseRows.Sparse.{place_within, rising, length
 
 -- ## Comparing
 
--- the stored counts after the first `number` have indices of at least `from`; those of the first `number` stored counts
--- whose indices are at least `from` are not greater than the counts of the other list
+-- the first `number` stored counts, as far as their indices are at least `from`, are not greater than the counts of the
+-- other list; all later stored counts have indices of at least `from`
 pub record AreNotAbove (own other : List PlacedCount) (from number : ℕ) : Type 0 where
   pub within : number ≤ length own
   pub late : (j : ℕ) → number ≤ j → j < length own → from ≤ place_at own j

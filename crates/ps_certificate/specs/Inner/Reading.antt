@@ -1,7 +1,7 @@
 -- What the private functions of the parser establish: a part of the grammar was read, or it has a first error.
 --     Tells view part old result new      the function read the part, or located its first error
 --     numeral bytes      the longest run of digits without a leading zero with which the bytes begin
---     TellsNumber old result new      the function moved past this run, or it is empty or too large for 64 bits
+--     TellsNumber old result new      the function moved past a number, or no number of 64 bits begins here
 --     TellsPriority, TellsHead, TellsEntries      the results for a count's priority, the first lines, the text
 use Rattle.std.specs.Prelude.{◌≡◌, ℕ, ◌+◌, ◌^◌, ◌<◌, ◌≤◌, ◌⊎◌, List, [], ◌∷◌, ◌++◌, length, Option, Some, None, Result}
 use Rattle.std.specs.Prelude.{Ok, Err, Bool, true, false, ◌||◌, nat_lt, ◌==◌, if◌then◌else◌, take_while, slice_index}

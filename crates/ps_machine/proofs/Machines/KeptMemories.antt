@@ -1,4 +1,4 @@
--- The memory states of the used vertices are those of the machine's kept vertices.
+-- The used vertices have the same memory states as the machine's kept vertices.
 use Rattle.std.proofs.Common.{◌≡◌, ◌≢◌, inl, inr, ℕ, ◌<◌, ◌≤◌, Bool, List, length, get_or, Some, ap, ◌∙◌, arith, rules}
 use Rattle.std.specs.Prelude.{slice_get}
 use Rattle.std.specs.List.{All, AllPairs, Contains}

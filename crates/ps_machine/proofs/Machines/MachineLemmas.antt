@@ -130,7 +130,7 @@ module _ {board : Board} {keys : List Key} {kept : List ℕ} {certificate : Cert
     rows = row_is;
   }
 
-  -- the steps of the machine are those of the certificate
+  -- each step of the machine follows the certificate
   pub is_step : (memory x : ℕ) → memory < length m.nodes → IsOtherLetter m.is_first board x →
       IsStep board keys kept certificate (behaviour m) memory x
   is_step memory x within other =

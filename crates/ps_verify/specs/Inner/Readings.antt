@@ -1,5 +1,5 @@
 -- The inputs that are read along paths of a product.
---     ReadsEdge p v w inputs      the inputs are those of a step along the edge
+--     ReadsEdge p v w inputs      a step along the edge reads these inputs
 --     ReadsPath p path letters      the letters are the inputs of steps along the path, one for each edge
 --     IsToldOf player p judgement      the player wins all loops, or the stimulus follows a cycle the player loses
 use Rattle.std.specs.Prelude.{◌≡◌, ℕ, ◌+◌, ◌<◌, Bool, List, [], length, slice_get, slice_index, slice_index_or, Some}

@@ -3,7 +3,7 @@ use Rattle.ps_simulate.proofs.LetterLists.{length-letters_in, slice_get-letters_
 use Rattle.ps_simulate.proofs.letters.Letters.letter.Goals as goal
 use Rattle.ps_simulate.proofs.letters.Letters.letter.Goals.{After-self}
 
--- the index is that of a letter
+-- a letter has this index
 is_there : (c : After-self) → c.args.place < c.self.inside.count
 is_there c = grind (arith, length-letters_in)
 
