@@ -97,7 +97,7 @@ impl LeafRule for Replaced<'_> {
     }
 }
 
-/// Each leaf becomes what a table has for it.
+/// The leaf k becomes the entry of a table for k.
 #[derive(Drop)]
 struct Placed<'a>(&'a IndexMap<u64, u64>);
 

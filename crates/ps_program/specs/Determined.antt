@@ -1,5 +1,6 @@
 -- The program's answer is determined, with three exceptions: the lost cycle that `judge` reports, the stimulus that
--- `verify` reports, and the certificate that a solver chooses. Even these choices are partly determined.
+-- `verify` reports, and the certificate that a solver chooses. Even in these three cases, the answer is partly
+-- determined.
 --     IsUndetermined line texts      the line may have more than one correct answer
 --     IsReplaying solver      the solver may only answer the result of parsing the text that it was fed
 --     AgreeAsReports order full text a b      two reports for a text have the same winner and the automaton's game

@@ -19,14 +19,14 @@ abbrev pub ReadsAs : {V X : Type 0} → (X → V) → Part Sign V PgCause → St
     Stream Sign → Type 0
 ReadsAs view part old result new = Meets found_of pg_causes view part old result new
 
--- the part was also read with every list of known ids that contains all ids in the value
+-- the part has the same result for every list of known ids that contains all ids in the value
 abbrev pub ReadsKnown : {V X : Type 0} → (List ℕ → V → Type 0) → (X → V) → (Option (List ℕ) → Part Sign V PgCause) →
     Stream Sign → Result X PgFault → Stream Sign → Type 0
 ReadsKnown Knows view part old result new =
     IfOk result (λ x. (ids : List ℕ) → Knows ids (view x) → WasRead (part (Some ids)) old (view x) new)
 
--- every list of known ids that contains all ids in the new value contains all ids in the old value, and the part was
--- also read with such a list
+-- every list of known ids that contains all ids in the new value contains all ids in the old value, and for every such
+-- list the part has the same result
 abbrev pub AddsKnown : {V X : Type 0} → (List ℕ → V → Type 0) → V → V → (Option (List ℕ) → Part Sign V PgCause) →
     Stream Sign → Result X PgFault → Stream Sign → Type 0
 AddsKnown Knows before after part old result new =
