@@ -2,16 +2,22 @@
 import os
 import random
 import shutil
+import sys
 import unittest
 
+from psyntool.commands.shrink import NAMES
 from psyntool.program import path as program
-from psyntool.texts import automaton, circuit
-from tests import products
+from tests import changes
 from tests.tool import AUTOMATON, OnFiles
-from upkeep import rows
+from upkeep.sweeps import TOP
+
+sys.path.insert(0, os.path.join(TOP, "bench"))
+
+import verify  # noqa: E402
 
 CONDITIONS = ["0 t", "0 f", "1 Inf(0)", "1 Fin(0)", "2 Inf(0) | Fin(1)", "2 Fin(0) & Inf(1)", "3 Inf(0) | Fin(1) & Inf(2)", "3 Fin(2) & (Inf(1) | Fin(0))"]
 AUTOMATA = 40
+LITERALS = 4
 
 
 def drawn(chance):
@@ -36,78 +42,122 @@ def drawn(chance):
     return "\n".join([*lines, "--END--\n"])
 
 
-def changed(text):
-    """First the circuit itself; then with each literal that it reads negated, and with each output replaced by each input."""
-    yield text
-    lines = text.split("\n")
-    inputs, latches, outputs, gates = map(int, lines[0].split()[2:6])
-    first = 1 + inputs
-    places = [(first + k, 1) for k in range(latches)] + [(first + latches + k, 0) for k in range(outputs)]
-    places += [(first + latches + outputs + k, side) for k in range(gates) for side in (1, 2)]
-    for line, word in places:
-        words = lines[line].split(" ")
-        words[word] = str(int(words[word]) ^ 1)
-        yield "\n".join([*lines[:line], " ".join(words), *lines[line + 1 :]])
-    for line in range(first + latches, first + latches + outputs):
-        yield from ("\n".join([*lines[:line], lines[place], *lines[line + 1 :]]) for place in range(1, first))
-
-
 class Verify(unittest.TestCase):
-    def ask(self, command, *texts):
-        given = (command + "\n" + "%%\n".join(texts)).encode()
-        answer, status = rows.answered(program(), rows.Row(command, given, 0))
-        return answer.decode(), status
-
-    def judged(self, spec, text, env, moore):
-        """What `verify` answers: its first line; a counterexample is put before `lasso`."""
-        flags = " --env" * env + " --moore" * moore
-        answer, status = self.ask("verify" + flags, spec, text)
-        first, _, counterexample = answer.partition("\n")
-        self.assertEqual(status, 1 if first.startswith("fault") else 0)
-        if first == "loses":
-            stem, lap = counterexample.split("-\n")
-            said = f"{'accepted' if env else 'rejected'} stem {stem.count(chr(10))} lap {lap.count(chr(10))}\n"
-            self.assertEqual(self.ask("lasso" + " --env" * env, spec, text, counterexample), (said, 0), (spec, text, answer))
-        return first
-
     def test_circuits_of_drawn_automata_and_those_with_a_literal_changed(self):
         chance, told = random.Random("verify"), {}
         for _ in range(AUTOMATA):
-            spec, moore = drawn(chance), chance.random() < 0.5
-            answer, status = self.ask("synth" + " --moore" * moore, spec)
-            self.assertIn(status, (10, 20), (spec, answer))
-            env, read = status == 20, automaton.read(spec)
-            for place, text in enumerate(changed(answer.partition("\n")[2])):
-                wanted = products.verdict(read, circuit.read(text), env, moore)
-                self.assertEqual(self.judged(spec, text, env, moore), wanted, (spec, text, env, moore))
-                self.assertTrue(place or wanted == "wins", (spec, text))
-                told[wanted] = told.get(wanted, 0) + 1
+            case = changes.case_of(program(), drawn(chance), chance.random() < 0.5)
+            self.assertEqual(case.judged(case.text), "wins", (case.spec, case.text))
+            negated = [changes.negated(case.text, place) for place in changes.places(case.text)]
+            for text in [*negated, *changes.with_inputs_as_outputs(case.text)]:
+                found = case.judged(text)
+                told[found] = told.get(found, 0) + 1
         self.assertLessEqual({"wins", "loses", "fault 74 Timing"}, told.keys(), told)
 
+    def test_literals_drawn_of_larger_circuits(self):
+        """`bench/verify.py --changed` draws more, of more circuits."""
+        psyn, told = program(), {}
+        for said, case in verify.cases(psyn, [*verify.gallery(psyn)]):
+            self.assertEqual(case.judged(case.text), "wins", said)
+            for found, count in verify.answers(case, said, LITERALS).items():
+                told[found] = told.get(found, 0) + count
+        self.assertEqual({"wins", "loses"}, told.keys(), told)
+
     def test_symbols_of_the_other_player(self):
-        spec = AUTOMATON.decode()
-        self.assertEqual(self.judged(spec, "aag 1 1 0 1 0\n2\n2\ni0 g\no0 r\n", False, False), "fault 72 Symbols")
-        self.assertEqual(self.judged(spec, "aag 1 1 0 1 0\n2\n2\ni0 r\no0 g\n", False, False), "wins")
+        for inputs, outputs, said in (("g", "r", "fault 72 Symbols"), ("r", "g", "wins")):
+            text = f"aag 1 1 0 1 0\n2\n2\ni0 {inputs}\no0 {outputs}\n"
+            self.assertEqual(changes.answered(program(), AUTOMATON.decode(), text, False, False), said)
+
+
+CLOCKED = b"aag 2 2 0 1 0\n2\n4\n0\ni0 clk\ni1 r\no0 g\n"
+NEVER = b"aag 1 1 0 1 0\n2\n0\ni0 r\no0 g\n"
+WITHOUT_NAMES = b"HOA: v1 Start: 0 AP: 0 controllable-AP: Acceptance: 0 t --BODY-- State: 0 [t] 0 --END--\n"
 
 
 class OfTheTool(OnFiles):
+    def refused(self, *words):
+        """The one line that the tool says about a command line that it refuses."""
+        done = self.tool(*words)
+        self.assertEqual((done.stdout, done.returncode, done.stderr.count(b"\n")), (b"", 2, 1), done.stderr)
+        return done.stderr.decode().removeprefix("psyn: ").rstrip("\n")
+
     def test_where_a_circuit_loses_its_wave_is_stored(self):
-        spec, late = self.file("spec", AUTOMATON), self.file("never", b"aag 1 1 0 1 0\n2\n0\ni0 r\no0 g\n")
+        spec, late = self.file("spec", AUTOMATON), self.file("never", NEVER)
         done = self.tool("verify", "--wave", "lost.vcd", "--stimulus", "lost.stim", spec, late)
         self.assertEqual((done.stdout.split(b"\n")[0], done.returncode), (b"loses", 0))
         with open(os.path.join(self.room, "lost.vcd"), "rb") as file:
             self.assertIn(b"$scope module lasso $end", file.read())
         self.assertIn(b"rejected", self.tool("lasso", spec, late, "lost.stim").stdout)
 
-    @unittest.skipUnless(any(map(shutil.which, ("abc", "berkeley-abc", "yosys-abc"))), "abc is not installed")
+    def test_files_that_can_not_be_written(self):
+        self.file("spec", AUTOMATON)
+        self.file("never", NEVER)
+        os.mkfifo(os.path.join(self.room, "pipe"))
+        for flag in ("--wave", "--stimulus"):
+            folder = "'.' names a folder; the name of a file is wanted"
+            for path, why in (("none/x", "there is no folder none"), (".", folder), ("pipe", "pipe is no plain file")):
+                self.assertEqual(self.refused("verify", flag, path, "spec", "never"), f"{flag} FILE: {why}")
+            self.assertEqual(self.refused("verify", "spec", "never", flag), f"{flag} wants FILE behind it")
+        self.assertEqual(self.refused("verify", "--wave", "x", "--stimulus", "./x", "spec", "never"), "--stimulus and --wave name the same file")
+        self.assertEqual(sorted(os.listdir(self.room)), ["never", "pipe", "spec"])
+
+    def test_files_that_are_no_circuits(self):
+        self.file("spec", AUTOMATON)
+        for name, text in (("empty", b""), ("short", b"aag 1 1 0 1 0\n2\n"), ("words", b"aag one\n")):
+            self.file(name, text)
+            self.assertIn("this is no circuit", self.refused("convert", name))
+            done = self.tool("verify", "spec", name)
+            self.assertEqual((done.stdout[:15], done.returncode), (b"fault 61 Syntax", 1))
+        self.assertEqual(self.refused("convert", "spec"), "spec is an automaton; convert wants CIRCUIT")
+        self.assertEqual(self.refused("verify", "spec", "none"), "none: No such file or directory")
+        self.assertEqual(self.refused("convert", "--drop", "push", self.file("never", NEVER)), "no input of the circuit is called 'push'")
+
+    def test_an_input_that_nothing_reads(self):
+        spec, clocked = self.file("spec", AUTOMATON), self.file("clocked", CLOCKED)
+        done = self.tool("verify", spec, clocked)
+        self.assertEqual((done.stdout, done.returncode), (b"fault 72 Symbols\n", 1))
+        told = b"among the circuit's inputs: too many clk\nnothing reads clk: `convert --drop NAME` leaves out such an input\ncause:"
+        self.assertEqual(done.stderr[: len(told)], told)
+        dropped = self.tool("convert", "--drop", "clk", clocked)
+        self.assertEqual(self.tool("verify", "--quiet", spec, "-", given=dropped.stdout).stdout.split(b"\n")[0], b"loses")
+
+    def test_odd_names(self):
+        head = 'HOA: v1 Start: 0 AP: 2 "a  b" "$end\\"ü" controllable-AP: 1 Acceptance: 0 t'
+        spec = self.file("spec", f"{head} --BODY-- State: 0 [0&1|!0&!1] 0 --END--\n".encode())
+        texts = spec, self.file("never", 'aag 1 1 0 1 0\n2\n0\ni0 a  b\no0 $end"ü\n'.encode())
+        done = self.tool("verify", "--wave", "odd.vcd", *texts)
+        self.assertEqual(done.stderr.decode().splitlines()[1].split(None, 2)[2], 'a  b !$end"ü  no edge')
+        with open(os.path.join(self.room, "odd.vcd"), encoding="utf-8") as file:
+            names = [line.split()[4] for line in file if line.startswith("$var")]
+        self.assertEqual(names, ["a__b", '_end"ü', "lap"])
+
+
+class Shrink(OnFiles):
+    @unittest.skipUnless(any(map(shutil.which, NAMES)), "abc is not installed")
     def test_a_circuit_is_made_smaller_only_if_it_still_wins(self):
-        spec = self.file("spec", AUTOMATON)
-        twice = self.file("twice", b"aag 3 1 0 1 2\n2\n6\n4 2 2\n6 4 2\ni0 r\no0 g\n")
-        done = self.tool("shrink", spec, twice)
-        self.assertEqual((done.stdout, done.stderr), (b"aag 1 1 0 1 0\n2\n2\ni0 r\no0 g\n", b"gates: 2 before, 0 after; latches: 0 before, 0 after\n"))
-        never = self.tool("shrink", spec, self.file("never", b"aag 1 1 0 1 0\n2\n0\ni0 r\no0 g\n"))
+        spec, copy = self.file("spec", AUTOMATON), b"aag 1 1 0 1 0\n2\n2\ni0 r\no0 g\n"
+        more = {
+            "gates": (b"aag 3 1 0 1 2\n2\n6\n4 2 2\n6 4 2\ni0 r\no0 g\n", b"gates: 2 before, 0 after; latches: 0 before, 0 after\n"),
+            "latches": (b"aag 2 1 1 1 0\n2\n4 4\n2\ni0 r\no0 g\n", b"gates: 0 before, 0 after; latches: 1 before, 0 after\n"),
+            "nothing": (copy, b"gates: 0 before, 0 after; latches: 0 before, 0 after\n"),
+        }
+        for name, (text, said) in more.items():
+            done = self.tool("shrink", spec, self.file(name, text))
+            self.assertEqual((done.stdout, done.stderr), (copy, said))
+        never = self.tool("shrink", spec, self.file("never", NEVER))
         self.assertEqual((never.stdout, never.returncode), (b"", 1))
         self.assertIn(b"loses, so nothing is written", never.stderr)
+
+    @unittest.skipUnless(any(map(shutil.which, NAMES)), "abc is not installed")
+    def test_what_is_no_circuit_of_the_automaton(self):
+        spec = self.file("spec", AUTOMATON)
+        other = self.tool("shrink", spec, self.file("clocked", CLOCKED))
+        self.assertEqual((other.stdout, other.returncode), (b"", 1))
+        self.assertTrue(other.stderr.startswith(b"fault 72 Symbols\namong the circuit's inputs: too many clk\n"))
+        twice = self.tool("shrink", spec, spec).stderr
+        self.assertEqual(twice, f"psyn: {spec} is an automaton; shrink wants AUTOMATON CIRCUIT\n".encode())
+        empty = self.tool("shrink", self.file("all", WITHOUT_NAMES), self.file("empty", b"aag 0 0 0 0 0\n"))
+        self.assertEqual((empty.stdout, empty.returncode), (b"aag 0 0 0 0 0\n", 0))
 
     def test_without_abc(self):
         done = self.tool("shrink", self.file("spec", AUTOMATON), "-", environment={"PATH": os.path.join(self.room, "none")})

@@ -1,0 +1,155 @@
+#!/usr/bin/env python3
+"""Judges printed circuits with a literal changed, by `verify` and by an enumeration; or times `verify`.
+
+  bench/verify.py PSYN --changed SEED [--literals N] [FILE..]
+  bench/verify.py PSYN --times RUNS [FILE..]
+
+A FILE is an HOA text. Where none is given, the automata are two of examples/files, those of the gallery and of bench/synth.py.
+The circuits are those that `synth` prints, with and without --moore.
+
+--changed changes N literals of each circuit (50; all, where there are no more), which SEED draws, one at a time. What `verify`
+answers must be what an enumeration of the product in Python says (tools/tests/products.py), and `lasso` must confirm each
+counterexample. A line for each circuit has the answers, and how many products were too large.
+
+--times has a line for each circuit: the least processor time of RUNS runs of `synth` and of `verify` of the same text, in
+turn, in seconds, and the second over the first. Where no FILE is given, there is also a circuit that copies 20 inputs to 20
+outputs, of which the automaton looks at one pair in each state.
+"""
+import argparse
+import collections
+import dataclasses
+import glob
+import os
+import subprocess
+import sys
+import time
+
+BENCH = os.path.dirname(os.path.abspath(__file__))
+TOP = os.path.dirname(BENCH)
+sys.dont_write_bytecode = True
+sys.path[:0] = [BENCH, os.path.join(TOP, "tools")]
+import synth  # noqa: E402
+from psyntool.texts import circuit  # noqa: E402
+from tests import changes, products  # noqa: E402
+
+FAMILIES = {
+    synth.states: (10, 100, 200, 1_000, 10_000),
+    synth.inputs: (2, 4, 8, 16, 62),
+    synth.priorities: (2, 8, 64),
+    synth.unrealizable: (10, 100, 1_000, 10_000),
+}
+LITERALS = 50
+MOST_IN_VAIN = 3
+
+
+def automata(psyn, files):
+    """The names and the texts."""
+    for path in files:
+        with open(path, encoding="utf-8") as file:
+            yield os.path.basename(path).removesuffix(".hoa"), file.read()
+    if not files:
+        yield from automata(psyn, [os.path.join(TOP, "examples", "files", name) for name in ("arbiter.hoa", "grant.hoa")])
+        yield from gallery(psyn)
+        yield from ((f"{family.__name__} {size}", family(size)) for family, sizes in FAMILIES.items() for size in sizes)
+
+
+def gallery(psyn):
+    for path in sorted(glob.glob(os.path.join(TOP, "examples", "gallery", "*.parts"))):
+        compose = [os.path.join(TOP, "tools", "psyn"), "compose", path]
+        made = subprocess.run(compose, env={**os.environ, "PSYN": psyn}, stdout=subprocess.PIPE, check=True)
+        yield os.path.basename(path).removesuffix(".parts"), made.stdout.decode()
+
+
+def cases(psyn, named):
+    """For each automaton and either order a line's beginning, and the case."""
+    for name, spec in named:
+        for moore in (False, True):
+            case = changes.case_of(psyn, spec, moore)
+            made = circuit.read(case.text)
+            role = ("environment" if case.env else "controller") + ", --moore" * moore
+            sizes = f"{len(made.inputs):2} inputs {len(made.latches):3} latches {len(made.gates):6} gates"
+            yield f"{name:22} {role:20} {sizes}", case
+
+
+# ---- circuits with a literal changed
+
+
+def compare(psyn, seed, literals, files):
+    sums = collections.Counter()
+    for said, case in cases(psyn, automata(psyn, files)):
+        begin = time.perf_counter()
+        told = answers(case, f"{seed} {said}", literals)
+        sums += told
+        print(f"{said} {time.perf_counter() - begin:7.1f} s  {tell(told)}", flush=True)
+    print(f"in all: {tell(sums)}")
+
+
+def answers(case, seed, literals):
+    """How often each answer was given. No more are tried where some products, or that of the circuit itself, are too large."""
+    told = collections.Counter()
+    for text in case.drawn(seed, literals):
+        try:
+            told[case.judged(text)] += 1
+        except (products.TooLarge, changes.TooSlow) as why:
+            told[str(why)] += 1
+            if text == case.text or told[str(why)] == MOST_IN_VAIN:
+                break
+    return told
+
+
+def tell(told):
+    return ", ".join(f"{count} {what}" for what, count in sorted(told.items()))
+
+
+# ---- times
+
+
+def timed(psyn, given):
+    """The processor time of a run."""
+    with open(os.devnull, "wb") as nowhere, subprocess.Popen([psyn], stdin=subprocess.PIPE, stdout=nowhere) as run:
+        run.stdin.write(given)
+        run.stdin.close()
+        _, _, used = os.wait4(run.pid, 0)
+        run.returncode = 0
+    return used.ru_utime + used.ru_stime
+
+
+def copies(psyn, count=20):
+    """A circuit without gates, and an automaton that in each state wants one output to be its input."""
+    states = [f"State: {q} [{q}&{count + q} | !{q}&!{count + q}] {(q + 1) % count}\n" for q in range(count)]
+    spec = synth.head(count, count, "0 t") + "".join(states) + "--END--\n"
+    case = changes.case_of(psyn, spec, False)
+    yield f"copies {count}, of synth", case
+    inputs, names = [f"{2 * k + 2}\n" for k in range(count)], [f"i{k} i{k}\no{k} o{k}\n" for k in range(count)]
+    text = f"aag {count} {count} 0 {count} 0\n" + "".join([*inputs, *inputs, *names])
+    yield f"copies {count}, no gates", dataclasses.replace(case, text=text)
+
+
+def measure(psyn, runs, files):
+    for said, case in [*cases(psyn, automata(psyn, files)), *([] if files else copies(psyn))]:
+        flags = " --moore" * case.moore
+        asked = (f"synth{flags}\n{case.spec}", f"verify{' --env' * case.env}{flags}\n{case.spec}%%\n{case.text}")
+        found = [[timed(psyn, given.encode()) for given in asked] for _ in range(runs)]
+        made, judged = map(min, zip(*found))
+        print(f"{said}  synth {made:6.3f}  verify {judged:6.3f}  {judged / made:5.2f}", flush=True)
+
+
+def main():
+    words = argparse.ArgumentParser(usage=__doc__)
+    words.add_argument("psyn")
+    words.add_argument("--changed")
+    words.add_argument("--literals", type=int, default=LITERALS)
+    words.add_argument("--times", type=int)
+    words.add_argument("files", nargs="*")
+    given = words.parse_intermixed_args()
+    psyn = os.path.abspath(given.psyn)
+    if given.changed is not None:
+        compare(psyn, given.changed, given.literals, given.files)
+    elif given.times:
+        measure(psyn, given.times, given.files)
+    else:
+        sys.exit(__doc__)
+
+
+if __name__ == "__main__":
+    main()

@@ -1,0 +1,98 @@
+"""Circuits with a literal changed, judged by `verify` beside the product; `lasso` confirms each counterexample."""
+import random
+from dataclasses import dataclass
+from functools import cached_property
+
+from psyntool.texts import automaton, circuit
+from tests import products
+from upkeep import rows
+
+
+def ask(psyn, command, *texts):
+    """What the program answers to a command and its texts, and the status."""
+    answer, status = rows.answered(psyn, rows.Row(command, (command + "\n" + "%%\n".join(texts)).encode(), 0))
+    return answer.decode(), status
+
+
+def places(text):
+    """Where a circuit's text has a literal that is read: the line and the word."""
+    inputs, latches, outputs, gates = map(int, text.split("\n", 1)[0].split()[2:6])
+    first = 1 + inputs
+    found = [(first + k, 1) for k in range(latches)] + [(first + latches + k, 0) for k in range(outputs)]
+    return found + [(first + latches + outputs + k, side) for k in range(gates) for side in (1, 2)]
+
+
+def negated(text, place):
+    """The circuit with the literal at that place negated."""
+    (line, word), lines = place, text.split("\n")
+    words = lines[line].split(" ")
+    words[word] = str(int(words[word]) ^ 1)
+    return "\n".join([*lines[:line], " ".join(words), *lines[line + 1 :]])
+
+
+def with_inputs_as_outputs(text):
+    """The circuits in which an output is replaced by an input."""
+    lines = text.split("\n")
+    inputs, latches, outputs = map(int, lines[0].split()[2:5])
+    for line in range(1 + inputs + latches, 1 + inputs + latches + outputs):
+        yield from ("\n".join([*lines[:line], lines[place], *lines[line + 1 :]]) for place in range(1, 1 + inputs))
+
+
+class TooSlow(Exception):
+    """The program does not answer in time."""
+
+
+def refuse_unless(is_so, *what):
+    if not is_so:
+        raise AssertionError("\n".join(str(it)[:4_000] for it in what))
+
+
+def answered(psyn, spec, text, env, moore):
+    """The first line of what `verify` answers; a counterexample is put before `lasso`."""
+    flags = " --env" * env + " --moore" * moore
+    answer, status = ask(psyn, "verify" + flags, spec, text)
+    if status is None:
+        raise TooSlow(f"no answer within {rows.SECONDS} s")
+    first, _, counterexample = answer.partition("\n")
+    refuse_unless(status == (1 if first.startswith("fault") else 0), first, status, spec, text, flags)
+    if first == "loses":
+        stem, lap = counterexample.split("-\n")
+        said = f"{'accepted' if env else 'rejected'} stem {stem.count(chr(10))} lap {lap.count(chr(10))}\n"
+        confirmed = ask(psyn, "lasso" + " --env" * env, spec, text, counterexample)
+        refuse_unless(confirmed == (said, 0), confirmed, answer, spec, text, flags)
+    return first
+
+
+@dataclass(frozen=True)
+class Case:
+    """An automaton, and a circuit of a player, who may move first."""
+
+    psyn: str
+    spec: str
+    text: str
+    env: bool
+    moore: bool
+
+    @cached_property
+    def read(self):
+        return automaton.read(self.spec)
+
+    def drawn(self, seed, count):
+        """The circuit; then with a literal negated, for so many of its literals, or for all."""
+        found = places(self.text)
+        chosen = random.Random(seed).sample(found, min(count, len(found)))
+        return [self.text, *(negated(self.text, place) for place in chosen)]
+
+    def judged(self, text):
+        """What `verify` answers about another circuit: what the product says too."""
+        wanted = products.verdict(self.read, circuit.read(text), self.env, self.moore)
+        found = answered(self.psyn, self.spec, text, self.env, self.moore)
+        refuse_unless(found == wanted, found, wanted, self.spec, text, self.env, self.moore)
+        return found
+
+
+def case_of(psyn, spec, moore):
+    """An automaton with the circuit that `synth` prints."""
+    answer, status = ask(psyn, "synth" + " --moore" * moore, spec)
+    refuse_unless(status in (10, 20), answer, spec)
+    return Case(psyn, spec, answer.partition("\n")[2], status == 20, moore)
