@@ -108,7 +108,10 @@ def wrong_symbols(_behind, request, texts):
     inputs, outputs = reversed(names) if request.has(ENV) else names
     if not [*differing("inputs", "i", outputs, judged), *differing("outputs", "o", inputs, judged)]:
         return [f"the symbols are those of {'a controller: ask without' if request.has(ENV) else 'an environment: ask with'} {ENV.name}"]
-    return [*differing("inputs", "i", inputs, judged), *differing("outputs", "o", outputs, judged)]
+    named, read_here = [(judged.symbols.get(("i", number)), literal) for number, literal in enumerate(judged.inputs)], judged.read_variables
+    unread = [name for name, literal in named if name and name not in inputs and literal // 2 not in read_here]
+    to_drop = [f"nothing reads {', '.join(unread)}: `convert --drop NAME` leaves out such an input"] if unread else []
+    return [*differing("inputs", "i", inputs, judged), *differing("outputs", "o", outputs, judged), *to_drop]
 
 
 def differing(title, kind, wanted, judged):

@@ -8,7 +8,8 @@ def checked(paths, flag, prefix):
     """The paths, where files can be there: so that a long run is not in vain."""
     folder, begin = os.path.split(prefix)
     if not begin or begin in (os.curdir, os.pardir):
-        raise Refused(f"{flag}: {prefix!r} names a folder; the beginning of the names of files is wanted")
+        wanted = "the name of a file" if [*paths] == [prefix] else "the beginning of the names of files"
+        raise Refused(f"{flag}: {prefix!r} names a folder; {wanted} is wanted")
     if not os.path.isdir(folder or os.curdir):
         raise Refused(f"{flag}: there is no folder {folder}")
     if not os.access(folder or os.curdir, os.W_OK | os.X_OK):
@@ -16,6 +17,9 @@ def checked(paths, flag, prefix):
     for path in paths:
         if os.path.isdir(path):
             raise Refused(f"{flag}: {path} is a folder")
+        # a device or a pipe would be replaced by a file
+        if os.path.exists(path) and not os.path.isfile(path):
+            raise Refused(f"{flag}: {path} is no plain file")
     return paths
 
 

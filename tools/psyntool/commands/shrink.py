@@ -12,7 +12,7 @@ from psyntool.texts import binary, circuit
 
 NAMES = ("abc", "berkeley-abc", "yosys-abc")
 # abc knows no latch that begins with 1, so `zero` inverts those that do.
-SCRIPT = "read_aiger before.aig; zero; strash; scorr; dc2; dc2; dc2; write_aiger -s after.aig"
+SCRIPT = "read_aiger before.aig; zero; strash; scorr; scleanup; dc2; dc2; dc2; write_aiger -s after.aig"
 
 
 def run(request):
@@ -21,12 +21,15 @@ def run(request):
         raise Refused(f"shrink needs abc: none of {', '.join(NAMES)} is installed")
     texts = request.texts()
     before = circuit.read(texts[1].string)
-    after = by_abc(abc, before)
-    chosen = after if len(after.gates) < len(before.gates) else before
+    # abc refuses a circuit that has nothing at all
+    after = by_abc(abc, before) if size(before) > (0, 0) else before
+    chosen = after if size(after) < size(before) else before
     judged = [texts[0], files.Text(Kind.CIRCUIT, f"the circuit of {abc}" if chosen is after else texts[1].name, chosen.text().encode("utf-8", "surrogateescape"))]
     answer = program.ask(files.joined("verify", request.passed, judged))
     if not asking.is_had(answer):
-        return asking.hand_on(request, judged, answer)
+        # standard output is for a circuit alone
+        console.tell(*([answer.text.rstrip("\n")] if answer.is_fault else []))
+        return asking.told(request, judged, answer)
     if answer.bytes != b"wins\n":
         console.tell(f"psyn: {judged[1].name} loses, so nothing is written; `verify` tells a counterexample of a circuit")
         return FAULT
@@ -34,6 +37,10 @@ def run(request):
         console.tell(f"gates: {len(before.gates)} before, {len(chosen.gates)} after; latches: {len(before.latches)} before, {len(chosen.latches)} after")
     console.write(judged[1].bytes)
     return 0
+
+
+def size(made):
+    return len(made.gates), len(made.latches)
 
 
 def by_abc(abc, made):

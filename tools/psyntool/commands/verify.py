@@ -1,7 +1,10 @@
 """`verify`: whether the automaton accepts all that the circuit does; else a stimulus on which it does not, and that run step by step."""
+import os
+
 from psyntool import asking, console, files, outputs, program, tracing
 from psyntool.command import Flag, of_the_program
 from psyntool.commands import wave
+from psyntool.ends import Refused
 from psyntool.kinds import Kind
 from psyntool.texts import circuit, stimulus, vcd
 
@@ -16,6 +19,8 @@ def run(request):
         return asking.run(request)
     for flag in flags:
         outputs.checked([request.value(flag)], flag.shown, request.value(flag))
+    if len({os.path.realpath(request.value(flag)) for flag in flags}) < len(flags):
+        raise Refused(f"{STIMULUS.name} and {WAVE.name} name the same file")
     texts = request.texts()
     answer = program.ask(files.joined("verify", request.passed, texts))
     status = asking.hand_on(request, texts, answer)

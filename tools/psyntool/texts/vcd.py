@@ -17,8 +17,8 @@ def code_of(number):
 
 
 def plain(name):
-    """A name as VCD allows it: no blanks."""
-    return re.sub(r"\s", "_", name)
+    """A name as VCD allows it: no blanks, and no `$` at its beginning, with which the words of VCD begin."""
+    return re.sub(r"\s|^\$", "_", name)
 
 
 def declarations(scopes):
