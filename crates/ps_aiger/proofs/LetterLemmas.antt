@@ -172,7 +172,7 @@ number_is (b ∷ bits) n lt h =
     let rest : number_of_bits bits ≡ n / 2 = number_is bits (n / 2) small (λ j within. grind (arith, later_bit j n)) in
     omega arith
 
--- the number with a given list of bits is the letter with these bits
+-- the number with a given list of bits is the letter with the same bits
 pub number_of_letter : (bits : List Bool) (f : ℕ → Bool) → ((j : ℕ) → j < length bits → get_or bits j false ≡ f j) →
     number_of_bits bits ≡ letter_of (length bits) f
 number_of_letter bits f h = search (rules, number_is, letter_lt, letter_is)

@@ -39,7 +39,7 @@ bits_over ps letter = map (λ p. is_in p letter) ps
 abbrev pub symbols_of : List (List ℕ) → List ℕ → List (Option (List ℕ))
 symbols_of names ps = map (λ p. Some (slice_index_or names p [])) ps
 
--- for these latches and inputs, the outputs and the next values of the latches agree with the machine's step
+-- for given latches and inputs, the outputs and the next values of the latches agree with the machine's step
 pub record StepsAs (b : Behaviour) (latches inputs outputs next : List Bool) : Type 0 where
   pub outputs_are : outputs ≡ bits_over b.outputs (b.plays (memory_of b latches) (letter_over b.inputs inputs))
   pub next_is : number_of_bits next ≡ b.next (memory_of b latches) (letter_over b.inputs inputs)

@@ -1,9 +1,9 @@
 -- The gates of a machine's circuit in the order in which they are built, without a limit on their number.
---     over_variables variables f d      the literal of the Boolean function f of these variables
+--     over_variables variables f d      the literal of f, a Boolean function of the given variables
 --     next_bit b j, output_bit b p      a bit of the machine's step, by memory state and input letter
 --     code_made b f latches code d      the literal of such a bit, for the codes `code` to `code` + 2^latches - 1
 --     next_wires, output_wires b latches      all literals: the next values of the latches, and then the outputs
---     IsWired b c      the literals and gates of the circuit are these, in their order
+--     IsWired b c      the circuit has the literals and gates that are built for the machine, in order
 --     IsOutOfLiterals b      the gates need too many variables, so that there is no circuit
 use Rattle.std.specs.Prelude.{◌≡◌, ℕ, zero, suc, ◌+◌, ◌*◌, ◌^◌, ◌<◌, ◌≤◌, Bool, true, false, if◌then◌else◌, List, []}
 use Rattle.std.specs.Prelude.{◌∷◌, length, map, slice_get, Some}
@@ -21,7 +21,7 @@ use Rattle.ps_aiger.specs.Encoded.{letter_over, memory_of_code}
 
 -- The literal of a Boolean function of variables. Gates are built first for the function with the first variable true,
 -- then for the function with that variable false, and then for the choice between the two. If the function does not
--- depend on that variable, both literals are the same, and the choice needs no gate.
+-- depend on its first variable, both literals are the same, and the choice needs no gate.
 unfoldable pub over_variables : List ℕ → (List Bool → Bool) → Drafted → Made
 over_variables [] f d = record { draft = d; literal = if f [] then 1 else 0 }
 over_variables (v ∷ vs) f d =
@@ -42,9 +42,9 @@ next_bit b j memory x = is_in j (b.next memory x)
 abbrev pub output_bit : Behaviour → ℕ → StepBit
 output_bit b p memory x = is_in p (b.plays memory x)
 
--- The literal of a bit, for the memory states whose codes are `code` plus a number less than 2^latches. If there are
--- several such memory states, the highest of these latches chooses between two halves of them; for one memory state,
--- the bit is a function of the inputs.
+-- The literal of a bit, for the memory states whose codes are `code` plus a number less than 2^latches. If `latches` is
+-- 0, the bit is a function of the inputs; otherwise the highest of the given latches chooses between the literals for
+-- two halves of the memory states.
 unfoldable pub code_made : Behaviour → StepBit → ℕ → ℕ → Drafted → Made
 code_made b f zero code d =
     over_variables (range_with_len 1 (length b.inputs)) (λ bits. f (memory_of_code b code) (letter_over b.inputs bits))

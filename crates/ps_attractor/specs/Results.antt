@@ -18,7 +18,7 @@ pub record IsGoal (game : ParityGame) (subgame target : List Bool) : Type 0 wher
   pub subgame_places : length subgame ≡ vertex_count game
   pub target_places : length target ≡ vertex_count game
 
--- each vertex less than n has its level, and the trail has exactly those of these vertices that are in the target
+-- each vertex less than n has its level, and the trail has exactly the vertices less than n that are in the target
 pub record AreLaidOut (subgame target : List Bool) (n : ℕ) (tables : TablesData) : Type 0 where
   pub targets : (v : ℕ) → v < n → IsTrue (has target v) → level_of tables v ≡ PLACED
   pub frees : (v : ℕ) → v < n → has target v ≡ false → IsTrue (has subgame v) → level_of tables v ≡ FREE
@@ -41,7 +41,7 @@ pub record AreAttracted (game : ParityGame) (player : ℕ) (subgame target : Lis
     pub attracted : (set : ℕ → Bool) → IsSetOfPlaced (aim_of player) tables (has subgame) set
         → IsAttracted game (has subgame) player (has target) set (moves_of tables) (rank_of (aim_of player) tables)
 
--- of the vertices less than n, the region has exactly those that were placed
+-- among the vertices less than n, the region has exactly the placed ones
 pub record IsRegionTo (tables : TablesData) (n : ℕ) (region : List Bool) : Type 0 where
   pub placed : (v : ℕ) → v < n → IsTrue (has region v) → level_of tables v ≡ PLACED
   pub all : (v : ℕ) → v < n → level_of tables v ≡ PLACED → IsTrue (has region v)
@@ -53,7 +53,7 @@ pub record Moves (game : ParityGame) (tables : TablesData) (player : ℕ) (targe
   pub owns : owner_of game v ≡ player
   pub outside : has target v ≡ false
 
--- of the vertices less than n, exactly those that satisfy `Moves` have a move, which is the move of the tables
+-- among the vertices less than n, exactly those that satisfy `Moves` have a move, which is the move in the tables
 pub record AreMovesTo (game : ParityGame) (tables : TablesData) (player : ℕ) (target : List Bool) (n : ℕ)
     (moves : List (Option ℕ)) : Type 0 where
   pub given : (v : ℕ) → v < n → Moves game tables player target v → move_at moves v ≡ Some (slice_index tables.moves v)

@@ -1,5 +1,5 @@
--- The steps of the worklist, and the invariant of the walk along the trail. The public contract of `Tables::attract`
--- uses `IsGrown` and `IsAttracted` instead.
+-- The steps of the worklist, and the invariant of the walk along the trail. Only private contracts use these
+-- definitions; the public contract of `Tables::attract` uses `IsGrown` and `IsAttracted`.
 use Rattle.std.specs.Prelude.{◌≡◌, ◌≢◌, ℕ, ◌<◌, ◌≤◌, ◌⊎◌, List, ◌∷◌, [], ◌++◌, length, slice_index, slice_set, ◌==◌}
 use Rattle.std.specs.Prelude.{count_by}
 use Rattle.ps_game.specs.Games.{ParityGame, owner_of, HasEdge}
@@ -28,7 +28,8 @@ pub record HasFree (game : ParityGame) (free : ℕ) (tables : TablesData) (v : �
   pub is_free : level_of tables to ≡ free
 
 -- The result of examining an edge from v to a vertex w of the set. Nothing changes if v is not free, or if it belongs
--- to the other player and has a free successor. Otherwise v is placed, with the move w if it belongs to the player
+-- to the other player and has a free successor. In every other case v is placed, with the move w if v belongs to the
+-- player
 pub data Look (game : ParityGame) (aim : Aim) (old new : TablesData) (v w : ℕ) : Type 0 where
   NotFree : level_of old v ≢ aim.free → new ≡ old → Look game aim old new v w
   Escapes : owner_of game v ≢ aim.player → HasFree game aim.free old v → new ≡ old → Look game aim old new v w
@@ -44,7 +45,7 @@ pub record HasOpenSuccessor (game : ParityGame) (aim : Aim) (tables : TablesData
   pub edge : HasEdge game v to
   pub there : (level_of tables to ≡ aim.free) ⊎ StandsFrom tables aim.begin to
 
--- w is in the trail, and the edge from v to w is still to be examined: P is true for v and the index of w
+-- w is in the trail, and P is true for v and the index of w, so the edge from v to w is still to be examined
 pub record IsUnexamined (aim : Aim) (tables : TablesData) (P : ℕ → ℕ → Type 0) (v w : ℕ) : Type 0 where
   pub place : ℕ
   pub after : aim.begin ≤ place

@@ -1,5 +1,5 @@
--- The deterministic automaton of a file accepts the same words as the file. Consider a part of the automaton's run that
--- returns to its first state. Its greatest priority is even exactly if some run of the file accepts the word.
+-- The deterministic automaton of a file accepts the same words as the file. If a part of the automaton's run returns to
+-- its first state, the greatest priority of the part is even exactly if some run of the file accepts the word.
 use Rattle.std.proofs.Common.{◌≡◌, ℕ, ◌+◌, ◌-◌, ◌*◌, ◌^◌, ◌<◌, ◌≤◌, inl, inr, suc, zero, Bool, true, rules}
 use Rattle.std.proofs.Common.{false, List, length, Some, refl, ap, sym, ◌∙◌, arith, add-one, add-zero}
 use Rattle.std.specs.Prelude.{◌↔◌, IsTrue, All}

@@ -1,6 +1,6 @@
 -- Conditions that are chains, and the numbers that a chain gives to edges. A chain is a list of links and a base. A
 -- link is a set of edges together with a flag. For a part of a run, the first link whose set is met decides, and its
--- flag states whether the part is accepted. If no such set is met, the base decides.
+-- flag states whether the part is accepted. If the set of no link is met, the base decides.
 --     chain_of condition      the chain of the condition, if the condition is a chain
 --     level chain has      the number of an edge, given by the first link whose set the edge has, or by the base
 use Rattle.std.specs.Prelude.{ℕ, ◌+◌, ◌%◌, max, Bool, true, false, not, List, [], ◌∷◌, ◌++◌, Option, None, Some}
@@ -85,7 +85,8 @@ abbrev mutual
 
 -- ## The truth of a condition
 
--- the truth value of a condition if exactly these sets are met infinitely often; complemented sets have no meaning here
+-- the truth value of a condition if exactly the given sets are met infinitely often; complemented sets have no meaning
+-- here
 abbrev mutual
   pub holds : (ℕ → Bool) → Condition → Bool
   holds met (constant b) = b

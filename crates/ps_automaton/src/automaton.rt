@@ -108,7 +108,7 @@ impl Automaton {
         })
     }
 
-    /// The names of the propositions, at most 64. They differ, and each is a non-empty text without control bytes.
+    /// The names of the propositions, at most 64: different, non-empty texts without control bytes.
     pub fn names(&self) -> &[Vec<u8>]
         ensures names { map bytes_of result.now ≡ self.now.names }
         ensures few { length self.now.names ≤ 64 }
@@ -150,7 +150,7 @@ impl Automaton {
         &self.store
     }
 
-    /// The diagram of a state, or of the sink. Its leaf at a letter names the step (`pair`).
+    /// The diagram of a state, or of the sink. The diagram's leaf at a letter names the step (`pair`).
     pub fn node(&self, state: u32) -> Node
         requires { state ≤ self.now.states }
         ensures node { result ≡ node_of self.now state }

@@ -19,7 +19,7 @@ pub(crate) struct Link {
     pub accepts: bool,
 }
 
-/// The first link whose set is met decides whether a part of a run is accepted. If no such set is met, the base
+/// The first link whose set is met decides whether a part of a run is accepted. If the set of no link is met, the base
 /// decides.
 #[derive(Drop)]
 pub(crate) struct Chain {
@@ -94,9 +94,9 @@ fn base_behind(condition: &Cond, links: &mut Vec<Link>) -> Result<Option<bool>, 
 enum Gathered {
     /// All operands.
     All,
-    /// All operands but the one at this index.
+    /// All operands but the one at the given index.
     AllBut(usize),
-    /// At least two are not links.
+    /// At least two operands are not links.
     TooFew,
 }
 

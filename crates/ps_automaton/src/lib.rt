@@ -2,10 +2,11 @@
 //!
 //! A word is a stem followed by a lap that repeats for ever. An automaton accepts the word if some run reads the stem
 //! and some laps to a state, and then at least one more lap back to this state, and the acceptance condition is true
-//! for the sets met in that last part. The definition `IsAccepted` states this in terms of the file alone (HOA v1,
-//! acceptance). A condition that is a chain gives each edge a number. In a part of a run, the greatest number is even
-//! exactly if the condition is true for the sets that are met (`greatest_level_decides`). The steps of an `Automaton`
-//! are stored in decision diagrams; at a letter at which no edge of the text is taken, the step leads to a sink.
+//! for the sets met in that last part. The definition `IsAccepted` states when a word is accepted in terms of the file
+//! alone (HOA v1, acceptance). A condition that is a chain gives each edge a number. In a part of a run, the greatest
+//! number is even exactly if the condition is true for the sets that are met (`greatest_level_decides`). The steps of
+//! an `Automaton` are stored in decision diagrams; at a letter at which no edge of the text is taken, the step leads to
+//! a sink.
 //!
 //! | Call | What it gives |
 //! |---|---|

@@ -10,7 +10,7 @@ use std::alloc::{AllocError, Global};
 use std::collections::BTreeMap;
 use std::marker::Model;
 
-/// A list of different targets. Their indices are in a tree, so that a search takes logarithmic time whatever the
+/// A list of different targets, whose indices are in a tree, so that a search takes logarithmic time whatever the
 /// targets are.
 #[derive(Drop)]
 pub(crate) struct Places {

@@ -1,7 +1,7 @@
 -- How moves, the lines of vertices and the whole text are read, and how reading them fails.
---     choice_dash, choice_fails, choice_reads      a move
---     past_id, .., entry_reads      the line of a vertex, after the fields that were read
---     past_first, .., head_read      what precedes these lines, after the parts that were read
+--     choice_dash, choice_fails, choice_reads      a move is `-`, has an error, or is parsed
+--     past_id, .., entry_reads      what is left of a vertex's line, after each field
+--     past_first, .., head_read      what is left of the text, after each of its first lines
 --     text_fails, text_reads, text_trails      the whole text has an error, is parsed, or is followed by more bytes
 use Rattle.std.proofs.Common.{◌≡◌, ◌≢◌, ℕ, Bool, not, cond, eqb, ltb, List, [], ◌∷◌, length, Option, Some, None, Result}
 use Rattle.std.proofs.Common.{Ok, Err, IsErrAnd, refl, sym, ap, subst, ◌∙◌, arith, rules}

@@ -59,7 +59,7 @@ winner_along : {game : ParityGame} {certificate : CertificateData} {player : ℕ
     winner_of certificate (slice_index path k) ≡ player
 winner_along {game} {certificate} {player} {path} lost k before = search (rules, path_stays)
 
--- at each vertex of the loop, the opposing priority with that index is the loop's priority
+-- at each vertex of the loop, the opposing priority with the index `place` is the loop's priority
 at_place : {game : ParityGame} {certificate : CertificateData} {player : ℕ} {path : List ℕ} {i j place : ℕ} →
     LostLoop game certificate player path i j place → (k : ℕ) → k ≤ j →
     opposing_at certificate (slice_index path k) place ≡ loop_priority game path i j

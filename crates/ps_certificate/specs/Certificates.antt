@@ -61,7 +61,7 @@ pub record IsClosed (game : ParityGame) (certificate : CertificateData) : Type 0
   pub moves : (v : ℕ) → v < vertex_count game → HasRightMove game certificate v
   pub stays : (v w : ℕ) → Remains game certificate v w → winner_of certificate w ≡ winner_of certificate v
 
--- the priority at an index of the list of those that oppose the winner of the vertex
+-- the priority at an index of the list of all priorities that oppose the winner of the vertex
 abbrev pub opposing_at : CertificateData → ℕ → ℕ → ℕ
 opposing_at certificate v k = slice_index (opposing certificate (winner_of certificate v)) k
 

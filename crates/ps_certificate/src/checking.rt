@@ -15,7 +15,7 @@ use crate::rising::first_at_least;
 use ps_game::Arena;
 
 /// The first opposing priority for which an edge breaks the rule of counts. A search finds the first opposing priority
-/// that is not less than the priority of either end of the edge. From that priority on, only nonzero counts are
+/// that is not less than the priority of either end of the edge; from that priority on, only nonzero counts are
 /// compared.
 fn broken_priority<A: Arena>(
     arena: &A,
@@ -103,9 +103,9 @@ fn unranked_through<A: Arena>(
     }
 }
 
-/// Checks whether a certificate is valid: it is closed, and each remaining edge keeps the rule of counts. Otherwise
-/// returns the first flaw: the flaw that [`crate::closed`] returns, if there is one, or else the first edge that breaks
-/// the rule, ordered by vertex, then successor, then priority. Allocates no memory.
+/// Checks whether a certificate is valid: it is closed, and each remaining edge keeps the rule of counts. The error is
+/// the first flaw of a certificate that is not valid: the flaw that [`crate::closed`] returns, if there is one, or else
+/// the first edge that breaks the rule, ordered by vertex, then successor, then priority. Allocates no memory.
 ///
 /// # Errors
 ///

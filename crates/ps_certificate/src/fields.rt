@@ -51,7 +51,7 @@ pub(crate) fn exactly(cursor: &mut Cursor, wanted: u64) -> Result<u64, CertFault
     Ok(found)
 }
 
-/// Moves past the rest of a line that must list these numbers, each after a space.
+/// Moves past the rest of a line that must list the given priorities, each after a space.
 pub(crate) fn priorities(cursor: &mut Cursor, priorities: &[u64]) -> Result<(), CertFault>
     ensures { Tells (λ u. u) (parts.priorities priorities.now) cursor.old result cursor.new }
 {

@@ -179,7 +179,7 @@ pub fn certificate_text_has_one_answer()
         ReadsCertificate game text answer → ReadsCertificate game text other → answer ≡ other }
 {}
 
-/// The text of a certificate has an answer for a given game. This law concerns texts and not calls, so out of memory is
+/// The text of a certificate has an answer for a given game. The law concerns texts and not calls, so out of memory is
 /// not one of the answers.
 pub fn certificate_text_has_some_answer()
     ensures { (game : NamedGameData) (text : List ℕ) → (answer : Result CertificateData (Found CertCause)) ×

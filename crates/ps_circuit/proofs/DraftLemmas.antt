@@ -1,5 +1,5 @@
 -- The definitions and readings that the lines of a text add, and the circuit that the lines form.
---     Lined kind most before read d      d has the definitions and readings of these lines, after the given ones
+--     Lined kind most before read d      d has the given definitions and readings, and then those of lines of one kind
 --     gates_placed      each gate of a draft has the offset of its line
 --     sound_draft      a draft whose literals are all defined is a circuit, except that a gate may depend on itself
 --     each_named      an optional name for each item

@@ -1,5 +1,5 @@
--- Lemmas about parsing the text that the writer produces, which gives the same circuit. They cover fields, lines,
--- names, circuits and whole texts.
+-- Parsing the text that the writer produces gives the same circuit. There are lemmas for fields, lines, names, circuits
+-- and whole texts.
 
 pub mod RereadFields
 pub mod RereadLines

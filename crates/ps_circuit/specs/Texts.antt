@@ -20,7 +20,8 @@
 -- An input, latch or left side must be even and at least 2, and a reset must be 0, 1 or the latch itself. The errors
 -- 62, 63, 66 and 67 are reported at the first digit of the wrong number, and the error 61 of a symbol at the symbol's
 -- letter. The first error in the text is reported. If there are several errors at the same offset, the error with the
--- smallest number is reported. If there are none of these errors, one of the following can be reported, in this order:
+-- smallest number is reported. If a text has none of the errors above, it can have one of the following, which are
+-- checked in this order:
 --     64 (`Undefined`)      the first literal that is read and whose variable is neither defined nor 0
 --     65 (`Cyclic`)      the line of the first gate that depends on itself
 use Rattle.std.specs.Prelude.{◌≡◌, ◌≢◌, ℕ, zero, suc, ◌+◌, ◌*◌, ◌^◌, ◌<◌, ◌≤◌, ◌⊎◌, List, [], ◌∷◌, ◌++◌, Bool, false}

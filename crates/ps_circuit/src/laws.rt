@@ -12,8 +12,7 @@ pub fn one_answer()
         ReadsCircuit text b → a ≡ b }
 {}
 
-/// Every text has an answer. This law is about texts, not about calls: a call may also fail because it is out of
-/// memory.
+/// Every text has an answer. The law is about texts, not about calls: a call may also fail because it is out of memory.
 pub fn some_answer()
     ensures { (text : List ℕ) → (answer : Result CircuitData (Found AigCause)) × ReadsCircuit text answer }
 {}

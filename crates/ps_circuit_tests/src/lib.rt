@@ -1,5 +1,5 @@
 //! Tests of circuits, machines, solvers and simulators. The tests check what no contract states. With ample memory,
-//! they also make the calls that the program never makes. What the program prints in such cases is tested in
+//! they also make the calls that the program never makes. What the program prints for circuits is tested in
 //! `examples/rows/libraries-circuits.toml`.
 #![tactic(auto)]
 

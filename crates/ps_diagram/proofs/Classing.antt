@@ -187,8 +187,8 @@ module _ {s u : Table} (m : Made s u) where
         (m.listed.rising i j lt below));
   }
 
--- The node is in the first table, its division is in the second, and the diagram of indices is in the third. The third
--- table keeps the second.
+-- The node is in the first table, its division is in the second, and the diagram of indices is in the third, which
+-- keeps the nodes of the second.
 pub classes_of : {s v u : Table} → Keeps v u → IsSoundTable s → IsSoundTable u → u.propositions ≡ s.propositions →
     (mask : ℕ) {node divided at : ℕ} {places : ℕ → Option ℕ} {leaves : List (ℕ × ℕ)} {list : List Class} →
     IsNode s node → IsNode v divided → IsNode u at → IsDivided v mask (tree_of s node) (tree_of v divided) →

@@ -34,7 +34,7 @@ pub tested_kept : {t u : Table} → Keeps t u → {test : (ℕ → Bool) → Boo
 tested_kept k h = are_tested h.low_is h.high_is h.made_is (k.held h.low h.low_held) (k.held h.high h.high_held)
     (search rules) (λ g. rw (k.same h.made h.held, k.same h.high h.high_held, k.same h.low h.low_held) (h.leaf g))
 
--- Nodes with the same leaves are equal. Therefore a tree of nodes has the same node at letters with the same rest.
+-- Nodes with the same leaves are equal, and so a tree of nodes has the same node at letters with the same rest.
 
 pub divided_alike : {t : Table} → IsSoundTable t → (mask : ℕ) (a d : Tree) → IsDivided t mask a d → (f g : ℕ → Bool) →
     ((w : ℕ → Bool) → leaf_at a (mixed mask f w) ≡ leaf_at a (mixed mask g w)) → leaf_at d f ≡ leaf_at d g

@@ -35,7 +35,8 @@ pub on_side : (P : Option ℕ → Type 0) (v : Bool) {t : Table} {node p low hig
     ((f : ℕ → Bool) → P (leaf_at (tree_of t node) f)) → (f : ℕ → Bool) → P (leaf_at (tree_of t (cond v high low)) f)
 on_side P v {p} s h f = rw (← side_at v s f) (h (changed f p v))
 
--- a property of a node's leaf at every letter that is a number holds at every letter that is a function
+-- letters can be numbers or functions: a property of a node's leaf at all numbers is a property of its leaf at all
+-- functions
 pub by_numbers : (P : Option ℕ → Type 0) {t : Table} {node : ℕ} → IsSoundTable t → IsNode t node →
     ((letter : ℕ) → letter < 2 ^ t.propositions → P (leaf_of t node letter)) → (f : ℕ → Bool) →
     P (leaf_at (tree_of t node) f)

@@ -66,8 +66,8 @@ knows_with_more t known h k a b made e =
     let r = k a b made e in
     (r.0, r.1, r.2, pair_of_more h (tree_of t a) (tree_of t b) (tree_of t made) r.3)
 
--- A pair has only one index. Therefore the diagram of pairs depends only on propositions on which one of the two
--- diagrams depends.
+-- A pair has only one index, and so the diagram of pairs depends only on propositions on which one of the two diagrams
+-- depends.
 pair_decides : (a b : ℕ × ℕ) → Decides (pair_eq a b) (a ≡ b)
 pair_decides a b = ((λ e. pair_same a b e), (λ e. search (rules, eq-eqb)))
 

@@ -68,8 +68,7 @@ impl Store {
         self.intern(View::Leaf(rest.place as u64))
     }
 
-    /// The diagram that has, at each letter, the leaf that the other store's node has if the propositions of `split`
-    /// are as in `letter`.
+    /// The diagram of the other store's node, with the propositions of `split` fixed as in `letter`.
     fn cofactor(
         &mut self,
         other: &Store,

@@ -16,7 +16,8 @@ use std::alloc::AllocError;
 
 impl Store {
     /// The diagram that has the leaf 1 at letters at which the label is true, and no leaf elsewhere. The diagram of
-    /// each alias is made once. If many labels have the same aliases, make the diagrams of these once, by `of_aliases`.
+    /// each alias is made once. If many labels have the same aliases, make the diagrams of the aliases once, by
+    /// `of_aliases`.
     pub fn of_label(&mut self, labels: &Labels, label: &Label) -> Result<Node, AllocError>
         requires aliases { AreOverFrom 0 self.old.propositions (expressions labels.now) }
         requires within { IsOver (length labels.now) self.old.propositions (expression label.now) }
@@ -61,8 +62,8 @@ impl Store {
     }
 
     /// The diagram that has the leaf `value` at letters at which the label is true, made from the diagrams of its
-    /// aliases. It equals the `guard` of `of_label_by`, but if the label is a product of literals, its diagram is made
-    /// in one step.
+    /// aliases. The result equals the `guard` of `of_label_by`, but if the label is a product of literals, the diagram
+    /// is made in one step.
     pub fn of_label_as(
         &mut self,
         aliases: &[Node],

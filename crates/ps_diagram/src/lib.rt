@@ -28,8 +28,8 @@
 //! `same` and `view` read a node and use no memory. `leaves` lists the leaves of a node, each with the least letter
 //! that leads to it; `path_to` finds this letter for one leaf. `classes(node, split)` divides the letters over the
 //! propositions of `split` into classes. Two letters of a class lead to the same leaf for all truth values of the other
-//! propositions (`AreClasses`). `classes_from` does the same for a node of another store. Both keep every node. `copy`
-//! returns a store with the same nodes.
+//! propositions (`AreClasses`). `classes_from` divides the letters for a node of another store. `classes` and
+//! `classes_from` keep every node. `copy` returns a store with the same nodes.
 //!
 //! A store never drops a node. Equal diagrams are one node, which a hash table finds. `negated`, `guard`, `fill`,
 //! `relabel` and `relabel_from` visit each node of the given diagram once. `overlay` and `both` visit each pair of

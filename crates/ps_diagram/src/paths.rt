@@ -14,8 +14,7 @@ use indexmap::IndexMap;
 use std::alloc::{AllocError, Global};
 
 impl Store {
-    /// The different leaves of a node, each with the least letter that leads to it. They are in the order of these
-    /// letters.
+    /// The different leaves of a node, each with the least letter that leads to it, in the order of the letters.
     pub fn leaves(&self, node: Node) -> Result<Vec<(u64, u64)>, AllocError>
         requires held { IsNode self.now node }
         ensures { IfOk result (λ found. AreLeaves self.now node found.items) }

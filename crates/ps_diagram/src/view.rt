@@ -2,7 +2,7 @@
 
 use std::marker::Model;
 
-/// A decision diagram, as a node of a store. It may be used with that store, and with later copies of it.
+/// A decision diagram, as a node of a store. A node may be used with its store, and with later copies of the store.
 #[derive(Debug, Clone, Copy, PartialEq, Eq, Hash)]
 pub struct Node {
     pub(crate) place: usize,

@@ -49,8 +49,7 @@ impl NamedGame {
         NamedGame::with_first_names(game, ids, names)
     }
 
-    /// Gives ids to the vertices of a game, in their order, and names to the first vertices. The other vertices have no
-    /// names.
+    /// Gives ids to the vertices of a game, in their order, and names to the first vertices, but to no others.
     pub fn with_first_names(game: Game, ids: Vec<u64>, names: Vec<Option<Vec<u8>>>) -> Self
         requires id_each { vec_len ids ≡ vertex_count game }
         requires names_of_vertices { vec_len names ≤ vertex_count game }

@@ -47,7 +47,7 @@ impl<W: Width> Numbers<W> {
         Numbers { items }
     }
 
-    /// A list of these numbers, stored at the width `V`. Fails if out of memory.
+    /// A list of the same numbers, stored at the width `V`. Fails if out of memory.
     pub(crate) fn in_width<V: Width>(&self, alloc: Global) -> Result<Numbers<V>, AllocError>
         requires { All (λ number. number ≤ V.LIMIT) self.now }
         ensures { IfOk result (λ numbers. numbers ≡ self.now) }

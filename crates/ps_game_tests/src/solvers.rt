@@ -21,7 +21,7 @@ const FORK: &[u8] = b"0 0 0 1,2; 1 0 1 0,3; 2 0 1 2; 3 0 0 3;";
 /// Vertex 0 leads to 1, which leads to itself, and 2 leads to itself and to 0.
 const LOOPS: &[u8] = b"0 2 0 1; 1 1 1 1; 2 1 0 2,0;";
 
-/// Whether a region has exactly these vertices.
+/// Whether a region has exactly the given vertices.
 fn has_just(region: &Region, vertices: &[usize]) -> bool {
     for &vertex in vertices {
         if vertex >= region.places() || !region.contains(vertex) {

@@ -1,4 +1,4 @@
--- The properties of the arguments of each header item. There is a section for each item, and a row in `form`.
+-- The properties of the arguments of header items. Each header item has a section here, and a row in `form`.
 --     IsForm h part      the properties of a part that follows an item's name, if the earlier items gave h
 --     form h item      the arguments of this item have these properties
 --     judge_item      the error at an item's name can be decided
@@ -68,8 +68,8 @@ ItemMore = Of is_argument
 abbrev pub Anything : Sign → Type 0
 Anything t = Unit {0}
 
--- Of the part's laws, only the tokens that continue the part matter. The part has an outcome for each list of tokens,
--- and keeps the invariant of the items so far.
+-- The part satisfies the laws; any token may begin it, and the tokens of `ItemMore` may continue it. The part has an
+-- outcome for each list of tokens, and keeps the invariant of the items so far.
 pub record IsForm (h : HeaderData) (part : Part Sign HeaderData HoaCause) : Type 0 where
   pub laws : Laws Odd part Anything ItemMore (Unit {0})
   pub has : Has part

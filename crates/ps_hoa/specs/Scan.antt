@@ -32,8 +32,8 @@ abbrev pub plus : ℕ → Option ℕ → Option ℕ
 plus k None = None
 plus k (Some n) = Some (k + n)
 
--- The number of bytes up to the end of the comment that these bytes continue. The comment is nested in `depth` further
--- comments. With `skip`, the first byte is the second byte of a `/*` or a `*/`.
+-- The number of bytes up to the end of the comment that the given bytes continue. The comment is nested in `depth`
+-- further comments. With `skip`, the first byte is the second byte of a `/*` or a `*/`.
 unfoldable pub comment_len : List ℕ → Bool → ℕ → Option ℕ
 comment_len [] skip depth = None
 comment_len (b ∷ bs) true depth = one_more (comment_len bs false depth)
@@ -43,7 +43,7 @@ comment_len (b ∷ bs) false depth =
     else (if nat_eq b 47 && nat_eq (head_or_zero bs) 42 then one_more (comment_len bs true (suc depth))
     else one_more (comment_len bs false depth))
 
--- the number of bytes up to the end of the string that these bytes continue, including the closing quote
+-- the number of bytes up to the end of the string that the given bytes continue, including the closing quote
 unfoldable pub quoted_len : List ℕ → Bool → Option ℕ
 quoted_len [] skip = None
 quoted_len (b ∷ bs) true = one_more (quoted_len bs false)
@@ -153,7 +153,7 @@ pub record ScanState : Type 0 where
   pub at : ℕ
   pub history : History
 
--- the text has this token at these offsets, regardless of the tokens before it
+-- the text has the token at the given offsets, regardless of the tokens before it
 pub record IsLexeme (source : List ℕ) (found : Lexeme) : Type 0 where
   pub rises : found.start ≤ found.stop
   pub within : found.stop ≤ length source

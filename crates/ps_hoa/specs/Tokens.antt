@@ -6,7 +6,7 @@
 --     IsLongestToken kind text rest      a token of this kind, followed by rest: the longest token that can begin here
 --     IsToken kind text rest      as `IsLongestToken`, or an unclosed comment, or a byte that begins no token
 --     AreTokens at bytes pieces      the tokens of `bytes`, with blanks between them; `at` is the offset of the bytes
---     in_context history pieces      these tokens, where repeated names and tokens after `--END--` have other kinds
+--     in_context history pieces      the tokens, in which repeated names and tokens after `--END--` have other kinds
 use Rattle.std.specs.Prelude.{◌≡◌, ℕ, suc, ◌+◌, ◌<◌, ◌⊎◌, ◌≢◌, ◌||◌, Bool, true, false, List, [], ◌∷◌, ◌++◌, length}
 use Rattle.std.specs.Prelude.{codes, if◌then◌else◌, nat_eq, get_or, set, Option, None, Some}
 use Rattle.std.specs.Str.{bytes_eq}
@@ -25,7 +25,7 @@ pub record Sign : Type 0 where
 
 -- ## Blanks
 
--- These bytes complete a comment that was opened before them, and only their last byte completes it. The comment is
+-- The bytes complete a comment that was opened before them, and only their last byte completes it. The comment is
 -- nested in `depth` further comments.
 pub data Ends : ℕ → List ℕ → Type 0 where
   closes_last : {b c : ℕ} → b ≡ 42 → c ≡ 47 → Ends 0 (b ∷ c ∷ [])

@@ -23,11 +23,9 @@ pub enum Cond {
     Always,
     /// True of no run.
     Never,
-    /// The set with this number is visited infinitely often. If the flag is set, this holds for the complement of the
-    /// set instead.
+    /// The set with this number, or its complement if the flag is set, is visited infinitely often.
     Inf(u32, bool),
-    /// The set with this number is visited finitely often. If the flag is set, this holds for the complement of the set
-    /// instead.
+    /// The set with this number, or its complement if the flag is set, is visited finitely often.
     Fin(u32, bool),
     /// All operands hold.
     All(Vec<Cond>),

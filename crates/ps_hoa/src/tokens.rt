@@ -163,8 +163,8 @@ fn name_at(bytes: &[u8]) -> usize
     count
 }
 
-/// The number of bytes up to the end of the string that these bytes continue, including the closing quote. The result
-/// is `None` if the string is not closed.
+/// The number of bytes up to the end of the string that the given bytes continue, including the closing quote. The
+/// result is `None` if the string is not closed.
 fn quoted_at(bytes: &[u8]) -> Option<usize>
     ensures value { result ≡ quoted_len bytes.now false }
     ensures within { IfSome result (λ n. n ≤ length bytes.now) }
@@ -182,7 +182,7 @@ fn quoted_at(bytes: &[u8]) -> Option<usize>
     None
 }
 
-/// The number of bytes up to the end of the comment that these bytes continue, including comments nested in it. The
+/// The number of bytes up to the end of the comment that the given bytes continue, including comments nested in it. The
 /// result is `None` if the comment is not closed.
 fn comment_at(bytes: &[u8]) -> Option<usize>
     ensures value { result ≡ comment_len bytes.now false 0 }

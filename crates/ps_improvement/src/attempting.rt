@@ -38,7 +38,7 @@ pub enum Attempted {
     },
     /// The fuel, or the number of cells that it allows, was used up before a result was reached.
     OutOfFuel,
-    /// No room was left for a row. More fuel would not change this result.
+    /// No room was left for a row. More fuel would not help.
     OutOfRoom,
 }
 

@@ -20,9 +20,9 @@ pub type Row = Vec<Cell>;
 /// The value of a play for player 0.
 #[derive(Clone, Copy)]
 pub enum Value<'a> {
-    /// The play never stops; such a play is worth most.
+    /// The play never stops; an endless play is worth most.
     Endless,
-    /// The play stops after meeting these priorities.
+    /// The play stops after meeting the priorities of a row.
     Stops(&'a [Cell]),
 }
 

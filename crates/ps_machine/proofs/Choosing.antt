@@ -1,4 +1,4 @@
--- Facts about letters and steps that can be decided. Therefore each first-player letter has a class, and each
+-- Several properties of letters and of steps are decidable, so each first-player letter has a class, and each
 -- second-player letter has a move.
 use Rattle.std.proofs.Common.{arith, rules, ◌≡◌, ◌⊎◌, inl, inr, ℕ, ◌+◌, ◌^◌, ◌<◌, Bool, true, false, not, refl, ap, sym}
 use Rattle.std.proofs.Common.{◌∙◌}

@@ -115,7 +115,7 @@ abbrev pub is_others : Bool → Board → ℕ → Bool
 is_others true board p = not (board.is_first p)
 is_others false board p = board.is_first p
 
--- the machine has these names, and reads the propositions of the other player
+-- the machine has the given names, and reads the propositions of the other player
 pub record HasPropositions (names : List (List ℕ)) (board : Board) (m : Behaviour) : Type 0 where
   pub names_are : m.names ≡ names
   pub as_many : length names ≡ board.propositions

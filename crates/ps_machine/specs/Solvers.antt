@@ -1,7 +1,7 @@
 -- What a solver may answer, and the text that it was fed.
 --     MayAnswer      what a solver may answer for a game
 --     SolverData      what is known about a solver
---     once_fed text solver      the solver after it was fed that text
+--     once_fed text solver      the solver after it was fed `text`
 --     answers_now solver      what the solver may answer, given the text that it was fed
 --     Answered old new      what the solver was allowed to answer, and did answer
 --     IsKept old new      what a call keeps: everything except the record of the last answer

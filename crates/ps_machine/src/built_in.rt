@@ -15,7 +15,7 @@ use ps_referee::{JudgeFault, certificate_of_solution, judge};
 use ps_zielonka::{regions, regions_within};
 use std::alloc::{AllocError, Global};
 
-/// The number of rounds in which the work is limited. One more round follows, without a limit.
+/// The number of rounds in which the work is limited. After them, one more round is made without a limit.
 const ROUNDS: u64 = 8;
 
 /// The factor by which the limits grow from round to round.
@@ -38,7 +38,7 @@ const CELLS_EACH: u64 = 64;
 struct Budget {
     /// The number of times that the recursion may place a vertex.
     placed: u64,
-    /// The number of cells that an attempt may read or write. This number is 0 after an attempt has failed for a reason
+    /// The number of cells that an attempt may read or write. The number is 0 after an attempt has failed for a reason
     /// that more cells would not remove.
     cells: u64,
 }
@@ -64,7 +64,7 @@ impl Budget {
 }
 
 /// psyn's own solver. The solver computes the regions and the moves of both players, and then the least counts for
-/// these moves. This solver is sure, and ignores every text that it is fed.
+/// these moves. psyn's own solver is sure, and ignores every text that it is fed.
 #[derive(Drop)]
 pub struct BuiltIn {
     alloc: Global,

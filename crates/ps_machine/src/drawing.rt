@@ -56,7 +56,8 @@ pub(crate) struct Drawing {
 }
 
 impl Plan<'_> {
-    /// The memory state of the machine after the automaton has moved to the state `state` by an edge of that priority.
+    /// The memory state of the machine after the automaton has moved to the state `state` by an edge of the given
+    /// priority.
     pub fn memory_behind(&self, state: u32, priority: u64) -> usize
         requires { CanEnterBy self.now state priority }
         ensures within { result < length self.now.memories.now.kept.items }
@@ -69,8 +70,8 @@ impl Plan<'_> {
         self.memories.anchors.get_index_of(&anchor).unwrap()
     }
 
-    /// The letter that a player who moves first outputs at the vertex of a memory state. This letter is the least
-    /// letter of the class to which the player's move leads.
+    /// The letter that a player who moves first outputs at the vertex of a memory state. It is the least letter of the
+    /// class to which the player's move leads.
     fn letter_at(&self, vertex: usize) -> u64
         requires plan { IsPlanned self.now }
         requires kept { Contains self.now.memories.now.kept.items vertex }

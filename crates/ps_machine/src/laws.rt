@@ -19,7 +19,7 @@ ghost use Rattle.ps_machine.specs.declared.key.Key.{Key};
 ghost use Rattle.ps_machine.specs.declared.key.Order.{Order};
 
 /// The winner of vertex 0 wins each word of the machine of a valid certificate of an automaton's game. If the winner is
-/// player 0, the automaton accepts all these words; otherwise it accepts none of them.
+/// player 0, the automaton accepts all words of the machine; otherwise it accepts none of them.
 pub fn lassos_won()
     ensures { (file : FileData) (chain : Chain) (a : AutomatonData) (order : Order) (keys : List Key)
         (game : ParityGame) (certificate : CertificateData) (m : Behaviour) →
@@ -36,7 +36,7 @@ pub fn one_game()
 {}
 
 /// For each order of moves, a file has at most one game, including its names and ids. The file may have several
-/// automata, but these differ only in parts that no play reaches.
+/// automata, but two automata of one file differ only in parts that no play reaches.
 pub fn one_game_of_file()
     ensures { (order : Order) (file : FileData) (game other : NamedGameData) → IsGameOfFile order file game →
         IsGameOfFile order file other → game ≡ other }

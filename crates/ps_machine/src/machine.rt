@@ -42,9 +42,9 @@ pub(crate) struct Diagrams {
 }
 
 /// A player's finite machine. The machine begins in memory state 0. In each step the machine reads an input letter,
-/// which is a letter of the other player. This letter and the memory state determine a row. The machine outputs the
-/// letter of the row, and enters the memory state of the row. If the machine's player moves first, the output letter
-/// does not depend on the input letter. Each leaf of the diagrams names a row.
+/// which is a letter of the other player. The input letter and the memory state determine a row. The machine outputs
+/// the letter of the row, and enters the memory state of the row. If the machine's player moves first, the output
+/// letter does not depend on the input letter. Each leaf of the diagrams names a row.
 #[derive(Drop)]
 pub struct Machine {
     names: Vec<Vec<u8>>,
@@ -143,8 +143,8 @@ impl Machine {
         self.player
     }
 
-    /// Whether the machine's player moves first in each step. In that case, the output letter does not depend on the
-    /// input letter.
+    /// Whether the machine's player moves first in each step, so that the output letter does not depend on the input
+    /// letter.
     pub fn moves_first(&self) -> bool
         ensures first { result ≡ self.now.is_first }
         ensures machine { IsWholeMachine self.now }
@@ -169,7 +169,7 @@ impl Machine {
         &self.store
     }
 
-    /// The diagram of a memory state. Its leaf at an input letter names a row, which `row` returns.
+    /// The diagram of a memory state. The diagram's leaf at an input letter names a row, which `row` returns.
     pub fn node(&self, memory: usize) -> Node
         requires { memory < (behaviour self.now).memories }
         ensures node { result ≡ slice_index self.now.nodes memory }

@@ -17,8 +17,8 @@ pub(crate) struct Memories {
     pub anchors: IndexSet<usize>,
 }
 
-/// A memory state for each used vertex of the first player, or, if the machine's player moves second, for each state of
-/// these vertices.
+/// A memory state for each used vertex of the first player, or, if the machine's player moves second, for each state
+/// that a used vertex of the first player has.
 pub(crate) fn remembered(
     alloc: Global,
     keys: &[Key],

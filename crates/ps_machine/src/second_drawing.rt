@@ -57,8 +57,8 @@ impl Plan<'_> {
 }
 
 impl Drawing {
-    /// Draws the diagram of a memory state for a player who moves second. It is the diagram of the classes of the first
-    /// player's letters, with the index of a row in place of each class. Fails if out of memory.
+    /// Draws the diagram of a memory state for a player who moves second. The diagram is made from the diagram of the
+    /// classes of the first player's letters, with the index of a row in place of each class. Fails if out of memory.
     pub fn second_node(
         &mut self,
         alloc: Global,

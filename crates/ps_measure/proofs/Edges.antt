@@ -32,7 +32,7 @@ is_move-some o w h = search (rules, eqb-true)
 some-is_move : (o : Option ℕ) (w : ℕ) → o ≡ Some w → is_move o w ≡ true
 some-is_move o w e = rw e (eq-eqb w w refl)
 
--- a number is n if b is true, and 0 otherwise; if k is less than that number, b is true, and k is less than n
+-- if k is less than a number that is n if b is true and 0 otherwise, then b is true, and k is less than n
 pub below_places : (b : Bool) (k n : ℕ) → k < cond b n 0 → (b ≡ true) × (k < n)
 below_places b k n below = search rules
 

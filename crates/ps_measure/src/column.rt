@@ -35,7 +35,7 @@ impl Column {
     }
 
     /// Computes the least counts for the priority of `low`. If no counts keep the rule, returns a link to a vertex of
-    /// that priority, from which the start of the link is reachable.
+    /// this priority, if the link's start is reachable from the vertex.
     pub(crate) fn work_out(
         &mut self,
         low: &Low,

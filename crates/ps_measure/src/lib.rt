@@ -8,9 +8,9 @@
 //! The counts for one priority are a progress measure (Jurdzinski) for that priority, but the least counts are not
 //! computed by lifting them step by step. If there are many priorities, vertices are first grouped by priority. For
 //! each priority, one search follows the edges backwards from the vertices of that priority. One pass over the strong
-//! components, in the order in which the search finds them, then gives each vertex its count. For each priority this
-//! takes time proportional to the number of vertices and edges. Memory is taken by the nonzero counts and by the
-//! reversed edges.
+//! components, in the order in which the search finds them, then gives each vertex its count. For each priority, the
+//! search and the pass take time proportional to the number of vertices and edges. Memory is taken by the nonzero
+//! counts and by the reversed edges.
 //!
 //! | Call | What it gives |
 //! |---|---|

@@ -103,6 +103,6 @@ fn raise_by(cells: &CountCells, head: usize, row: &mut Vec<u64>)
 pub struct Ranks {
     /// The priorities of the game by which the player loses, in ascending order.
     pub priorities: Vec<u64>,
-    /// For each vertex, a row with one count for each of these priorities, in the same order.
+    /// For each vertex, a row with one count for each priority in `priorities`, in the same order.
     pub counts: CountTable,
 }

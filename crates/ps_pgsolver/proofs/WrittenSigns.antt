@@ -1,5 +1,5 @@
 -- The tokens of the text that is written for a game.
---     Lexed before bytes ss      the tokens of `bytes`, after the bytes `before`, are these signs
+--     Lexed before bytes ss      the tokens of `bytes`, after the bytes `before`, are the signs `ss`
 --     comma_signs, list_signs, name_signs, node_signs, nodes_signs      the tokens of each part, before further ones
 --     node_made, nodes_made      the nodes that are parsed from the written lines
 --     written_tokens      the tokens of the whole text
@@ -31,7 +31,7 @@ record Lexed (before bytes : List ℕ) (ss : List Sign) : Type 0 where
   are : signs pieces ≡ ss
   tokens : TokensFrom Blank IsToken before bytes pieces
 
--- after any bytes, the tokens of `bytes` are these signs
+-- after any bytes, the tokens of `bytes` are the given signs
 abbrev Lexes : List ℕ → List Sign → Type 0
 Lexes bytes ss = (before : List ℕ) → Lexed before bytes ss
 

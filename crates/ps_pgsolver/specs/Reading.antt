@@ -17,7 +17,7 @@ use Rattle.ps_text.specs.Faults.{UnlessMemory}
 abbrev pub text_limit : ℕ
 text_limit = 16777216
 
--- the text is short enough, and has these tokens
+-- the text is short enough, and has the given tokens
 pub record HasTokens (text : List ℕ) (stream : Stream Sign) : Type 0 where
   pub short : length text ≤ text_limit
   pub tokens : AreGameTokens text stream

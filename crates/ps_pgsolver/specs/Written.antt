@@ -1,6 +1,6 @@
 -- The bytes of the text that is written for a game, in PGSolver's format.
---     commas ids ws      the id of each of these vertices after a comma
---     list_text ids ws      the ids of these vertices, with commas between them
+--     commas ids ws      the id of each vertex in `ws`, after a comma
+--     list_text ids ws      the ids of the vertices in `ws`, with commas between them
 --     name_text name      a name after a space, if there is one
 --     vertex_line ids id vertex name      the line of a vertex: its id, priority, owner, successors, and its name
 --     vertex_lines ids names v vertices      the lines of the vertices from v on

@@ -19,7 +19,7 @@ pub fn one_answer()
     ensures { (text : List ℕ) (a b : Result NamedGameData (Found PgCause)) → Answer text a → Answer text b → a ≡ b }
 {}
 
-/// A text has an answer. This law concerns texts and not calls, so out of memory is not one of the answers.
+/// A text has an answer. The law concerns texts and not calls, so out of memory is not one of the answers.
 pub fn some_answer()
     ensures { (text : List ℕ) → (answer : Result NamedGameData (Found PgCause)) × Answer text answer }
 {}

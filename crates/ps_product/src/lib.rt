@@ -12,7 +12,8 @@
 //! | `Truths::new(propositions)`, `proposition`, `both`, `negated` | makes truths, in a store of their own |
 //! | `Evaluator::new(circuit)`, `at(propositions, latches, truths)` | the truths of outputs and next latches |
 //!
-//! The law `outcome_is_the_step` says that at each letter these truths give the bits of the circuit's step.
+//! The law `outcome_is_the_step` says that at each letter the truths of an evaluator give the bits of the circuit's
+//! step.
 //!
 //! A truth that is true at no letter, or at every letter, has no diagram and needs no call of the store; almost all
 //! gates have such a truth. At given latches, each gate is computed at most once, and only if its truth is needed. The

@@ -129,7 +129,7 @@ fn is_never(truth: &Truth, is_negated: bool) -> bool
     }
 }
 
-/// The truth of a gate that reads these two literals, given the truths at their places.
+/// The truth of a gate that reads the two given literals, from the truths at their places.
 fn conjunction(
     truths: &mut Truths,
     sides: Sides,

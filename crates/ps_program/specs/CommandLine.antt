@@ -161,11 +161,11 @@ words_of line = filter (λ word. not (length word == 0)) (slice_split (λ byte. 
 abbrev pub flag : Text → Rule
 flag name = record (new_rule name) { long = Some name; action = Some SetTrue }
 
--- the command with this name and these flags
+-- the command with the given name and flags
 abbrev pub command_with : Text → List Text → Shape
 command_with name flags = record (new_shape name) { rules = map flag flags }
 
--- the command has exactly these flags, and none that applies to other commands too
+-- the command has exactly the given flags, and no flag that applies to other commands too
 pub record HasFlags (name : Text) (flags : List Text) (command : Command) : Type 0 where
   pub shape : (app_of command).top ≡ command_with name flags
   pub local : (out-Command command).has_globals ≡ false
@@ -174,7 +174,7 @@ pub record HasFlags (name : Text) (flags : List Text) (command : Command) : Type
 abbrev pub program : App
 program = on_top (λ top. record top { no_binary_name = true; disable_help_subcommand = true }) (new_app (codes "psyn"))
 
--- the program with all these commands, added one after the other
+-- the program with the given commands, added one after the other
 abbrev pub with_commands : App → List Usage → App
 with_commands app [] = app
 with_commands app (usage ∷ more) = with_commands (with_subcommand app (command_with usage.name usage.flags)) more

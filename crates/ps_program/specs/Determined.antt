@@ -69,8 +69,8 @@ abbrev pub IsReplaying : SolverData → Type 0
 IsReplaying solver = (fed : Option (List ℕ)) (game : NamedGameData) (answer : Result CertificateData SolveFault) →
     solver.may_answer fed game answer → Replays game fed answer
 
--- Two printed reports for a text have the same winner and the same game, which is the automaton's. Therefore the two
--- reports have the same status and the same first line.
+-- Two printed reports for a text have the same winner and the same game, which is the automaton's. So two reports for a
+-- text have the same status and the same first line.
 pub record AgreeAsReports (order : Order) (full : Bool) (text : List ℕ) (a b : Reply) : Type 0 where
   pub file : FileData
   pub accepted : IsAcceptedText text file
@@ -117,8 +117,8 @@ Agree line texts a b = a ≡ b
 abbrev pub IsFaultReply : Reply → Type 0
 IsFaultReply reply = (line : List ℕ) × (reply ≡ fault_reply line)
 
--- Any two answers to one input are equal, unless the answer to its line is open. In that case the two answers agree, or
--- one of them is the line of a fault.
+-- Any two answers to one input are equal, unless the answer to the input's line is open. Two answers to an open line
+-- agree, or one of them is the line of a fault.
 abbrev pub HasOneAnswer : Solvers → Type 0
 HasOneAnswer solvers = (input : List ℕ) (a b : Reply) → AnswersWhole solvers input a → AnswersWhole solvers input b
     → (a ≡ b) ⊎ ((line : Line) × IsLine (first_line input) line × IsUndetermined line (behind_line input) ×
@@ -130,7 +130,7 @@ HasOneCertified solvers = IsReplaying solvers.replay → (asked : SynthLine) →
     IsLine (first_line input) (Synth asked)
     → (a b : Reply) → AnswersWhole solvers input a → AnswersWhole solvers input b → a ≡ b
 
--- the number of texts that a command reads with these flags
+-- the number of texts that a command reads with the given flags
 abbrev pub text_count : Usage → (Text → Bool) → ℕ
 text_count usage given = length usage.texts + length (filter (λ each. given each.0) usage.added)
 

@@ -1,6 +1,5 @@
--- The line that the program writes instead of a result if there is a fault. It consists of `fault`, a number, a name
--- and a place. The crate in which a fault arises gives the fault's number and name. The program's own fault is a
--- missing text.
+-- If there is a fault, the program writes a line instead of a result, with the word `fault`, a number, a name and a
+-- place.
 use Rattle.std.specs.Prelude.{ℕ, List, [], ◌++◌, Option, Some, None, codes, decimal, flat_map}
 use Rattle.ps_program.specs.declared.fault.FaultLine.{FaultLine}
 use Rattle.ps_program.specs.declared.fault.Place.{Place}

@@ -26,7 +26,7 @@ verdict_text v =
 abbrev pub lasso_line : LassoFault → List ℕ
 lasso_line fault = line_text (fault_number fault) (fault_name fault) []
 
--- The verdict, if the lap is not empty and the circuit has the symbols of the role. Otherwise the line of the fault; an
+-- The verdict, if the lap is not empty and the circuit has the symbols of the role; otherwise the line of the fault. An
 -- empty lap is reported before wrong symbols.
 abbrev pub TellsVerdict : Role → FileData → CircuitData → StimulusData → Result Reply (List ℕ) → Type 0
 TellsVerdict role file c s (Ok reply) =

@@ -12,7 +12,7 @@ use Rattle.ps_program.specs.Texts.{ReadsSimulated}
 abbrev pub moment_line : Moment → List ℕ
 moment_line m = digits_of m.latches ++ codes "|" ++ digits_of m.inputs ++ codes "|" ++ digits_of m.outputs ++ codes "\n"
 
--- the circuit's trace for these letters, one line for each letter
+-- the circuit's trace for the given letters, one line for each letter
 pub record PrintsTrace (c : CircuitData) (letters : List (List Bool)) (text : List ℕ) : Type 0 where
   pub moments : List Moment
   pub is_trace : IsTrace c moments
@@ -26,7 +26,7 @@ AnswersSim texts = Then (ReadsSimulated texts) (λ both outcome. IsCircuit both.
 
 -- ---- during the simulation
 
--- the text has the lines of the letters read so far, and `latches` are the latches after these letters
+-- the text has the lines of the letters read so far, and `latches` are the latches after those letters
 pub record HasPrinted (c : CircuitData) (letters : List (List Bool)) (text : List ℕ) (latches : List Bool) : Type 0
   where
     pub moments : List Moment

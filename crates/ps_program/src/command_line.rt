@@ -52,7 +52,7 @@ fn names_nothing(word: &str) -> bool
     }
 }
 
-/// Whether a word is longer than the name of each of these commands.
+/// Whether a word is longer than the name of each given command.
 fn is_longer(usages: &[Usage<'_>], word: &str) -> bool
     ensures { IsTrue result ↔ All (λ usage. length usage.name.now < length word.now) usages.now }
 {
@@ -170,7 +170,7 @@ fn line_named(name: &str, flags: &ArgMatches) -> Line
     }
 }
 
-/// The command among these that has the given name.
+/// The command that has the given name.
 fn usage_named<'a>(usages: &'a [Usage<'a>], name: &str) -> Option<&'a Usage<'a>>
     ensures { option_copied result ≡ find (λ usage. bytes_eq usage.name.now name.now) usages.now }
 {

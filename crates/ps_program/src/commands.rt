@@ -302,7 +302,7 @@ pub(crate) fn usages() -> &'static [Usage<'static>]
 }
 
 impl Line {
-    /// What the command asks for if these flags are given.
+    /// The command with the given flags.
     pub(crate) fn with(self, flags: &ArgMatches) -> Line
         ensures { result ≡ with_flags self (λ name. is_given name (rows_of (found_of flags.now))) }
     {

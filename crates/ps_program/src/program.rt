@@ -17,7 +17,7 @@ use std::alloc::{AllocError, Global};
 ///
 /// # Errors
 ///
-/// Fails if memory runs out. Every other fault is an answer.
+/// Fails if memory runs out. Every fault but out of memory is an answer.
 pub fn answer_to<S: Solver, T: Solver>(
     alloc: Global,
     input: &[u8],

@@ -41,7 +41,7 @@ pub fn two_texts(texts: &[u8]) -> Result<(&[u8], &[u8]), Refusal>
     }
 }
 
-/// The three texts of an input. Fails if one is missing, before any of them is read.
+/// The three texts of an input. Fails if a text is missing, before any text is read.
 pub fn three_texts(texts: &[u8]) -> Result<(&[u8], &[u8], &[u8]), Refusal>
     ensures { Gives (λ parts. (parts.0.now, parts.1.now, parts.2.now)) (CutsInThree texts.now) result }
 {

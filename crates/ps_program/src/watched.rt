@@ -10,8 +10,8 @@ use crate::stream::{Sink, Source};
 use std::io;
 use std::io::{Read, Write};
 
-/// A reader of std, and what its calls may do. Nothing is assumed about these calls, so only code that knows the reader
-/// knows what they did.
+/// A reader of std, and what its calls may do. Nothing is assumed about calls of a reader, so only code that knows the
+/// reader knows what its calls did.
 pub trait Reader: Read {
     // Whether a call may return this count, and leave the reader and the buffer in this state. A call that fails
     // returns no count.

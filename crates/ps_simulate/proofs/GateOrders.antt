@@ -43,7 +43,7 @@ module _ (R : ℕ → ℕ → Type 0) (n : ℕ) (to_within : (i j : ℕ) → R i
       IsPart (xs ++ i ∷ [])
   push {xs} i is lt absent sides = search (rules, at_push, get_or_append_left)
 
-  -- a list can be extended by all numbers below m with a property, if it can be extended by each of these numbers alone
+  -- a list can be extended by all numbers below m with a property, if it can be extended by each such number alone
   each_below : (P : ℕ → Type 0) → ((j : ℕ) → Decided (P j)) →
       ((j : ℕ) → P j → (xs : List ℕ) → IsPart xs → Grown xs (λ k. j ≡ k))
       → (m : ℕ) (xs : List ℕ) → IsPart xs → Grown xs (λ k. (k < m) × P k)

@@ -90,7 +90,7 @@ read_on literals values table words k lane lt room here before =
       map-append bit (take k literals) (get_or literals k 0 ∷ []),
     )
 
--- the words of a latch's reset, after those of the earlier latches
+-- the words of a latch's reset, after the words of the earlier latches
 pub reset_on : (latches : List Latch) (words : List (List ℕ)) {more : List (List ℕ)} {m : ℕ} (k lane : ℕ) → lane < 256 →
     k < length latches → m ≡ all_or_none (get_or latches k no_latch).reset → more ≡ words ++ replicate 4 m ∷ [] →
     lane_of words lane ≡ map (λ (l : Latch). l.reset) (take k latches) →

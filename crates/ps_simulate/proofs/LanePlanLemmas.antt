@@ -87,7 +87,7 @@ module _ {c : CircuitData} (is : IsCircuit c) where
       pub AreMoved-rows : AreMoved (length (variables c)) front places
       AreMoved-rows = record { each = each; within = within_table; once = one_each; kept = kept }
 
-    -- these facts about the rows of a circuit, for values that are equal to the circuit's
+    -- the lemmas about the rows of a circuit, for other rows and sizes that are equal to the circuit's
     pub gate_rows_at : {size f : ℕ} {given : List Row} → size ≡ length (variables c) → f ≡ front → given ≡ rows →
         All (IsGateRow f size) given
     gate_rows_at size_is front_is e k d lt = search (rules, gate_rows)

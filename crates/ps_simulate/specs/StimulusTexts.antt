@@ -125,7 +125,8 @@ HasOneAnswer text width split =
     (answer other : Result StimulusData (Found StimulusCause)) → ReadsStimulus text width split answer →
     ReadsStimulus text width split other → answer ≡ other
 
--- Each text has an answer. This is about texts, not about calls: a call may also fail because memory runs out.
+-- Each text has an answer. The definition is about texts, not about calls: a call may also fail because memory runs
+-- out.
 abbrev pub HasSomeAnswer : List ℕ → ℕ → Bool → Type 0
 HasSomeAnswer text width split =
     (answer : Result StimulusData (Found StimulusCause)) × ReadsStimulus text width split answer

@@ -134,8 +134,8 @@ fn proposition_of(
 }
 
 /// For each proposition, the index of the symbol that names it. The result is `None` unless the symbols are exactly the
-/// names of the controllable propositions, each once. If `wanted` is false, the propositions that are not controllable
-/// count instead.
+/// names of the wanted propositions, each once: the controllable propositions if `wanted` is true, and all others if
+/// `wanted` is false.
 fn places_of(
     alloc: Global,
     names: &[Vec<u8>],

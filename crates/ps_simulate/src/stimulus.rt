@@ -72,7 +72,7 @@ pub fn stimulus_text_has_one_answer()
     ensures { (text : List ℕ) (width : ℕ) (split : Bool) → HasOneAnswer text width split }
 {}
 
-/// The text of a stimulus has an answer. This law is about texts, not about calls: a call may also fail because it is
+/// The text of a stimulus has an answer. The law is about texts, not about calls: a call may also fail because it is
 /// out of memory.
 pub fn stimulus_text_has_some_answer()
     ensures { (text : List ℕ) (width : ℕ) (split : Bool) → HasSomeAnswer text width split }

@@ -3,8 +3,8 @@
 --     entry ::= N W N? ";"
 --
 -- The fields of an entry are the id of a vertex, its winner W, which is the number 0 or 1, and a move, which is the id
--- of a vertex. `ids` are the ids of the game's vertices, in order. The value of a text is its entries for these
--- vertices.
+-- of a vertex. `ids` are the ids of the game's vertices, in order. The value of a text is the list of its entries, for
+-- the vertices of the game.
 use Rattle.std.specs.Prelude.{◌≡◌, ℕ, ◌<◌, ◌≤◌, ◌⊎◌, List, length, Option, None, Some, codes, true}
 use Rattle.std.specs.List.{Contains}
 use Rattle.ps_text.specs.Parts.{Part, Causes, give, one, then_by, either, many, mapped, NoBad}

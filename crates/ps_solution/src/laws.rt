@@ -12,7 +12,7 @@ pub fn one_answer()
         ReadsSolution ids text a → ReadsSolution ids text b → a ≡ b }
 {}
 
-/// A text has an answer for each list of ids. This law concerns texts and not calls, so out of memory is not one of the
+/// A text has an answer for each list of ids. The law concerns texts and not calls, so out of memory is not one of the
 /// answers.
 pub fn some_answer()
     ensures { (ids text : List ℕ) → (answer : Result SolutionData (Found CertCause)) ×

@@ -216,7 +216,7 @@ fn one_of_two(winner: u64, start: usize) -> Result<u8, CertFault>
     }
 }
 
-/// The index of the vertex whose id is the number at offset `start`, if there is such a vertex.
+/// The index of the vertex whose id is the number at offset `start`. Fails if no vertex has this id.
 fn if_known(id: u64, start: usize, ids: &Ids) -> Result<usize, CertFault>
     ensures answer { result ≡ successor_of_number ids.now start id }
     ensures within { IfOk result (λ v. v < length ids.now) }

@@ -3,12 +3,12 @@
 //!
 //! These are the guarantees. If the solver is sure, every accepted text gets a report, unless out of memory or the
 //! circuit would need more variables than there are literals. With every solver, each report is right. The printed game
-//! is the automaton's. The printed certificate assigns each vertex of that game to one of the players. By the printed
-//! moves, that player wins every loop of every play from the vertex. Outside a player's region that player wins neither
-//! by a strategy of finite memory nor by a history table. If player 0 wins the start vertex, the printed circuit is a
-//! controller, and the automaton accepts each of the controller's ultimately periodic traces. Otherwise the printed
-//! circuit is an environment. The automaton then accepts none of the environment's ultimately periodic traces, and
-//! rejects every trace of a finite-state controller against that environment.
+//! is the automaton's. The printed certificate assigns each vertex of the printed game to one of the players. By the
+//! printed moves, that player wins every loop of every play from the vertex. Outside a player's region that player wins
+//! neither by a strategy of finite memory nor by a history table. If player 0 wins the start vertex, the printed
+//! circuit is a controller, and the automaton accepts each of the controller's ultimately periodic traces. If player 1
+//! wins the start vertex, the printed circuit is an environment. The automaton then accepts none of the environment's
+//! ultimately periodic traces, and rejects every trace of a finite-state controller against that environment.
 //!
 //! [`synthesise_by`] does the whole synthesis with a given solver. [`Problem`] takes the same steps one by one, for
 //! callers with another kind of solver: it is made from a text, gives its game, and takes a certificate of that game.

@@ -31,8 +31,8 @@ pub fn synthesise_by<S: Solver>(
     compact: bool,
     solver: &mut S,
 ) -> Result<Report, SynthFault>
-    // With every solver, a report is right, and each fault has its reason. Both clauses refer to what the solver
-    // returned.
+    // With every solver, a report is right, and each fault has its reason. The clauses on reports and on faults refer
+    // to what the solver returned.
     ensures report { IfOk result (IsReport (Answered (S.known solver.old) (S.known solver.new)) order compact
         text.now) }
     ensures refused { IfErr result (IsSynthFault (Answered (S.known solver.old) (S.known solver.new)) order

@@ -1,10 +1,10 @@
 -- The laws of combined parts, with sets of signs that are no larger than necessary.
 --     both_within, wider_first, wider_more      two sets are within a third set; sets may be replaced by larger ones
---     laws_first      one sign, which is in a set if it is taken, and also if it is bad
---     laws_forms      one of two parts, of which neither is empty
---     laws_option      a part that no sign continues, or nothing
---     laws_all, laws_times_all      any number of items, or a given number of items, that no sign continues
---     laws_last      a part that no sign continues, after a part that may be empty
+--     laws_first      the laws of one sign, which is in a set if it is taken, and also if it is bad
+--     laws_forms      the laws of a choice between two parts, neither of which is empty
+--     laws_option      the laws of an optional part that no sign continues
+--     laws_all, laws_times_all      the laws of any number, or a given number, of items that no sign continues
+--     laws_last      the laws of a part that no sign continues, after a part that may be empty
 --     joint_tight      the joint of two parts, if no sign continues the first part
 use Rattle.std.proofs.Common.{◌≡◌, ℕ, Option, Some, inl, inr, rules}
 use Rattle.ps_text.specs.Parts.{Part, give, one, then_by, either, times, many}

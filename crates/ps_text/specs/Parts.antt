@@ -21,15 +21,15 @@
 --         list = then_by number (λ n. then_by (many more (n ∷ [])) (λ ns. mapped (λ _. ns) semicolon))
 --
 -- For each production, a private clause of the parser states that the production was parsed, or that its first fault
--- was found (specs/Readers.antt). The theorems in proofs/ combine these statements, and derive `Answers` for a text
--- whose grammar is one part.
+-- was found (specs/Readers.antt). From all statements about productions, the theorems in proofs/ derive `Answers` for a
+-- text whose grammar is one part.
 use Rattle.std.specs.Prelude.{◌≡◌, ℕ, zero, suc, ◌+◌, ◌<◌, ◌≤◌, ◌⊎◌, List, [], ◌∷◌, ◌++◌, length, Option, None, Some}
 use Rattle.std.specs.Prelude.{Result}
 use Rattle.std.specs.Option.{unwrap_or}
 use Rattle.ps_text.specs.Answers.{Begins, IsUnexpected, Stream, Found, Answers, first_of}
 
--- IsText: these signs are a text of the part with this value. IsCause: after these signs of the part, the next sign is
--- an error of this kind. A sign that the grammar itself does not allow is not an error of a part.
+-- IsText: a list of signs is a text of the part, with a value. IsCause: after a list of signs of the part, a further
+-- sign is an error, with its kind. A sign that the grammar itself does not allow is not an error of a part.
 pub record Part (T V F : Type 0) : Type 1 where
   pub IsText : List T → V → Type 0
   pub IsCause : List T → T → F → Type 0
@@ -153,8 +153,8 @@ either P Q = record {
   IsCause = λ front t f. P.IsCause front t f ⊎ Q.IsCause front t f;
 }
 
--- `item c` is the item in the context c. Its value is the context of the next item, and the last context is the value
--- of all items.
+-- `item c` is the item in the context c. The value of an item is the context of the next item, and the last context is
+-- the value of all items.
 abbrev pub times : {T C F : Type 0} → ℕ → (C → Part T C F) → C → Part T C F
 times zero item c = give c
 times (suc n) item c = then_by (item c) (λ d. times n item d)

@@ -11,7 +11,7 @@ use Rattle.std.specs.Prelude.{◌≡◌, ℕ, List, [], ◌∷◌, ◌++◌, len
 use Rattle.std.specs.List.{AllByRecursion}
 use Rattle.ps_text.specs.Answers.{Piece, Stream}
 
--- the first token of these bytes, with the blanks before it and the bytes after it
+-- the first token of the given bytes, with the blanks before it and the bytes after it
 pub record NextToken {T : Type 0} (IsBlank : ℕ → Type 0) (IsToken : List ℕ → T → List ℕ → List ℕ → Type 0)
     (before bytes : List ℕ) (piece : Piece T) : Type 0 where
   pub blanks : List ℕ

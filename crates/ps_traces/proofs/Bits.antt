@@ -58,7 +58,7 @@ are_apart x y each = record { apart = λ p. grind (arith, bit_at-lt x p, bit_at-
 
 -- ## Given bits at given propositions
 
--- the bit that is given for a proposition
+-- the bit that is given for the proposition q, or false if no bit is given
 abbrev pub bit_with : ℕ → List ℕ → List Bool → Bool
 bit_with q [] bits = false
 bit_with q (p ∷ ps) [] = false

@@ -29,7 +29,7 @@ pub record IsWitness (order : Order) (file : FileData) (player : ℕ) (c : Circu
   pub shape : HasShape order (role_of player) file c
   pub accepted : player ≡ 0 → AllAccepted file c
   pub rejected : player ≢ 0 → NoneAccepted file c
-  -- there are traces and letters to which these properties apply
+  -- there are traces and letters to which the properties of acceptance apply
   pub goes_on : EachInputGoesOn c
   pub letters : (moments : List Moment) → HasLetters file.names c moments
   pub meetings : player ≢ 0 → (k : FiniteController) → IsController order c k → LosesMeeting file c k

@@ -29,7 +29,7 @@ pub record HasShape (order : Order) (role : Role) (file : FileData) (c : Circuit
 
 -- ## Latches that traces reach
 
--- some trace reaches these values of the latches
+-- some trace reaches the given values of the latches
 abbrev pub IsReachedByTrace : CircuitData → List Bool → Type 0
 IsReachedByTrace c latches = (moments : List Moment) × GoesOn c (resets c) moments latches
 

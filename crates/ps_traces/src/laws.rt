@@ -103,7 +103,7 @@ pub fn circuit_has_machine_words()
 {}
 
 /// If a machine of player 0 wins its lassos, the automaton accepts all words of the lasso traces of the machine's
-/// circuit. If a machine of player 1 wins its lassos, the automaton accepts none of these words.
+/// circuit. If a machine of player 1 wins its lassos, the automaton accepts no word of a lasso trace of the circuit.
 pub fn circuit_is_won()
     ensures accepted { (file : FileData) (m : Behaviour) (c : CircuitData) → IsMachine m → m.names ≡ file.names →
         Encodes m c → LassosWon file m → m.player ≡ 0 → AllAccepted file c }
@@ -127,8 +127,8 @@ pub fn circuit_answers()
 }
 
 /// If player 0 wins vertex 0, a valid certificate of an automaton's game gives a controller, and the automaton accepts
-/// all lasso traces of that controller. Otherwise the certificate gives an environment, and the automaton accepts none
-/// of the environment's lasso traces.
+/// all lasso traces of that controller. If player 1 wins vertex 0, the certificate gives an environment, and the
+/// automaton accepts none of the environment's lasso traces.
 pub fn certified_circuit_answers()
     ensures { (file : FileData) (chain : Chain) (a : AutomatonData) (order : Order) (keys : List Key)
         (game : ParityGame) (certificate : CertificateData) (m : Behaviour) (c : CircuitData) →

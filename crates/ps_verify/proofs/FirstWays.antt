@@ -2,7 +2,7 @@
 --     lowered_none, lowered_more      the successors of a vertex are handled one by one
 --     firsts_none, firsts_more      the vertices are handled one by one
 --     fall      the entry of each vertex except 0 is an earlier vertex
---     way_is      a way by these entries is a path
+--     way_is      the way that the entries give is a path
 use Rattle.std.proofs.Common.{◌≡◌, ℕ, ◌+◌, ◌-◌, ◌<◌, ◌≤◌, ◌⊎◌, inl, inr, List, length, get_or, set, refl, sym}
 use Rattle.std.proofs.Common.{ap, subst, ◌∙◌, arith, length-set, [], ◌∷◌, ◌++◌, reverse, take, drop, append-nil}
 use Rattle.std.specs.List.{range_with_len}

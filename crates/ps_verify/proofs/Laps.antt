@@ -2,7 +2,7 @@
 --     reached      the vertex after the stem and some laps
 --     laps_fall      how far a count falls along laps
 --     loop      some laps that lead back to their first vertex
---     not_lost      the greatest priority of these laps is none for which counts exist
+--     not_lost      the greatest priority of the laps is not one for which counts exist
 use Rattle.std.proofs.Common.{◌≡◌, ℕ, zero, suc, ◌+◌, ◌-◌, ◌<◌, ◌≤◌, inr, max, Bool, List, length, refl, sym}
 use Rattle.std.proofs.Common.{ap, subst, ◌∙◌, arith, Some, add-zero}
 use Rattle.std.specs.Prelude.{slice_get}
@@ -111,7 +111,7 @@ module _ {owner : ℕ} {names : List (List ℕ)} {auto : Auto} {c : CircuitData}
     pub laps : ℕ
     pub some_laps : 0 < laps
     pub returns : state_after auto start lap (before + laps) ≡ state_after auto start lap before
-    -- no counts keep the rule for the greatest priority of these laps
+    -- no counts keep the rule for the greatest priority of the laps
     pub none : HasCounts p.game (greatest_of_laps auto (state_after auto start lap before) lap laps) → ⊥
 
   module _ (before more : ℕ) (same : (reached (before + suc more)).place ≡ (reached before).place) where

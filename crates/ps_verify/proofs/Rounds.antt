@@ -1,5 +1,5 @@
--- The region has all vertices, and the player owns none of them. Therefore counts for the region are counts for the
--- game, and a lost cycle of the region is a lost cycle of the game.
+-- If the region has all vertices, and the player owns none of them, counts for the region are counts for the game, and
+-- a lost cycle of the region is a lost cycle of the game.
 --     wins_loops      there are counts for each priority that opposes the player
 --     lost_round      the cycle followed by its first vertex is a path
 use Rattle.std.proofs.Common.{◌≡◌, ℕ, ◌+◌, ◌<◌, ◌⊎◌, inl, inr, List, [], ◌∷◌, length, get_or, Option}

@@ -34,7 +34,7 @@ pub record IsWinning (order : Order) (role : Role) (file : FileData) (c : Circui
   pub letters : (moments : List Moment) → HasLetters file.names c moments
   pub meetings : role ≡ Environment → (k : FiniteController) → IsController order c k → LosesMeeting file c k
 
--- The stimulus is a counterexample: its verdict is wrong. Its lap repeats from its first occurrence on.
+-- The stimulus is a counterexample: its verdict is wrong, and its lap repeats from the first occurrence on.
 pub record IsLosing (order : Order) (role : Role) (file : FileData) (c : CircuitData) (s : StimulusData) : Type 0 where
   pub symbols : HasSymbols role file.names file.controllable c
   pub in_time : IsInTimeWhereReached order role c

@@ -15,8 +15,8 @@ use ps_automaton::automaton_is_there;
 use ps_simulate::circuit_has_one_values;
 
 /// A circuit either wins or loses, but not both. Let the file be one that was read and is admitted, let the circuit
-/// have the inputs and outputs of its role, and let it be in time wherever traces lead. Then the circuit wins if no
-/// stimulus shows that it loses. If a circuit wins, no stimulus shows that it loses.
+/// have the inputs and outputs of its role, and let it be in time wherever traces lead. Under these conditions, the
+/// circuit wins if no stimulus shows that it loses. If a circuit wins, no stimulus shows that it loses.
 pub fn judgement_is_one()
     ensures wins { (order : Order) (role : Role) (file : FileData) (c : CircuitData) → IsSoundFile file →
         IsAdmitted file → IsCircuit c → HasSymbols role file.names file.controllable c →

@@ -1,8 +1,8 @@
 //! Whether an automaton accepts each lasso trace of a controller, or none of an environment; if not, with a
 //! counterexample.
 //!
-//! [`verified`] uses no solver. It builds the product of the circuit and the automaton, in which all vertices belong to
-//! the opponent of the circuit's player, and looks for a cycle that the circuit's player loses.
+//! [`verified`] uses no solver. The call builds the product of the circuit and the automaton, in which all vertices
+//! belong to the opponent of the circuit's player, and looks for a cycle that the circuit's player loses.
 //!
 //! | Call | What it gives |
 //! |---|---|

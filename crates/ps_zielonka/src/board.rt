@@ -1,5 +1,5 @@
-//! The board records what is decided about each vertex. Its methods attract vertices to a player, test whether the
-//! player keeps the tops, and take vertices back.
+//! The board records what is decided about each vertex. The methods of the board attract vertices to a player, test
+//! whether the player keeps the tops, and take vertices back.
 
 ghost use Rattle.std.specs.Prelude.{◌≡◌, ◌≢◌, ◌+◌, ◌-◌, ◌<◌, ◌≤◌, ℕ, Bool, false, IfSome, IfNone, OnOk, IsTrue, length};
 ghost use Rattle.std.specs.Prelude.{take, slice_index, replicate, IfOk, []};
@@ -46,8 +46,8 @@ impl<W: Width> Board<W> {
         })
     }
 
-    /// Extends the trail by the attractor of its vertices from index `begin` on. Then records the player as the winner
-    /// of all vertices of the trail from index `begin` on. Fails if out of memory.
+    /// Extends the trail by the attractor of its vertices from index `begin` on, and records the player as the winner
+    /// of all vertices from this index on. Fails if out of memory.
     pub fn attract<A: Arena>(
         &mut self,
         edges: &Adjacency<'_, A, W>,

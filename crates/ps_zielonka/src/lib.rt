@@ -4,10 +4,11 @@
 //! calls itself. A call starts from the greatest priority of its subgame. The player who wins by the greatest priority
 //! attracts vertices to the tops, which are the vertices of that priority. In all calls except the first, the tops also
 //! include vertices of lower priorities, down to the first priority of the other parity. The remaining vertices are
-//! solved first. The player keeps a top of its own if it can move from there to a vertex that it won. It keeps a top of
-//! the opponent if no edge leads from there to a vertex that the opponent won. If the player keeps each top, the player
-//! wins all vertices that the opponent did not win in the remaining part. Otherwise the opponent attracts vertices to
-//! those that it won in the remaining part, and the call continues with the rest.
+//! solved first. The player keeps a top of its own if it can move from there to a vertex that it won. The player keeps
+//! a top of the opponent if no edge leads from there to a vertex that the opponent won. If the player keeps each top,
+//! the player wins all vertices that the opponent did not win in the remaining part. If the player does not keep each
+//! top, the opponent attracts vertices to those that it won in the remaining part, and the call continues with the
+//! rest.
 //!
 //! | Call | What it gives |
 //! |---|---|

@@ -11,9 +11,9 @@ use ps_machine::{Order, Solver};
 use ps_synthesis::{Report, SynthFault, synthesise_by};
 use std::alloc::Global;
 
-/// The report on an HOA text. It contains the game of the text's automaton in the given order of moves, a certificate
-/// of the game that the given solver found, and the circuit of the player who wins from the start. The certificate has
-/// all counts, or is a compact text.
+/// The report on an HOA text. The report contains the game of the text's automaton in the given order of moves, a
+/// certificate of the game that the given solver found, and the circuit of the player who wins from the start. The
+/// certificate has all counts, or is a compact text.
 ///
 /// # Errors
 ///
@@ -27,8 +27,8 @@ pub fn synthesise(
     compact: bool,
     solver: &mut Box<dyn Solver>,
 ) -> Result<Report, SynthFault>
-    // The report is right, whatever the solver does, and each fault has its cause. Both clauses depend on what the
-    // solver returned.
+    // The report is right, whatever the solver does, and each fault has its cause. The clauses on reports and on faults
+    // refer to what the solver returned.
     ensures report { IfOk result (IsReport (Answered (known solver.old) (known solver.new)) order compact text.now) }
     ensures refused { IfErr result (IsSynthFault (Answered (known solver.old) (known solver.new)) order text.now) }
     // If the solver is sure, every accepted text gets a report, unless memory runs out or the circuit is too large.

@@ -1,6 +1,6 @@
 -- The parts from which the circuit of a machine is built. (For private functions.)
---     AreLatches from next latches      the latches with these next literals, from variable `from` on
---     IsBuilt b d next outputs c      the circuit with these gates, next literals and outputs
+--     AreLatches from next latches      the latches have the given next literals, and the variables from `from` on
+--     IsBuilt b d next outputs c      the circuit has the given gates, next literals and outputs
 use Rattle.std.specs.Prelude.{◌≡◌, ℕ, ◌+◌, ◌*◌, ◌<◌, false, List, length, map, slice_get, slice_index, Some, None}
 use Rattle.std.specs.Prelude.{replicate}
 use Rattle.std.specs.List.{range_with_len}

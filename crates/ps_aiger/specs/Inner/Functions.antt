@@ -2,9 +2,9 @@
 -- functions.)
 --     Wanted, wanted_bit w row      one bit of a row: of the next memory state, or of the letter
 --     node_made m w node d      the literal of the bit w of the row to which a node leads, with its gates
---     IsLiteralOf m w d node literal, KnowsMade m w d known      that literal exists; each known literal exists
+--     IsLiteralOf m w d node literal, KnowsMade m w d known      a literal exists; each known literal exists
 --     code_wanted m w latches code d      the literal for memory states with the codes `code` to `code` + 2^latches - 1
---     bits_wired m latches ws d      the literals of these bits, one after another
+--     bits_wired m latches ws d      the literals of the wanted bits, one after another
 use Rattle.std.specs.Prelude.{◌≡◌, ℕ, Bool, List, length, map, Option, Some}
 use Rattle.std.specs.List.{range_with_len}
 use Rattle.std.specs.Option.{unwrap_or}

@@ -1,9 +1,8 @@
 -- Parsing the text that was written for a certificate gives that certificate.
 --     writable      the entries of a certificate that fits can be written
---     IsReadFrom P text v rest      the part P is read from these bytes with the value v, and rest is left
+--     IsReadFrom P text v rest      the part P is read from the bytes `text` with the value v, and rest is left
 --     then, with_value      two parts are read, one after the other; a function is applied to the value of a part
---     read_byte, read_word, read_number, read_fields, read_version, read_winner, read_choice, read_counts, read_pairs,
---     read_entry, read_entries, read_text      these parts of the text are read back
+--     read_byte, .., read_text      each part of the text, and the whole text, is read back
 --     reads_again      parsing the whole text gives the certificate again
 use Rattle.std.proofs.Common.{◌≡◌, ◌≢◌, ℕ, zero, suc, ◌+◌, ◌^◌, ◌<◌, ◌⊎◌, Bool, true, false, cond, eqb, List, [], ◌∷◌}
 use Rattle.std.proofs.Common.{◌++◌, length, get_or, drop, Option, Some, None, Ok, refl, sym, ap, subst, inl, inr, ◌∙◌}

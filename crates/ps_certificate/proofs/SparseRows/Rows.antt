@@ -39,7 +39,7 @@ module _ (own other : List PlacedCount) (from number : ℕ) where
 
 -- ## Copying
 
--- the list has the counts up to its length, and these include the first `number` stored counts
+-- the list has the counts up to its length, among them the first `number` stored counts
 pub record IsFilled (width : ℕ) (placed : List PlacedCount) (list : List ℕ) (number : ℕ) : Type 0 where
   pub list_is : list ≡ dense_row (length list) placed
   pub long : length list ≤ width

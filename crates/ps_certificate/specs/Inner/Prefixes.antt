@@ -1,5 +1,5 @@
--- Intermediate facts that the checks establish. The public contracts use `IsClosed`, `IsValid` and `IsFirstFlaw`
--- instead.
+-- Intermediate facts that the checks establish. Only private contracts use these facts; the public contracts use
+-- `IsClosed`, `IsValid` and `IsFirstFlaw`.
 use Rattle.std.specs.Prelude.{◌≡◌, ◌≢◌, ℕ, ◌%◌, ◌<◌, ◌⊎◌, List, length, IfSome, slice_index}
 use Rattle.std.specs.List.{Contains}
 use Rattle.ps_game.specs.Games.{ParityGame, vertex_count, priority_of, successors_of}

@@ -1,5 +1,5 @@
--- An `INT` that can have errors of two kinds. No error of the second kind has a smaller number than an error of the first
--- kind.
+-- An `INT` that can have errors of two kinds. No error of the second kind has a smaller number than an error of the
+-- first kind.
 --     takes_err      the `INT` has an error of the first kind
 --     takes_further      the `INT` has only an error of the second kind
 --     takes_both      the `INT` has no error of either kind

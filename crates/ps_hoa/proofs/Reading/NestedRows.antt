@@ -15,7 +15,7 @@ expect_taken test t e = ap (λ (b : Bool). cond b (Some tt) None) e
 -- ## Rows
 
 module _ {V : Type 0} (sign : Kind → Bool) (P : Part Sign V HoaCause) where
-  -- each of these operands comes after a connective
+  -- each further operand comes after a connective
   abbrev pub Rest : List Sign → List V → Type 0
   Rest text vs = (k : ℕ) × ((ws : List V) → (times k (λ us. further sign P us) ws).IsText text (ws ++ vs))
 

@@ -1,7 +1,7 @@
 -- What is known while the machine of a certificate is built. A plan has the data from which the machine is made. The
 -- diagrams are drawn one after another; each memory state has a diagram that leads each letter of the other player to a
 -- row. (For private functions.)
---     AreUsed game certificate found      these are the used vertices
+--     AreUsed game certificate found      `found` are the used vertices
 --     GoesOn game certificate v w      a path that follows the table of the winner of vertex 0 can continue from v to w
 --     AreMemories is_first keys used kept anchors      the vertex of each memory state, and its anchor
 --     IsPlan ..      the data from which the machine is made

@@ -1,5 +1,5 @@
--- How nodes are stored: in a list of ids, a list of vertices and a list of names. The successors of these vertices are
--- ids.
+-- How nodes are stored: in a list of ids, a list of vertices and a list of names. In the list of vertices, the
+-- successors are ids.
 use Rattle.std.specs.Prelude.{◌≡◌, ℕ, List, [], ◌∷◌, ◌++◌, length, Option, Some, None, Vec}
 use Rattle.std.specs.Global.{Global}
 use Rattle.ps_game.specs.Games.{VertexData, ParityGame}

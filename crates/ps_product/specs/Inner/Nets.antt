@@ -36,7 +36,7 @@ pub record IsBelow (c : CircuitData) (place lower : ℕ) : Type 0 where
   pub below : (lower < front_of c) ⊎ ((front_of c ≤ lower) × ReadsGate c.gates (place - front_of c)
       (lower - front_of c))
 
--- the place belongs to a gate, which reads these two literals
+-- the place belongs to a gate, which reads the two given literals
 pub record IsGateAt (c : CircuitData) (place : ℕ) (s : Sides) : Type 0 where
   pub first_below : IsBelow c place s.first.place
   pub second_below : IsBelow c place s.second.place

@@ -70,7 +70,7 @@ module _ {text : List ℕ} {width : ℕ} {split in_lap : Bool} {start end : ℕ}
       no_lap_with in_lap s letter h.no_lap,
     )
 
-    -- the next line after those that were read
+    -- the next line after the lines that were read
     pub at_line : slice_get (lines_of text) (length (spelled in_lap s)) ≡ Some line
     at_line = ap (λ (ls : List (List ℕ)). slice_get ls (length (spelled in_lap s))) behind ∙ slice_get-right
         (spelled in_lap s) (line ∷ lines_of (drop (end + 1) text)) (length (spelled in_lap s)) 0 (omega arith)

@@ -1,4 +1,4 @@
--- Each clause of this law is a lemma.
+-- Each clause of the law `sound_parts` is a lemma.
 use Rattle.ps_hoa.proofs.Soundness.SoundLaws.{sound_row, row_of_state, sound_edge}
 use Rattle.ps_hoa.proofs.laws.sound_parts.Goals as goal
 
