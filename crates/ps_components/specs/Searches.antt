@@ -1,8 +1,9 @@
 -- The search for components, as a state that its steps change.
 --     IsSound g s      the lists of the search are sound
+--     EndsAt, HasNext      the search is sound; where its last segment begins, and which link is followed next
 --     IsIdle, IsFresh      the search is sound and its path is empty; for IsFresh, all items are also unseen
 --     Visits, Runs, Advances, Enters, Merges, Takes      what the methods of the search do
-use Rattle.std.specs.Prelude.{◌≡◌, ℕ, ◌<◌, ◌≤◌, List, [], ◌∷◌, ◌++◌, length, slice_get, slice_set, Some, All}
+use Rattle.std.specs.Prelude.{◌≡◌, ℕ, ◌-◌, ◌<◌, ◌≤◌, List, [], ◌∷◌, ◌++◌, length, slice_get, slice_set, Some, All}
 use Rattle.ps_components.specs.Graphs.{Digraph}
 use Rattle.ps_components.specs.Searching.{IsSoundSearch, IsSoundBut, IsSettled, KeepsStatuses, ChangesReached, HasMet}
 use Rattle.ps_components.specs.Searching.{turns}
@@ -20,6 +21,16 @@ IsSoundButFor g item s = IsSoundBut g item s.statuses s.active.items s.bounds.it
 -- a bound on the number of steps that the search still needs
 abbrev pub turns_left : Digraph → Search → ℕ
 turns_left g s = turns g s.statuses s.bounds.items s.pending.items
+
+-- the last segment of the path begins at `bound`
+pub record EndsAt (g : Digraph) (bound : ℕ) (s : Search) : Type 0 where
+  pub sound : IsSound g s
+  pub last : slice_get s.bounds.items (length s.bounds.items - 1) ≡ Some bound
+
+-- the last pending link is `pending`
+pub record HasNext (g : Digraph) (pending : Pending) (s : Search) : Type 0 where
+  pub sound : IsSound g s
+  pub last : slice_get s.pending.items (length s.pending.items - 1) ≡ Some pending
 
 -- the path is empty
 pub record IsIdle (g : Digraph) (s : Search) : Type 0 where

@@ -6,7 +6,7 @@ ghost use Rattle.std.specs.Prelude.{OnOk, IfOk, ◌^◌};
 ghost use Rattle.ps_components.specs.Graphs.{Way, Link};
 ghost use Rattle.ps_components.specs.Searching.{IsSettled, IsCutAt, AreListed, close_all, waits};
 ghost use Rattle.ps_components.specs.Searches.{IsSound, IsSoundButFor, IsIdle, IsFresh, HasVisited, Visits, Runs};
-ghost use Rattle.ps_components.specs.Searches.{Advances, Enters, Merges, Takes};
+ghost use Rattle.ps_components.specs.Searches.{EndsAt, HasNext, Advances, Enters, Merges, Takes};
 ghost use Rattle.ps_components.specs.declared.search.Pending.{Pending};
 
 use crate::graph::Graph;
@@ -133,8 +133,7 @@ impl Search {
     /// Follows the last pending link if it belongs to the last segment; otherwise closes this segment. Fails if out of
     /// memory.
     fn step<G: Graph>(&mut self, graph: &G, bound: usize) -> Result<(), AllocError>
-        requires last { slice_get self.old.bounds.items (length self.old.bounds.items - 1) ≡ Some bound }
-        requires sound { IsSound (G.graph graph.now) self.old }
+        requires { EndsAt (G.graph graph.now) bound self.old }
         ensures { OnOk result (Advances (G.graph graph.now) self.old self.new) }
     {
         let Some(&pending) = self.pending.last() else {
@@ -156,12 +155,11 @@ impl Search {
 
     /// Removes the last pending link, and appends its unseen target to the path. Fails if out of memory.
     fn follow<G: Graph>(&mut self, graph: &G, pending: Pending) -> Result<(), AllocError>
-        requires last { slice_get self.old.pending.items (length self.old.pending.items - 1) ≡ Some pending }
+        requires next { HasNext (G.graph graph.now) pending self.old }
         requires within { pending.to < (G.graph graph.now).count }
         requires unseen { slice_get self.old.statuses pending.to ≡ Some Status.Unseen }
         requires reached { (p v : ℕ) → slice_get self.old.active.items p ≡ Some v →
             Way (Link (G.graph graph.now)) v pending.to }
-        requires sound { IsSound (G.graph graph.now) self.old }
         ensures { OnOk result (Enters (G.graph graph.now) pending.to self.old self.new) }
     {
         self.pending.pop();
@@ -201,9 +199,8 @@ impl Search {
 
     /// Removes the last pending link, whose target is settled.
     fn take<G: Graph>(&mut self, graph: &G, pending: Pending)
-        requires last { slice_get self.old.pending.items (length self.old.pending.items - 1) ≡ Some pending }
+        requires next { HasNext (G.graph graph.now) pending self.old }
         requires settled { IsSettled self.old.statuses self.old.bounds.items pending.from pending.to }
-        requires sound { IsSound (G.graph graph.now) self.old }
         ensures { Takes (G.graph graph.now) self.old self.new }
     {
         self.pending.pop();
@@ -211,9 +208,8 @@ impl Search {
 
     /// Closes the last segment, which begins at the given bound. Fails if out of memory.
     fn close<G: Graph>(&mut self, graph: &G, bound: usize) -> Result<(), AllocError>
-        requires last { slice_get self.old.bounds.items (length self.old.bounds.items - 1) ≡ Some bound }
+        requires ends { EndsAt (G.graph graph.now) bound self.old }
         requires done { (i : ℕ) (e : Pending) → slice_get self.old.pending.items i ≡ Some e → e.from < bound }
-        requires sound { IsSound (G.graph graph.now) self.old }
         ensures { OnOk result (Advances (G.graph graph.now) self.old self.new) }
     {
         let number = self.order.len();

@@ -9,7 +9,8 @@ pub close_items-requires-clause-number : goal.close_items-requires-clause-number
 close_items-requires-clause-number g c = grind arith
 
 pub close_items-requires-clause-within : goal.close_items-requires-clause-within
-close_items-requires-clause-within g c = λ k v h. in_range c.requires.sound c.requires.last c.requires.done k v
+close_items-requires-clause-within g c =
+    λ k v h. in_range c.requires.ends.sound c.requires.ends.last c.requires.done k v
     (rw (take_rest c.deref.result.now c.args.bound, c.deref.ensures.value) at h)
 
 pub returns : goal.returns
@@ -22,9 +23,9 @@ returns g c =
     let bounds = c.pop.ensures.rest ∙ ap (λ n. take (n - 1) s.bounds.items) s.bounds.ok.0 in
     let order = c.in_ok-extend_from_slice.ensures.items ∙ ap (λ vs. s.order.items ++ vs) segment in
     record {
-      sound = rw (statuses, c.truncate.ensures.items, bounds, order) (sound-closed r.sound r.last r.done);
-      fewer = rw (statuses, bounds) (fewer-closed r.sound r.last r.done);
-      kept = rw statuses (kept-closed r.sound r.last r.done);
+      sound = rw (statuses, c.truncate.ensures.items, bounds, order) (sound-closed r.ends.sound r.ends.last r.done);
+      fewer = rw (statuses, bounds) (fewer-closed r.ends.sound r.ends.last r.done);
+      kept = rw statuses (kept-closed r.ends.sound r.ends.last r.done);
       reached =
           rw statuses (reached-closed (g.G.Graph.graph c.args.graph.now) s.statuses s.active.items c.args.bound _);
     }

@@ -12,5 +12,5 @@ enter-requires-clause-sound g c =
     rw (c.pop.ensures.rest, s.pending.ok.0) (record {
       skipped = c.args.pending ∷ [];
       lead = one_leads c.args.pending;
-      sound = rw (← last_split s.pending.items c.requires.last) c.requires.sound;
+      sound = rw (← last_split s.pending.items c.requires.next.last) c.requires.next.sound;
     })

@@ -5,4 +5,4 @@ use Rattle.ps_components.proofs.search.Search.take.Goals as goal
 
 pub returns : goal.returns
 returns g c =
-    grind (arith, length-but_last, sound-taken c.requires.sound c.requires.last c.requires.settled)
+    grind (arith, length-but_last, sound-taken c.requires.next.sound c.requires.next.last c.requires.settled)
