@@ -1,16 +1,14 @@
 //! The call that attempts to solve a game.
 
-ghost use Rattle.std.specs.Prelude.{◌≡◌, ◌<◌, ◌≤◌, All, IfOk, length};
+ghost use Rattle.std.specs.Prelude.{IfOk, length};
 ghost use Rattle.ps_game.specs.Games.{vertex_count};
 ghost use Rattle.ps_improvement.specs.Attempts.{IsAttemptFor};
 
-use crate::evaluating::evaluate;
 use crate::fuel::Fuel;
 use crate::ground::Ground;
-use crate::improving::improve;
 use crate::plan::Plan;
 use crate::row::Value;
-use crate::waiting::Waiting;
+use crate::settling::Settling;
 use ps_attractor::has_room;
 use ps_game::{Arena, Region, Strategy};
 use std::alloc::{AllocError, Global};
@@ -57,9 +55,9 @@ pub fn attempt<A: Arena>(alloc: Global, arena: &A, fuel: u64) -> Result<Attempte
         is_full: false,
     };
     let ground = Ground::of(alloc, arena)?;
-    let mut plan = Plan::new(alloc, arena.count())?;
-    if settle_all(alloc, &ground, &mut plan, &mut fuel)? {
-        answer_of(alloc, arena, plan)
+    let mut settling = Settling::new(alloc, &ground)?;
+    if settling.settle_all(&mut fuel)? {
+        answer_of(alloc, settling.plan)
     } else if fuel.is_full && room == most {
         Ok(Attempted::OutOfRoom)
     } else {
@@ -77,86 +75,23 @@ fn most_room<A: Arena>(arena: &A) -> u64 {
     room
 }
 
-/// Improves the plan, component by component, until no choice in any component can be improved. Components that no edge
-/// leaves come first. Returns whether the fuel sufficed.
-fn settle_all<A: Arena>(
-    alloc: Global,
-    ground: &Ground<'_, A>,
-    plan: &mut Plan,
-    fuel: &mut Fuel,
-) -> Result<bool, AllocError>
-    requires rows { length plan.old.rows.items ≡ vertex_count (A.game ground.now.arena.now) }
-    ensures { length plan.new.rows.items ≡ length plan.old.rows.items }
-{
-    let mut waiting = Waiting::none(alloc, ground.arena.count())?;
-    let mut rest = ground.order();
-    for _ in 0..rest.len() {
-        let (part, others) = rest.split_at(length_of_part(ground, rest));
-        if !settle(ground, part, plan, &mut waiting, fuel)? {
-            return Ok(false);
-        }
-        rest = others;
-    }
-    Ok(true)
-}
-
-/// The number of vertices at the front of a list that are in the same component.
-fn length_of_part<A: Arena>(ground: &Ground<'_, A>, rest: &[usize]) -> usize
-    requires { All (λ v. v < vertex_count (A.game ground.now.arena.now)) rest.now }
-    ensures { result ≤ length rest.now }
-{
-    match rest.first() {
-        Some(first) => rest
-            .iter()
-            .position(|vertex| !ground.is_one_part(*first, *vertex))
-            .unwrap_or(rest.len()),
-        None => 0,
-    }
-}
-
-/// Improves the plan until nothing improves in a component. Returns whether the fuel sufficed.
-fn settle<A: Arena>(
-    ground: &Ground<'_, A>,
-    part: &[usize],
-    plan: &mut Plan,
-    waiting: &mut Waiting,
-    fuel: &mut Fuel,
-) -> Result<bool, AllocError>
-    requires part { All (λ v. v < vertex_count (A.game ground.now.arena.now)) part.now }
-    requires rows { length plan.old.rows.items ≡ vertex_count (A.game ground.now.arena.now) }
-    requires waits { length waiting.old.waits ≡ vertex_count (A.game ground.now.arena.now) }
-    ensures rows { length plan.new.rows.items ≡ length plan.old.rows.items }
-    ensures waits { length waiting.new.waits ≡ length waiting.old.waits }
-{
-    for _ in 0..fuel.left {
-        evaluate(ground, part, plan, waiting, fuel)?;
-        if fuel.is_spent() {
-            return Ok(false);
-        }
-        if !improve(ground.arena, part, plan, fuel) {
-            return Ok(true);
-        }
-    }
-    Ok(false)
-}
-
-/// The result of a plan: player 0 wins the vertices from which plays never stop.
-fn answer_of<A: Arena>(alloc: Global, arena: &A, plan: Plan) -> Result<Attempted, AllocError>
-    requires { length plan.rows.items ≡ vertex_count (A.game arena.now) }
-    ensures { IfOk result (IsAttemptFor (vertex_count (A.game arena.now))) }
+/// The result of a plan: player 0 wins the vertices from which plays never stop. Fails if out of memory.
+fn answer_of<A: Arena>(alloc: Global, plan: Plan<'_, A>) -> Result<Attempted, AllocError>
+    ensures { IfOk result (IsAttemptFor (length plan.entry.rows.items)) }
 {
     let mut fuel = Fuel {
         left: 0,
         room: 0,
         is_full: false,
     };
-    let mut won = Region::empty(alloc, arena.count())?;
-    let mut second = Strategy::empty(alloc, arena.count())?;
-    for vertex in 0..arena.count() {
+    let count = plan.rows.len();
+    let mut won = Region::empty(alloc, count)?;
+    let mut second = Strategy::empty(alloc, count)?;
+    for vertex in 0..count {
         if let Value::Endless = plan.value(vertex) {
             won.insert(vertex);
-        } else if arena.owner(vertex) == 1 {
-            second.set(vertex, plan.least(arena, vertex, &mut fuel));
+        } else if plan.arena.owner(vertex) == 1 {
+            second.set(vertex, plan.least(vertex, &mut fuel));
         }
     }
     Ok(Attempted::Found {

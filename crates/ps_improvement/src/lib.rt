@@ -18,12 +18,11 @@
 #![tactic(auto)]
 
 mod attempting;
-mod evaluating;
 mod fuel;
 mod ground;
-mod improving;
 mod plan;
 mod row;
+mod settling;
 mod waiting;
 
 pub use attempting::{Attempted, attempt};

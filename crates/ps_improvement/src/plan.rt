@@ -1,6 +1,6 @@
 //! The present choices of the players, and the values that follow from them.
 
-ghost use Rattle.std.specs.Prelude.{◌≡◌, ◌<◌, ℕ, IfOk, IfSome, OnOk, length};
+ghost use Rattle.std.specs.Prelude.{◌≡◌, ◌<◌, ℕ, IfOk, IfSome, length};
 ghost use Rattle.std.specs.Option.{ForSome};
 ghost use Rattle.ps_game.specs.Games.{vertex_count};
 ghost use Rattle.ps_game.specs.Regions.{move_at};
@@ -11,28 +11,33 @@ use ps_game::{Arena, Region, Strategy};
 use std::alloc::{AllocError, Global};
 use std::cmp::Ordering;
 
-/// The moves of player 0, the vertices of player 1 that are open, and the value of each vertex.
+/// The moves of player 0, the vertices of player 1 that are open, and the value of each vertex of a game.
 #[derive(Drop)]
-pub struct Plan {
+pub struct Plan<'a, A: Arena> {
     alloc: Global,
+    /// The game.
+    pub arena: &'a A,
     /// The moves of player 0. At a vertex without a move, player 0 stops.
     pub first: Strategy,
     /// The vertices of player 1 that are open, so that plays may enter them.
     pub opened: Region,
     /// The row of each vertex; none if the value of the vertex is endless.
     pub rows: Vec<Option<Row>>,
+    ghost sized: { length rows.items ≡ vertex_count (A.game arena.now) },
     ghost moves: { length first ≡ length rows.items },
     ghost opens: { length opened ≡ length rows.items },
     ghost within: { (v : ℕ) → ForSome (move_at first v) (λ w. w < length rows.items) },
 }
 
-impl Plan {
+impl<'a, A: Arena> Plan<'a, A> {
     /// A plan in which player 0 stops at every vertex, and no vertex of player 1 is open. Fails if out of memory.
-    pub fn new(alloc: Global, count: usize) -> Result<Plan, AllocError>
-        ensures { IfOk result (λ plan. length plan.rows.items ≡ count) }
+    pub fn new(alloc: Global, arena: &'a A) -> Result<Plan<'a, A>, AllocError>
+        ensures { IfOk result (λ plan. length plan.rows.items ≡ vertex_count (A.game arena.now)) }
     {
+        let count = arena.count();
         Ok(Plan {
             alloc,
+            arena,
             first: Strategy::empty(alloc, count)?,
             opened: Region::empty(alloc, count)?,
             rows: endless(alloc, count)?,
@@ -40,28 +45,10 @@ impl Plan {
     }
 
     /// Whether plays stop before they enter a vertex.
-    pub fn is_closed<A: Arena>(&self, arena: &A, vertex: usize) -> bool
-        requires places { length self.now.rows.items ≡ vertex_count (A.game arena.now) }
-        requires vertex { vertex < length self.now.rows.items }
+    pub fn is_closed(&self, vertex: usize) -> bool
+        requires { vertex < length self.now.rows.items }
     {
-        arena.owner(vertex) == 1 && !self.opened.contains(vertex)
-    }
-
-    /// Opens a vertex of player 1, so that plays may enter it.
-    pub fn open_up(&mut self, vertex: usize)
-        requires { vertex < length self.old.rows.items }
-        ensures { length self.new.rows.items ≡ length self.old.rows.items }
-    {
-        self.opened.insert(vertex);
-    }
-
-    /// Lets player 0 move from one vertex to another.
-    pub fn go(&mut self, vertex: usize, to: usize)
-        requires vertex { vertex < length self.old.rows.items }
-        requires to { to < length self.old.rows.items }
-        ensures { length self.new.rows.items ≡ length self.old.rows.items }
-    {
-        self.first.set(vertex, to);
+        self.arena.owner(vertex) == 1 && !self.opened.contains(vertex)
     }
 
     /// The value of a vertex.
@@ -75,140 +62,88 @@ impl Plan {
     }
 
     /// The value of a move to a vertex, or of stopping if no vertex is given.
-    pub fn seen<A: Arena>(&self, arena: &A, to: Option<usize>) -> Value<'_>
-        requires places { length self.now.rows.items ≡ vertex_count (A.game arena.now) }
-        requires to { IfSome to (λ vertex. vertex < length self.now.rows.items) }
+    fn seen(&self, to: Option<usize>) -> Value<'_>
+        requires { IfSome to (λ vertex. vertex < length self.now.rows.items) }
     {
         match to {
-            Some(vertex) if !self.is_closed(arena, vertex) => self.value(vertex),
+            Some(vertex) if !self.is_closed(vertex) => self.value(vertex),
             _ => Value::Stops(&[]),
         }
     }
 
-    /// The number of cells in the row of a vertex.
-    fn cells(&self, vertex: usize) -> usize
-        requires { vertex < length self.now.rows.items }
-    {
-        match &self.rows[vertex] {
-            None => 0,
-            Some(row) => row.len(),
-        }
-    }
-
-    /// Sets the value of a vertex to endless.
-    pub fn forget(&mut self, vertex: usize, fuel: &mut Fuel)
+    /// Lowers the value of a vertex to the value that follows from the choice of the vertex's owner, if that value is
+    /// less. Returns whether the value was lowered. Fails if out of memory.
+    pub fn lower(&mut self, vertex: usize, fuel: &mut Fuel) -> Result<bool, AllocError>
         requires { vertex < length self.old.rows.items }
         ensures { length self.new.rows.items ≡ length self.old.rows.items }
     {
-        fuel.hold(0, self.cells(vertex));
-        self.rows[vertex] = None;
-    }
-
-    /// Lowers the value of a vertex to the value that follows from the choice of the vertex's owner, if that value is
-    /// less. Returns whether the value was lowered. Fails if out of memory.
-    pub fn lower<A: Arena>(
-        &mut self,
-        arena: &A,
-        vertex: usize,
-        fuel: &mut Fuel,
-    ) -> Result<bool, AllocError>
-        requires places { length self.old.rows.items ≡ vertex_count (A.game arena.now) }
-        requires vertex { vertex < length self.old.rows.items }
-        ensures { length self.new.rows.items ≡ length self.old.rows.items }
-    {
-        let Some(row) = self.lower_row(arena, vertex, fuel)? else {
+        let Some(row) = self.lower_row(vertex, fuel)? else {
             return Ok(false);
         };
         fuel.burn(row.len());
-        fuel.hold(row.len(), self.cells(vertex));
+        fuel.hold(row.len(), self.value(vertex).cells());
         self.rows[vertex] = Some(row);
         Ok(true)
     }
 
-    /// The row that follows from the choice of the vertex's owner, or none if that row is not worth less than the
-    /// vertex's present value.
-    fn lower_row<A: Arena>(
-        &self,
-        arena: &A,
-        vertex: usize,
-        fuel: &mut Fuel,
-    ) -> Result<Option<Row>, AllocError>
-        requires places { length self.now.rows.items ≡ vertex_count (A.game arena.now) }
-        requires vertex { vertex < length self.now.rows.items }
+    /// The new row of a vertex, which follows from the choice of the vertex's owner, if the new row is worth less than
+    /// the present value. Fails if out of memory.
+    fn lower_row(&self, vertex: usize, fuel: &mut Fuel) -> Result<Option<Row>, AllocError>
+        requires { vertex < length self.now.rows.items }
     {
-        let to = self.target(arena, vertex, fuel);
-        let Value::Stops(row) = self.seen(arena, to) else {
+        let to = if self.arena.owner(vertex) == 0 {
+            self.first.get(vertex)
+        } else {
+            Some(self.least(vertex, fuel))
+        };
+        let Value::Stops(row) = self.seen(to) else {
             fuel.burn(0);
             return Ok(None);
         };
-        let raised = Raised::of(row, arena.priority(vertex));
-        if !self.is_lower(&raised, vertex, fuel) {
+        let raised = Raised::of(row, self.arena.priority(vertex));
+        if !raised.is_below(self.value(vertex), fuel) {
             return Ok(None);
         }
         let row = raised.row(self.alloc)?;
         Ok(Some(row))
     }
 
-    /// Whether a row is worth less than the value of a vertex.
-    fn is_lower(&self, raised: &Raised<'_>, vertex: usize, fuel: &mut Fuel) -> bool
-        requires { vertex < length self.now.rows.items }
-    {
-        match self.value(vertex) {
-            Value::Endless => true,
-            Value::Stops(row) => raised.order(row, fuel) == Ordering::Less,
-        }
-    }
-
-    /// The successor that a vertex's owner chooses: the move of player 0, or a least valuable successor if player 1
-    /// owns the vertex.
-    fn target<A: Arena>(&self, arena: &A, vertex: usize, fuel: &mut Fuel) -> Option<usize>
-        requires places { length self.now.rows.items ≡ vertex_count (A.game arena.now) }
-        requires vertex { vertex < length self.now.rows.items }
-        ensures { IfSome result (λ to. to < length self.now.rows.items) }
-    {
-        if arena.owner(vertex) == 0 {
-            self.first.get(vertex)
-        } else {
-            Some(self.least(arena, vertex, fuel))
-        }
-    }
-
     /// A least valuable successor of a vertex.
     #[tactic(auto, using(crate::proofs::Within::successor_within))]
-    pub fn least<A: Arena>(&self, arena: &A, vertex: usize, fuel: &mut Fuel) -> usize
-        requires places { length self.now.rows.items ≡ vertex_count (A.game arena.now) }
-        requires vertex { vertex < length self.now.rows.items }
+    pub fn least(&self, vertex: usize, fuel: &mut Fuel) -> usize
+        requires { vertex < length self.now.rows.items }
         ensures { result < length self.now.rows.items }
     {
-        let _vertices = arena.count();
-        let mut least = arena.successor(vertex, 0);
-        for number in 1..arena.degree(vertex) {
-            let to = arena.successor(vertex, number);
-            let value = self.seen(arena, Some(to));
-            if value.order(self.seen(arena, Some(least)), fuel) == Ordering::Less {
+        let _vertices = self.arena.count();
+        let mut least = self.arena.successor(vertex, 0);
+        for number in 1..self.arena.degree(vertex) {
+            let to = self.arena.successor(vertex, number);
+            let value = self.seen(Some(to));
+            if value.order(self.seen(Some(least)), fuel) == Ordering::Less {
                 least = to;
             }
         }
         least
     }
 
-    /// The most valuable successor of a vertex; or the present move of the vertex, if no successor is worth more.
+    /// The most valuable successor of a vertex, or `None` if no successor is worth more than the present move.
     #[tactic(auto, using(crate::proofs::Within::successor_within))]
-    pub fn best<A: Arena>(&self, arena: &A, vertex: usize, fuel: &mut Fuel) -> Option<usize>
-        requires places { length self.now.rows.items ≡ vertex_count (A.game arena.now) }
-        requires vertex { vertex < length self.now.rows.items }
+    pub fn better(&self, vertex: usize, fuel: &mut Fuel) -> Option<usize>
+        requires { vertex < length self.now.rows.items }
         ensures { IfSome result (λ to. to < length self.now.rows.items) }
     {
-        let _vertices = arena.count();
-        let mut best = self.first.get(vertex);
-        for number in 0..arena.degree(vertex) {
-            let to = Some(arena.successor(vertex, number));
-            let value = self.seen(arena, to);
-            if value.order(self.seen(arena, best), fuel) == Ordering::Greater {
-                best = to;
+        let _vertices = self.arena.count();
+        let mut better = None;
+        let mut best = self.seen(self.first.get(vertex));
+        for number in 0..self.arena.degree(vertex) {
+            let to = Some(self.arena.successor(vertex, number));
+            let value = self.seen(to);
+            if value.order(best, fuel) == Ordering::Greater {
+                better = to;
+                best = value;
             }
         }
-        best
+        better
     }
 }
 

@@ -27,6 +27,14 @@ pub enum Value<'a> {
 }
 
 impl Value<'_> {
+    /// The number of cells of the row.
+    pub fn cells(self) -> usize {
+        match self {
+            Value::Endless => 0,
+            Value::Stops(row) => row.len(),
+        }
+    }
+
     /// Compares two values. The greater value is worth more.
     pub fn order(self, other: Value<'_>, fuel: &mut Fuel) -> Ordering {
         match (self, other) {
@@ -100,8 +108,16 @@ impl<'a> Raised<'a> {
         }
     }
 
+    /// Whether the raised row is worth less than a value.
+    pub fn is_below(&self, value: Value<'_>, fuel: &mut Fuel) -> bool {
+        match value {
+            Value::Endless => true,
+            Value::Stops(row) => self.order(row, fuel) == Ordering::Less,
+        }
+    }
+
     /// Compares the raised row with another row.
-    pub fn order(&self, other: &[Cell], fuel: &mut Fuel) -> Ordering {
+    fn order(&self, other: &[Cell], fuel: &mut Fuel) -> Ordering {
         let (begin, back) = other.split_at(self.front.len().min(other.len()));
         let fronts = order_of_rows(self.front, begin, fuel);
         if fronts != Ordering::Equal {
