@@ -4,6 +4,7 @@ use Rattle.std.proofs.Common.{arith, refl, Option, None, Some, eqb, unwrap_or}
 use Rattle.std.specs.Prelude.{slice_get, slice_index, slice_set}
 use Rattle.std.specs.Bool.{OnFalse, OnTrue}
 use Rattle.std.proofs.lemmas.Bool.{cases_eq, OnFalse_from, OnTrue_from, eqb-true, eqb-false}
+use Rattle.std.proofs.lemmas.Grind.{common_steps}
 use Rattle.std.proofs.lemmas.List.{get_or_read}
 use Rattle.std.proofs.lemmas.Option.{slice_get-get_or, get_or_from_slice_get}
 use Rattle.ps_components.specs.Graphs.{Digraph, Link}
@@ -18,6 +19,11 @@ use Rattle.ps_measure.proofs.Rows.{weight_light}
 use Rattle.ps_measure.proofs.Writing.{written}
 use Rattle.ps_measure.proofs.Passing.{number_within, raise_column, raise_fits, passed_by_raise, passed_on}
 use Rattle.ps_measure.proofs.Passing.{passed_from_here, root_column, raised_before, least_counts}
+
+-- a value before index `number` is raised
+pub grows_set : {values : List ℕ} {before number y value : ℕ} → before < number → y ≡ get_or values before y →
+    y < value → GrowsBelow values (slice_set values before value) number
+grows_set {values} {before} {number} {y} {value} below at more = grind (arith, common_steps)
 
 -- ## One link, whose ends are in known components
 

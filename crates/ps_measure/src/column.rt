@@ -3,12 +3,12 @@
 ghost use Rattle.std.specs.Prelude.{◌≡◌, ℕ, ◌<◌, length, nat_lt, IfOk, OnOk, IfNone, IfSome};
 ghost use Rattle.std.specs.Bool.{OnFalse, OnTrue};
 ghost use Rattle.ps_components.specs.Graphs.{Digraph, Link};
-ghost use Rattle.ps_components.specs.ComponentLists.{AreComponents, AreMet, IsIn};
+ghost use Rattle.ps_components.specs.ComponentLists.{AreComponents, AreMet};
 ghost use Rattle.ps_measure.specs.Inner.Remaining.{low_graph, low_weight};
-ghost use Rattle.ps_measure.specs.Inner.Columns.{AreRoots, AreRaised, IsCounting, IsPassed, GrowsBelow, ArePassedFrom};
-ghost use Rattle.ps_measure.specs.Inner.Columns.{IsLost, AreLeast, value_of};
+ghost use Rattle.ps_measure.specs.Inner.Columns.{AreRoots, AreRaised, IsCounting, IsTurn, IsRaised, IsPassed};
+ghost use Rattle.ps_measure.specs.Inner.Columns.{ArePassedFrom, IsLost, AreLeast, value_of};
 ghost use Rattle.ps_measure.specs.Inner.Outcomes.{IsClosing};
-ghost use Rattle.ps_measure.specs.Ranks.{count_of, width_of};
+ghost use Rattle.ps_measure.specs.Inner.Filling.{IsBlank};
 ghost use Rattle.ps_measure.specs.Tables.{HasColumn};
 ghost use Rattle.ps_measure.specs.Sums.{count_below};
 
@@ -89,8 +89,7 @@ impl Column {
     pub(crate) fn put_into(&self, place: usize, table: &mut CountTable) -> Result<u64, AllocError>
         requires components { (g : Digraph) × AreComponents g self.now.components }
         requires each { length table.old ≡ length self.now.components.numbers }
-        requires wide { (v : ℕ) → v < length table.old → place < width_of table.old v }
-        requires none { (v : ℕ) → count_of table.old v place ≡ 0 }
+        requires blank { IsBlank table.old place }
         ensures column { OnOk result
             (HasColumn table.old table.new place (value_of self.now.components self.now.values.items)) }
         ensures raised { IfOk result
@@ -111,14 +110,11 @@ impl Column {
     /// Raises the value of the target's component as a link requires. Returns true if the link stays within a component
     /// and leads to a vertex of the priority of `low`.
     fn pass(&mut self, low: &Low, from: usize, number: usize, to: usize) -> bool
-        requires counting { IsCounting (low_graph low.now) (low_weight low.now) self.old.components
-            self.old.values.items }
+        requires turn { IsTurn (low_graph low.now) (low_weight low.now) self.old.components self.old.values.items
+            from number }
         requires link { Link (low_graph low.now) from to }
-        requires number { IsIn self.old.components from number }
-        ensures counting { IsCounting (low_graph low.now) (low_weight low.now) self.new.components
-            self.new.values.items }
-        ensures components { self.new.components ≡ self.old.components }
-        ensures grows { GrowsBelow self.old.values.items self.new.values.items number }
+        ensures raised { IsRaised (low_graph low.now) (low_weight low.now) self.old.components self.new.components
+            self.old.values.items self.new.values.items number }
         ensures passed { OnFalse result (IsPassed (low_weight low.now) self.new.components
             self.new.values.items from to) }
         ensures lost { OnTrue result (IsLost (low_graph low.now) (low_weight low.now) self.new.components from to) }
@@ -140,13 +136,10 @@ impl Column {
     /// Raises values as the links of a vertex require. Stops at a link that belongs to a lost cycle, and returns the
     /// link's target.
     fn pass_all(&mut self, low: &Low, from: usize, number: usize) -> Option<usize>
-        requires counting { IsCounting (low_graph low.now) (low_weight low.now) self.old.components
-            self.old.values.items }
-        requires number { IsIn self.old.components from number }
-        ensures counting { IsCounting (low_graph low.now) (low_weight low.now) self.new.components
-            self.new.values.items }
-        ensures components { self.new.components ≡ self.old.components }
-        ensures grows { GrowsBelow self.old.values.items self.new.values.items number }
+        requires turn { IsTurn (low_graph low.now) (low_weight low.now) self.old.components self.old.values.items
+            from number }
+        ensures raised { IsRaised (low_graph low.now) (low_weight low.now) self.old.components self.new.components
+            self.old.values.items self.new.values.items number }
         ensures passed { IfNone result ((to : ℕ) → Link (low_graph low.now) from to →
             IsPassed (low_weight low.now) self.new.components self.new.values.items from to) }
         ensures lost { IfSome result (IsLost (low_graph low.now) (low_weight low.now) self.new.components from) }
@@ -165,10 +158,8 @@ impl Column {
     /// to a lost cycle, and returns that link.
     fn settle(&mut self, low: &Low) -> Option<(usize, usize)>
         requires { IsCounting (low_graph low.now) (low_weight low.now) self.old.components self.old.values.items }
-        ensures counting { IsCounting (low_graph low.now) (low_weight low.now) self.new.components
-            self.new.values.items }
-        ensures components { self.new.components ≡ self.old.components }
-        ensures grows { GrowsBelow self.old.values.items self.new.values.items (length self.old.components.order) }
+        ensures raised { IsRaised (low_graph low.now) (low_weight low.now) self.old.components self.new.components
+            self.old.values.items self.new.values.items (length self.old.components.order) }
         ensures passed { IfNone result (ArePassedFrom (low_graph low.now) (low_weight low.now) self.new.components
             self.new.values.items 0) }
         ensures lost { IfSome result (λ link. IsLost (low_graph low.now) (low_weight low.now) self.new.components

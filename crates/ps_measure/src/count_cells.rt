@@ -76,7 +76,8 @@ impl CountCells {
         }
     }
 
-    /// Appends a cell. If out of memory, nothing changes.
+    /// Appends a cell. If a number of the cell does not fit in 4 bytes, every cell takes 24 bytes from then on. If out
+    /// of memory, nothing changes.
     #[inline(always)]
     pub fn push(&mut self, cell: CountCell) -> Result<(), AllocError>
         ensures ok { OnOk result (self.new ≡ self.old ++ cell ∷ []) }
@@ -94,15 +95,6 @@ impl CountCells {
             })?;
             return Ok(());
         }
-        self.push_wide(cell)
-    }
-
-    /// Appends a cell, and from then on stores every cell of the list in 24 bytes. If out of memory, nothing changes.
-    #[inline(never)]
-    fn push_wide(&mut self, cell: CountCell) -> Result<(), AllocError>
-        ensures ok { OnOk result (self.new ≡ self.old ++ cell ∷ []) }
-        ensures err { OnErr result (self.new ≡ self.old) }
-    {
         let mut wide = self.widened()?;
         wide.push(cell)?;
         self.wide = wide;
@@ -111,6 +103,7 @@ impl CountCells {
     }
 
     /// The cells of the list, in 24 bytes each.
+    #[inline(never)]
     fn widened(&self) -> Result<Vec<CountCell>, AllocError>
         ensures { IfOk result (λ wide. wide.items ≡ self.now) }
     {

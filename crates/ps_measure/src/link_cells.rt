@@ -74,7 +74,7 @@ impl LinkCells {
         }
     }
 
-    /// Appends a cell.
+    /// Appends a cell. If a number of the cell does not fit in 4 bytes, every cell takes 16 bytes from then on.
     #[inline(always)]
     pub(crate) fn push(&mut self, cell: Cell) -> Result<(), AllocError>
         ensures { OnOk result (self.new ≡ self.old ++ cell ∷ []) }
@@ -90,14 +90,6 @@ impl LinkCells {
             })?;
             return Ok(());
         }
-        self.push_wide(cell)
-    }
-
-    /// Appends a cell, and from then on stores every cell of the list in 16 bytes.
-    #[inline(never)]
-    fn push_wide(&mut self, cell: Cell) -> Result<(), AllocError>
-        ensures { OnOk result (self.new ≡ self.old ++ cell ∷ []) }
-    {
         let mut wide = self.widened()?;
         wide.push(cell)?;
         self.wide = wide;
@@ -106,6 +98,7 @@ impl LinkCells {
     }
 
     /// The cells of the list, in 16 bytes each.
+    #[inline(never)]
     fn widened(&self) -> Result<Vec<Cell>, AllocError>
         ensures { IfOk result (λ wide. wide.items ≡ self.now) }
     {

@@ -91,7 +91,7 @@ impl Packed {
         }
     }
 
-    /// Appends a number.
+    /// Appends a number. If the number does not fit in 4 bytes, every number takes 8 bytes from then on.
     #[inline(always)]
     pub(crate) fn push(&mut self, number: usize) -> Result<(), AllocError>
         ensures { OnOk result (self.new ≡ self.old ++ number ∷ []) }
@@ -104,14 +104,6 @@ impl Packed {
             self.narrow.push(number as u32)?;
             return Ok(());
         }
-        self.push_wide(number)
-    }
-
-    /// Appends a number, and from then on stores every number of the list in 8 bytes.
-    #[inline(never)]
-    fn push_wide(&mut self, number: usize) -> Result<(), AllocError>
-        ensures { OnOk result (self.new ≡ self.old ++ number ∷ []) }
-    {
         let mut wide = self.widened()?;
         wide.push(number)?;
         self.wide = wide;
@@ -119,7 +111,8 @@ impl Packed {
         Ok(())
     }
 
-    /// Replaces the number at an index.
+    /// Replaces the number at an index. If the new number does not fit in 4 bytes, every number takes 8 bytes from then
+    /// on.
     #[inline(always)]
     pub(crate) fn set(&mut self, place: usize, number: usize) -> Result<(), AllocError>
         requires { place < length self.old }
@@ -134,16 +127,6 @@ impl Packed {
             self.narrow[place] = number as u32;
             return Ok(());
         }
-        self.set_wide(place, number)
-    }
-
-    /// Replaces the number at an index, and from then on stores every number of the list in 8 bytes.
-    #[inline(never)]
-    fn set_wide(&mut self, place: usize, number: usize) -> Result<(), AllocError>
-        requires { place < length self.old }
-        ensures ok { OnOk result (self.new ≡ slice_set self.old place number) }
-        ensures err { OnErr result (self.new ≡ self.old) }
-    {
         let mut wide = self.widened()?;
         wide[place] = number;
         self.wide = wide;
@@ -152,6 +135,7 @@ impl Packed {
     }
 
     /// The numbers of the list, in 8 bytes each.
+    #[inline(never)]
     fn widened(&self) -> Result<Vec<usize>, AllocError>
         ensures { IfOk result (λ wide. wide.items ≡ self.now) }
     {

@@ -54,6 +54,19 @@ pub record GrowsBelow (old new : List ℕ) (place : ℕ) : Type 0 where
   pub grows : (k : ℕ) → slice_index old k ≤ slice_index new k
   pub same : (k : ℕ) → place ≤ k → slice_index new k ≡ slice_index old k
 
+-- the component of a vertex has the given number, and the column is one of counts
+pub record IsTurn (g : Digraph) (weight : ℕ → ℕ) (c : ComponentsData) (values : List ℕ) (from number : ℕ) : Type 0
+  where
+    pub counting : IsCounting g weight c values
+    pub number_is : IsIn c from number
+
+-- the components stay, and the new values, which are counts as well, differ from the old ones only before index `place`
+pub record IsRaised (g : Digraph) (weight : ℕ → ℕ) (old new : ComponentsData) (before after : List ℕ) (place : ℕ) :
+    Type 0 where
+  pub counting : IsCounting g weight new after
+  pub components : new ≡ old
+  pub grows : GrowsBelow before after place
+
 -- the values respect the links of each vertex in the order from index i on
 abbrev pub ArePassedFrom : Digraph → (ℕ → ℕ) → ComponentsData → List ℕ → ℕ → Type 0
 ArePassedFrom g weight c values i =

@@ -4,14 +4,16 @@ use Rattle.std.specs.Prelude.{◌≡◌, ℕ, ◌<◌, ◌≤◌, Bool, List, le
 use Rattle.ps_components.specs.Graphs.{Digraph}
 use Rattle.ps_components.specs.Trails.{IsTrail}
 use Rattle.ps_game.specs.Games.{ParityGame, vertex_count, priority_of}
+use Rattle.ps_game.specs.Plays.{other_player}
+use Rattle.ps_game.specs.Ranking.{ListsPriorities}
 use Rattle.ps_measure.specs.declared.fault.MeasureFault.{MeasureFault}
 use Rattle.ps_measure.specs.declared.fault.MeasureFault.TheVariants.{BadCycle, OutOfMemory}
 use Rattle.ps_measure.specs.Sums.{sum_below, count_below}
-use Rattle.ps_measure.specs.Inner.Remaining.{LowData, low_graph, low_weight}
+use Rattle.ps_measure.specs.Inner.Remaining.{LowData, RemainingData, low_graph, low_weight}
 use Rattle.ps_measure.specs.Inner.Columns.{AreLeast}
 use Rattle.ps_measure.specs.Inner.Outcomes.{IsClosing}
-use Rattle.ps_measure.specs.Ranks.{AreLeastFor, AreRows, count_of}
-use Rattle.ps_measure.specs.Tables.{HasColumn}
+use Rattle.ps_measure.specs.Ranks.{AreLeastFor, AreRows, count_of, width_of}
+use Rattle.ps_measure.specs.Tables.{AreZero, HasColumn}
 
 -- the least counts were written at the index of a priority; `raised` is the number of nonzero counts
 pub record IsFilled (g : Digraph) (weight : ℕ → ℕ) (old new : List (List ℕ)) (place raised : ℕ) : Type 0 where
@@ -19,6 +21,11 @@ pub record IsFilled (g : Digraph) (weight : ℕ → ℕ) (old new : List (List �
   pub least : AreLeast g weight counts
   pub column : HasColumn old new place counts
   pub raised_is : raised ≡ count_below (λ v. nat_lt 0 (counts v)) g.count
+
+-- each row has a place for the counts of a priority, and those counts are 0
+pub record IsBlank (rows : List (List ℕ)) (place : ℕ) : Type 0 where
+  pub wide : (v : ℕ) → v < length rows → place < width_of rows v
+  pub none : (v : ℕ) → count_of rows v place ≡ 0
 
 -- a link, and a way from the link's target back to its source, which together form a cycle
 pub record IsLowCycle (low : LowData) (cycle : List ℕ) : Type 0 where
@@ -45,3 +52,8 @@ pub record AreRanked (game : ParityGame) (player : ℕ) (set : ℕ → Bool) (ta
       AreLeastFor game player set table (slice_index priorities k) (λ v. count_of rows v k)
   pub after : (v k : ℕ) → place ≤ k → count_of rows v k ≡ 0
   pub raises_is : raises ≡ sum_below (λ k. count_below (λ v. nat_lt 0 (count_of rows v k)) (vertex_count game)) place
+
+-- the list has the priorities by which the player loses, and the rows are zeros for them
+pub record AreUnranked (r : RemainingData) (priorities : List ℕ) (rows : List (List ℕ)) : Type 0 where
+  pub listed : ListsPriorities r.game (other_player r.player) priorities
+  pub zeros : AreZero rows (vertex_count r.game) (length priorities)

@@ -36,7 +36,7 @@ returns-in_err-raised-clause-cycle g c =
     let at = at_place c.remaining.view_is c.args.back.now c.args.priorities.now c.loop-place.place
     c.count-vertices.ensures.well_formed c.requires.levels c.requires.reverse (omega (arith, c.loop-place-test.true)) in
     let p = err_from_is_err_and c.from_residual.result c.from_residual.ensures.1 in
-    rw (p.1, p.2) (refused at c.in_err-raised.field-0.0 c.requires.listed c.in_err-raised.ensures.cycle)
+    rw (p.1, p.2) (refused at c.in_err-raised.field-0.0 c.requires.unranked.listed c.in_err-raised.ensures.cycle)
 
 pub returns-clause-ranked : goal.returns-clause-ranked
 returns-clause-ranked g c =

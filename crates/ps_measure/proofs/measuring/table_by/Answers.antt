@@ -1,6 +1,11 @@
+use Rattle.std.proofs.Common.{ap}
+use Rattle.ps_measure.specs.Inner.Remaining.{RemainingData}
 use Rattle.ps_measure.proofs.Rows.{ranked_empty}
 use Rattle.ps_measure.proofs.measuring.table_by.Goals as goal
 
 pub returns-then-is_empty-clause-ranked : goal.returns-then-is_empty-clause-ranked
 returns-then-is_empty-clause-ranked g c =
-    ranked_empty (c.is_empty.ensures.0 c.if-is_empty.true) (rw c.count.ensures.vertices at c.in_ok-table.ensures)
+    let regions = ap (λ (r : RemainingData). r.region) c.remaining.view_is in
+    let games = ap (λ (r : RemainingData). r.game) c.remaining.view_is in
+    ranked_empty (rw regions at (c.is_empty.ensures.0 c.if-is_empty.true))
+    (rw (c.count.ensures.vertices, games) at c.in_ok-table.ensures)

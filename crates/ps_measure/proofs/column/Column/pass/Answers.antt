@@ -1,5 +1,6 @@
-use Rattle.std.proofs.Common.{arith, rules}
-use Rattle.ps_measure.proofs.Steps.{step_fits, step_counting, step_raised, step_enough, step_inside, step_lost}
+use Rattle.std.proofs.Common.{refl, arith, rules}
+use Rattle.ps_measure.proofs.Steps.{grows_set, step_fits, step_counting, step_raised, step_enough, step_inside}
+use Rattle.ps_measure.proofs.Steps.{step_lost}
 use Rattle.ps_measure.proofs.column.Column.pass.Goals as goal
 
 pub weight-weight-requires : goal.weight-weight-requires
@@ -8,19 +9,20 @@ weight-weight-requires c = c.count-vertices.ensures.within c.args.from c.args.to
 pub number-requires : goal.number-requires
 number-requires c =
     let within = c.count-vertices.ensures.within c.args.from c.args.to c.requires.link in
-    omega (arith, within, c.requires.counting.components.counted)
+    omega (arith, within, c.requires.turn.counting.components.counted)
 
 pub overflow_add-value : goal.overflow_add-value
 overflow_add-value c =
     let r = c.requires in
     grind (
       arith,
-      step_fits c.args.low.now r.counting r.link r.number c.number.ensures c.unwrap_or-before.ensures
+      step_fits c.args.low.now r.turn.counting r.link r.turn.number_is c.number.ensures c.unwrap_or-before.ensures
           c.weight-weight.ensures c.index.ensures c.if-before-number.true,
     )
 
-pub returns-then-index-value-clause-counting : goal.returns-then-index-value-clause-counting
-returns-then-index-value-clause-counting c = search (rules, step_counting)
+pub returns-then-index-value-clause-raised : goal.returns-then-index-value-clause-raised
+returns-then-index-value-clause-raised c =
+    record { counting = search (rules, step_counting); components = refl; grows = search (rules, grows_set) }
 
 pub returns-then-index-value-clause-passed : goal.returns-then-index-value-clause-passed
 returns-then-index-value-clause-passed c = search (rules, step_raised)

@@ -13,16 +13,17 @@ loop-place-preserved c =
       | in-Some+else-pass w ↦
           let e = w.pass.ensures in
           rw w.self-is (record {
-            counting = e.counting;
-            components = e.components ∙ inv.components;
-            grows = grows_on inv.grows e.grows;
-            passed = pass_one c.args.low.now c.loop-place.place e.components (rw inv.components c.requires.number)
-                inv.passed (sym w.in-Some.ensures.target) e.grows (OnFalse_at w.if-pass.false e.passed);
+            raised = record {
+              counting = e.raised.counting;
+              components = e.raised.components ∙ inv.raised.components;
+              grows = grows_on inv.raised.grows e.raised.grows;
+            };
+            passed = pass_one c.args.low.now c.loop-place.place e.raised.components
+                (rw inv.raised.components c.requires.turn.number_is) inv.passed (sym w.in-Some.ensures.target)
+                e.raised.grows (OnFalse_at w.if-pass.false e.passed);
           })
       | in_default w ↦ rw w.self-is (record {
-        counting = inv.counting;
-        components = inv.components;
-        grows = inv.grows;
+        raised = inv.raised;
         passed = pass_none c.args.low.now c.loop-place.place inv.passed (sym c.target.ensures.target ∙ w.in_default.is);
       })
     ]

@@ -26,7 +26,11 @@ pub put-requires-clause-place : goal.put-requires-clause-place
 put-requires-clause-place c =
     let vertex = get_or c.order-vertex-items.result.now c.loop-vertex.vertex-index 0 in
     let within = item_within c.requires.components.1 c.loop-vertex.vertex-index vertex (grind (arith, the_vertex)) in
-    omega (arith, c.requires.wide vertex (omega (arith, within, c.requires.each)), c.loop-vertex.invariant.wide vertex)
+    omega (
+      arith,
+      c.requires.blank.wide vertex (omega (arith, within, c.requires.each)),
+      c.loop-vertex.invariant.wide vertex,
+    )
 
 pub loop-vertex-preserved : goal.loop-vertex-preserved
 loop-vertex-preserved c =

@@ -17,15 +17,17 @@ loop-place-preserved-in_default-pass_all c =
     let comps = c.loop-place.self.components in
     let at = vertex_at comps.order c.order.result.now (c.loop-place.place - 1) c.order.ensures
     (omega (arith, c.loop-place-test.true, inv.within)) in
-    let below = inv.counting.components.below _ c.in-Some.number c.in-Some.ensures in
-    let long = ap (λ (d : ComponentsData). length d.order) inv.components in
-    let all = c.pass_all.ensures in
+    let below = inv.raised.counting.components.below _ c.in-Some.number c.in-Some.ensures in
+    let long = ap (λ (d : ComponentsData). length d.order) inv.raised.components in
+    let all = c.pass_all.ensures.raised in
     record {
-      counting = all.counting;
-      components = all.components ∙ inv.components;
-      grows = grows_on inv.grows (grows_within (omega (arith, below, long)) all.grows);
+      raised = record {
+        counting = all.counting;
+        components = all.components ∙ inv.raised.components;
+        grows = grows_on inv.raised.grows (grows_within (omega (arith, below, long)) all.grows);
+      };
       within = search rules;
-      passed = settle_one c.args.low.now c.loop-place.place all.components inv.counting.components
+      passed = settle_one c.args.low.now c.loop-place.place all.components inv.raised.counting.components
           (omega (arith, c.loop-place-test.true)) at c.in-Some.ensures all.grows inv.passed
           (λ v link. c.in_default-pass_all.ensures.passed v link);
     }

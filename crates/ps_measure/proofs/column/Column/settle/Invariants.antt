@@ -1,13 +1,12 @@
-use Rattle.std.proofs.Common.{◌≡◌, ◌≤◌, length}
+use Rattle.std.proofs.Common.{◌≤◌, length}
 use Rattle.ps_measure.specs.Inner.Remaining.{low_graph, low_weight}
-use Rattle.ps_measure.specs.Inner.Columns.{IsCounting, GrowsBelow, ArePassedFrom}
+use Rattle.ps_measure.specs.Inner.Columns.{IsRaised, ArePassedFrom}
 use Rattle.ps_measure.proofs.column.Column.settle.Given as goal
 
 abbrev pub invariant-loop-place : goal.invariant-loop-place
 invariant-loop-place l = record {
-  counting : IsCounting (low_graph l.low) (low_weight l.low) l.self.components l.self.values.items;
-  components : l.self.components ≡ l.initial.self.components;
-  grows : GrowsBelow l.initial.self.values.items l.self.values.items (length l.initial.self.components.order);
+  raised : IsRaised (low_graph l.low) (low_weight l.low) l.initial.self.components l.self.components
+      l.initial.self.values.items l.self.values.items (length l.initial.self.components.order);
   within : l.place ≤ length l.self.components.order;
   passed : ArePassedFrom (low_graph l.low) (low_weight l.low) l.self.components l.self.values.items l.place;
 }
