@@ -4,14 +4,15 @@ ghost use Rattle.std.specs.Prelude.{◌≡◌, ℕ, ◌+◌, ◌<◌, ◌↔◌,
 ghost use Rattle.ps_game.specs.Games.{vertex_count};
 ghost use Rattle.ps_certificate.specs.Certificates.{Fits, IsValid, IsFirstFlaw, winner_of};
 ghost use Rattle.ps_certificate.specs.Regions.{BothHold, NoneWinsOutside};
-ghost use Rattle.ps_certificate.specs.Inner.Prefixes.{IsSoundAt, KeepsCounts, KeepsCountsAt, KeepCountsBefore};
+ghost use Rattle.ps_certificate.specs.Inner.Prefixes.{IsRankable, KeepsCounts, KeepsCountsAt};
+ghost use Rattle.ps_certificate.specs.Inner.Prefixes.{KeepCountsBefore};
 ghost use Rattle.ps_certificate.specs.Inner.Prefixes.{IsFirstBroken};
 ghost use Rattle.ps_certificate.specs.Inner.Prefixes.{IsFirstFlawAt, IsFirstUnranked};
 
 use crate::certificate::Certificate;
 use crate::closing::unsound_at;
 use crate::flaw::Flaw;
-use crate::rising::first_at_least;
+use crate::rising::Rising;
 use ps_game::Arena;
 
 /// The first opposing priority for which an edge breaks the rule of counts. A search finds the first opposing priority
@@ -31,10 +32,11 @@ fn broken_priority<A: Arena>(
     ensures some { IfSome result (IsFirstBroken (A.game arena.now) certificate.now vertex successor) }
 {
     let priorities = certificate.opposing(certificate.winner(vertex));
+    let rising = Rising { list: priorities };
     let before = certificate.counts(vertex);
     let after = certificate.counts(successor);
     let own = arena.priority(vertex);
-    let start = first_at_least(priorities, own.max(arena.priority(successor)));
+    let start = rising.first_at_least(own.max(arena.priority(successor)));
     if start == priorities.len() {
         return None;
     }
@@ -49,9 +51,7 @@ fn broken_priority<A: Arena>(
 
 /// The first remaining edge of a vertex that breaks the rule of counts, as a flaw.
 fn unranked_at<A: Arena>(arena: &A, certificate: &Certificate, vertex: usize) -> Option<Flaw>
-    requires fits { Fits (A.game arena.now) certificate.now }
-    requires vertex { vertex < vertex_count (A.game arena.now) }
-    requires sound { IsSoundAt (A.game arena.now) certificate.now vertex }
+    requires { IsRankable (A.game arena.now) certificate.now vertex }
     ensures none { IfNone result (KeepsCountsAt (A.game arena.now) certificate.now vertex) }
     ensures some { IfSome result (IsFirstFlawAt (A.game arena.now) certificate.now 1 vertex) }
 {
@@ -89,9 +89,7 @@ fn unranked_through<A: Arena>(
     vertex: usize,
     earlier: Option<Flaw>,
 ) -> Option<Flaw>
-    requires fits { Fits (A.game arena.now) certificate.now }
-    requires vertex { vertex < vertex_count (A.game arena.now) }
-    requires sound { IsSoundAt (A.game arena.now) certificate.now vertex }
+    requires rankable { IsRankable (A.game arena.now) certificate.now vertex }
     requires none { IfNone earlier (KeepCountsBefore (A.game arena.now) certificate.now vertex) }
     requires some { IfSome earlier (IsFirstUnranked (A.game arena.now) certificate.now) }
     ensures none { IfNone result (KeepCountsBefore (A.game arena.now) certificate.now (vertex + 1)) }

@@ -4,7 +4,8 @@ ghost use Rattle.std.specs.Prelude.{◌≡◌, ◌≢◌, ℕ, ◌<◌, ◌↔�
 ghost use Rattle.ps_game.specs.Games.{vertex_count, owner_of, successors_of, HasEdge};
 ghost use Rattle.ps_certificate.specs.Certificates.{HasRightMove, IsClosed, IsFirstFlaw};
 ghost use Rattle.ps_certificate.specs.Regions.{BothKeep};
-ghost use Rattle.ps_certificate.specs.Inner.Prefixes.{StaysInside, IsSoundAt, IsFirstEscape, IsFirstFlawAt};
+ghost use Rattle.ps_certificate.specs.Inner.Prefixes.{HasEntry, StaysInside, IsSoundAt, IsFirstEscape};
+ghost use Rattle.ps_certificate.specs.Inner.Prefixes.{IsFirstFlawAt};
 
 use crate::certificate::Certificate;
 use crate::flaw::Flaw;
@@ -25,8 +26,7 @@ fn has_edge<A: Arena>(arena: &A, vertex: usize, successor: usize) -> bool
 
 /// Whether the move of a vertex is right: a successor if the winner owns the vertex, and otherwise none.
 fn has_right_move<A: Arena>(arena: &A, certificate: &Certificate, vertex: usize) -> bool
-    requires entry_each { length certificate.now.entries ≡ vertex_count (A.game arena.now) }
-    requires vertex { vertex < vertex_count (A.game arena.now) }
+    requires { HasEntry (A.game arena.now) certificate.now vertex }
     ensures { IsTrue result ↔ HasRightMove (A.game arena.now) certificate.now vertex }
 {
     let choice = certificate.choice(vertex);
@@ -41,8 +41,7 @@ fn has_right_move<A: Arena>(arena: &A, certificate: &Certificate, vertex: usize)
 
 /// The first remaining edge of a vertex that leads to a vertex with the other winner.
 fn first_escape<A: Arena>(arena: &A, certificate: &Certificate, vertex: usize) -> Option<usize>
-    requires entry_each { length certificate.now.entries ≡ vertex_count (A.game arena.now) }
-    requires vertex { vertex < vertex_count (A.game arena.now) }
+    requires entry { HasEntry (A.game arena.now) certificate.now vertex }
     requires right_move { HasRightMove (A.game arena.now) certificate.now vertex }
     ensures none { IfNone result (StaysInside (A.game arena.now) certificate.now vertex) }
     ensures some { IfSome result (IsFirstEscape (A.game arena.now) certificate.now vertex) }
@@ -70,8 +69,7 @@ pub(crate) fn unsound_at<A: Arena>(
     certificate: &Certificate,
     vertex: usize,
 ) -> Option<Flaw>
-    requires entry_each { length certificate.now.entries ≡ vertex_count (A.game arena.now) }
-    requires vertex { vertex < vertex_count (A.game arena.now) }
+    requires { HasEntry (A.game arena.now) certificate.now vertex }
     ensures none { IfNone result (IsSoundAt (A.game arena.now) certificate.now vertex) }
     ensures some { IfSome result (IsFirstFlawAt (A.game arena.now) certificate.now 0 vertex) }
 {

@@ -2,27 +2,25 @@
 
 ghost use Rattle.std.specs.Prelude.{◌≡◌, ℕ, ◌+◌, ◌%◌, ◌<◌, ◌≤◌, ◌↔◌, IsTrue, length};
 ghost use Rattle.std.specs.List.{All};
-ghost use Rattle.std.specs.List.Sorted.{IsStrictlyIncreasing};
 ghost use Rattle.ps_game.specs.Games.{vertex_count};
 ghost use Rattle.ps_game.specs.Ranking.{HasPriority, ListsPriorities};
 ghost use Rattle.ps_certificate.specs.Certificates.{Fits};
 ghost use Rattle.ps_certificate.specs.Inner.Prefixes.{IsComplete, EntryFits};
 
 use crate::certificate::Certificate;
-use crate::rising::{is_rising, place_of};
+use crate::rising::{Rising, is_rising};
 use ps_game::Arena;
 
 /// How many listed priorities are searched for in one pass over the vertices.
 const WINDOW: usize = 1024;
 
 /// Whether an ascending list contains the priority of every vertex whose priority has a given parity.
-fn is_complete<A: Arena>(arena: &A, parity: u64, list: &[u64]) -> bool
-    requires { IsStrictlyIncreasing list.now }
-    ensures { IsTrue result ↔ IsComplete (A.game arena.now) parity list.now }
+fn is_complete<A: Arena>(arena: &A, parity: u64, rising: Rising<'_>) -> bool
+    ensures { IsTrue result ↔ IsComplete (A.game arena.now) parity rising.entry.list.now }
 {
     for vertex in 0..arena.count() {
         let priority = arena.priority(vertex);
-        if priority % 2 == parity && place_of(list, priority).is_none() {
+        if priority % 2 == parity && rising.place_of(priority).is_none() {
             return false;
         }
     }
@@ -31,18 +29,17 @@ fn is_complete<A: Arena>(arena: &A, parity: u64, list: &[u64]) -> bool
 
 /// Whether each number of a short ascending list is the priority of some vertex. Makes one pass over the vertices, and
 /// searches the list at each vertex.
-fn window_present<A: Arena>(arena: &A, window: &[u64]) -> bool
-    requires rising { IsStrictlyIncreasing window.now }
-    requires short { length window.now ≤ 1024 }
-    ensures { IsTrue result ↔ All (HasPriority (A.game arena.now)) window.now }
+fn window_present<A: Arena>(arena: &A, window: Rising<'_>) -> bool
+    requires { length window.list.now ≤ 1024 }
+    ensures { IsTrue result ↔ All (HasPriority (A.game arena.now)) window.entry.list.now }
 {
     let mut seen = [false; WINDOW];
     for vertex in 0..arena.count() {
-        if let Some(place) = place_of(window, arena.priority(vertex)) {
+        if let Some(place) = window.place_of(arena.priority(vertex)) {
             seen[place] = true;
         }
     }
-    for place in 0..window.len() {
+    for place in 0..window.list.len() {
         if !seen[place] {
             return false;
         }
@@ -52,12 +49,11 @@ fn window_present<A: Arena>(arena: &A, window: &[u64]) -> bool
 
 /// Whether a short ascending list of one parity has exactly the priorities of that parity. Makes one pass over the
 /// vertices, and searches the list at each vertex whose priority has that parity.
-fn is_just<A: Arena>(arena: &A, parity: u64, list: &[u64]) -> bool
-    requires rising { IsStrictlyIncreasing list.now }
-    requires right_parity { All (λ p. p % 2 ≡ parity) list.now }
-    requires short { length list.now ≤ 1024 }
-    ensures { IsTrue result ↔ (IsComplete (A.game arena.now) parity list.now ×
-        All (HasPriority (A.game arena.now)) list.now) }
+fn is_just<A: Arena>(arena: &A, parity: u64, rising: Rising<'_>) -> bool
+    requires right_parity { All (λ p. p % 2 ≡ parity) rising.list.now }
+    requires short { length rising.list.now ≤ 1024 }
+    ensures { IsTrue result ↔ (IsComplete (A.game arena.now) parity rising.entry.list.now ×
+        All (HasPriority (A.game arena.now)) rising.entry.list.now) }
 {
     let mut seen = [false; WINDOW];
     for vertex in 0..arena.count() {
@@ -65,12 +61,12 @@ fn is_just<A: Arena>(arena: &A, parity: u64, list: &[u64]) -> bool
         if priority % 2 != parity {
             continue;
         }
-        let Some(place) = place_of(list, priority) else {
+        let Some(place) = rising.place_of(priority) else {
             return false;
         };
         seen[place] = true;
     }
-    for place in 0..list.len() {
+    for place in 0..rising.list.len() {
         if !seen[place] {
             return false;
         }
@@ -80,14 +76,17 @@ fn is_just<A: Arena>(arena: &A, parity: u64, list: &[u64]) -> bool
 
 /// Whether each number of an ascending list is the priority of some vertex. Makes one pass over the vertices for every
 /// 1024 numbers, so that no memory is allocated.
-fn all_present<A: Arena>(arena: &A, list: &[u64]) -> bool
-    requires { IsStrictlyIncreasing list.now }
-    ensures { IsTrue result ↔ All (HasPriority (A.game arena.now)) list.now }
+fn all_present<A: Arena>(arena: &A, rising: Rising<'_>) -> bool
+    ensures { IsTrue result ↔ All (HasPriority (A.game arena.now)) rising.entry.list.now }
 {
+    let list = rising.list;
     let mut start = 0;
     while start < list.len() {
         let end = list.len().min(start + WINDOW);
-        if !window_present(arena, &list[start..end]) {
+        let window = Rising {
+            list: &list[start..end],
+        };
+        if !window_present(arena, window) {
             return false;
         }
         start = end;
@@ -105,10 +104,11 @@ fn lists_priorities<A: Arena>(arena: &A, parity: u64, list: &[u64]) -> bool
     if !list.iter().all(|priority| *priority % 2 == parity) {
         return false;
     }
+    let rising = Rising { list };
     if list.len() <= WINDOW {
-        return is_just(arena, parity, list);
+        return is_just(arena, parity, rising);
     }
-    is_complete(arena, parity, list) && all_present(arena, list)
+    is_complete(arena, parity, rising) && all_present(arena, rising)
 }
 
 /// Whether the entry of a vertex has 0 or 1 as its winner, a vertex or none as its move, and one count for each

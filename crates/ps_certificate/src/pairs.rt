@@ -1,7 +1,6 @@
 //! The nonzero counts in a line of a compact text, each after its priority.
 
 ghost use Rattle.std.specs.Prelude.{◌≡◌, ◌<◌, IfOk, length, slice_index, true};
-ghost use Rattle.std.specs.List.Sorted.{IsStrictlyIncreasing};
 ghost use Rattle.ps_certificate.specs.Pairs.{Pairs, with_pair};
 ghost use Rattle.ps_certificate.specs.Inner.Reading.{Tells, TellsPriority, rises};
 ghost use Rattle.ps_certificate.specs.Texts as parts;
@@ -9,39 +8,43 @@ ghost use Rattle.ps_certificate.specs.Texts.{IsZero};
 
 use crate::fault::{CertCause, CertFault};
 use crate::fields::{all_counts, ends, number};
-use crate::rising::place_of;
+use crate::rising::Rising;
 use ps_text::cursor::Cursor;
 
 /// Parses the counts for the given priorities, and the end of the line: all counts, or the nonzero ones in a compact
 /// text. The counts replace the contents of the list `counts`.
 pub(crate) fn counts_for(
     cursor: &mut Cursor,
-    priorities: &[u64],
+    priorities: Rising<'_>,
     compact: bool,
     counts: &mut Vec<u64>,
 ) -> Result<(), CertFault>
-    requires { IsStrictlyIncreasing priorities.now }
-    ensures { Tells (λ _. counts.new.items) (parts.counts_in compact priorities.now) cursor.old result cursor.new }
+    ensures { Tells (λ _. counts.new.items) (parts.counts_in compact priorities.entry.list.now) cursor.old result
+        cursor.new }
 {
     if compact {
         pairs(cursor, priorities, counts)
     } else {
-        all_counts(cursor, priorities.len(), counts)
+        all_counts(cursor, priorities.list.len(), counts)
     }
 }
 
 /// Parses pairs of a priority and its count, each after a space, and the end of the line. An omitted count is 0.
-fn pairs(cursor: &mut Cursor, priorities: &[u64], counts: &mut Vec<u64>) -> Result<(), CertFault>
-    requires { IsStrictlyIncreasing priorities.now }
-    ensures { Tells (λ _. counts.new.items) (parts.counts_in true priorities.now) cursor.old result cursor.new }
+fn pairs(
+    cursor: &mut Cursor,
+    priorities: Rising<'_>,
+    counts: &mut Vec<u64>,
+) -> Result<(), CertFault>
+    ensures { Tells (λ _. counts.new.items) (parts.counts_in true priorities.entry.list.now) cursor.old result
+        cursor.new }
 {
     counts.clear();
-    counts.resize(priorities.len(), 0)?;
+    counts.resize(priorities.list.len(), 0)?;
     let mut last = None;
     'more: while cursor.comes(b' ') {
         let (place, count) = pair(cursor, priorities, last)?;
         counts[place] = count;
-        last = Some(priorities[place]);
+        last = Some(priorities.list[place]);
     }
     cursor.byte(b'\n', CertCause::Syntax)?;
     Ok(())
@@ -50,14 +53,14 @@ fn pairs(cursor: &mut Cursor, priorities: &[u64], counts: &mut Vec<u64>) -> Resu
 /// Parses a pair. Returns the index of the priority, which must be greater than `last`, and the count.
 fn pair(
     cursor: &mut Cursor,
-    priorities: &[u64],
+    priorities: Rising<'_>,
     last: Option<u64>,
 ) -> Result<(usize, u64), CertFault>
-    requires { IsStrictlyIncreasing priorities.now }
     ensures read { (pairs : Pairs) → pairs.last ≡ last → Tells
-        (λ pair. with_pair pairs (slice_index priorities.now pair.0) pair.1) (parts.pair priorities.now pairs)
+        (λ pair. with_pair pairs (slice_index priorities.entry.list.now pair.0) pair.1)
+        (parts.pair priorities.entry.list.now pairs)
         cursor.old result cursor.new }
-    ensures within { IfOk result (λ pair. pair.0 < length priorities.now) }
+    ensures within { IfOk result (λ pair. pair.0 < length priorities.entry.list.now) }
 {
     cursor.byte(b' ', CertCause::Syntax)?;
     let place = priority(cursor, priorities, last)?;
@@ -67,11 +70,14 @@ fn pair(
 }
 
 /// Parses the priority of a pair, which must be greater than `last`. Returns its index.
-fn priority(cursor: &mut Cursor, priorities: &[u64], last: Option<u64>) -> Result<usize, CertFault>
-    requires { IsStrictlyIncreasing priorities.now }
-    ensures read { (pairs : Pairs) → pairs.last ≡ last → TellsPriority priorities.now pairs cursor.old
+fn priority(
+    cursor: &mut Cursor,
+    priorities: Rising<'_>,
+    last: Option<u64>,
+) -> Result<usize, CertFault>
+    ensures read { (pairs : Pairs) → pairs.last ≡ last → TellsPriority priorities.entry.list.now pairs cursor.old
         result cursor.new }
-    ensures within { IfOk result (λ place. place < length priorities.now) }
+    ensures within { IfOk result (λ place. place < length priorities.entry.list.now) }
 {
     let refused = cursor.refusal(CertCause::Syntax);
     let other_game = cursor.refusal(CertCause::OtherGame);
@@ -82,7 +88,7 @@ fn priority(cursor: &mut Cursor, priorities: &[u64], last: Option<u64>) -> Resul
     if !is_above(priority, last) {
         return Err(refused);
     }
-    match place_of(priorities, priority) {
+    match priorities.place_of(priority) {
         Some(place) => Ok(place),
         None => Err(other_game),
     }

@@ -19,27 +19,36 @@ pub(crate) fn is_rising(list: &[u64]) -> bool
     true
 }
 
-/// The index of a number in an ascending list.
-pub(crate) fn place_of(list: &[u64], number: u64) -> Option<usize>
-    requires { IsStrictlyIncreasing list.now }
-    ensures none { IfNone result (¬ Contains list.now number) }
-    ensures some { IfSome result (IsAt list.now number) }
-{
-    match list.binary_search(&number) {
-        Ok(place) => Some(place),
-        Err(_) => None,
-    }
+/// An ascending list of numbers.
+#[derive(Clone, Copy)]
+pub(crate) struct Rising<'a> {
+    /// The numbers.
+    pub(crate) list: &'a [u64],
+    ghost rises: { IsStrictlyIncreasing list.now },
 }
 
-/// The index of the first number of an ascending list that is at least `number`.
-pub(crate) fn first_at_least(list: &[u64], number: u64) -> usize
-    requires { IsStrictlyIncreasing list.now }
-    ensures within { result ≤ length list.now }
-    ensures before { (k : ℕ) → k < result → slice_index list.now k < number }
-    ensures behind { (k : ℕ) → result ≤ k → k < length list.now → number ≤ slice_index list.now k }
-{
-    match list.binary_search(&number) {
-        Ok(place) => place,
-        Err(place) => place,
+impl<'a> Rising<'a> {
+    /// The index of a number.
+    pub(crate) fn place_of(self, number: u64) -> Option<usize>
+        ensures none { IfNone result (¬ Contains self.entry.list.now number) }
+        ensures some { IfSome result (IsAt self.entry.list.now number) }
+    {
+        match self.list.binary_search(&number) {
+            Ok(place) => Some(place),
+            Err(_) => None,
+        }
+    }
+
+    /// The index of the first number that is at least `number`.
+    pub(crate) fn first_at_least(self, number: u64) -> usize
+        ensures within { result ≤ length self.entry.list.now }
+        ensures before { (k : ℕ) → k < result → slice_index self.entry.list.now k < number }
+        ensures behind { (k : ℕ) → result ≤ k → k < length self.entry.list.now →
+            number ≤ slice_index self.entry.list.now k }
+    {
+        match self.list.binary_search(&number) {
+            Ok(place) => place,
+            Err(place) => place,
+        }
     }
 }

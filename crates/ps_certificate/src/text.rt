@@ -16,6 +16,7 @@ use crate::entries::{Entries, Entry};
 use crate::fault::{CertCause, CertFault};
 use crate::fields::{choice, exactly, priorities, version, winner};
 use crate::pairs::counts_for;
+use crate::rising::Rising;
 use ps_game::{Arena, NamedGame, priorities_of};
 use ps_ids::Ids;
 use ps_text::cursor::Cursor;
@@ -30,18 +31,21 @@ struct Known {
     even: Vec<u64>,
     /// The ids of the vertices.
     ids: Ids,
+    ghost odd_rises: { IsStrictlyIncreasing odd.items },
+    ghost even_rises: { IsStrictlyIncreasing even.items },
 }
 
 impl Known {
     /// The priorities that oppose a player, ascending.
-    fn lost_by(&self, player: u8) -> &[u64]
-        ensures { result.now ≡ parts.lost_by self.now.odd.items self.now.even.items player }
+    fn lost_by(&self, player: u8) -> Rising<'_>
+        ensures { result.list.now ≡ parts.lost_by self.now.odd.items self.now.even.items player }
     {
-        if player == 0 {
+        let list = if player == 0 {
             self.odd.as_slice()
         } else {
             self.even.as_slice()
-        }
+        };
+        Rising { list }
     }
 }
 
@@ -88,8 +92,6 @@ fn entry(
     id: u64,
     counts: &mut Vec<u64>,
 ) -> Result<Won, CertFault>
-    requires odd { IsStrictlyIncreasing known.now.odd.items }
-    requires even { IsStrictlyIncreasing known.now.even.items }
     ensures { Tells (λ won. record { winner = won.winner; choice = won.choice; counts = counts.new.items })
         (parts.entry compact known.now.odd.items known.now.even.items known.now.ids id) cursor.old result cursor.new }
 {
@@ -111,8 +113,6 @@ fn entries(
     compact: bool,
     game: &NamedGame,
 ) -> Result<Entries, CertFault>
-    requires odd { IsStrictlyIncreasing known.now.odd.items }
-    requires even { IsStrictlyIncreasing known.now.even.items }
     ensures { Tells (λ es. es) (parts.entries compact known.now.odd.items known.now.even.items known.now.ids
         game.now.ids) cursor.old result cursor.new }
 {
@@ -137,9 +137,7 @@ fn entries_of(
     known: &Known,
     game: &NamedGame,
 ) -> Result<Entries, CertFault>
-    requires odd { IsStrictlyIncreasing known.now.odd.items }
-    requires even { IsStrictlyIncreasing known.now.even.items }
-    requires ids { known.now.ids ≡ game.now.ids }
+    requires { known.now.ids ≡ game.now.ids }
     ensures { TellsEntries known.now.odd.items known.now.even.items game.now.ids text.now result }
 {
     let mut cursor = Cursor::new(text);

@@ -5,7 +5,8 @@ use Rattle.std.specs.List.{Contains}
 use Rattle.ps_game.specs.Games.{ParityGame, vertex_count, priority_of, successors_of}
 use Rattle.ps_certificate.specs.declared.flaw.Flaw.{Flaw}
 use Rattle.ps_certificate.specs.declared.flaw.Flaw.TheVariants.{Move, Escape, Rank}
-use Rattle.ps_certificate.specs.Certificates.{CertificateData, Remains, HasRightMove, IsFlaw, Precedes, OccursBefore}
+use Rattle.ps_certificate.specs.Certificates.{CertificateData, Fits, Remains, HasRightMove, IsFlaw, Precedes}
+use Rattle.ps_certificate.specs.Certificates.{OccursBefore}
 use Rattle.ps_certificate.specs.Certificates.{winner_of, choice_of, counts_of, opposing, KeepsCount, opposing_at}
 
 -- each remaining edge of a vertex leads to a vertex with the same winner
@@ -17,6 +18,18 @@ StaysInside game certificate v =
 pub record IsSoundAt (game : ParityGame) (certificate : CertificateData) (v : ℕ) : Type 0 where
   pub right_move : HasRightMove game certificate v
   pub inside : StaysInside game certificate v
+
+-- there is an entry for each vertex, and v is a vertex
+pub record HasEntry (game : ParityGame) (certificate : CertificateData) (v : ℕ) : Type 0 where
+  pub entry_each : length certificate.entries ≡ vertex_count game
+  pub vertex : v < vertex_count game
+
+-- the certificate fits the game, and its entry for the vertex v is sound, so the counts of the remaining edges of v can
+-- be compared
+pub record IsRankable (game : ParityGame) (certificate : CertificateData) (v : ℕ) : Type 0 where
+  pub fits : Fits game certificate
+  pub vertex : v < vertex_count game
+  pub sound : IsSoundAt game certificate v
 
 -- a remaining edge that leads to a vertex with the other winner
 pub record Leaves (game : ParityGame) (certificate : CertificateData) (v w : ℕ) : Type 0 where

@@ -4,8 +4,8 @@ use Rattle.ps_certificate.proofs.Counts.{opposing_rises, Compared, FallsAtStart,
 use Rattle.ps_certificate.proofs.Counts.{IsFirstBroken-behind}
 use Rattle.ps_certificate.proofs.checking.broken_priority.Goals as goal
 
-pub first_at_least-start-requires : goal.first_at_least-start-requires
-first_at_least-start-requires g c = search (rules, opposing_rises)
+pub invariant_of-rising : goal.invariant_of-rising
+invariant_of-rising g c = search (rules, opposing_rises)
 
 pub returns-in-None-clause-none : goal.returns-in-None-clause-none
 returns-in-None-clause-none g c k within_opposing =

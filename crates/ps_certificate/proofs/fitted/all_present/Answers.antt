@@ -11,20 +11,20 @@ returns-then-not-window_present g c = (
   (λ no. absurd (both_ways false refl no)),
   λ all. absurd (both_ways c.window_present.result c.if-not-window_present.true (c.window_present.ensures.1
       (All-take (HasPriority (g.A.Arena.game c.args.arena.now)) (c.min-end.result - c.loop-start.start)
-      (drop c.loop-start.start c.args.list.now) (All-drop (HasPriority (g.A.Arena.game c.args.arena.now))
-      c.loop-start.start c.args.list.now all)))),
+      (drop c.loop-start.start c.args.rising.list.now) (All-drop (HasPriority (g.A.Arena.game c.args.arena.now))
+      c.loop-start.start c.args.rising.list.now all)))),
 )
 
 pub loop-start-preserved : goal.loop-start-preserved
 loop-start-preserved g c = record {
   within = omega arith;
-  present = present_more (g.A.Arena.game c.args.arena.now) c.args.list.now c.loop-start.start c.min-end.result
+  present = present_more (g.A.Arena.game c.args.arena.now) c.args.rising.list.now c.loop-start.start c.min-end.result
       (omega arith) c.loop-start.invariant.present (c.window_present.ensures.0 c.if-not-window_present.false);
 }
 
 pub returns : goal.returns
 returns g c = (
-  (λ _. All-from_get_or (HasPriority (g.A.Arena.game c.args.arena.now)) c.args.list.now 0
+  (λ _. All-from_get_or (HasPriority (g.A.Arena.game c.args.arena.now)) c.args.rising.list.now 0
       (λ k within. c.loop-start.invariant.present k (omega arith))),
   λ _. refl,
 )

@@ -5,9 +5,9 @@ use Rattle.ps_certificate.proofs.fitted.all_present.Given as goal
 -- each number before index `start` is the priority of some vertex
 abbrev pub invariant-loop-start : goal.invariant-loop-start
 invariant-loop-start g l = record {
-  within : l.start ≤ length l.list;
-  present : (k : ℕ) → k < l.start → HasPriority (g.A.Arena.game l.arena) (get_or l.list k 0);
+  within : l.start ≤ length l.rising.list.now;
+  present : (k : ℕ) → k < l.start → HasPriority (g.A.Arena.game l.arena) (get_or l.rising.list.now k 0);
 }
 
 abbrev pub decreases-loop-start : goal.decreases-loop-start
-decreases-loop-start g l = length l.list - l.start
+decreases-loop-start g l = length l.rising.list.now - l.start

@@ -16,15 +16,15 @@ loop-vertex-init g c = record {
 }
 
 pub loop-vertex-preserved : goal.loop-vertex-preserved
-loop-vertex-preserved g c = AreJust-found c.requires.rising
+loop-vertex-preserved g c = AreJust-found c.args.rising.rises
     (omega arith) c.priority-priority.ensures c.in-Some.ensures.some c.loop-vertex.invariant
 
 pub returns-then-not-seen-place : goal.returns-then-not-seen-place
 returns-then-not-seen-place g c =
     let game = g.A.Arena.game c.args.arena.now in
-    let P : ℕ → Type 0 = λ n. AreMarks game c.args.list.now c.loop-vertex.seen n in
+    let P : ℕ → Type 0 = λ n. AreMarks game c.args.rising.list.now c.loop-vertex.seen n in
     let done : c.loop-vertex.vertex ≡ vertex_count game = omega arith in
-    let marks : AreMarks game c.args.list.now c.loop-vertex.seen (vertex_count game) = grind arith in (
+    let marks : AreMarks game c.args.rising.list.now c.loop-vertex.seen (vertex_count game) = grind arith in (
       (λ no. absurd (both_ways false refl no)),
       λ both. absurd
           (both_ways _ c.if-not-seen-place.true (marked_in_the_end c.loop-place.place marks both.1 (omega arith))),

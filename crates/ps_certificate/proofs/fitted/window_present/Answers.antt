@@ -8,7 +8,7 @@ use Rattle.ps_certificate.proofs.fitted.window_present.Goals.{in-Some, in_defaul
 
 pub loop-vertex-init : goal.loop-vertex-init
 loop-vertex-init g c = record {
-  room = c.requires.short;
+  room = c.requires;
   marked = λ k below is. absurd (nothing_marked 1024 k is);
   passed = λ k v below less is. absurd (omega arith);
 }
@@ -17,14 +17,14 @@ pub loop-vertex-preserved : goal.loop-vertex-preserved
 loop-vertex-preserved g c = elim c.match-place_of.branch [
   | in-Some w ↦ grind (
     arith,
-    AreMarks-found c.requires.rising (omega arith) c.priority.ensures w.in-Some.ensures.some c.loop-vertex.invariant,
+    AreMarks-found c.args.window.rises (omega arith) c.priority.ensures w.in-Some.ensures.some c.loop-vertex.invariant,
   )
   | in_default w ↦ grind (arith, AreMarks-missing c.priority.ensures w.in_default.ensures.none c.loop-vertex.invariant)
 ]
 
 pub returns-then-not-seen-place : goal.returns-then-not-seen-place
 returns-then-not-seen-place g c =
-    let marks : AreMarks (g.A.Arena.game c.args.arena.now) c.args.window.now c.loop-vertex.seen
+    let marks : AreMarks (g.A.Arena.game c.args.arena.now) c.args.window.list.now c.loop-vertex.seen
     (vertex_count (g.A.Arena.game c.args.arena.now)) = search (rules, AreMarks) in (
       (λ no. absurd (both_ways false refl no)),
       λ all. search (rules, both_ways, marked_in_the_end),

@@ -5,7 +5,7 @@ use Rattle.ps_certificate.proofs.fitted.window_present.Given as goal
 -- each marked number is the priority of some vertex; the priority of each vertex before the loop's index is marked, if
 -- the window has it
 abbrev pub invariant-loop-vertex : goal.invariant-loop-vertex
-invariant-loop-vertex g l = AreMarks (g.A.Arena.game l.arena) l.window l.seen l.vertex
+invariant-loop-vertex g l = AreMarks (g.A.Arena.game l.arena) l.window.list.now l.seen l.vertex
 
 -- each number before the loop's index is marked
 abbrev pub invariant-loop-place : goal.invariant-loop-place

@@ -23,12 +23,12 @@ returns-in_err-byte-2-clause-read c =
 
 pub returns-in_err-count-clause-read : goal.returns-in_err-count-clause-read
 returns-in_err-count-clause-read c =
-    λ pairs same. exits_last (λ m. with_pair pairs (slice_index c.args.priorities.now c.in_ok-place.place) m)
+    λ pairs same. exits_last (λ m. with_pair pairs (slice_index c.args.priorities.list.now c.in_ok-place.place) m)
     (past_colon _ pairs c.in_ok-byte.ensures (c.in_ok-place.ensures.read pairs same) c.in_ok-byte-2.ensures) _ _ _ _
     c.in_err-count.ensures c.from_residual-in_err-count.ensures.1
 
 pub returns-clause-read : goal.returns-clause-read
 returns-clause-read c =
-    λ pairs same. reads_last (λ m. with_pair pairs (slice_index c.args.priorities.now c.in_ok-place.place) m)
+    λ pairs same. reads_last (λ m. with_pair pairs (slice_index c.args.priorities.list.now c.in_ok-place.place) m)
     (past_colon _ pairs c.in_ok-byte.ensures (c.in_ok-place.ensures.read pairs same) c.in_ok-byte-2.ensures)
     c.in_ok-count.ensures refl

@@ -18,7 +18,8 @@ more-smaller c = pair_shrinks _ _ _ _ _ _ c.in_ok-place.ensures.read
 
 pub more-preserved : goal.more-preserved
 more-preserved c =
-    pair_more _ _ _ _ _ c.more.invariant c.requires c.in_ok-place.place c.in_ok-place.count c.in_ok-place.ensures.within
+    pair_more _ _ _ _ _ c.more.invariant c.args.priorities.rises c.in_ok-place.place c.in_ok-place.count
+    c.in_ok-place.ensures.within
     c.in_ok-place.ensures.read
 
 pub returns-in_err-byte : goal.returns-in_err-byte

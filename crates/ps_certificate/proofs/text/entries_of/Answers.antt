@@ -12,21 +12,21 @@ returns-in_err-compact c =
 
 pub returns-in_err-entries : goal.returns-in_err-entries
 returns-in_err-entries c =
-    text_fails _ _ _ _ _ c.new-cursor.ensures _ _ (lines_fail _ _ _ _ _ c.requires.ids _ _
+    text_fails _ _ _ _ _ c.new-cursor.ensures _ _ (lines_fail _ _ _ _ _ c.requires _ _
     (c.in_ok-compact.ensures c.args.game.now.ids (c.count.ensures.vertices ∙ ap vertex_count c.game.ensures.game
     ∙ sym c.game.ensures.well_formed.id_each)) _ c.in_err-entries.ensures) c.from_residual-in_err-entries.ensures.1
 
 pub returns-then-is_at_end : goal.returns-then-is_at_end
 returns-then-is_at_end c =
     text_reads _ _ _ _ _ c.new-cursor.ensures _ c.entries.new.cursor
-    (lines_read _ _ _ _ _ c.requires.ids _ _ (c.in_ok-compact.ensures c.args.game.now.ids
+    (lines_read _ _ _ _ _ c.requires _ _ (c.in_ok-compact.ensures c.args.game.now.ids
     (c.count.ensures.vertices ∙ ap vertex_count c.game.ensures.game ∙ sym c.game.ensures.well_formed.id_each))
     c.in_ok-entries.ensures) (eqb-true (length c.entries.new.cursor.pieces) 0 (sym c.if-is_at_end.ensures))
 
 pub returns-else-is_at_end : goal.returns-else-is_at_end
 returns-else-is_at_end c =
     text_trails _ _ _ _ _ c.new-cursor.ensures _ c.entries.new.cursor
-    (lines_read _ _ _ _ _ c.requires.ids _ _ (c.in_ok-compact.ensures c.args.game.now.ids
+    (lines_read _ _ _ _ _ c.requires _ _ (c.in_ok-compact.ensures c.args.game.now.ids
     (c.count.ensures.vertices ∙ ap vertex_count c.game.ensures.game ∙ sym c.game.ensures.well_formed.id_each))
     c.in_ok-entries.ensures) (eqb-false (length c.entries.new.cursor.pieces) 0 (sym c.if-is_at_end.ensures))
     c.refusal.ensures
