@@ -16,7 +16,6 @@ FAMILIES = {
     "a text has an answer, and only one": "HasOneAnswer HasSomeAnswer",
     "the same property of bytes and numbers": "AreRising BeginsWithZero IsByteRun IsDigit IsWord StopsBefore bytes_of is_among is_digit place_in",
     "the same property of two types of faults": "IsOutOfMemory IsRefusal IsTold NamesVertices",
-    "what solves a game, as a solver promises it and as it is judged": "IsSolution",
     "the same view of two types": "draft_of moves_of name_bytes names_of with_move",
 }
 

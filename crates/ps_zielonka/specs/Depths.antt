@@ -36,7 +36,7 @@ pub record IsDepth (game : ParityGame) (depth : ℕ) : Type 0 where
   pub two : (set : ℕ → Bool) → IsClosedToTops game set → (v : ℕ) → v < vertex_count game → ¬ IsTrue (set v) → 2 ≤ depth
 
 -- the region and both strategies solve the game, and `depth` is the maximal number of pending calls
-pub record IsSolution (game : ParityGame) (depth : ℕ) (region : List Bool) (first second : List (Option ℕ)) : Type 0
+pub record SolvesGame (game : ParityGame) (depth : ℕ) (region : List Bool) (first second : List (Option ℕ)) : Type 0
   where
     pub answer : IsAnswer game region first second
     pub is_depth : IsDepth game depth

@@ -3,7 +3,7 @@
 ghost use Rattle.std.specs.Prelude.{◌≡◌, IfOk, IfSome, IfNone, OnOk, OnSome};
 ghost use Rattle.ps_attractor.specs.Room.{HasRoom};
 ghost use Rattle.ps_zielonka.specs.Answers.{IsAnswer};
-ghost use Rattle.ps_zielonka.specs.Depths.{IsDepth, IsSolution};
+ghost use Rattle.ps_zielonka.specs.Depths.{IsDepth, SolvesGame};
 ghost use Rattle.ps_zielonka.specs.Inner.Stacks.{IsDone};
 
 use crate::answer::{region_of, strategy_of};
@@ -43,7 +43,7 @@ pub fn regions_in<A: Arena, W: Width>(
 ) -> Result<(Region, Strategy, Strategy), AllocError>
     requires { HasRoom (A.game arena.now) W.LIMIT }
     ensures solution { IfOk result (λ answer.
-        IsSolution (A.game arena.now) counts.new.depth answer.0 answer.1 answer.2) }
+        SolvesGame (A.game arena.now) counts.new.depth answer.0 answer.1 answer.2) }
     ensures raises { counts.new.raises ≡ counts.old.raises }
 {
     let nest = solved_nest::<A, W>(alloc, arena)?;
@@ -84,7 +84,7 @@ fn answer_within<A: Arena, W: Width>(
 ) -> Result<Option<(Region, Strategy, Strategy)>, AllocError>
     requires { HasRoom (A.game arena.now) W.LIMIT }
     ensures { IfOk result (λ found. IfSome found
-        (λ answer. IsSolution (A.game arena.now) depth.new answer.0 answer.1 answer.2)) }
+        (λ answer. SolvesGame (A.game arena.now) depth.new answer.0 answer.1 answer.2)) }
 {
     let edges = Adjacency::<A, W>::of(alloc, arena)?;
     let mut nest = Nest::new(alloc, &edges)?;
@@ -115,7 +115,7 @@ fn answer_by<A: Arena, W: Width>(
     nest: &Nest<W>,
 ) -> Result<(Region, Strategy, Strategy), AllocError>
     requires { IsDone (A.game arena.now) nest.now }
-    ensures { IfOk result (λ answer. IsSolution (A.game arena.now) depth.new answer.0 answer.1 answer.2) }
+    ensures { IfOk result (λ answer. SolvesGame (A.game arena.now) depth.new answer.0 answer.1 answer.2) }
 {
     *depth = nest.depth as u64;
     let board = &nest.board;
