@@ -1,16 +1,13 @@
 -- The names of propositions as symbols, and bounds on the number of propositions.
 use Rattle.std.proofs.Common.{rules}
 use Rattle.std.proofs.Common.{◌≡◌, ◌≢◌, ◌∙◌, ℕ, zero, suc, ◌+◌, ◌<◌, ◌≤◌, ◌||◌, Bool, true, false, cond, nat_eq}
-use Rattle.std.proofs.Common.{List, [], ◌∷◌, ◌++◌, map, length, get_or, slice_get, Option, Some, refl, sym, ap, subst}
+use Rattle.std.proofs.Common.{List, [], ◌∷◌, ◌++◌, map, length, get_or, Option, Some, refl, sym, ap}
 use Rattle.std.proofs.Common.{arith, inl, inr, All, take, Vec, Result, IfOk}
 use Rattle.std.specs.Prelude.{slice_index_or}
 use Rattle.std.specs.Global.{Global}
 use Rattle.std.proofs.lemmas.Bool.{eq-eqb}
 use Rattle.std.proofs.lemmas.List.{length-map, get_or-map, map-append, take_more}
 use Rattle.std.proofs.lemmas.List.Elements.{All-map}
-use Rattle.std.proofs.lemmas.Option.{get_or_from_slice_get}
-use Rattle.ps_aiger.specs.declared.functions.Wanted.{Wanted}
-use Rattle.ps_aiger.specs.declared.functions.Wanted.TheVariants.{Next, Output}
 use Rattle.ps_hoa.specs.Files.{is_among}
 use Rattle.ps_hoa.specs.Header.{has_control, is_control, is_empty}
 use Rattle.ps_hoa.specs.Memory.{bytes_of}
@@ -20,7 +17,6 @@ use Rattle.ps_machine.specs.Machines.{MachineData}
 use Rattle.ps_circuit.specs.Circuits.{IsSymbolName}
 use Rattle.ps_circuit.specs.Drafts.{name_bytes}
 use Rattle.ps_aiger.specs.Encoded.{symbols_of}
-use Rattle.ps_aiger.specs.Inner.Functions.{wanted_place}
 use Rattle.ps_aiger.proofs.LetterLemmas.{few_rise}
 use Rattle.ps_circuit.proofs.GateLemmas.{bool_cases, true_is_not_false}
 
@@ -61,17 +57,6 @@ few_inputs m machine =
 pub named : (m : Behaviour) → IsMachine m → (ps : List ℕ) → All (λ p. p < length m.names) ps →
     All IsSymbolName (symbols_of m.names ps)
 named m machine ps below = search (rules, All-map, name_ok)
-
-pub next_bits_within : (latches : ℕ) (bits : List Wanted) → latches ≤ 64 → length bits ≡ latches →
-    ((k : ℕ) → k < latches → slice_get bits k ≡ Some (Next k)) → All (λ bit. wanted_place bit < 64) bits
-next_bits_within latches bits few many each k e lt =
-    let within : k < latches = subst (λ n. k < n) many lt in
-    grind (arith, get_or_from_slice_get bits k (Next k) e (each k within))
-
-pub output_bits_within : (m : Behaviour) → IsMachine m → (bits : List Wanted) →
-    bits ≡ map Output m.outputs → All (λ bit. wanted_place bit < 64) bits
-output_bits_within m machine bits e = subst (λ xs. All (λ bit. wanted_place bit < 64) xs) (sym e)
-    (All-map (λ bit. wanted_place bit < 64) Output m.outputs (λ k d lt. grind (arith, outputs_within)))
 
 pub symbol_more : (m : MachineData) (names : List (Vec ℕ Global)) (ps : List ℕ) (i : ℕ)
     (old new : List (Option (Vec ℕ Global))) (r name : Vec ℕ Global) → map bytes_of names ≡ m.names → i < length ps →

@@ -2,11 +2,11 @@
 use Rattle.std.proofs.Common.{◌≡◌, ℕ, zero, suc, ◌+◌, ◌-◌, ◌*◌, ◌/◌, ◌%◌, ◌^◌, ◌<◌, ◌≤◌, Bool, false}
 use Rattle.std.proofs.Common.{cond, nat_eq, List, [], ◌∷◌, length, get_or, slice_get, Some, refl, sym, ap, subst, arith}
 use Rattle.std.proofs.Common.{inl, inr, if◌then◌else◌}
-use Rattle.std.proofs.lemmas.Bool.{eqb-true, cases_eq}
+use Rattle.std.proofs.lemmas.Bool.{eqb-true, cases_eq, cases_lt}
 use Rattle.std.proofs.lemmas.List.{get_or_past}
 use Rattle.std.proofs.lemmas.Option.{slice_get_within}
 use Rattle.std.proofs.lemmas.Nat.{one_shl}
-use Rattle.std.proofs.Math.Nat.{pow-suc}
+use Rattle.std.proofs.Math.Nat.{pow-le-pow_right, pow-suc}
 use Rattle.std.proofs.lemmas.Nat.Bits.{bit_at_above}
 use Rattle.ps_label.specs.Truth.{is_in}
 use Rattle.ps_hoa.specs.Files.{is_among}
@@ -58,9 +58,18 @@ halves (suc n) h = grind (arith, pow-suc)
 pub shl_is : (latch : ℕ) → latch < 64 → 1 * 2 ^ latch % 18446744073709551616 ≡ 2 ^ latch
 shl_is latch lt = one_shl latch 64 lt
 
-pub upper_fits : (latches code : ℕ) → (latches ≡ 0 → ⊥) → latches ≤ 64 → code + 2 ^ latches ≤ 18446744073709551616 →
+-- so few latches that each code fits
+pub few_latches : (latches code : ℕ) → (latches ≡ 0 → ⊥) → code + 2 ^ latches ≤ 18446744073709551616 → latches - 1 < 64
+few_latches latches code some fits = elim (cases_lt (latches - 1) 64) [
+  | inl lt ↦ lt
+  | inr le ↦ absurd (let more : 2 ^ 64 ≤ 2 ^ (latches - 1) = pow-le-pow_right (omega arith) le in
+      omega (arith, halves latches some))
+]
+
+pub upper_fits : (latches code : ℕ) → (latches ≡ 0 → ⊥) → code + 2 ^ latches ≤ 18446744073709551616 →
     code + 1 * 2 ^ (latches - 1) % 18446744073709551616 + 2 ^ (latches - 1) ≤ 18446744073709551616
-upper_fits latches code some few fits = omega (arith, halves latches some, shl_is (latches - 1) (omega arith))
+upper_fits latches code some fits =
+    omega (arith, halves latches some, shl_is (latches - 1) (few_latches latches code some fits))
 
 pub lower_fits : (latches code : ℕ) → (latches ≡ 0 → ⊥) → code + 2 ^ latches ≤ 18446744073709551616 →
     code + 2 ^ (latches - 1) ≤ 18446744073709551616

@@ -8,6 +8,7 @@ mod OneCircuit
 mod SameWires
 pub mod WireLemmas
 mod WiredMade
+mod Making
 mod CircuitShape
 mod CircuitSteps
 mod CircuitThere

@@ -1,5 +1,6 @@
 -- The gates of a whole circuit, built for one function after another.
-use Rattle.std.proofs.Common.{rules, ◌≡◌, ◌∙◌, ℕ, suc, ◌+◌, ◌*◌, ◌^◌, ◌<◌, ◌≤◌, List, [], ◌∷◌, ◌++◌, map, length, drop}
+use Rattle.std.proofs.Common.{rules, ◌≡◌, ◌∙◌, ℕ, suc, ◌+◌, ◌-◌, ◌*◌, ◌%◌, ◌^◌, ◌<◌, ◌≤◌, List, [], ◌∷◌, ◌++◌, map}
+use Rattle.std.proofs.Common.{length, drop}
 use Rattle.std.proofs.Common.{slice_get, Option, Some, refl, sym, ap, subst, arith, eqb, cond, inl, inr, append_assoc}
 use Rattle.std.proofs.Common.{append-nil}
 use Rattle.std.specs.Prelude.{slice_index}
@@ -23,6 +24,7 @@ use Rattle.ps_circuit.specs.Gates.{Made, mux_of}
 use Rattle.ps_aiger.specs.Wires.{AreGates, IsOutOfLiterals, IsWired, IsWiredBy, Wired, code_made, next_wires}
 use Rattle.ps_aiger.specs.Wires.{output_wires, wired}
 use Rattle.ps_aiger.proofs.CircuitShape.{no_latch}
+use Rattle.ps_aiger.proofs.FunctionLemmas.{few_latches, shl_is}
 use Rattle.ps_circuit.proofs.GateLemmas.{bool_cases, drafted_are, extends-refl, extends-trans, held-extends}
 use Rattle.ps_circuit.proofs.MadeLemmas.{above-extends, mux-extends}
 use Rattle.ps_aiger.proofs.OverLemmas.{choose, inputs-again}
@@ -78,6 +80,17 @@ pub code-suc : (m : MachineData) (w : Wanted) (latches latch code upper s : ℕ)
     (code_wanted m w latch code (code_wanted m w latch upper d).draft)
 unfolding code_made
 code-suc m w latches latch code upper s d es eu e = grind arith
+
+-- the choice by the highest latch
+pub code-halves : (m : MachineData) (w : Wanted) (latches code : ℕ) (d : Drafted) → (latches ≡ 0 → ⊥) →
+    code + 2 ^ latches ≤ 18446744073709551616 → code_wanted m w latches code d ≡ choose
+    (2 * (length m.inputs + 1 + (latches - 1)))
+    (code_wanted m w (latches - 1) (code + 1 * 2 ^ (latches - 1) % 18446744073709551616) d)
+    (code_wanted m w (latches - 1) code
+    (code_wanted m w (latches - 1) (code + 1 * 2 ^ (latches - 1) % 18446744073709551616) d).draft)
+code-halves m w latches code d some fits =
+    code-suc m w latches (latches - 1) code _ (2 * (length m.inputs + 1 + (latches - 1))) d (omega arith)
+    (ap (λ n. code + n) (shl_is (latches - 1) (few_latches latches code some fits))) refl
 
 -- ## One function after another
 

@@ -5,13 +5,13 @@
 --     next_wires, output_wires b latches      all literals: the next values of the latches, and then the outputs
 --     IsWired b c      the circuit has the literals and gates that are built for the machine, in order
 --     IsOutOfLiterals b      the gates need too many variables, so that there is no circuit
-use Rattle.std.specs.Prelude.{◌≡◌, ℕ, zero, suc, ◌+◌, ◌*◌, ◌^◌, ◌<◌, ◌≤◌, Bool, true, false, if◌then◌else◌, List, []}
+use Rattle.std.specs.Prelude.{◌≡◌, ℕ, zero, suc, ◌+◌, ◌*◌, ◌^◌, ◌≤◌, Bool, true, false, if◌then◌else◌, List, []}
 use Rattle.std.specs.Prelude.{◌∷◌, length, map, slice_get, Some}
 use Rattle.std.specs.List.{range_with_len}
 use Rattle.ps_label.specs.Truth.{is_in}
 use Rattle.ps_circuit.specs.declared.builder.Sides.{Sides}
 use Rattle.ps_circuit.specs.declared.parts.Gate.{Gate}
-use Rattle.ps_circuit.specs.Building.{Drafted, variables_of}
+use Rattle.ps_circuit.specs.Building.{Drafted, HasTooMany}
 use Rattle.ps_circuit.specs.Circuits.{CircuitData}
 use Rattle.ps_circuit.specs.Gates.{Made, mux_of}
 use Rattle.ps_machine.specs.Behaviours.{Behaviour}
@@ -97,4 +97,4 @@ pub record IsOutOfLiterals (b : Behaviour) : Type 0 where
   pub latches : ℕ
   pub room : b.memories ≤ 2 ^ latches
   pub needed : (n : ℕ) → b.memories ≤ 2 ^ n → latches ≤ n
-  pub above : 2147483647 < variables_of (output_wires b latches).draft
+  pub above : HasTooMany (output_wires b latches).draft

@@ -1,17 +1,17 @@
 //! Building the circuit of a machine.
 
-ghost use Rattle.std.specs.Prelude.{◌≡◌, ◌≢◌, ℕ, ◌+◌, ◌*◌, ◌^◌, ◌<◌, ◌≤◌, All, IfOk, IsTrue, Some, None, [], length};
-ghost use Rattle.std.specs.Prelude.{map, replicate, slice_get, slice_index};
+ghost use Rattle.std.specs.Prelude.{◌≡◌, ℕ, ◌+◌, ◌*◌, ◌^◌, ◌<◌, ◌≤◌, All, IfOk, IsTrue, Some, None, [], length};
+ghost use Rattle.std.specs.Prelude.{map, replicate, slice_get};
 ghost use Rattle.std.specs.List.{range_with_len};
 ghost use Rattle.ps_machine.specs.Behaviours.{IsMachine};
 ghost use Rattle.ps_machine.specs.Machines.{behaviour};
 ghost use Rattle.ps_circuit.specs.Drafts.{data_of, name_bytes};
 ghost use Rattle.ps_aiger.specs.Encoded.{Encodes, IsTidy, symbols_of};
 ghost use Rattle.ps_aiger.specs.Timing.{SeesNoInput};
-ghost use Rattle.ps_circuit.specs.Building.{Extends, IsSoundDraft, variables_of};
-ghost use Rattle.ps_aiger.specs.Inner.Built.{AreLatches, IsBuilt};
+ghost use Rattle.ps_circuit.specs.Building.{IsSoundDraft};
+ghost use Rattle.ps_aiger.specs.Inner.Built.{AreLatches, IsBuilt, IsCircuitOf};
 ghost use Rattle.ps_aiger.specs.Wires.{AreGates, IsOutOfLiterals, IsWired, next_wires, output_wires};
-ghost use Rattle.ps_aiger.specs.Inner.Functions.{bits_wired, wanted_place};
+ghost use Rattle.ps_aiger.specs.Inner.Functions.{MakesLiterals, bits_wired};
 ghost use Rattle.ps_aiger.specs.declared.functions.Wanted.TheVariants.{Next, Output};
 
 use crate::functions::{Wanted, literal_of};
@@ -51,12 +51,7 @@ fn next_literals(
     requires few { latches ≤ 64 }
     requires given { builder.old.given ≡ length machine.now.inputs + latches }
     requires empty { builder.old.gates ≡ [] }
-    requires small { length machine.now.inputs ≤ 64 }
-    ensures extends { Extends builder.old builder.new }
-    ensures made { IfOk result (λ next. next_wires (behaviour machine.now) latches ≡ record
-        { draft = builder.new; literals = next.items }) }
-    ensures too_large { result ≡ Err EncodeFault.CircuitTooLarge →
-        2147483647 < variables_of (next_wires (behaviour machine.now) latches).draft }
+    ensures { MakesLiterals builder.old builder.new result (next_wires (behaviour machine.now) latches) }
 {
     let next_bits = next_bits(alloc, latches)?;
     literals_of(alloc, builder, machine, latches, &next_bits)
@@ -72,12 +67,7 @@ fn output_literals(
     requires few { latches ≤ 64 }
     requires given { builder.old.given ≡ length machine.now.inputs + latches }
     requires behind { builder.old ≡ (next_wires (behaviour machine.now) latches).draft }
-    requires machine { IsMachine (behaviour machine.now) }
-    ensures extends { Extends builder.old builder.new }
-    ensures made { IfOk result (λ outputs. output_wires (behaviour machine.now) latches ≡ record
-        { draft = builder.new; literals = outputs.items }) }
-    ensures too_large { result ≡ Err EncodeFault.CircuitTooLarge →
-        2147483647 < variables_of (output_wires (behaviour machine.now) latches).draft }
+    ensures { MakesLiterals builder.old builder.new result (output_wires (behaviour machine.now) latches) }
 {
     let output_bits = output_bits(alloc, machine)?;
     literals_of(alloc, builder, machine, latches, &output_bits)
@@ -93,16 +83,12 @@ fn circuit_of(
     outputs: Vec<Literal>,
 ) -> Result<Circuit, AllocError>
     requires given { builder.now.given ≡ length machine.now.inputs + latches }
-    requires small { length machine.now.inputs ≤ 64 }
     requires enough { length machine.now.nodes ≤ 2 ^ latches }
     requires least { (n : ℕ) → length machine.now.nodes ≤ 2 ^ n → latches ≤ n }
     requires next_wired { next.now ≡ (next_wires (behaviour machine.now) latches).literals }
     requires output_wired { output_wires (behaviour machine.now) latches ≡ record
         { draft = builder.now; literals = outputs.items } }
-    ensures encodes { IfOk result (λ circuit. Encodes (behaviour machine.now) circuit) }
-    ensures tidy { IfOk result (λ circuit. IsTidy circuit) }
-    ensures wired { IfOk result (λ circuit. IsWired (behaviour machine.now) circuit) }
-    ensures sees_no_input { IfOk result (λ circuit. IsTrue machine.now.is_first → SeesNoInput circuit) }
+    ensures { IfOk result (IsCircuitOf (behaviour machine.now)) }
 {
     let parts = parts_of(alloc, builder, machine, next, outputs)?;
     Circuit::in_order(alloc, parts)
@@ -153,15 +139,9 @@ fn literals_of(
     latches: u32,
     wanted: &[Wanted],
 ) -> Result<Vec<Literal>, EncodeFault>
-    requires within { All (λ bit. wanted_place bit < 64) wanted.now }
     requires few { latches ≤ 64 }
     requires given { builder.old.given ≡ length machine.now.inputs + latches }
-    requires small { length machine.now.inputs ≤ 64 }
-    ensures extends { Extends builder.old builder.new }
-    ensures made { IfOk result (λ literals. bits_wired machine.now latches wanted.now builder.old ≡ record
-        { draft = builder.new; literals = literals.items }) }
-    ensures too_large { result ≡ Err EncodeFault.CircuitTooLarge →
-        2147483647 < variables_of (bits_wired machine.now latches wanted.now builder.old).draft }
+    ensures { MakesLiterals builder.old builder.new result (bits_wired machine.now latches wanted.now builder.old) }
 {
     let mut literals = Vec::new(alloc);
     for bit in wanted {
@@ -180,7 +160,6 @@ fn parts_of(
     outputs: Vec<Literal>,
 ) -> Result<Parts, AllocError>
     requires given { builder.now.given ≡ length machine.now.inputs + length next.now }
-    requires small { length machine.now.inputs ≤ 64 }
     ensures machine { IsMachine (behaviour machine.now) }
     ensures sound { IsSoundDraft builder.now }
     ensures built { IfOk result (λ parts. IsBuilt (behaviour machine.now) builder.now next.now outputs.items

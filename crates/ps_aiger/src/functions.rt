@@ -1,15 +1,14 @@
 //! The bits of a machine's step, as literals over inputs and latches.
 
-ghost use Rattle.std.specs.Prelude.{◌≡◌, ℕ, ◌+◌, ◌^◌, ◌<◌, ◌≤◌, IfOk, IfSome, IfNone, false, length, nat_eq, slice_get};
+ghost use Rattle.std.specs.Prelude.{◌≡◌, ◌+◌, ◌^◌, ◌<◌, ◌≤◌, IfOk, IfSome, IfNone, false, length, nat_eq, slice_get};
 ghost use Rattle.std.specs.Prelude.{slice_index, if◌then◌else◌};
 ghost use Rattle.ps_hoa.specs.Files.{is_among};
+ghost use Rattle.ps_label.specs.Truth.{is_in};
 ghost use Rattle.indexmap.specs.IndexMap.{get};
 ghost use Rattle.ps_diagram.specs.Table.{IsNode};
 ghost use Rattle.ps_machine.specs.Machines.{behaviour, row_at_leaf};
-ghost use Rattle.ps_circuit.specs.Building.{Extends, IsHeld, variables_of};
 ghost use Rattle.ps_aiger.specs.Encoded.{memory_of_code};
-ghost use Rattle.ps_aiger.specs.Inner.Functions.{KnowsMade, code_wanted, node_made};
-ghost use Rattle.ps_aiger.specs.Inner.Functions.{wanted_bit, wanted_place};
+ghost use Rattle.ps_aiger.specs.Inner.Functions.{KnowsMade, MakesLiteral, code_wanted, node_made, wanted_bit};
 
 use indexmap::IndexMap;
 use ps_circuit::{Builder, EncodeFault, Literal};
@@ -35,15 +34,9 @@ pub(crate) fn literal_of(
     wanted: Wanted,
     latches: u32,
 ) -> Result<Literal, EncodeFault>
-    requires within { wanted_place wanted < 64 }
     requires few { latches ≤ 64 }
     requires given { builder.old.given ≡ length machine.now.inputs + latches }
-    requires small { length machine.now.inputs ≤ 64 }
-    ensures extends { Extends builder.old builder.new }
-    ensures made { IfOk result (λ literal. code_wanted machine.now wanted latches 0 builder.old ≡ record
-        { draft = builder.new; literal = literal }) }
-    ensures too_large { result ≡ Err EncodeFault.CircuitTooLarge →
-        2147483647 < variables_of (code_wanted machine.now wanted latches 0 builder.old).draft }
+    ensures { MakesLiteral builder.old builder.new result (code_wanted machine.now wanted latches 0 builder.old) }
 {
     let mut known = IndexMap::new(alloc);
     over_latches(builder, machine, wanted, &mut known, latches, 0)
@@ -59,18 +52,11 @@ fn over_latches(
     latches: u32,
     code: usize,
 ) -> Result<Literal, EncodeFault>
-    requires within { wanted_place wanted < 64 }
-    requires few { latches ≤ 64 }
     requires fits { code + 2 ^ latches ≤ 2 ^ 64 }
     requires given { length machine.now.inputs + latches ≤ builder.old.given }
-    requires small { length machine.now.inputs ≤ 64 }
     requires known_made { KnowsMade machine.now wanted builder.old (get nat_eq known.old) }
-    ensures extends { Extends builder.old builder.new }
-    ensures held { IfOk result (λ literal. IsHeld builder.new literal) }
-    ensures made { IfOk result (λ literal. code_wanted machine.now wanted latches code builder.old ≡ record
-        { draft = builder.new; literal = literal }) }
-    ensures too_large { result ≡ Err EncodeFault.CircuitTooLarge →
-        2147483647 < variables_of (code_wanted machine.now wanted latches code builder.old).draft }
+    ensures makes { MakesLiteral builder.old builder.new result (code_wanted machine.now wanted latches code
+        builder.old) }
     ensures known_made { IfOk result (λ literal. KnowsMade machine.now wanted builder.new (get nat_eq known.new)) }
 {
     if latches == 0 {
@@ -104,17 +90,10 @@ fn over_inputs(
     known: &mut IndexMap<Node, Literal>,
     node: Node,
 ) -> Result<Literal, EncodeFault>
-    requires within { wanted_place wanted < 64 }
     requires held { IsNode machine.now.store node }
     requires given { length machine.now.inputs ≤ builder.old.given }
-    requires small { length machine.now.inputs ≤ 64 }
     requires known_made { KnowsMade machine.now wanted builder.old (get nat_eq known.old) }
-    ensures extends { Extends builder.old builder.new }
-    ensures held { IfOk result (λ literal. IsHeld builder.new literal) }
-    ensures made { IfOk result (λ literal. node_made machine.now wanted node builder.old ≡ record
-        { draft = builder.new; literal = literal }) }
-    ensures too_large { result ≡ Err EncodeFault.CircuitTooLarge →
-        2147483647 < variables_of (node_made machine.now wanted node builder.old).draft }
+    ensures makes { MakesLiteral builder.old builder.new result (node_made machine.now wanted node builder.old) }
     ensures known_made { IfOk result (λ literal. KnowsMade machine.now wanted builder.new (get nat_eq known.new)) }
 {
     match machine.store().view(node) {
@@ -143,7 +122,6 @@ fn over_inputs(
 
 /// The constant literal of the bit `wanted` of the row to which a leaf refers.
 fn constant(machine: &Machine, wanted: Wanted, leaf: u64) -> Literal
-    requires { wanted_place wanted < 64 }
     ensures { result ≡ (if wanted_bit wanted (row_at_leaf machine.now leaf) then 1 else 0) }
 {
     match machine.rows().get(leaf as usize) {
@@ -154,13 +132,19 @@ fn constant(machine: &Machine, wanted: Wanted, leaf: u64) -> Literal
 
 /// The bit `wanted` of a row.
 fn bit_of_row(wanted: Wanted, row: Row) -> bool
-    requires { wanted_place wanted < 64 }
     ensures { result ≡ wanted_bit wanted row }
 {
     match wanted {
-        Wanted::Next(bit) => row.memory >> bit & 1 == 1,
-        Wanted::Output(proposition) => row.letter >> proposition & 1 == 1,
+        Wanted::Next(bit) => has_bit(row.memory as u64, bit),
+        Wanted::Output(proposition) => has_bit(row.letter, proposition),
     }
+}
+
+/// A bit of a number.
+fn has_bit(number: u64, place: u32) -> bool
+    ensures { result ≡ is_in place number }
+{
+    place < 64 && number >> place & 1 == 1
 }
 
 /// The index of a proposition in a list.

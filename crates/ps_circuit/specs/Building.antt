@@ -53,6 +53,10 @@ pub record IsSoundDraft (d : Drafted) : Type 0 where
 abbrev pub IsFull : Drafted → Type 0
 IsFull d = variables_of d ≡ 2147483647
 
+-- so many variables that there are not enough literals of 32 bits
+abbrev pub HasTooMany : Drafted → Type 0
+HasTooMany d = 2147483647 < variables_of d
+
 -- no existing gate has the two given literals
 abbrev pub IsNew : Drafted → ℕ → ℕ → Type 0
 IsNew d x y = (k : ℕ) (s : Sides) → slice_get d.gates k ≡ Some s → ¬ ((s.first ≡ x) × (s.second ≡ y))

@@ -3,12 +3,12 @@
 --     gate_of d s      the literal of the gate that reads the two literals in `s`
 --     and_of d x y, or_of d x y, mux_of d s high low      the literals of conjunction, disjunction, and choice by s
 use Rattle.std.specs.Prelude.{ℕ, ◌+◌, ◌*◌, ◌==◌, ◌&&◌, ◌||◌, nat_lt, Bool, if◌then◌else◌, [], ◌∷◌, ◌++◌}
-use Rattle.std.specs.Prelude.{◌≡◌, ◌<◌, Err, IfOk, Result}
+use Rattle.std.specs.Prelude.{◌≡◌, Err, IfOk, Result}
 use Rattle.std.specs.List.{list_any, position_or_len}
 use Rattle.ps_circuit.specs.declared.builder.Sides.{Sides}
 use Rattle.ps_circuit.specs.declared.encode_fault.EncodeFault.{EncodeFault}
 use Rattle.ps_circuit.specs.declared.encode_fault.EncodeFault.TheVariants.{CircuitTooLarge}
-use Rattle.ps_circuit.specs.Building.{Drafted, Extends, IsFull, IsHeld, MeetsEquations, bit, variables_of}
+use Rattle.ps_circuit.specs.Building.{Drafted, Extends, HasTooMany, IsFull, IsHeld, MeetsEquations, bit}
 use Rattle.ps_circuit.specs.Literals.{negated}
 
 pub record Made : Type 0 where
@@ -69,4 +69,4 @@ pub record MakesGates (old new : Drafted) (result : Result ℕ EncodeFault) (all
   -- if it fails for want of a variable, then all variables exist, a further one is needed, and the gates need too many
   pub too_large : result ≡ Err CircuitTooLarge → IsFull new
   pub needed : result ≡ Err CircuitTooLarge → Needs
-  pub above : result ≡ Err CircuitTooLarge → 2147483647 < variables_of all.draft
+  pub above : result ≡ Err CircuitTooLarge → HasTooMany all.draft

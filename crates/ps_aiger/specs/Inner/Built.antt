@@ -1,15 +1,17 @@
 -- The parts from which the circuit of a machine is built. (For private functions.)
 --     AreLatches from next latches      the latches have the given next literals, and the variables from `from` on
 --     IsBuilt b d next outputs c      the circuit has the given gates, next literals and outputs
-use Rattle.std.specs.Prelude.{◌≡◌, ℕ, ◌+◌, ◌*◌, ◌<◌, false, List, length, map, slice_get, slice_index, Some, None}
-use Rattle.std.specs.Prelude.{replicate}
+--     IsCircuitOf b c      the properties of the circuit of a machine
+use Rattle.std.specs.Prelude.{◌≡◌, ℕ, ◌+◌, ◌*◌, ◌<◌, false, IsTrue, List, length, map, slice_get, slice_index, Some}
+use Rattle.std.specs.Prelude.{None, replicate}
 use Rattle.std.specs.List.{range_with_len}
 use Rattle.ps_machine.specs.Behaviours.{Behaviour}
 use Rattle.ps_circuit.specs.declared.parts.Latch.{Latch}
 use Rattle.ps_circuit.specs.Circuits.{CircuitData}
-use Rattle.ps_aiger.specs.Encoded.{symbols_of}
+use Rattle.ps_aiger.specs.Encoded.{Encodes, IsTidy, symbols_of}
 use Rattle.ps_circuit.specs.Building.{Drafted, variables_of}
-use Rattle.ps_aiger.specs.Wires.{AreGates}
+use Rattle.ps_aiger.specs.Timing.{SeesNoInput}
+use Rattle.ps_aiger.specs.Wires.{AreGates, IsWired}
 
 pub record AreLatches (from : ℕ) (next : List ℕ) (latches : List Latch) : Type 0 where
   pub many : length latches ≡ length next
@@ -25,3 +27,9 @@ pub record IsBuilt (b : Behaviour) (d : Drafted) (next outputs : List ℕ) (c : 
   pub input_names : c.input_names ≡ symbols_of b.names b.inputs
   pub output_names : c.output_names ≡ symbols_of b.names b.outputs
   pub latch_names : c.latch_names ≡ replicate (length next) None
+
+pub record IsCircuitOf (b : Behaviour) (c : CircuitData) : Type 0 where
+  pub encodes : Encodes b c
+  pub tidy : IsTidy c
+  pub wired : IsWired b c
+  pub sees_no_input : IsTrue b.is_first → SeesNoInput c

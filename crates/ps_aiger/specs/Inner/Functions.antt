@@ -5,7 +5,9 @@
 --     IsLiteralOf m w d node literal, KnowsMade m w d known      a literal exists; each known literal exists
 --     code_wanted m w latches code d      the literal for memory states with the codes `code` to `code` + 2^latches - 1
 --     bits_wired m latches ws d      the literals of the wanted bits, one after another
-use Rattle.std.specs.Prelude.{◌≡◌, ℕ, Bool, List, length, map, Option, Some}
+--     MakesLiteral, MakesLiterals old new result all      what a call returns that makes the gates of `all`
+use Rattle.std.specs.Prelude.{◌≡◌, ℕ, Bool, Err, IfOk, List, length, map, Option, Result, Some, Vec}
+use Rattle.std.specs.Global.{Global}
 use Rattle.std.specs.List.{range_with_len}
 use Rattle.std.specs.Option.{unwrap_or}
 use Rattle.ps_label.specs.Truth.{is_in}
@@ -17,17 +19,14 @@ use Rattle.ps_aiger.specs.declared.functions.Wanted.{Wanted}
 use Rattle.ps_aiger.specs.declared.functions.Wanted.TheVariants.{Next, Output}
 use Rattle.ps_aiger.specs.Encoded.{letter_over}
 use Rattle.ps_aiger.specs.Wires.{StepBit, Wired, code_made, over_variables, wired}
-use Rattle.ps_circuit.specs.Building.{Drafted, IsHeld}
+use Rattle.ps_circuit.specs.declared.encode_fault.EncodeFault.{EncodeFault}
+use Rattle.ps_circuit.specs.declared.encode_fault.EncodeFault.TheVariants.{CircuitTooLarge}
+use Rattle.ps_circuit.specs.Building.{Drafted, Extends, HasTooMany, IsHeld}
 use Rattle.ps_circuit.specs.Gates.{Made}
 
 abbrev pub wanted_bit : Wanted → Row → Bool
 wanted_bit (Next j) row = is_in j row.memory
 wanted_bit (Output p) row = is_in p row.letter
-
--- the index of the bit in its number
-abbrev pub wanted_place : Wanted → ℕ
-wanted_place (Next j) = j
-wanted_place (Output p) = p
 
 -- the row to which a node leads at an input letter
 abbrev pub row_by : MachineData → ℕ → ℕ → Row
@@ -56,3 +55,16 @@ code_wanted m w latches code d = code_made (behaviour m) (bit_wanted (behaviour 
 
 abbrev pub bits_wired : MachineData → ℕ → List Wanted → Drafted → Wired
 bits_wired m latches ws d = wired (behaviour m) latches (map (bit_wanted (behaviour m)) ws) d
+
+-- the existing gates remain; the result is the literal of `all`, or `all` has too many variables, or memory ran out
+pub record MakesLiteral (old new : Drafted) (result : Result ℕ EncodeFault) (all : Made) : Type 0 where
+  pub extends : Extends old new
+  pub held : IfOk result (IsHeld new)
+  pub made : IfOk result (λ literal. all ≡ record { draft = new; literal = literal })
+  pub too_large : result ≡ Err CircuitTooLarge → HasTooMany all.draft
+
+-- the same of the literals of some bits
+pub record MakesLiterals (old new : Drafted) (result : Result (Vec ℕ Global) EncodeFault) (all : Wired) : Type 0 where
+  pub extends : Extends old new
+  pub made : IfOk result (λ literals. all ≡ record { draft = new; literals = literals.items })
+  pub too_large : result ≡ Err CircuitTooLarge → HasTooMany all.draft

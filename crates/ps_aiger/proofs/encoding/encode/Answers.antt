@@ -18,9 +18,6 @@ new-builder-requires c = grind (arith, few_inputs (behaviour c.args.machine.now)
 pub next_literals-requires-clause-given : goal.next_literals-requires-clause-given
 next_literals-requires-clause-given c = grind arith
 
-pub next_literals-requires-clause-small : goal.next_literals-requires-clause-small
-next_literals-requires-clause-small c = few_inputs (behaviour c.args.machine.now) c.memories.ensures.machine.is_machine
-
 pub output_literals-requires-clause-given : goal.output_literals-requires-clause-given
 output_literals-requires-clause-given c = grind arith
 
@@ -29,9 +26,6 @@ output_literals-requires-clause-behind c = sym (ap (λ (n : Wired). n.draft) c.i
 
 pub circuit_of-requires-clause-given : goal.circuit_of-requires-clause-given
 circuit_of-requires-clause-given c = grind arith
-
-pub circuit_of-requires-clause-small : goal.circuit_of-requires-clause-small
-circuit_of-requires-clause-small c = few_inputs (behaviour c.args.machine.now) c.memories.ensures.machine.is_machine
 
 pub circuit_of-requires-clause-enough : goal.circuit_of-requires-clause-enough
 circuit_of-requires-clause-enough c = grind arith

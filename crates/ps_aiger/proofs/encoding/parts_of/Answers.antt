@@ -1,7 +1,15 @@
 use Rattle.std.proofs.Common.{arith, rules}
 use Rattle.ps_machine.specs.Machines.{behaviour}
-use Rattle.ps_aiger.proofs.EncodeLemmas.{inputs_within, outputs_within}
+use Rattle.ps_aiger.proofs.EncodeLemmas.{few_inputs, inputs_within, outputs_within}
 use Rattle.ps_aiger.proofs.encoding.parts_of.Goals as goal
+
+pub overflow_cast-first_latch : goal.overflow_cast-first_latch
+overflow_cast-first_latch c =
+    grind (arith, few_inputs (behaviour c.args.machine.now) c.inputs-inputs.ensures.machine.is_machine)
+
+pub overflow_add-first_latch : goal.overflow_add-first_latch
+overflow_add-first_latch c =
+    grind (arith, few_inputs (behaviour c.args.machine.now) c.inputs-inputs.ensures.machine.is_machine)
 
 pub symbols-requires : goal.symbols-requires
 symbols-requires c =

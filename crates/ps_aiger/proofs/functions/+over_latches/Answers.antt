@@ -1,119 +1,99 @@
-use Rattle.std.proofs.Common.{◌≡◌, ◌∙◌, suc, ◌+◌, ◌-◌, ◌*◌, ◌%◌, ◌^◌, ◌<◌, Err, ap, subst, sym, refl, arith, length}
-use Rattle.std.proofs.Common.{nat_eq}
-use Rattle.std.proofs.lemmas.Result.{IfOk-weaker}
+use Rattle.std.proofs.Common.{◌∙◌, ◌+◌, ◌-◌, ◌*◌, ap, arith, length, nat_eq, sym}
 use Rattle.indexmap.specs.IndexMap.{get}
-use Rattle.ps_circuit.specs.Building.{variables_of}
-use Rattle.ps_circuit.specs.Gates.{Made, mux_of}
+use Rattle.ps_circuit.specs.Gates.{mux_of}
 use Rattle.ps_machine.specs.Machines.{behaviour}
 use Rattle.ps_aiger.specs.Inner.Functions.{bit_wanted, code_wanted}
-use Rattle.ps_circuit.proofs.GateLemmas.{passed}
-use Rattle.ps_aiger.proofs.FunctionLemmas.{upper_fits, lower_fits, shl_is}
+use Rattle.ps_circuit.proofs.GateLemmas.{extends-refl, extends-trans}
+use Rattle.ps_aiger.proofs.EncodeLemmas.{few_inputs}
+use Rattle.ps_aiger.proofs.FunctionLemmas.{few_latches, lower_fits, upper_fits}
 use Rattle.ps_aiger.proofs.LetterLemmas.{positive}
-use Rattle.ps_aiger.proofs.WiredLemmas.{code-zero, code-suc, choice-made, choice-above, choice-above_low, made-kept}
+use Rattle.ps_aiger.proofs.Making.{as-made, by-choice, fails}
+use Rattle.ps_aiger.proofs.WiredLemmas.{code-halves, code-zero, choice-made, choice-above, choice-above_low, made-kept}
 use Rattle.ps_aiger.proofs.WireLemmas.{code-extends}
 use Rattle.ps_aiger.proofs.functions.+over_latches.Goals as goal
 
 pub overflow_add-code : goal.overflow_add-code
 overflow_add-code t c = grind (
   arith,
-  upper_fits c.args.latches c.args.code c.if-latches-eq0.false c.requires.few c.requires.fits,
+  upper_fits c.args.latches c.args.code c.if-latches-eq0.false c.requires.fits,
   positive (c.args.latches - 1),
 )
 
+pub overflow_shl-latch : goal.overflow_shl-latch
+overflow_shl-latch t c = few_latches c.args.latches c.args.code c.if-latches-eq0.false c.requires.fits
+
+pub overflow_cast-variable : goal.overflow_cast-variable
+overflow_cast-variable t c =
+    grind (arith, few_inputs (behaviour c.args.machine.now) c.inputs.ensures.machine.is_machine)
+
+pub overflow_add-variable : goal.overflow_add-variable
+overflow_add-variable t c =
+    grind (arith, few_inputs (behaviour c.args.machine.now) c.inputs.ensures.machine.is_machine)
+
+pub overflow_add-variable-2 : goal.overflow_add-variable-2
+overflow_add-variable-2 t c = grind (
+  arith,
+  few_inputs (behaviour c.args.machine.now) c.inputs.ensures.machine.is_machine,
+  few_latches c.args.latches c.args.code c.if-latches-eq0.false c.requires.fits,
+)
+
+pub positive-requires : goal.positive-requires
+positive-requires t c = grind (
+  arith,
+  few_inputs (behaviour c.args.machine.now) c.inputs.ensures.machine.is_machine,
+  few_latches c.args.latches c.args.code c.if-latches-eq0.false c.requires.fits,
+)
+
 pub over_latches-requires : goal.over_latches-requires
-over_latches-requires t c =
-    let some = c.if-latches-eq0.false in
-    let few = c.requires.few in
-    grind (arith, upper_fits c.args.latches c.args.code some few c.requires.fits)
+over_latches-requires t c = grind (arith, upper_fits c.args.latches c.args.code c.if-latches-eq0.false c.requires.fits)
 
 pub over_latches-requires-2 : goal.over_latches-requires-2
-over_latches-requires-2 t c =
-    let some = c.if-latches-eq0.false in
-    grind (arith, lower_fits c.args.latches c.args.code some c.requires.fits)
+over_latches-requires-2 t c = grind (arith, lower_fits c.args.latches c.args.code c.if-latches-eq0.false c.requires.fits)
 
-pub returns-then-latches-eq0-clause-made : goal.returns-then-latches-eq0-clause-made
-returns-then-latches-eq0-clause-made t c = grind (arith, IfOk-weaker, code-zero)
+pub returns-then-latches-eq0-clause-makes : goal.returns-then-latches-eq0-clause-makes
+returns-then-latches-eq0-clause-makes t c = as-made
+    (code-zero c.args.machine.now c.args.wanted c.args.latches c.args.code c.node_at.result c.args.builder.now
+    c.if-latches-eq0.true c.node_at.ensures.node) (extends-refl _) c.over_inputs.ensures.makes
 
-pub returns-then-latches-eq0-clause-too_large : goal.returns-then-latches-eq0-clause-too_large
-returns-then-latches-eq0-clause-too_large t c e = grind (arith, code-zero)
-
-pub returns-in_err-where_true-clause-too_large : goal.returns-in_err-where_true-clause-too_large
-returns-in_err-where_true-clause-too_large t c e =
+pub returns-in_err-where_true-clause-makes : goal.returns-in_err-where_true-clause-makes
+returns-in_err-where_true-clause-makes t c =
     let m = c.args.machine.now in
-    let w = c.args.wanted in
-    let latch = c.args.latches - 1 in
-    let upper = c.args.code + 1 * 2 ^ latch % 18446744073709551616 in
-    let s = 2 * (length m.inputs + 1 + latch) in
-    let some = c.if-latches-eq0.false in
-    let few = c.requires.few in
-    let is : c.args.latches ≡ suc latch = omega arith in
-    let up : upper ≡ c.args.code + 2 ^ latch = ap (λ n. c.args.code + n) (shl_is latch (omega arith)) in
-    let whole = code-suc m w c.args.latches latch c.args.code upper s c.args.builder.now is up refl in
-    choice-above _ _ (code_wanted m w latch c.args.code) s whole (code-extends (behaviour m)
-    (bit_wanted (behaviour m) w) latch c.args.code) (c.over_latches.ensures.too_large (c.in_err-where_true.was ∙ ap
-    (λ f. Err f) (passed c.from_residual.result c.in_err-where_true.field-0.0 _ c.from_residual.ensures.1 e)))
+    let lower = code_wanted m c.args.wanted (c.args.latches - 1) c.args.code in
+    let whole = code-halves m c.args.wanted c.args.latches c.args.code c.args.builder.now c.if-latches-eq0.false
+    c.requires.fits in
+    fails c.over_latches.ensures.makes.extends c.in_err-where_true.was c.from_residual.ensures.1 (λ e.
+    choice-above _ _ lower _ whole (code-extends (behaviour m) (bit_wanted (behaviour m) c.args.wanted) _ c.args.code)
+    (c.over_latches.ensures.makes.too_large e))
 
-pub returns-in_err-where_false-clause-too_large : goal.returns-in_err-where_false-clause-too_large
-returns-in_err-where_false-clause-too_large t c e =
+pub returns-in_err-where_false-clause-makes : goal.returns-in_err-where_false-clause-makes
+returns-in_err-where_false-clause-makes t c =
     let m = c.args.machine.now in
-    let w = c.args.wanted in
-    let latch = c.args.latches - 1 in
-    let upper = c.args.code + 1 * 2 ^ latch % 18446744073709551616 in
-    let s = 2 * (length m.inputs + 1 + latch) in
-    let some = c.if-latches-eq0.false in
-    let few = c.requires.few in
-    let is : c.args.latches ≡ suc latch = omega arith in
-    let up : upper ≡ c.args.code + 2 ^ latch = ap (λ n. c.args.code + n) (shl_is latch (omega arith)) in
-    let whole = code-suc m w c.args.latches latch c.args.code upper s c.args.builder.now is up refl in
-    choice-above_low _ _ (code_wanted m w latch c.args.code) c.over_latches.new.builder s c.in_ok-where_true.where_true
-    whole c.in_ok-where_true.ensures.made (c.over_latches-2.ensures.too_large (c.in_err-where_false.was ∙ ap
-    (λ f. Err f) (passed c.from_residual-in_err-where_false.result c.in_err-where_false.field-0.0 _
-    c.from_residual-in_err-where_false.ensures.1 e)))
+    let lower = code_wanted m c.args.wanted (c.args.latches - 1) c.args.code in
+    let whole = code-halves m c.args.wanted c.args.latches c.args.code c.args.builder.now c.if-latches-eq0.false
+    c.requires.fits in
+    fails (extends-trans _ _ _ c.over_latches.ensures.makes.extends c.over_latches-2.ensures.makes.extends)
+    c.in_err-where_false.was c.from_residual-in_err-where_false.ensures.1 (λ e.
+    choice-above_low _ _ lower c.over_latches.new.builder _ c.in_ok-where_true.where_true whole
+    c.in_ok-where_true.ensures.makes.made (c.over_latches-2.ensures.makes.too_large e))
 
-pub returns-clause-made : goal.returns-clause-made
-returns-clause-made t c =
+pub returns-clause-makes : goal.returns-clause-makes
+returns-clause-makes t c =
     let m = c.args.machine.now in
-    let w = c.args.wanted in
     let latch = c.args.latches - 1 in
-    let upper = c.args.code + 1 * 2 ^ latch % 18446744073709551616 in
-    let s = 2 * (length m.inputs + 1 + latch) in
-    let some = c.if-latches-eq0.false in
-    let few = c.requires.few in
-    let is : c.args.latches ≡ suc latch = omega arith in
-    let up : upper ≡ c.args.code + 2 ^ latch = ap (λ n. c.args.code + n) (shl_is latch (omega arith)) in
-    let whole = code-suc m w c.args.latches latch c.args.code upper s c.args.builder.now is up refl in
+    let lower = code_wanted m c.args.wanted latch c.args.code in
+    let whole = code-halves m c.args.wanted c.args.latches c.args.code c.args.builder.now c.if-latches-eq0.false
+    c.requires.fits in
     let variable = c.positive.ensures ∙ ap (λ xs. 2 * (length xs + 1 + latch)) c.inputs.ensures.inputs in
-    IfOk-weaker c.mux.result _ _ (λ literal made. choice-made _ _ (code_wanted m w latch c.args.code)
-    c.over_latches.new.builder c.over_latches-2.new.builder s c.in_ok-where_true.where_true
-    c.in_ok-where_false.where_false whole c.in_ok-where_true.ensures.made c.in_ok-where_false.ensures.made
-    ∙ ap (λ x. mux_of c.over_latches-2.new.builder x c.in_ok-where_true.where_true c.in_ok-where_false.where_false)
-    (sym variable) ∙ made) c.mux.ensures.made
-
-pub returns-clause-too_large : goal.returns-clause-too_large
-returns-clause-too_large t c e =
-    let m = c.args.machine.now in
-    let w = c.args.wanted in
-    let latch = c.args.latches - 1 in
-    let upper = c.args.code + 1 * 2 ^ latch % 18446744073709551616 in
-    let s = 2 * (length m.inputs + 1 + latch) in
-    let some = c.if-latches-eq0.false in
-    let few = c.requires.few in
-    let is : c.args.latches ≡ suc latch = omega arith in
-    let up : upper ≡ c.args.code + 2 ^ latch = ap (λ n. c.args.code + n) (shl_is latch (omega arith)) in
-    let whole = code-suc m w c.args.latches latch c.args.code upper s c.args.builder.now is up refl in
-    let variable = c.positive.ensures ∙ ap (λ xs. 2 * (length xs + 1 + latch)) c.inputs.ensures.inputs in
-    subst (λ (n : Made). 2147483647 < variables_of n.draft) (sym (choice-made _ _ (code_wanted m w latch c.args.code)
-    c.over_latches.new.builder c.over_latches-2.new.builder s c.in_ok-where_true.where_true
-    c.in_ok-where_false.where_false whole c.in_ok-where_true.ensures.made c.in_ok-where_false.ensures.made
-    ∙ ap (λ x. mux_of c.over_latches-2.new.builder x c.in_ok-where_true.where_true c.in_ok-where_false.where_false)
-    (sym variable))) (c.mux.ensures.above e)
+    let chosen = choice-made _ _ lower c.over_latches.new.builder c.over_latches-2.new.builder _
+    c.in_ok-where_true.where_true c.in_ok-where_false.where_false whole c.in_ok-where_true.ensures.makes.made
+    c.in_ok-where_false.ensures.makes.made ∙ ap (λ x. mux_of c.over_latches-2.new.builder x
+    c.in_ok-where_true.where_true c.in_ok-where_false.where_false) (sym variable) in
+    as-made chosen (extends-trans _ _ _ c.over_latches.ensures.makes.extends c.over_latches-2.ensures.makes.extends)
+    (by-choice c.mux.ensures)
 
 pub returns-clause-known_made : goal.returns-clause-known_made
-returns-clause-known_made t c =
-    let m = c.args.machine.now in
-    let w = c.args.wanted in
-    grind (
-      arith,
-      made-kept m w c.over_latches-2.new.builder c.mux.new.self (get nat_eq c.over_latches-2.new.known)
-          c.mux.ensures.extends c.in_ok-where_false.ensures.known_made,
-    )
+returns-clause-known_made t c = grind (
+  arith,
+  made-kept c.args.machine.now c.args.wanted c.over_latches-2.new.builder c.mux.new.self
+      (get nat_eq c.over_latches-2.new.known) c.mux.ensures.extends c.in_ok-where_false.ensures.known_made,
+)

@@ -1,0 +1,64 @@
+-- What a call gives that makes the gates of a literal, at its exits.
+--     fails      a call before this one fails, for want of a variable only if there are too many
+--     gives      the literal is there, and needs no gate
+--     as-made, by-choice      the last call makes the literal, by other gates or by a choice
+--     test-split, test-chosen      the gates of a node that tests an input
+use Rattle.std.proofs.Common.{◌≡◌, ◌∙◌, ℕ, ◌+◌, ◌*◌, Bool, Err, IsErrAnd, List, Ok, Result, Some, ap, slice_get, subst, sym}
+use Rattle.std.proofs.Common.{rules}
+use Rattle.std.proofs.lemmas.Result.{IfOk-weaker}
+use Rattle.ps_circuit.specs.declared.encode_fault.EncodeFault.{EncodeFault}
+use Rattle.ps_circuit.specs.declared.encode_fault.EncodeFault.TheVariants.{CircuitTooLarge}
+use Rattle.ps_circuit.specs.Building.{Drafted, Extends, HasTooMany, IsHeld}
+use Rattle.ps_circuit.specs.Gates.{Made, MakesGates, mux_of}
+use Rattle.ps_diagram.specs.Table.{Table}
+use Rattle.ps_diagram.specs.Views.{SeesTest}
+use Rattle.ps_machine.specs.Behaviours.{IsMachine}
+use Rattle.ps_machine.specs.Machines.{MachineData, behaviour}
+use Rattle.ps_aiger.specs.declared.functions.Wanted.{Wanted}
+use Rattle.ps_aiger.specs.Inner.Functions.{MakesLiteral, node_made}
+use Rattle.ps_circuit.proofs.GateLemmas.{extends-refl, extends-trans, passed_on}
+use Rattle.ps_aiger.proofs.OverLemmas.{choice_made, made-test}
+use Rattle.ps_aiger.proofs.WiredLemmas.{choice-made}
+
+pub fails : {X : Type 0} {old new : Drafted} {call : Result X EncodeFault} {result : Result ℕ EncodeFault}
+    {fault : EncodeFault} {all : Made} → Extends old new → call ≡ Err fault → IsErrAnd result (λ given. given ≡ fault) →
+    (call ≡ Err CircuitTooLarge → HasTooMany all.draft) → MakesLiteral old new result all
+fails x was is above = record {
+  extends = x;
+  held = search rules;
+  made = search rules;
+  too_large = λ e. above (passed_on was is e);
+}
+
+pub gives : {d : Drafted} {literal : ℕ} {all : Made} → IsHeld d literal → all ≡ record { draft = d; literal = literal } →
+    MakesLiteral d d (Ok literal) all
+gives {d} held made = record { extends = extends-refl d; held = held; made = made; too_large = search rules }
+
+-- the last call makes the literal
+pub as-made : {old mid new : Drafted} {result : Result ℕ EncodeFault} {whole all : Made} → whole ≡ all →
+    Extends old mid → MakesLiteral mid new result all → MakesLiteral old new result whole
+as-made {old} {mid} {new} {result} {whole} {all} is x m = record {
+  extends = extends-trans old mid new x m.extends;
+  held = m.held;
+  made = IfOk-weaker result _ _ (λ literal made. is ∙ made) m.made;
+  too_large = λ e. subst (λ (n : Made). HasTooMany n.draft) (sym is) (m.too_large e);
+}
+
+pub by-choice : {old new : Drafted} {result : Result ℕ EncodeFault} {all : Made} {value : (ℕ → Bool) → Bool}
+    {Needs : Type 0} → MakesGates old new result all value Needs → MakesLiteral old new result all
+by-choice m = record { extends = m.extends; held = m.held; made = m.made; too_large = m.above }
+
+-- a node that tests an input is the choice between two others
+module _ (m : MachineData) (w : Wanted) (node p low high place : ℕ) (d : Drafted) (machine : IsMachine (behaviour m))
+    {s : Table} (store : s ≡ m.store) (sees : SeesTest s node p low high) {list : List ℕ} (inputs : list ≡ m.inputs)
+    (at : slice_get list place ≡ Some p) where
+  pub test-split : node_made m w node d ≡ choice_made m w (2 * (place + 1)) high low d
+  test-split = made-test m w node p low high place d machine (subst (λ t. SeesTest t node p low high) store sees)
+      (subst (λ xs. slice_get xs place ≡ Some p) inputs at)
+
+  pub test-chosen : {a b : Drafted} {t f input : ℕ} → node_made m w high d ≡ record { draft = a; literal = t } →
+      node_made m w low a ≡ record { draft = b; literal = f } → input ≡ 2 * (place + 1) →
+      node_made m w node d ≡ mux_of b input t f
+  test-chosen {a} {b} {t} {f} high_made low_made input_is =
+      choice-made _ _ (node_made m w low) a b _ t f test-split high_made low_made
+      ∙ ap (λ x. mux_of b x t f) (sym input_is)
