@@ -48,6 +48,13 @@ IsPlain (kinds.LargeNumber digits) = too_large ≤ decimal_value digits.now
 IsPlain (kinds.Name inner) = AllPass is_unquoted inner.now
 IsPlain _ = Unit {0}
 
+-- a token and its length in bytes: the token has that sign, and the length is `size`, at most `most`
+pub record IsLexed (lexed : Kind × ℕ) (sign : Sign) (size most : ℕ) : Type 0 where
+  pub sign_is : sign_of lexed.0 ≡ Some sign
+  pub size_is : lexed.1 ≡ size
+  pub plain : IsPlain lexed.0
+  pub within : lexed.1 ≤ most
+
 -- the next sign was a number that fits in 64 bits, and was read
 pub record IsNumberTaken (number : ℕ) (old new : Stream Sign) : Type 0 where
   pub sign : next_of old ≡ Some (Number number)

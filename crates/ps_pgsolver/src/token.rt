@@ -1,6 +1,6 @@
 //! Tokens of game texts.
 
-ghost use Rattle.std.specs.Prelude.{◌≡◌, ◌+◌, ◌≤◌, ◌<◌, ◌^◌, [], length, take, take_while, drop, Some, IfSome};
+ghost use Rattle.std.specs.Prelude.{◌≡◌, ◌+◌, ◌≤◌, ◌<◌, ◌^◌, [], length, take_while, drop, Some, IfSome};
 ghost use Rattle.std.specs.Char.{is_ascii_digit};
 ghost use Rattle.std.specs.List.{prefix_len, AllPass};
 ghost use Rattle.ps_text.specs.Bytes.{is_blank, is_digit, is_letter};
@@ -9,7 +9,7 @@ ghost use Rattle.ps_text.specs.Cursors.{in_class};
 ghost use Rattle.ps_text.specs.Answers.{Stream};
 ghost use Rattle.ps_text.specs.Digits.{decimal_value};
 ghost use Rattle.ps_pgsolver.specs.Signs.{Sign, Number};
-ghost use Rattle.ps_pgsolver.specs.Heads.{sign_of, IsPlain, IsNextToken};
+ghost use Rattle.ps_pgsolver.specs.Heads.{sign_of, IsLexed, IsPlain, IsNextToken};
 ghost use Rattle.ps_pgsolver.specs.Lexer.{stream_of, stream_from, first_sign, first_size, number_sign, word_sign};
 ghost use Rattle.ps_pgsolver.specs.Lexer.{name_sign, name_size, punctuation_sign};
 
@@ -250,10 +250,7 @@ fn token_at<'a>(before: &[u8], rest: &'a [u8]) -> (Kind<'a>, usize)
 /// The token of a run of digits, and the token's length in bytes.
 #[inline(always)]
 fn number_at<'a>(before: &[u8], rest: &'a [u8]) -> (Kind<'a>, usize)
-    ensures sign { sign_of result.0 ≡ Some (number_sign before.now rest.now) }
-    ensures size { result.1 ≡ prefix_len is_digit rest.now }
-    ensures plain { IsPlain result.0 }
-    ensures within { result.1 ≤ length rest.now }
+    ensures { IsLexed result (number_sign before.now rest.now) (prefix_len is_digit rest.now) (length rest.now) }
 {
     let (kind, size) = digits_at(rest);
     if ends_in_class(before, Class::Letter) {
@@ -265,10 +262,8 @@ fn number_at<'a>(before: &[u8], rest: &'a [u8]) -> (Kind<'a>, usize)
 
 /// The number that a run of digits denotes, and the length of the run in bytes.
 fn digits_at<'a>(rest: &'a [u8]) -> (Kind<'a>, usize)
-    ensures sign { sign_of result.0 ≡ Some (Number (decimal_value (take_while is_digit rest.now))) }
-    ensures size { result.1 ≡ prefix_len is_digit rest.now }
-    ensures plain { IsPlain result.0 }
-    ensures within { result.1 ≤ length rest.now }
+    ensures { IsLexed result (Number (decimal_value (take_while is_digit rest.now))) (prefix_len is_digit rest.now)
+        (length rest.now) }
 {
     if let Some(number) = few_digits(rest) {
         return (Kind::Number(number.value), number.digits);
@@ -306,10 +301,7 @@ fn few_digits(text: &[u8]) -> Option<LeadingNumber>
 /// The token of a run of letters, and the token's length in bytes.
 #[inline(always)]
 fn word_at<'a>(before: &[u8], rest: &'a [u8]) -> (Kind<'a>, usize)
-    ensures sign { sign_of result.0 ≡ Some (word_sign before.now rest.now) }
-    ensures size { result.1 ≡ prefix_len is_letter rest.now }
-    ensures plain { IsPlain result.0 }
-    ensures within { result.1 ≤ length rest.now }
+    ensures { IsLexed result (word_sign before.now rest.now) (prefix_len is_letter rest.now) (length rest.now) }
 {
     let size = run_length(rest, Class::Letter);
     let kind = if ends_in_class(before, Class::Digit) {
@@ -324,10 +316,7 @@ fn word_at<'a>(before: &[u8], rest: &'a [u8]) -> (Kind<'a>, usize)
 #[inline(always)]
 fn name_at<'a>(behind: &'a [u8]) -> (Kind<'a>, usize)
     requires { length behind.now + 1 < 2 ^ 64 }
-    ensures sign { sign_of result.0 ≡ Some (name_sign behind.now) }
-    ensures size { result.1 ≡ name_size behind.now }
-    ensures plain { IsPlain result.0 }
-    ensures within { result.1 ≤ length behind.now + 1 }
+    ensures { IsLexed result (name_sign behind.now) (name_size behind.now) (length behind.now + 1) }
 {
     let size = run_length(behind, Class::Unquoted);
     if size < behind.len() {
