@@ -132,7 +132,7 @@ module _ {game : ParityGame} {aim : Aim} {old new : TablesData} {subgame target 
         ],
       )
 
-  -- an edge to a vertex before the index of v leads to a smaller rank
+  -- an edge from v to a vertex that precedes v in the trail leads to a smaller rank
   leads_down : (v w : ℕ) → aim.begin + rank_of aim new v < length new.trail → HasEdge game v w →
       IsInTrailBefore aim new (aim.begin + rank_of aim new v) w → LeadsDown game subgame set (rank_of aim new) v w
   leads_down v w within edge stands = grind (

@@ -15,7 +15,7 @@ use std::alloc::{AllocError, Global};
 pub(crate) struct Link {
     /// The number of the set.
     pub set: u32,
-    /// Whether a part in which the set is met is accepted.
+    /// Whether a part of a run is accepted if it meets the set, but no earlier link's set.
     pub accepts: bool,
 }
 

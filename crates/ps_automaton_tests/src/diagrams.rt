@@ -84,8 +84,8 @@ fn chosen(store: &mut Store) -> Result<[Option<u64>; 4], AllocError> {
     ])
 }
 
-/// The diagram whose leaves are pairs, made from the first proposition's diagram and the leaf 7. The results are the
-/// indices of its pairs at the letters 1 and 0, and the number of pairs.
+/// For the diagram whose leaves are pairs, made from the first proposition's diagram and the leaf 7: the indices of the
+/// pairs at the letters 1 and 0, and the number of pairs.
 fn paired(alloc: Global, store: &mut Store) -> Result<([Option<u64>; 2], usize), AllocError> {
     if store.propositions() != 2 {
         return Ok(([None; 2], 0));

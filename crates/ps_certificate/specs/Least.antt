@@ -1,5 +1,4 @@
--- Certificates that have both certificates have the same winners and moves, and the one with the least counts among
--- them.
+-- Certificates that have the same winners and moves, and the one among them that has the least counts.
 --     SaysTheSame game c d      both certificates have the same winners and moves
 --     DiffersInCounts game c d      both certificates have the same winners, moves and priorities
 --     HasLeastCounts game c      no valid certificate with its winners and moves has a smaller count

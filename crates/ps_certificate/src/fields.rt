@@ -119,7 +119,7 @@ pub(crate) fn winner(cursor: &mut Cursor) -> Result<u8, CertFault>
     Err(cursor.refusal(CertCause::Syntax))
 }
 
-/// Parses a move: `-` for none, or the id of a vertex.
+/// Parses a move, which is `-` for none, or the id of a vertex.
 pub(crate) fn choice(cursor: &mut Cursor, ids: &Ids) -> Result<Option<usize>, CertFault>
     ensures { Tells (λ c. c) (parts.choice ids.now) cursor.old result cursor.new }
 {

@@ -23,8 +23,8 @@ pub enum AigCause {
     /// A latch has no first value, since its own literal is its reset (reset logic). psyn rejects such a latch, because
     /// it runs circuits.
     UnsetLatch,
-    /// A section of bad states, constraints, justice or fairness is not empty (header: B, C, J, F). This limit is
-    /// psyn's own.
+    /// One of the counts B, C, J and F of the header is not 0, so a section of bad states, constraints, justice or
+    /// fairness is not empty. The limit is psyn's own.
     Sections,
 }
 

@@ -18,15 +18,15 @@ const MOST: u64 = 2_147_483_647;
 /// into 64 bits is stored as the greatest number of 64 bits.
 #[derive(Clone, Copy)]
 pub struct Header {
-    /// The greatest variable: M.
+    /// The greatest variable (M).
     pub most: u32,
-    /// The number of input lines: I.
+    /// The number of input lines (I).
     pub inputs: u64,
-    /// The number of latch lines: L.
+    /// The number of latch lines (L).
     pub latches: u64,
-    /// The number of output lines: O.
+    /// The number of output lines (O).
     pub outputs: u64,
-    /// The number of gate lines: A.
+    /// The number of gate lines (A).
     pub gates: u64,
 }
 

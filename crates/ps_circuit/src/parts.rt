@@ -27,7 +27,7 @@ pub struct Gate {
 /// The parts of a circuit: the greatest variable, the literals, and an optional name for each input, latch and output.
 #[derive(Drop)]
 pub struct Parts {
-    /// The greatest variable that the circuit may use: M of the header.
+    /// The greatest variable that the circuit may use, which is M of the header.
     pub most: u32,
     /// The literals of the inputs.
     pub inputs: Vec<Literal>,

@@ -130,8 +130,8 @@ impl Search {
         Ok(())
     }
 
-    /// Follows the last pending link if it belongs to the last segment; otherwise closes this segment. Fails if out of
-    /// memory.
+    /// Follows the last pending link if it belongs to the last segment; otherwise makes a component of the last
+    /// segment. Fails if out of memory.
     fn step<G: Graph>(&mut self, graph: &G, bound: usize) -> Result<(), AllocError>
         requires { EndsAt (G.graph graph.now) bound self.old }
         ensures { OnOk result (Advances (G.graph graph.now) self.old self.new) }
@@ -206,7 +206,7 @@ impl Search {
         self.pending.pop();
     }
 
-    /// Closes the last segment, which begins at the given bound. Fails if out of memory.
+    /// Makes a component of the last segment of the path, which begins at the given bound. Fails if out of memory.
     fn close<G: Graph>(&mut self, graph: &G, bound: usize) -> Result<(), AllocError>
         requires ends { EndsAt (G.graph graph.now) bound self.old }
         requires done { (i : ℕ) (e : Pending) → slice_get self.old.pending.items i ≡ Some e → e.from < bound }
@@ -265,7 +265,7 @@ fn reset(statuses: &mut Statuses, items: &[usize])
     }
 }
 
-/// Statuses the given items as closed: they belong to the component with the given number. Fails if out of memory.
+/// Marks the given items as closed: they belong to the component with the given number. Fails if out of memory.
 fn close_items(statuses: &mut Statuses, items: &[usize], number: usize) -> Result<(), AllocError>
     requires within { (k v : ℕ) → slice_get items.now k ≡ Some v → v < length statuses.old }
     requires number { number < 2 ^ 63 }

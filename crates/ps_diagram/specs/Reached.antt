@@ -26,7 +26,8 @@ abbrev pub IsFound : List (ℕ × ℕ) → ℕ → Type 0
 IsFound found leaf = (letter : ℕ) × (lookup (nat_eq leaf) found ≡ Some letter)
 
 -- The letter `place` leads to the leaf, and agrees with `letter` on all propositions before the tree's first test.
--- Every earlier letter that leads to the leaf first differs from `place` at a proposition that is true in `letter`.
+-- Every letter x before `place` that leads to the leaf is excluded by `letter`: the first proposition at which x and
+-- `place` differ is true in `letter`.
 pub record IsFirstLetterTo (n : ℕ) (t : Tree) (letter leaf place : ℕ) : Type 0 where
   pub within : place < 2 ^ n
   pub there : leaf_at t (assignment place) ≡ Some leaf

@@ -37,7 +37,7 @@ impl Store {
         self.paired(first, second, pairs, &mut known)
     }
 
-    /// As `both`, with a table of the pairs of nodes that were paired before.
+    /// Like `both`, but with a table of the pairs of nodes that were paired before.
     fn paired(
         &mut self,
         first: Node,
@@ -81,7 +81,7 @@ impl Store {
         Ok(made)
     }
 
-    /// As `paired`, for two diagrams that test nothing.
+    /// Like `paired`, but for two diagrams that test nothing.
     fn paired_leaves(
         &mut self,
         first: Node,

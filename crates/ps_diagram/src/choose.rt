@@ -44,7 +44,7 @@ impl Store {
         self.chosen(truth, one, other, &mut known)
     }
 
-    /// As `choose`, with a table of the choices that were made before.
+    /// Like `choose`, but with a table of the choices that were made before.
     fn chosen(
         &mut self,
         truth: Node,

@@ -53,7 +53,7 @@ impl Store {
         Ok(classes)
     }
 
-    /// As `classes`, for a node of another store. The diagrams of the classes are made in this store.
+    /// Like `classes`, but for a node of another store. The diagrams of the classes are made in this store.
     pub fn classes_from(
         &mut self,
         other: &Store,
@@ -111,8 +111,8 @@ impl Store {
         Ok(Classes { list, places })
     }
 
-    /// As `rests`, with tables of what was made before. The leaf at a letter x is a node. At each letter y over the
-    /// other propositions, this node has the leaf that the given node has at the letter made of x and y.
+    /// Like `rests`, but with tables of what was made before. The leaf at a letter x is a node. At each letter y over
+    /// the other propositions, the node at x has the leaf that the given node has at the letter made of x and y.
     fn divided(
         &mut self,
         other: &Store,
@@ -164,7 +164,7 @@ impl Store {
         self.intern(View::Leaf(node.place as u64))
     }
 
-    /// As `divided`, for a test whose two sides have been divided.
+    /// Like `divided`, but for a test whose two sides have been divided.
     fn divided_test(
         &mut self,
         proposition: u32,
@@ -239,7 +239,7 @@ impl Store {
         Ok(made)
     }
 
-    /// As `tested`, for two diagrams that test nothing.
+    /// Like `tested`, but for two diagrams that test nothing.
     fn tested_leaves(&mut self, proposition: u32, low: Node, high: Node) -> Result<Node, AllocError>
         requires named { proposition < self.old.propositions }
         requires low_held { IsNode self.old low }

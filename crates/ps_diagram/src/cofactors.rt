@@ -14,8 +14,8 @@ use std::alloc::AllocError;
 
 impl Store {
     /// The diagram over the propositions of `split` whose leaf at a letter is the node of what remains of the given
-    /// node after that letter. The propositions below `level` are read already: they are as in `letter`. Each letter is
-    /// tried, so `split` should have few propositions.
+    /// node after that letter. The propositions below `level` were read before, with the values that they have in
+    /// `letter`. Each letter is tried, so `split` should have few propositions.
     pub(crate) fn spread(
         &mut self,
         other: &Store,

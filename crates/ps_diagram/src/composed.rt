@@ -34,7 +34,7 @@ impl Store {
         self.composed_by(other, node, truths, &mut known)
     }
 
-    /// As `composed_from`, with a table of the nodes that were composed before.
+    /// Like `composed_from`, but with a table of the nodes that were composed before.
     fn composed_by(
         &mut self,
         other: &Store,

@@ -260,7 +260,7 @@ impl Store {
         self.mapped_by(other, node, rule, &mut known)
     }
 
-    /// As `mapped`, with a table of the nodes that were changed before.
+    /// Like `mapped`, but with a table of the nodes that were changed before.
     fn mapped_by<R: LeafRule>(
         &mut self,
         other: Option<&Store>,

@@ -36,7 +36,7 @@ impl Store {
         self.overlaid(first, second, &mut known)
     }
 
-    /// As `overlay`, with a table of the pairs of nodes that were joined before.
+    /// Like `overlay`, but with a table of the pairs of nodes that were joined before.
     fn overlaid(
         &mut self,
         first: Node,
@@ -77,7 +77,7 @@ impl Store {
         Ok(node)
     }
 
-    /// As `overlaid`, for two diagrams that test nothing.
+    /// Like `overlaid`, but for two diagrams that test nothing.
     fn overlaid_leaves(&self, first: Node, second: Node) -> Result<Node, OverlayError>
         requires first { IsNode self.now first }
         requires second { IsNode self.now second }

@@ -18,7 +18,7 @@ move_inside : (chosen : List Bool) (moves : List ℕ) (v : ℕ) → v < length m
 unfolding moves_of
 move_inside chosen moves v lt = search (rules, get_or-map-range_with_len)
 
--- an entry of the table, read from the two lists
+-- an entry of the table is given by the entries of the two lists
 pub move_read : (chosen : List Bool) (moves : List ℕ) {table : List (Option ℕ)} {v : ℕ} {b : Bool} →
     moves_of chosen moves ≡ table → v < length table → has chosen v ≡ b →
     move_at table v ≡ cond b (Some (get_or moves v 0)) None

@@ -1,4 +1,4 @@
-//! The types of the numbers in large tables: `u32` or `usize`.
+//! The types of the numbers in large tables, which are `u32` and `usize`.
 
 ghost use Rattle.std.specs.Prelude.{◌≡◌, ◌^◌, ◌-◌, ◌≤◌, ℕ};
 

@@ -67,7 +67,7 @@ fn attempts_end_with_their_fuel(rt: HostRuntime) -> Result<(), Fail> {
 }
 
 /// A path of 1,000 vertices of player 0. The last vertex leads to itself and has the priority 1. Each other vertex has
-/// an even priority that is greater than that of the next vertex. The path's rows have 500,000 cells.
+/// an even priority that is greater than that of the next vertex. The rows of the 1,000 vertices have 500,000 cells.
 #[test]
 fn attempts_end_where_there_is_no_room(rt: HostRuntime) -> Result<(), Fail> {
     let mut text = String::new(rt.alloc());

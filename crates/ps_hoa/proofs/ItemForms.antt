@@ -1,6 +1,6 @@
 -- The properties of the arguments of header items. Each header item has a section here, and a row in `form`.
 --     IsForm h part      the properties of a part that follows an item's name, if the earlier items gave h
---     form h item      the arguments of this item have these properties
+--     form h item      the arguments of the item have the form (`IsForm`)
 --     judge_item      the error at an item's name can be decided
 --     joint_.., .._loop, .._begins, .._serves      lemmas for the functions that parse the arguments
 use Rattle.std.proofs.Common.{arith, rules, ◌≡◌, ◌<◌, true, Bool, ℕ, List, [], length, Some, refl, sym, ap, ◌∙◌}

@@ -1,6 +1,6 @@
 -- The grammar of labels and acceptance conditions without a limit, together with the nesting depth of `!` and `(`. The
 -- depth counts each `!` and each `(` from the sign to the end of its operand, except for the parentheses of `Inf` and
--- `Fin`. Up to the depth `room`, the grammars of `Labels` and `Conditions` equal this grammar.
+-- `Fin`. Up to the depth `room`, the grammars of `Labels` and `Conditions` equal the grammar of this file.
 --     IsLabel names deep text v, IsCondition deep text v      the text has the meaning v and the nesting depth `deep`
 --     Within room Nests      the nesting depth is at most `room`
 use Rattle.std.specs.Prelude.{ℕ, ◌≡◌, ◌≤◌, ◌⊎◌, suc, max, true, List, [], ◌∷◌, ◌++◌, Some}
@@ -33,7 +33,7 @@ mutual
         is_right r.kind ≡ true → IsRow g connectives.Or deep text v →
         IsOperand g (suc deep) (l ∷ text ++ r ∷ []) v
 
-  -- what may be on either side of a connective: `&` binds tighter than `|`
+  -- what may be on either side of a connective; `&` binds tighter than `|`
   pub data IsPart {V : Type 0} (g : Grammar V) : Connective → ℕ → List Sign → V → Type 0 where
     operand : (deep : ℕ) (text : List Sign) (v : V) → IsOperand g deep text v → IsPart g connectives.And deep text v
     conjunction : (deep : ℕ) (text : List Sign) (v : V) → IsRow g connectives.And deep text v →

@@ -38,7 +38,7 @@ pub struct Edge {
     pub marks: SmallVec<u32, 4>,
 }
 
-/// What the text states about a state (HOA v1, body: `State:`).
+/// What the text states about a state (HOA v1, `State:` in the body).
 #[derive(Debug, Drop)]
 pub struct Row {
     /// The state's number.

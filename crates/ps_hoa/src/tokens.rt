@@ -370,7 +370,7 @@ pub(crate) fn is_same(name: &[u8], word: &[u8]) -> bool
 }
 
 impl History {
-    /// The marks when only `HOA:` has occurred.
+    /// The history when only `HOA:` has occurred.
     fn new() -> Self
         ensures { result ≡ fresh }
     {
@@ -517,7 +517,7 @@ impl<'a> Tokens<'a> {
     }
 }
 
-/// The token for a lexeme. The kind of the token also depends on the names that occurred before it, which `marks`
+/// The token for a lexeme. The kind of the token also depends on the names that occurred before it, which `history`
 /// records.
 fn token_of<'a>(source: &'a [u8], lexeme: Lexeme, history: History) -> Token<'a>
     requires { IsLexeme source.now lexeme }

@@ -4,10 +4,10 @@
 //! Player 0 improves its moves. The value of a play is its row, which states how often the play meets each priority
 //! before it stops. A play that never stops is worth more than any row. At first, player 0 stops at every vertex, and
 //! every vertex of player 1 is closed: plays stop before they enter it. Each round computes the value of each vertex,
-//! which is the least value that player 1 can force. Then player 0 changes its moves to successors that are worth more,
-//! and opens each vertex of player 1 whose value is more than that of stopping. When nothing improves any more, player
-//! 0 wins the vertices from which plays never stop. The components of the game are solved one after another, beginning
-//! with those that no edge leaves.
+//! which is the least value that player 1 can force. After that, player 0 changes its moves to successors that are
+//! worth more, and opens each vertex of player 1 that is worth more than stopping. When nothing improves any more,
+//! player 0 wins the vertices from which plays never stop. The components of the game are solved one after another,
+//! beginning with those that no edge leaves.
 //!
 //! | Call | What it gives |
 //! |---|---|

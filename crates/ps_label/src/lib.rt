@@ -1,4 +1,5 @@
-//! The labels of an automaton's edges: Boolean expressions over propositions and aliases, and their truth at a letter.
+//! The labels of an automaton's edges, which are Boolean expressions over propositions and aliases, and their truth at
+//! a letter.
 //!
 //! Labels are the label expressions of HOA v1, and the aliases are those that `Alias:` defines in the header of a file.
 //! A letter is a number whose bit p is the truth of proposition p, so there are at most 64 propositions.

@@ -29,8 +29,9 @@ const PLACED_EACH: u64 = 256;
 /// the game.
 const PLACED_BESIDE: u64 = 1024;
 
-/// How many cells an attempt may read or write, for each time that the recursion may place a vertex. With this number,
-/// an attempt takes longer than the recursion of its own round, and less time than the recursion of the next round.
+/// How many cells an attempt may read or write, for each time that the recursion may place a vertex. With this value of
+/// `CELLS_EACH`, an attempt takes longer than the recursion of its own round, and less time than the recursion of the
+/// next round.
 const CELLS_EACH: u64 = 64;
 
 /// The limits for the recursion and for the attempt in one round.

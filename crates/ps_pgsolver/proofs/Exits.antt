@@ -1,7 +1,7 @@
 -- The exits of the parser's functions: a part was read, or a part has an error.
 --     Done part old v new      the part was read from old with the value v, and new is left
 --     done_then, stops_left, stops_right      two parts: both are read, or the first has an error, or the second
---     done_mapped, stops_mapped      a part whose value is mapped
+--     done_mapped, stops_mapped      a part whose value is mapped is read, or has an error
 --     exit      at a `?`, the function returns the error that was found
 use Rattle.std.proofs.Common.{◌≡◌, Result, Ok, Err, IsErrAnd, refl, subst}
 use Rattle.ps_text.specs.Answers.{Stream, signs, next_of}

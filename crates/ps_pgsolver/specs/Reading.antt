@@ -30,7 +30,7 @@ pub data Answer (text : List ℕ) (answer : Result NamedGameData (Found PgCause)
   -- the first error in the order of the text
   refused : (stream : Stream Sign) (found : Found PgCause) → HasTokens text stream →
       PartAnswers pg_causes (game None) stream (Err found) → answer ≡ Err found → Answer text answer
-  -- if the text has no other error: the first successor that is not an id
+  -- the first successor that is not an id, if the text has no other error
   unknown : (stream : Stream Sign) (nodes : List NodeData) (found : Found PgCause) → HasTokens text stream →
       PartAnswers pg_causes (game None) stream (Ok nodes) →
       PartAnswers pg_causes (game (Some (ids_of nodes))) stream (Err found) → answer ≡ Err found → Answer text answer

@@ -22,7 +22,8 @@ use Rattle.ps_simulate.specs.Plans.{variables}
 abbrev IsOpen : CircuitData → List (Option Truth) → ℕ → Type 0
 IsOpen c known p = (get_or known p None ≡ None) × (p < length (variables c))
 
--- The first entry of the stack is the place whose truth was asked for. If the stack is empty, that truth is known.
+-- The first entry of the stack is the place whose truth was asked for; if the stack is empty, the truth at this place
+-- is known.
 pub record Waits (c : CircuitData) (order : List ℕ) (known : List (Option Truth)) (place : ℕ) (stack : List ℕ) : Type 0
   where
     pub falls : AllPairs (λ x y. rank c order y < rank c order x) stack

@@ -3,7 +3,7 @@
 --     IsTruth t truth      the truth is `Never`, `Always`, or a node that is true at some but not all letters
 --     bits_at propositions letter      the bits of these propositions at a letter
 --     IsTruthOf c propositions latches t truth literal      the truth is the literal's bit at each letter
---     AreTruthsOf, IsOutcome      as `IsTruthOf`, for lists; for the outputs and the next latches
+--     AreTruthsOf, IsOutcome      like `IsTruthOf`, for lists of literals; for the outputs and the next latches
 use Rattle.std.specs.Prelude.{◌≡◌, ℕ, ◌^◌, ◌<◌, Bool, true, false, not, is_some, if◌then◌else◌, List, length, map}
 use Rattle.std.specs.Prelude.{slice_get, Some}
 use Rattle.ps_label.specs.Truth.{is_in}

@@ -32,7 +32,7 @@ pub(crate) fn grouped(
     Ok(made)
 }
 
-/// As `grouped`, for a single truth.
+/// Like `grouped`, but for a single truth.
 fn split_by(alloc: Global, store: &mut Store, node: Node, truth: Truth) -> Result<Node, AllocError>
     requires held { IsNode store.old node }
     requires total { IsTotal store.old node }

@@ -64,7 +64,7 @@ abbrev behind_first : {X : Type 0} → List X → List X
 behind_first [] = []
 behind_first (x ∷ xs) = xs
 
--- a command is read right with each choice of flags if clap returns the right lines for all choices
+-- a command is read correctly with each choice of flags if clap returns the right lines for all choices
 choices_read : (name : Text) (line : (Text → Bool) → Line) (choices : List (List Text)) →
     map (heard name) choices ≡ map (λ flags. ([], line (is_among flags))) choices
     → AllByRecursion (λ flags. AreRead (words_with name flags) (line (is_among flags))) choices
@@ -78,7 +78,7 @@ usages_read : (commands : List Usage) → map (λ usage. map (heard usage.name) 
 usages_read [] same = tt
 usages_read (usage ∷ more) same = search (rules, choices_read, usages_read more (ap behind_first same))
 
--- each command of the table is read right
+-- each command of the table is read correctly
 pub lines_read : LinesAreRead
 unfolding table clap_on_literals
 lines_read = usages_read commands refl

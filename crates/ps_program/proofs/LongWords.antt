@@ -64,7 +64,7 @@ first_wrong : (s : Shape) (names : Names) (h : Held) (word : Text) (rest : List 
 unfolding walk_fault
 first_wrong s names h word rest inside below k ks wrong = grind arith
 
--- words that begin with such a word are refused
+-- words that begin with a word that names nothing are refused
 long_word_refused : (word : Text) (rest : List Text) → NamesNothing word → Says (word ∷ rest) Refused
 unfolding table clap_on_literals names_met
 long_word_refused [] rest (more, plain) = absurd (omega (arith, some_longer [] commands (lit< tt) more))
@@ -79,7 +79,7 @@ long_word_refused (x ∷ xs) rest (more, plain) =
     []) (stray a.top (names_of a) x xs no_hyphen none refl) in
     inr (UnknownArgument, rw wrong (inl refl), refl)
 
--- a line that begins with such a word is refused
+-- a line that begins with a word that names nothing is refused
 pub first_word_refused : (words : List (Bor Text)) (default : Bor Text) → 1 ≤ length words →
     NamesNothing (get_or words 0 default).now → Says (map (λ word. word.now) words) Refused
 first_word_refused [] default some nothing = absurd (omega arith)

@@ -186,12 +186,12 @@ table = with_commands program commands
 abbrev pub is_given : Text → List Row → Bool
 is_given name rows = option_map_or (λ text. bytes_eq text (codes "true")) (first_of name rows) false
 
--- the line that the command of the parsed words is, if they contain a command
+-- the line of the parsed words, if they contain a command
 abbrev pub line_said : Option (Text × List Row) → Line
 line_said (Some command) = line_named command.0 (λ name. is_given name command.1)
 line_said None = Refused
 
--- the line for words that the parser refuses: `--help` and `-h` ask for help, and all other lines are refused
+-- the line for words that the parser refuses; `--help` and `-h` ask for help, and all other lines are refused
 abbrev pub line_refused : ErrorKind → Line
 line_refused DisplayHelp = Help
 line_refused _ = Refused

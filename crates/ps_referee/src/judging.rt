@@ -24,7 +24,7 @@ use std::alloc::{AllocError, Global};
 ///
 /// A solution that does not hold is rejected. The error is [`JudgeFault::Unclosed`] with the first flaw of the
 /// solution's moves and edges, as [`ps_certificate::closed`] reports it; or [`JudgeFault::BadCycle`] if there is no
-/// such flaw. The only other error is out of memory.
+/// such flaw. If the solution holds, the only error is out of memory.
 pub fn judge<A: Arena>(
     alloc: Global,
     arena: &A,

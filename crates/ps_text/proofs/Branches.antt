@@ -1,7 +1,7 @@
 -- The exits of a parsing function at a choice and in a loop. The module Meeting has each lemma again, for a `Meets`
 -- whose view is written out.
 --     Stands there P Q      at the next sign `there`, parsing P has the same result as parsing Q
---     left_entered, right_entered      `Stands`: the next sign begins this form of `either`, or is an error of it
+--     left_entered, right_entered      `Stands`: the next sign begins one form of `either`, or is an error of it
 --     left_otherwise, right_otherwise      `Stands`: the next sign does not begin the other form, which is never empty
 --     item_entered      `Stands`: the next sign begins an item of `many`
 --     reads_as, stops_as_well, meets_as w m      a result for P is also a result for Q

@@ -2,9 +2,9 @@
 --     Laws odd part First More Null      the laws of a part; First and More are the signs that begin and continue it
 --     Joint P Q      no sign both continues P and begins Q; the lemma `joint` derives this from the laws
 --
--- State the laws of each production of a grammar once, as in `laws_entry : Laws odd entry EntryFirst EntryMore ⊥`.
--- Prove them with the lemma of its outermost combinator (proofs/Combined.antt) and with `weaker`, for sets that the
--- format defines.
+-- State the laws of each production of a grammar once, as in `laws_entry : Laws odd entry EntryFirst EntryMore ⊥`. The
+-- laws of a production are proved with the lemma of the production's outermost combinator (proofs/Combined.antt), and
+-- with `weaker` for sets that the format defines.
 use Rattle.std.proofs.Common.{◌≡◌, ◌⊎◌, List, [], ◌∷◌, ◌++◌, rules}
 use Rattle.ps_text.specs.Answers.{Begins}
 use Rattle.ps_text.specs.Parts.{Part}

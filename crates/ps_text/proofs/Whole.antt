@@ -75,7 +75,8 @@ module _ {T V F : Type 0} {causes : Causes T F} {part : Part T V F} {First More 
       go front' rest' g w (inl x) = inl x
       go front' rest' g w (inr x) = inr (x.0, least g (rw (x.0, x.1) w))
 
-  -- at a sign (or end) at which the part has no error, the error that it is not allowed has the smallest number
+  -- if the part has no error at a sign, or at the end, the error that the grammar does not allow the sign, or the end,
+  -- has the smallest number
   refusal_least : (there : Option T) (front : List T) (g : F) → NoCauseAt part front there →
       IsWrong causes part front there g → causes.number (refusal_of causes there) ≤ causes.number g
   refusal_least there front g n cases = search (rules, quiet_at)

@@ -5,7 +5,7 @@
 --     IsUnexpected IsText front there      some text begins with `front`, but none continues with the sign `there`
 --     IsClean IsCause all      the text has no error
 --     IsFirst number IsCause front rest f      f is an error between `front` and `rest`, and no other error precedes it
---     IsFirstAt number IsCause stream found      as `IsFirst`, for signs with offsets
+--     IsFirstAt number IsCause stream found      like `IsFirst`, for signs with offsets
 --     Answers IsText IsCause number stream answer      Ok with the meaning of the text, or Err with its first error
 --
 -- A format defines its signs: a sign is a token, a byte or a line, together with what a parser can see after it. IsText

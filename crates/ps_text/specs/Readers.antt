@@ -1,8 +1,7 @@
 -- What a parsing function states about the part that it parses: the part was parsed, or its first fault was found.
 -- `old` and `new` are the unread pieces when the function begins and when it returns: the Model of the code's tokens.
 --     Meets found causes view part old result new      the contract of a parsing function
---     Parses causes part old result new      the contract of a function that returns the grammar's own values and
---               errors
+--     Parses causes part old result new      the contract of a function that returns the grammar's values and errors
 --     Carries causes whole start rest now      parsing `rest` from `now` gives what parsing `whole` from `start` gives
 --     tail stream      the stream without its next piece
 --     refusal_at causes stream      the error, with its offset, for a sign or an end that is not allowed

@@ -1,5 +1,5 @@
 -- Ways that are found from the first vertex that has an edge to each vertex.
---     lowered_none, lowered_more      the successors of a vertex are handled one by one
+--     lowered_none, lowered_here, lowered_kept      the successors of a vertex are handled one by one
 --     firsts_none, firsts_more      the vertices are handled one by one
 --     fall      the entry of each vertex except 0 is an earlier vertex
 --     way_is      the way that the entries give is a path

@@ -1,8 +1,7 @@
 -- A lasso trace closes a loop of the product: some laps lead from a vertex back to it.
 --     reached      the vertex after the stem and some laps
 --     laps_fall      how far a count falls along laps
---     loop      some laps that lead back to their first vertex
---     not_lost      the greatest priority of the laps is not one for which counts exist
+--     loop      some laps lead back to a vertex, and no counts keep the rule for their greatest priority
 use Rattle.std.proofs.Common.{◌≡◌, ℕ, zero, suc, ◌+◌, ◌-◌, ◌<◌, ◌≤◌, inr, max, Bool, List, length, refl, sym}
 use Rattle.std.proofs.Common.{ap, subst, ◌∙◌, arith, Some, add-zero}
 use Rattle.std.specs.Prelude.{slice_get}

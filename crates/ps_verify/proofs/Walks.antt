@@ -1,5 +1,4 @@
 -- The letters of a trace of the circuit lead from vertex to vertex of the product.
---     Counted      counts that keep the rule for a priority
 --     left      the count of a vertex after it was entered; it falls along an edge of the given priority
 --     walk      the vertex to which letters lead, and how the count falls on the way
 use Rattle.std.proofs.Common.{◌≡◌, ℕ, ◌+◌, ◌<◌, ◌≤◌, ◌⊎◌, inl, inr, Bool, List, [], ◌∷◌, length, refl, ◌∙◌}

@@ -14,9 +14,9 @@ ghost use Rattle.ps_verify.specs.Judgements.{IsLosing, IsWinning};
 use ps_automaton::automaton_is_there;
 use ps_simulate::circuit_has_one_values;
 
-/// A circuit either wins or loses, but not both. Let the file be one that was read and is admitted, let the circuit
-/// have the inputs and outputs of its role, and let it be in time wherever traces lead. Under these conditions, the
-/// circuit wins if no stimulus shows that it loses. If a circuit wins, no stimulus shows that it loses.
+/// A circuit either wins or loses, but not both. If a circuit wins, no stimulus shows that it loses. If no stimulus
+/// shows that a circuit loses, the circuit wins, provided that the file was read and is admitted, and that the circuit
+/// has the inputs and outputs of its role and is in time wherever traces lead.
 pub fn judgement_is_one()
     ensures wins { (order : Order) (role : Role) (file : FileData) (c : CircuitData) → IsSoundFile file →
         IsAdmitted file → IsCircuit c → HasSymbols role file.names file.controllable c →

@@ -39,7 +39,7 @@ pub fn run<R: Source, W: Sink>(
     run_by(alloc, reader, writer, &mut built_in, &mut replay)
 }
 
-/// As `run`, with any two solvers.
+/// Like `run`, but with any two solvers.
 pub fn run_by<R: Source, W: Sink, S: Solver, T: Solver>(
     alloc: Global,
     reader: &mut R,

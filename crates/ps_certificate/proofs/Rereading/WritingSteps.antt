@@ -1,5 +1,5 @@
 -- What the writer of a certificate has written so far.
---     all_taken, all_taken_all      a property of all elements so far
+--     all_taken, all_taken_all      a property holds for all elements that were taken so far
 --     head_joined      the lines before those of the vertices are written one after the other
 --     pair_written, pair_skipped      one more count has been written, or is 0 and left out
 use Rattle.std.proofs.Common.{◌≡◌, ℕ, ◌+◌, ◌<◌, ◌≤◌, cond, eqb, List, [], ◌∷◌, ◌++◌, length, get_or, drop}

@@ -1,5 +1,5 @@
 -- The parts of a header that consist of a single token.
---     reads_token      if a function returns the result for the next token, it has parsed the part of this token
+--     reads_token      a function that returns the result for the next token has parsed the part of the token
 --     signs_expect, .., signs_body      some token is taken, and the end of the text is neither taken nor an error
 --     takes_refused, takes_bad      the result for a token that is not allowed here, and for a token with an error
 use Rattle.std.proofs.Common.{◌≡◌, ℕ, ◌≤◌, Bool, cond, List, [], codes, Option, None, Some, Result, Err}
@@ -42,7 +42,7 @@ signs : {V : Type 0} {take : Sign → Option V} {Bad : Sign → HoaCause → Typ
     ((f : HoaCause) → Bad (record { kind = Finish; text = [] }) f → ⊥) → IsOfSigns take Bad
 signs kind text v e n g = record { sign = record { kind = kind; text = text }; value = v; taken = e; end = n; good = g }
 
--- the end of the text does not pass the test for another kind
+-- the end of the text passes only the test for its own kind
 pub signs_expect : (test : Kind → Bool) (kind : Kind) → IsTestOf test kind → (kind ≡ Finish → ⊥) →
     IsOfSigns (expect_in test) NoBad
 signs_expect test kind is differs = signs kind [] tt (ap (λ (b : Bool). cond b (Some tt) None) is.0)

@@ -282,6 +282,6 @@ module _ {board : Board} {mover : ℕ} {keys : List Key} {game : ParityGame} {ce
               (rules, path_at, twice, place_even, vertex_at) in
               rw is at bound
 
-      -- the greatest priority of a part that returns has the winner's parity
+      -- if a part of the run returns to its first state, the greatest priority of the part has the winner's parity
       pub parity_of_part : greatest_from (priority_at board.auto w) from count % 2 ≡ winner_at_start certificate
       parity_of_part = cc (top_is, won_loop)

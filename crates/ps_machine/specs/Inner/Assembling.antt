@@ -1,6 +1,6 @@
 -- The parts from which a machine is assembled. (For private functions.)
 --     AreDrawn .. t rows nodes n      the first n memory states have their diagrams, and the rows are the player's
---     AreListedBelow n is list      the numbers less than n with that property, ascending
+--     AreListedBelow n is list      the numbers less than n that pass the test `is`, ascending
 --     IsAssembled .. m      the machine's propositions, diagrams and rows are right
 --     machine_of player is_first propositions diagrams      the player's machine with these propositions and diagrams
 --     HasRoles is_first board inputs outputs      which propositions are read and which are output

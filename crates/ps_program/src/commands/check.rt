@@ -31,7 +31,7 @@ pub fn closed(alloc: Global, texts: &[u8]) -> Result<Answer, Refusal>
 ///
 /// # Errors
 ///
-/// As for `closed`; wrong counts are reported last.
+/// Fails like `closed`; in addition, wrong counts are reported, after all other flaws.
 pub fn check(alloc: Global, texts: &[u8]) -> Result<Answer, Refusal>
     ensures { Gives reply_of (AnswersCheck texts.now) result }
 {

@@ -20,7 +20,7 @@ use std::alloc::Global;
 ///
 /// # Errors
 ///
-/// As for `read_game_of`.
+/// Fails like `read_game_of`.
 pub fn game(alloc: Global, order: Order, text: &[u8]) -> Result<Answer, Refusal>
     ensures { Gives reply_of (AnswersGameText order text.now) result }
 {

@@ -63,7 +63,7 @@ fn read_solved(alloc: Global, texts: &[u8]) -> Result<(NamedGame, Solution), Ref
     Ok((game, solution))
 }
 
-/// The solution of the game that a text contains.
+/// Parses a text as a solution of the game.
 fn read_solution(alloc: Global, game: &NamedGame, text: &[u8]) -> Result<Solution, Refusal>
     ensures read { Gives (λ solution. solution) (ReadsSolutionText game.now text.now) result }
     ensures places { IfOk result (HasPlaces game.now) }

@@ -163,7 +163,7 @@ IsFirstError-end {text} {width} {split} {start} {s} h past wanted = record {
 
 -- ## The values of the code
 
--- the invariant holds for lists of letters that are equal
+-- the invariant also holds for any equal lists of letters
 pub HasRead-same : (text : List ℕ) (width : ℕ) (split in_lap in_lap' : Bool) (start : ℕ)
     (stem stem' lap lap' : List (List Bool)) → in_lap ≡ in_lap' → stem ≡ stem' → lap ≡ lap'
     → HasRead text width split in_lap start (record { stem = stem; lap = lap }) →

@@ -4,7 +4,7 @@
 --     larger      the part is also lawful with larger sets
 --     chained, next, tight      a chain of any two parts; neither part is empty; no sign continues the first part
 --     given, mapped_by, either_of, or_nothing, many_by, many_of, one_sign, run_by      the laws of other combinators
---     byte_of, word_of, word_from, chain_word      the laws of bytes and words
+--     byte_of, word_of, chain_word      the laws of bytes and words
 use Rattle.std.proofs.Common.{◌≡◌, ◌⊎◌, ℕ, Bool, true, List, [], ◌∷◌, Option, Some, rules}
 use Rattle.ps_text.specs.Parts.{Part, give, one, then_by, either, many, mapped}
 use Rattle.ps_text.specs.Outcomes.{HasOutcomes}

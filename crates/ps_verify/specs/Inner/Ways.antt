@@ -1,6 +1,6 @@
 -- Ways to a vertex. The list `firsts` has, for each vertex, the first vertex that has an edge to it.
 --     HasLowered game v count old new      the entries of v's first successors are lowered to v, if larger
---     AreFirsts game n firsts      for each vertex the first vertex less than n with an edge to it, if earlier
+--     AreFirsts game n firsts      the entry of w is w or, if smaller, the first vertex less than n with an edge to w
 --     IsWayBy firsts way v      the vertex before each vertex of the way is its entry in `firsts`
 --     IsWayTo game way v      a path from vertex 0
 use Rattle.std.specs.Prelude.{◌≡◌, ℕ, ◌+◌, ◌<◌, ◌≤◌, ◌⊎◌, List, length, slice_index}

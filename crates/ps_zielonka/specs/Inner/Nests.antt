@@ -139,7 +139,7 @@ pub record IsTop (game : ParityGame) (order : List ℕ) (cursor behind : ℕ) (j
   pub parity : priority_of game v % 2 ≡ priority_of game (slice_index order cursor) % 2
   pub just : just_greatest ≡ true → priority_of game v ≡ priority_of game (slice_index order cursor)
 
--- The free vertices of the order from index `cursor` up to `behind` are placed. Each vertex among them has the greatest
+-- The free vertices of the order from index `cursor` up to `behind` are placed. Each placed vertex has the greatest
 -- priority or, unless `just_greatest` is true, a priority of the same parity
 pub record ArePlaced (game : ParityGame) (aim : Aim) (old new : TablesData) (order : List ℕ) (cursor behind : ℕ)
     (just_greatest : Bool) : Type 0 where
