@@ -1,9 +1,9 @@
--- What is known of the value of a part of a text without errors. A part is judged by the bytes that follow, so its signs
--- carry these bytes (Placed).
---     Safe part Good      the value is good, whatever follows the part
---     Followed part Good      the value is good, if a space, a tab or a newline follows, or nothing
---     followed_number, followed_field      a number is not an error
---     safe_then, safe_before, safe_mapped, safe_times, safe_many      the combinators
+-- What is known of the value of a part, if the part has no error. Errors also depend on the bytes after a part, so the
+-- signs carry those bytes (Placed).
+--     Safe part Good      the value has the property Good, whatever follows the part
+--     Followed part Good      the value has the property Good, if a space, a tab, a newline or the end follows
+--     followed_number, followed_field      a number or a field without an error has a value that is not wrong
+--     safe_then, safe_before, safe_mapped, safe_times, safe_many      a part is safe if the combined parts are safe
 use Rattle.std.proofs.Common.{◌≡◌, ℕ, zero, suc, ◌+◌, List, [], ◌∷◌, ◌++◌, Some, refl, sym, ap}
 use Rattle.std.proofs.Common.{subst, inl, inr, ◌∙◌, append_assoc, arith}
 use Rattle.std.proofs.lemmas.Bool.{cases_Bool}
@@ -74,7 +74,7 @@ module _ {A B : Type 0} (P : Field A) (Q : A → Field B) where
       (ap (λ (z : List Seen). left ++ z) e ∙ sym (append_assoc left front (t ∷ back)))
       (inr (record { left = left; right = front; value = a; split = refl; is_left = h; is_cause = c }))
 
--- the text of two parts, and what follows
+-- the text of two parts and the text after them may be divided after the first part
 placed_parts : (text left right rest : List Seen) → text ≡ left ++ right → Placed (text ++ rest) →
     Placed (left ++ (right ++ rest))
 placed_parts text left right rest e placed =

@@ -1,6 +1,6 @@
 -- A text without errors describes a circuit.
---     safe_input, safe_latch, safe_output, safe_gate      one line of each kind
---     safe_names, safe_header, safe_body      the names, the first line, and what follows it
+--     safe_input, safe_latch, safe_output, safe_gate      a line of each kind adds what its value defines and reads
+--     safe_names, safe_header, safe_body      the names, the first line, and the text after it have sound values
 --     circuit_is_sound      the law `read_circuit_is_circuit`
 use Rattle.std.proofs.Common.{◌≡◌, ◌≢◌, ℕ, ◌^◌, ◌<◌, List, [], ◌∷◌, ◌++◌, length, Option, None, Some}
 use Rattle.std.proofs.Common.{All, append-nil, Ok, refl, sym, subst, inl, inr, ◌∙◌, rules}
@@ -35,7 +35,7 @@ use Rattle.ps_circuit.proofs.TextLaws.{chain_1, chain_first, chain_next, laws_en
 
 -- ## Lines
 
--- a definition that is no error defines a new variable
+-- a definition without an error defines a new variable
 defines_right : (most : ℕ) (defined : List ℕ) (l : Number) → IsRight (WrongDefinition most defined) l →
     Defines most defined (l.value ∷ []) (defined ++ variable l.value ∷ [])
 defines_right most defined l right = elim (decide_definition most l.value) [

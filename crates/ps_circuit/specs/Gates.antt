@@ -57,8 +57,8 @@ mux_of d s high low =
     else if low == 1 then or_of d (negated s) high
     else chosen_of d s high low
 
--- What a call gives that makes these gates. Its literal is that of `all`, and has the value `value v` where v meets the
--- gates.
+-- The result of a call that makes the gates `all`. The literal of the result is the literal of `all`, and has the value
+-- `value v` if v satisfies the gates.
 pub record MakesGates (old new : Drafted) (result : Result ℕ EncodeFault) (all : Made) (value : (ℕ → Bool) → Bool)
     (Needs : Type 0) : Type 0 where
   -- the existing gates remain, also if the call fails
@@ -66,7 +66,8 @@ pub record MakesGates (old new : Drafted) (result : Result ℕ EncodeFault) (all
   pub held : IfOk result (IsHeld new)
   pub bit : IfOk result (λ literal. (v : ℕ → Bool) → MeetsEquations new v → bit v literal ≡ value v)
   pub made : IfOk result (λ literal. all ≡ record { draft = new; literal = literal })
-  -- if it fails for want of a variable, then all variables exist, a further one is needed, and the gates need too many
+  -- if the call fails because no variable is left, all variables exist, a further one is needed, and the gates need too
+  -- many
   pub too_large : result ≡ Err CircuitTooLarge → IsFull new
   pub needed : result ≡ Err CircuitTooLarge → Needs
   pub above : result ≡ Err CircuitTooLarge → HasTooMany all.draft

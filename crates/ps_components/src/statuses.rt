@@ -98,7 +98,7 @@ impl Statuses {
         }
     }
 
-    /// Statuses an item as active, at index `place` of the path.
+    /// Marks an item as active, at index `place` of the path.
     pub fn put(&mut self, item: usize, place: usize) -> Result<(), AllocError>
         requires item { item < length self.old }
         requires place { place + 1 < 2 ^ 63 }
@@ -120,7 +120,7 @@ impl Statuses {
         Ok(())
     }
 
-    /// Statuses an item as closed, in the component with the given number.
+    /// Marks an item as closed, in the component with the given number.
     pub fn close(&mut self, item: usize, number: usize) -> Result<(), AllocError>
         requires item { item < length self.old }
         requires number { number < 2 ^ 63 }

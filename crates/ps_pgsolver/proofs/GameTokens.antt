@@ -265,6 +265,6 @@ lexed (suc k) before w l = step before w (λ before' w' m. lexed k before' w' (o
 pub tokens_found : (text : List ℕ) → AreGameTokens text (stream_of text)
 tokens_found text = (lexed (suc (length text)) [] text (omega arith), refl)
 
--- the tokens of a text are those of its stream
+-- each list of tokens of a text is the stream of the text
 pub only_tokens : (text : List ℕ) (s : Stream Sign) → AreGameTokens text s → s ≡ stream_of text
 only_tokens text s h = search (rules, has_one_tokenisation, tokens_differ, tokens_found)

@@ -1,5 +1,5 @@
 -- A circuit has the symbols of a role, or it does not: there are only finitely many symbols and names to compare.
---     decide_all, decide_some      each number below a bound has a property, or some number
+--     decide_all, decide_some      it is decidable whether all, or some, numbers below a bound have a property
 --     symbols_decided      the law `symbols_are_decided`
 use Rattle.std.proofs.Common.{◌≡◌, ℕ, zero, suc, ◌<◌, ◌⊎◌, inl, inr, Bool, List, [], length, Option, None}
 use Rattle.std.proofs.Common.{Some, sym, subst, arith, rules}
@@ -74,7 +74,7 @@ module _ (names : List (List ℕ)) (controllable : List ℕ) (wanted : Bool) (sy
       (λ found. (found.0, within symbols found.0 (slice_index_or names p []) found.1.is, found.1))
       (decide_some (λ k. IsSymbol names symbols k p) (length symbols) (λ k. decide_symbol k p)))
 
-  -- the symbol is that of a wanted proposition
+  -- it is decidable whether the symbol k names a wanted proposition
   decide_one_of : (k : ℕ) →
       Decided ((p : ℕ) × IsSymbol names symbols k p × (is_among p controllable ≡ wanted))
   decide_one_of k = decide_as (λ found. (found.0, found.2.0, found.2.1))

@@ -6,12 +6,12 @@ use Rattle.std.proofs.Math.Path.{fun_ext}
 use Rattle.std.proofs.lemmas.Bool.{cases_lt, leb-true, le-leb, lt-leb}
 use Rattle.ps_zielonka.specs.Inner.Nests.{from, size_from}
 
--- a vertex of the set has at least that level
+-- a vertex of the set has level c or higher
 pub from_at : (levels : List ℕ) (c v : ℕ) → IsTrue (from levels c v) → c ≤ get_or levels v 0
 unfolding from
 from_at levels c v inside = leb-true c (get_or levels v 0) inside
 
--- a vertex of at least that level is in the set
+-- a vertex of level c or higher is in the set
 pub to_from : (levels : List ℕ) (c v : ℕ) → c ≤ get_or levels v 0 → IsTrue (from levels c v)
 unfolding from
 to_from levels c v high = le-leb c (get_or levels v 0) high

@@ -106,8 +106,8 @@ fn solved_nest<A: Arena, W: Width>(alloc: Global, arena: &A) -> Result<Nest<W>, 
     Ok(nest)
 }
 
-/// The region and the two strategies of a nest in which each vertex is decided. Its depth is written to `depth`. Fails
-/// if out of memory.
+/// The region and the two strategies of a nest that has decided each vertex. The depth of the nest is written to
+/// `depth`. Fails if out of memory.
 fn answer_by<A: Arena, W: Width>(
     alloc: Global,
     arena: &A,

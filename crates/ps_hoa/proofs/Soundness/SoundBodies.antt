@@ -1,5 +1,5 @@
 -- Properties of the states and edges of a parsed body.
---     edges_within      the limit on edges, and the state, of a row whose edges were parsed
+--     edges_within      a row whose edges were parsed keeps the limit on edges, and belongs to its state
 --     keeps_body      the properties hold for each body
 use Rattle.std.proofs.Common.{◌≡◌, ℕ, suc, ◌+◌, ◌-◌, ◌<◌, ◌≤◌, ◌⊎◌, false, List, [], ◌∷◌, ◌++◌, length, Option, None}
 use Rattle.std.proofs.Common.{Some, refl, sym, ap, subst, inl, inr, ◌∙◌, arith, length-append, rules}
@@ -131,7 +131,7 @@ pub record IsRowKept (h : HeaderData) (row : RowData) : Type 0 where
   pub edges : AllByRecursion (IsEdgeKept h) row.edges
   pub labelled : LabelledBy row.label row.edges
 
--- what allows an edge with a label after this row
+-- after the row, the text may have one more edge, with a label
 abbrev MayBegin : ℕ → RowData → Type 0
 MayBegin before row = (edge_limit ≤ before + length row.edges → ⊥) × ((MayHaveLabel (labelling row) → ⊥) → ⊥)
 
@@ -168,7 +168,7 @@ module _ (h : HeaderData) (before n : ℕ) where
   edges_within row k r = keeps_read (edges h before row) (keeps_many (edge h before)
       (λ other l. keeps_either (labelled_within other l) (plain_within other l)) row k) _ _ _ r.1
 
--- a row with the properties of a row
+-- a row that keeps the properties of rows, and belongs to state n
 module _ (h : HeaderData) (before : ℕ) (n : ℕ) where
   abbrev RowOf : RowData → Type 0
   RowOf row = IsRowKept h row × IsRowOf before n row

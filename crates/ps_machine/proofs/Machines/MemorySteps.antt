@@ -63,7 +63,7 @@ module _ (is_first : Bool) (keys : List Key) (used : List ℕ) where
       AreMemoriesBelow kept anchors n → AreMemoriesBelow kept anchors (n + 1)
   below_skip {kept} {n} none m = search (rules, all_less, less_or_last)
 
-  -- a anchor that has occurred has a memory state
+  -- an anchor that has occurred has a memory state
   came_has : {kept anchors : List ℕ} {n anchor : ℕ} → AreMemoriesBelow kept anchors n → Contains anchors anchor →
       HasMemory kept anchors n anchor
   came_has {kept} {anchors} {anchor} m came = search (rules, slice_get-get_or)
