@@ -17,7 +17,7 @@ pub fn some_answer()
     ensures { (text : List ℕ) → (answer : Result CircuitData (Found AigCause)) × ReadsCircuit text answer }
 {}
 
-/// What a text describes is a circuit.
+/// The value of a text without errors is a circuit.
 pub fn read_circuit_is_circuit()
     ensures { (text : List ℕ) (c : CircuitData) → ReadsCircuit text (Ok c) → IsCircuit c }
 {}

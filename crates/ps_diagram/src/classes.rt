@@ -195,7 +195,7 @@ impl Store {
         self.tested(proposition, low, high, tests)
     }
 
-    /// The diagram whose leaf at a letter is a node that tests the proposition. The sides of this node are the nodes to
+    /// The diagram whose leaf at a letter is a node that tests the proposition; the sides of this leaf are the nodes to
     /// which `low` and `high` lead the letter.
     fn tested(
         &mut self,

@@ -24,7 +24,7 @@ pub fn some_answer()
     ensures { (text : List ℕ) → (answer : Result NamedGameData (Found PgCause)) × Answer text answer }
 {}
 
-/// What a text describes is a game, with an id for each vertex.
+/// The value of a text without errors is a game, with an id for each vertex.
 pub fn read_game_is_game()
     ensures { (text : List ℕ) (named : NamedGameData) → Answer text (Ok named) →
         IsGame named.game × (length named.ids ≡ vertex_count named.game) }

@@ -17,7 +17,7 @@ pub level : (y : ℕ → ℕ) (k : ℕ) → y k ≡ y 0 → ((t : ℕ) → t < k
 level y k closes steps t within =
     grind (arith, falling y k steps 0 t (omega arith) within, falling y k steps t k within (omega arith))
 
--- no number decreases at each step
+-- along a walk that returns to its first vertex, no rank decreases at every step
 pub no_descent : (rank : ℕ → ℕ) (walk : ℕ → ℕ) (k : ℕ) → 0 < k → walk k ≡ walk 0 →
     ((t : ℕ) → t < k → rank (walk (t + 1)) < rank (walk t)) → ⊥
 no_descent rank walk k some closes falls =
