@@ -497,7 +497,7 @@ impl<'a> Tokens<'a> {
         ensures rest { stream_of self.new ≡ behind_next (stream_of self.old) }
         ensures text { IsSpan self.old.source result }
         ensures source { self.new.source ≡ self.old.source }
-        // By these two clauses, a token never starts before the previous token stops.
+        // By the clauses `start` and `rises`, a token never starts before the previous token stops.
         ensures start { result.start ≡ self.old.at }
         ensures rises { result.stop ≤ self.new.at }
     {
