@@ -75,8 +75,9 @@ abbrev pub IsChoice : Drafted → (s high low x y : ℕ) → Type 0
 IsChoice d s high low x y =
     (v : ℕ → Bool) → MeetsEquations d v → (bit v x || bit v y) ≡ (if bit v s then bit v high else bit v low)
 
--- A choice needs a new gate if there is no gate yet for one of its three conjunctions. The first is of `s` and `high`,
--- the second is of `low` and the negation of `s`, and the choice is the negation of the third.
+-- A choice is built from three conjunctions: of `s` and `high`; of the negation of `s` and `low`; and of the negations
+-- of these two conjunctions, whose own negation is the choice. A choice needs a new gate if one of its three
+-- conjunctions has no gate yet.
 pub data NeedsChoice (d : Drafted) (s high low : ℕ) : Type 0 where
   for_high : NeedsGate d s high → NeedsChoice d s high low
   for_low : NeedsGate d (negated s) low → NeedsChoice d s high low

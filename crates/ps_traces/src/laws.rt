@@ -117,7 +117,7 @@ pub fn circuit_has_shape()
         IsMachineFor order role file m → Encodes m c → HasShape order role file c }
 {}
 
-/// The preceding laws together: the properties of the circuit of the winner's machine.
+/// The circuit of the winner's machine has all properties of a winner's circuit.
 pub fn circuit_answers()
     ensures { (order : Order) (file : FileData) (m : Behaviour) (c : CircuitData) → IsMachine m →
         IsMachineFor order (role_of m.player) file m → Encodes m c → LassosWon file m →
