@@ -5,7 +5,7 @@
 --     Leads P old Q now      if Q, read from `now`, stops at an error, then P, read from `old`, stops at the same error
 --     here, first      a part leads to itself, and two parts in a row lead to the first
 --     behind      two parts in a row, of which the first was parsed, lead to what the second leads to
---     under      a part leads to the same part with another value
+--     under      a part whose value is mapped leads to the part itself
 --     instead      if each result of P is also a result of Q, then Q leads to what P leads to
 --     exit      at a `?`: the function returns the error that was found
 --     entered      a token that begins the first of two parts begins both
