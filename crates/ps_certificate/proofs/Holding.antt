@@ -1,6 +1,6 @@
 -- The moves of a valid certificate win every loop of a path that follows them. Suppose that the winner loses a loop.
 -- Along the edges of the loop, the count for the loop's priority never rises, and it falls at the vertex that has that
--- priority. But the loop ends at the vertex where it begins, so the count is the same at both ends.
+-- priority. But a loop ends at the vertex at which it begins, so the count is the same at both ends of the loop.
 use Rattle.std.proofs.Common.{◌≡◌, ◌≢◌, ℕ, ◌+◌, ◌-◌, ◌%◌, ◌<◌, ◌≤◌, ◌∙◌, List, length, inl, inr, sym, ap, arith, zero}
 use Rattle.std.proofs.Common.{suc, rules}
 use Rattle.std.specs.Prelude.{slice_index}

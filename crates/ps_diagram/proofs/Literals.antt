@@ -145,8 +145,8 @@ unfolding all_allowed
 meets_none f level zero = refl
 meets_none f level (suc n) = rw (none_allows level (f level)) (meets_none f (level + 1) n)
 
--- The tree has the leaf `value` where the product allows the values of all propositions that are at least `level` and
--- less than n. Elsewhere it has no leaf.
+-- The tree has the leaf `value` at letters at which the product allows the values of all propositions that are at least
+-- `level` and less than n, and no leaf at other letters.
 pub record IsProduct (value n level : ℕ) (product : Product) (t : Tree) : Type 0 where
   pub leaf : (f : ℕ → Bool) → leaf_at t f ≡ leaf_where value (all_allowed (allows product) f level (n - level))
 

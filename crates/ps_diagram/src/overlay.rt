@@ -15,7 +15,8 @@ use crate::store::Store;
 use crate::view::Node;
 
 impl Store {
-    /// The diagram that has the leaf of the first node, or, where that has none, the leaf of the second.
+    /// The diagram that has, at each letter, the leaf of the first node, or the leaf of the second node if the first
+    /// has none.
     ///
     /// # Errors
     ///

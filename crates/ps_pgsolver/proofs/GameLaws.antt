@@ -54,7 +54,7 @@ IsWord word t = t ≡ Word word
 pub same_word : {word letters : List ℕ} {v : Unit {0}} → keyword_in word (Word letters) ≡ Some v → letters ≡ word
 same_word {word} {letters} {v} e = search (rules, bytes_eq-Decides, none_is_some, cases_Bool)
 
--- a keyword is taken where that word is next
+-- the part of a keyword takes this word if it is next
 pub takes_word : (word : List ℕ) → keyword_in word (Word word) ≡ Some tt
 takes_word word = ap (λ b. cond b (Some tt) None) ((bytes_eq-Decides word word).1 refl)
 

@@ -43,7 +43,7 @@ Any s = Unit {0}
 abbrev pub seen : ℕ → Seen
 seen b = record { byte = b; at = 0; behind = [] }
 
--- a byte is taken where that byte is next
+-- the part of a byte takes this byte if it is next
 pub byte_taken : {b : ℕ} (s : Seen) → s.byte ≡ b → take_byte b s ≡ Some tt
 byte_taken {b} s e = ap (λ x. cond x (Some tt) None) (eq-eqb s.byte b e)
 
