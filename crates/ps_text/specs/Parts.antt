@@ -9,7 +9,7 @@
 -- The combinators:
 --     give v      no sign, with the value v
 --     one take Bad      one sign, whose value `take` gives; Bad states which errors a sign has here
---     then_by P (λ a. Q a)      P and then Q, which may depend on the value a of P; the value is Q's
+--     then_by P Q      P and then Q a, for the value a of P; the value of Q a is the value of both
 --     either P Q      a text of P or a text of Q
 --     times n item c, many item c      n items, or any number of items, in a row; c is the context of the first
 --     mapped h P      P with the value h v in place of v

@@ -2,7 +2,8 @@
 --     lines_of items noted      the lines of one kind that were read
 --     TellsField, TellsCount, TellsHeader, TellsDraft      the results for a field, a count, the header, the text
 --     AddsInput, AddsLatch, AddsOutput, AddsGate      one more line was read, of an input, a latch, an output or a gate
---     IsRow, Grown      a kind of lines that are read one after another; the lines after any number of further lines
+--     IsRow      lines of the kind are read one after another
+--     Grown      any number of lines was added
 use Rattle.std.specs.Prelude.{◌≡◌, ◌≢◌, ℕ, ◌-◌, ◌<◌, ◌⊎◌, Bool, List, [], ◌∷◌, ◌++◌, slice_index_or, slice_get, length}
 use Rattle.std.specs.Prelude.{map, All, AllPairs, Contains, Option, None, Some, Result, Ok, Err}
 use Rattle.ps_text.specs.Answers.{Stream, Found}
