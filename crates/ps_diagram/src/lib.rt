@@ -24,7 +24,7 @@
 //! | `relabel_from(other, node, values)` | as `relabel`, for a node of another store |
 //! | `composed_from(other, node, truths)` | the leaf of a node of another store at the letter that the truths form |
 //!
-//! Each of these calls, also one that fails, keeps every node, with the same leaf at each letter (`Keeps`). `eval`,
+//! Each call of the table, also one that fails, keeps every node, with the same leaf at each letter (`Keeps`). `eval`,
 //! `same` and `view` read a node and use no memory. `leaves` lists the leaves of a node, each with the least letter
 //! that leads to it; `path_to` finds this letter for one leaf. `classes(node, split)` divides the letters over the
 //! propositions of `split` into classes. Two letters of a class lead to the same leaf for all truth values of the other
