@@ -165,7 +165,7 @@ module _ (order : Order) (compact full : Bool) where
 
 -- ---- the answers
 
--- what a solver may answer that replays a text
+-- what a solver that replays a text may answer
 record Replayed (game : NamedGameData) (fed : Option (List ℕ))
     (answer : Result CertificateData (Found CertCause)) : Type 0 where
   certificate : List ℕ
