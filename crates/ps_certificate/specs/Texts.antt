@@ -11,11 +11,12 @@
 -- priority that opposes the winner: odd ones if player 0 wins, even ones if player 1 wins. The move is the id of a
 -- vertex or `-`. The compact text, on the right, has only the nonzero counts, each after its priority, with ascending
 -- priorities. A text that does not have this form is rejected with fault 53 (`Syntax`). The form allows any number as
--- the number of vertices, as a priority, as an id and as a move, and any number of listed priorities. Fault 53 at the
--- first digit of a number rejects a number that does not fit in 64 bits, a count of 0 after its priority, and a count's
--- priority that is not greater than the previous one in the line, if a space, a newline or a colon follows the
--- priority. A text is rejected with fault 54 (`OtherGame`) at a number that does not fit the game, if a space, a
--- newline or a colon follows the number. The fault is also 54 at a newline that comes before all priorities were given.
+-- the number of vertices, as a priority, as an id and as a move, and any number of listed priorities. A number is
+-- rejected with fault 53 at its first digit if it does not fit in 64 bits, or is a count of 0 after its priority. So is
+-- the priority of a count if it is not greater than the previous priority in the line, and a space, a newline or a
+-- colon follows it. A text is rejected with fault 54 (`OtherGame`) at a number that does not fit the game, if a space,
+-- a newline or a colon follows the number. The fault is also 54 at a newline that comes before all priorities were
+-- given.
 use Rattle.std.specs.Prelude.{◌≡◌, ◌≢◌, ℕ, zero, suc, ◌^◌, ◌<◌, ◌≤◌, ◌⊎◌, List, [], ◌∷◌, ◌++◌, length, map, drop}
 use Rattle.std.specs.Prelude.{Option, Some, None, Result, Bool, true, false, ◌==◌, if◌then◌else◌, slice_get, position}
 use Rattle.std.specs.List.{Contains}

@@ -21,8 +21,7 @@ weight_from k None x = 0
 weight_from k (Some None) x = 0
 weight_from k (Some (Some m)) x = if nat_le k m then x else 0
 
--- the sum of the weights of some of the first n vertices, namely of the vertices in components with numbers of at least
--- k
+-- the sum of the weights of the vertices less than n whose components have numbers of at least k
 abbrev pub weights_from : ComponentsData → (ℕ → ℕ) → ℕ → ℕ → ℕ
 weights_from c weight k n = sum_below (λ v. weight_from k (slice_get c.numbers v) (weight v)) n
 
