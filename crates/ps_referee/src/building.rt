@@ -1,4 +1,4 @@
-//! Certificates of a claimed solution: without counts, and with the counts of both players.
+//! Claimed solutions, and their certificates: without counts, and with the counts of both players.
 
 ghost use Rattle.std.specs.Prelude.{◌≡◌, ◌<◌, length, [], Some, IfOk, OnOk, ◌++◌, ◌∷◌};
 ghost use Rattle.ps_game.specs.Games.{vertex_count};
@@ -10,20 +10,31 @@ use ps_game::{Arena, Region, Strategy};
 use ps_measure::CountTable;
 use std::alloc::{AllocError, Global};
 
+/// A claimed solution of a game.
+#[derive(Drop)]
+pub(crate) struct Solution<'a, A: Arena> {
+    /// The game.
+    pub(crate) arena: &'a A,
+    /// The vertices that player 0 wins.
+    pub(crate) won: &'a Region,
+    /// The moves of player 0.
+    pub(crate) first: &'a Strategy,
+    /// The moves of player 1.
+    pub(crate) second: &'a Strategy,
+    ghost sized: { AreSizedFor (A.game arena.now) won.now first.now second.now },
+}
+
 /// The claim about a game, as a certificate without priorities and counts.
 pub(crate) fn claim_of<A: Arena>(
     alloc: Global,
-    arena: &A,
-    won: &Region,
-    first: &Strategy,
-    second: &Strategy,
+    solution: &Solution<'_, A>,
 ) -> Result<Certificate, AllocError>
-    requires sized { AreSizedFor (A.game arena.now) won.now first.now second.now }
-    ensures { IfOk result (λ claim. claim ≡ claimed (A.game arena.now) won.now first.now second.now) }
+    ensures { IfOk result (λ claim. claim ≡
+        claimed (A.game solution.now.arena.now) solution.now.won.now solution.now.first.now solution.now.second.now) }
 {
-    let mut entries = Entries::with_capacity(alloc, arena.count())?;
-    for vertex in 0..arena.count() {
-        entries.push(&claim_at(arena, vertex, won, first, second, &[]))?;
+    let mut entries = Entries::with_capacity(alloc, solution.arena.count())?;
+    for vertex in 0..solution.arena.count() {
+        entries.push(&claim_at(solution, vertex, &[]))?;
     }
     Ok(Certificate {
         odd: Vec::new(alloc),
@@ -35,24 +46,22 @@ pub(crate) fn claim_of<A: Arena>(
 /// The claim about each vertex, with the counts that the winner has for that vertex.
 pub(crate) fn entries_of<A: Arena>(
     alloc: Global,
-    arena: &A,
-    won: &Region,
-    first: &Strategy,
-    second: &Strategy,
+    solution: &Solution<'_, A>,
     first_rows: &CountTable,
     second_rows: &CountTable,
 ) -> Result<Entries, AllocError>
-    requires sized { AreSizedFor (A.game arena.now) won.now first.now second.now }
-    requires first_rows { length first_rows.now ≡ vertex_count (A.game arena.now) }
-    requires second_rows { length second_rows.now ≡ vertex_count (A.game arena.now) }
-    ensures { IfOk result (λ entries. entries ≡ claims (A.game arena.now) won.now first.now second.now
-        (winner_row won.now first_rows.now second_rows.now) (vertex_count (A.game arena.now))) }
+    requires first_rows { length first_rows.now ≡ vertex_count (A.game solution.now.arena.now) }
+    requires second_rows { length second_rows.now ≡ vertex_count (A.game solution.now.arena.now) }
+    ensures { IfOk result (λ entries. entries ≡ claims (A.game solution.now.arena.now)
+        solution.now.won.now solution.now.first.now solution.now.second.now
+        (winner_row solution.now.won.now first_rows.now second_rows.now)
+        (vertex_count (A.game solution.now.arena.now))) }
 {
-    let mut entries = Entries::with_capacity(alloc, arena.count())?;
+    let mut entries = Entries::with_capacity(alloc, solution.arena.count())?;
     let mut row = Vec::new(alloc);
-    for vertex in 0..arena.count() {
-        winner_row(vertex, won, first_rows, second_rows, &mut row)?;
-        entries.push(&claim_at(arena, vertex, won, first, second, &row))?;
+    for vertex in 0..solution.arena.count() {
+        winner_row(vertex, solution.won, first_rows, second_rows, &mut row)?;
+        entries.push(&claim_at(solution, vertex, &row))?;
     }
     Ok(entries)
 }
@@ -79,24 +88,18 @@ fn winner_row(
 }
 
 /// The claim about a vertex, with the given counts.
-fn claim_at<'a, A: Arena>(
-    arena: &A,
-    vertex: usize,
-    won: &Region,
-    first: &Strategy,
-    second: &Strategy,
-    counts: &'a [u64],
-) -> Entry<'a>
-    requires vertex { vertex < vertex_count (A.game arena.now) }
-    requires sized { AreSizedFor (A.game arena.now) won.now first.now second.now }
-    ensures { result ≡ claim_with (A.game arena.now) won.now first.now second.now vertex counts.now }
+fn claim_at<'a, A: Arena>(solution: &Solution<'_, A>, vertex: usize, counts: &'a [u64]) -> Entry<'a>
+    requires { vertex < vertex_count (A.game solution.now.arena.now) }
+    ensures { result ≡ claim_with (A.game solution.now.arena.now) solution.now.won.now solution.now.first.now
+        solution.now.second.now
+        vertex counts.now }
 {
-    let (winner, moves) = if won.contains(vertex) {
-        (0, first)
+    let (winner, moves) = if solution.won.contains(vertex) {
+        (0, solution.first)
     } else {
-        (1, second)
+        (1, solution.second)
     };
-    let choice = if arena.owner(vertex) == winner {
+    let choice = if solution.arena.owner(vertex) == winner {
         moves.get(vertex)
     } else {
         None

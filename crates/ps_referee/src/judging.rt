@@ -9,7 +9,7 @@ ghost use Rattle.ps_referee.specs.Solutions.{claimed, AreSizedFor, IsCertificate
 ghost use Rattle.ps_referee.specs.Solutions.{IsOutOfMemory};
 ghost use Rattle.ps_referee.specs.Inner.Counting.{IsLostIn};
 
-use crate::building::{claim_of, entries_of};
+use crate::building::{Solution, claim_of, entries_of};
 use crate::fault::JudgeFault;
 use ps_certificate::{Certificate, closed};
 use ps_game::{Arena, Counts, Region, Strategy};
@@ -44,8 +44,14 @@ pub fn judge<A: Arena>(
     ensures refused { IfErr result (IsRefusal (A.game arena.now) won.now first.now second.now) }
 {
     let _vertices = arena.count();
-    closing(alloc, arena, won, first, second)?;
-    counting(alloc, arena, won, first, second)
+    let solution = Solution {
+        arena,
+        won,
+        first,
+        second,
+    };
+    closing(alloc, &solution)?;
+    counting(alloc, &solution)
 }
 
 /// The certificate of a solution. The solution is known to hold, and is not judged. The certificate has the solution's
@@ -64,7 +70,13 @@ pub fn certificate_of_solution<A: Arena>(
     ensures certificate { IfOk result (IsCertificateOf (A.game arena.now) won.now first.now second.now) }
 {
     let _vertices = arena.count();
-    match counting(alloc, arena, won, first, second) {
+    let solution = Solution {
+        arena,
+        won,
+        first,
+        second,
+    };
+    match counting(alloc, &solution) {
         Ok(certificate) => Ok(certificate),
         Err(JudgeFault::OutOfMemory) => Err(AllocError),
         Err(JudgeFault::Unclosed(_)) => unreachable!(),
@@ -78,20 +90,15 @@ pub fn certificate_of_solution<A: Arena>(
 }
 
 /// Checks that no move of a solution is wrong, and that each remaining edge leads to a vertex with the same winner.
-fn closing<A: Arena>(
-    alloc: Global,
-    arena: &A,
-    won: &Region,
-    first: &Strategy,
-    second: &Strategy,
-) -> Result<(), JudgeFault>
-    requires sized { AreSizedFor (A.game arena.now) won.now first.now second.now }
+fn closing<A: Arena>(alloc: Global, solution: &Solution<'_, A>) -> Result<(), JudgeFault>
     ensures closed { OnOk result
-        (IsClosed (A.game arena.now) (claimed (A.game arena.now) won.now first.now second.now)) }
-    ensures refused { IfErr result (IsRefusal (A.game arena.now) won.now first.now second.now) }
+        (IsClosed (A.game solution.now.arena.now) (claimed (A.game solution.now.arena.now) solution.now.won.now
+        solution.now.first.now solution.now.second.now)) }
+    ensures refused { IfErr result (IsRefusal (A.game solution.now.arena.now) solution.now.won.now
+        solution.now.first.now solution.now.second.now) }
 {
-    let claim = claim_of(alloc, arena, won, first, second)?;
-    match closed(arena, &claim) {
+    let claim = claim_of(alloc, solution)?;
+    match closed(solution.arena, &claim) {
         Ok(()) => Ok(()),
         Err(flaw) => Err(JudgeFault::Unclosed(flaw)),
     }
@@ -99,25 +106,22 @@ fn closing<A: Arena>(
 
 /// The certificate of a solution whose remaining edges all lead to vertices with the same winner, or a cycle that a
 /// player loses.
-fn counting<A: Arena>(
-    alloc: Global,
-    arena: &A,
-    won: &Region,
-    first: &Strategy,
-    second: &Strategy,
-) -> Result<Certificate, JudgeFault>
-    requires sized { AreSizedFor (A.game arena.now) won.now first.now second.now }
-    requires closed { IsClosed (A.game arena.now) (claimed (A.game arena.now) won.now first.now second.now) }
-    ensures solution { OnOk result (IsSolution (A.game arena.now) won.now first.now second.now) }
-    ensures certificate { IfOk result (IsCertificateOf (A.game arena.now) won.now first.now second.now) }
-    ensures refused { IfErr result (IsRefusal (A.game arena.now) won.now first.now second.now) }
+fn counting<A: Arena>(alloc: Global, solution: &Solution<'_, A>) -> Result<Certificate, JudgeFault>
+    requires { IsClosed (A.game solution.now.arena.now)
+        (claimed (A.game solution.now.arena.now) solution.now.won.now solution.now.first.now solution.now.second.now) }
+    ensures solution { OnOk result (IsSolution (A.game solution.now.arena.now) solution.now.won.now
+        solution.now.first.now solution.now.second.now) }
+    ensures certificate { IfOk result (IsCertificateOf (A.game solution.now.arena.now) solution.now.won.now
+        solution.now.first.now solution.now.second.now) }
+    ensures refused { IfErr result (IsRefusal (A.game solution.now.arena.now) solution.now.won.now
+        solution.now.first.now solution.now.second.now) }
 {
+    let arena = solution.arena;
     let _vertices = arena.count();
-    let lost = others(alloc, won)?;
-    let odd = counts_of(alloc, arena, 0, won, first)?;
-    let even = counts_of(alloc, arena, 1, &lost, second)?;
-    let (odd_rows, even_rows) = (&odd.counts, &even.counts);
-    let entries = entries_of(alloc, arena, won, first, second, odd_rows, even_rows)?;
+    let lost = others(alloc, solution.won)?;
+    let odd = counts_of(alloc, arena, 0, solution.won, solution.first)?;
+    let even = counts_of(alloc, arena, 1, &lost, solution.second)?;
+    let entries = entries_of(alloc, solution, &odd.counts, &even.counts)?;
     Ok(Certificate {
         odd: odd.priorities,
         even: even.priorities,

@@ -5,4 +5,5 @@ use Rattle.ps_referee.proofs.building.claim_of.Given as goal
 -- the entries are the claims about the vertices before the loop's index
 abbrev pub invariant-loop-vertex : goal.invariant-loop-vertex
 invariant-loop-vertex g l =
-    l.entries ≡ claims (g.A.Arena.game l.arena) l.won l.first l.second (λ _. []) l.vertex
+    l.entries ≡ claims (g.A.Arena.game l.solution.arena.now) l.solution.won.now l.solution.first.now
+    l.solution.second.now (λ _. []) l.vertex

@@ -5,5 +5,6 @@ use Rattle.ps_referee.proofs.building.entries_of.Given as goal
 -- the entries are the claims about the vertices before the loop's index, with their counts
 abbrev pub invariant-loop-vertex : goal.invariant-loop-vertex
 invariant-loop-vertex g l =
-    l.entries ≡ claims (g.A.Arena.game l.arena) l.won l.first l.second
-    (winner_row l.won l.first_rows l.second_rows) l.vertex
+    l.entries ≡ claims (g.A.Arena.game l.solution.arena.now) l.solution.won.now l.solution.first.now
+    l.solution.second.now
+    (winner_row l.solution.won.now l.first_rows l.second_rows) l.vertex

@@ -2,8 +2,8 @@
 use Rattle.ps_referee.proofs.Judged.{solution_closed, judged_err, only_memory}
 use Rattle.ps_referee.proofs.judging.certificate_of_solution.Goals as goal
 
-pub counting-requires-clause-closed : goal.counting-requires-clause-closed
-counting-requires-clause-closed g c =
+pub counting-requires : goal.counting-requires
+counting-requires g c =
     solution_closed (g.A.Arena.game c.args.arena.now) c.args.won.now c.args.first.now c.args.second.now
     c.count-vertices.ensures.well_formed c.requires.holds
 
