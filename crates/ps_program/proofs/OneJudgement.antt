@@ -60,7 +60,7 @@ module _ (order : Order) (role : Role) (file : FileData) (c : CircuitData) where
   told_one_or apart (Err l) (Ok t) h k = absurd (told_no_fault t l k h)
   told_one_or apart (Err l) (Err m) h k = inl (ap (err_of {V = Reply} {E = List ℕ}) (one_line l m h k))
 
--- the same holds for the texts of an automaton and a circuit
+-- two results for the texts of an automaton and a circuit are equal, or show two stimuli on which the circuit loses
 module _ (automata : (text : List ℕ) → IsOne (ReadsAutomaton text)) (circuits : (text : List ℕ) →
     IsOne (ReadsCircuitText text)) (apart : NotBoth) (order : Order) (role : Role) (x y : Result Reply (List ℕ)) where
   abbrev Alike : FileData → CircuitData → Type 0
