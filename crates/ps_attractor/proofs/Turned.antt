@@ -1,4 +1,5 @@
--- From the knowledge that the sources are right to the sources themselves: whether a list contains a number is decided.
+-- A truncated proof (`∥ .. ∥₁`) that lists are the sources of a game gives a proof of this, since it can be decided
+-- whether a list contains a number.
 use Rattle.std.proofs.Common.{◌==◌, ℕ, List}
 use Rattle.std.proofs.Math.Logic.{∥∥₁_elim, ∥∥₁_map}
 use Rattle.std.proofs.Props.{props}

@@ -12,7 +12,8 @@ stalls (Err e) bytes = false
 abbrev pub AppendsSome : Option (List ℕ) → Option (List ℕ) → List ℕ → Type 0
 AppendsSome before after text = (sent : List ℕ) × StartsWith text sent × Appends before after sent
 
--- A call failed, or a write accepted no bytes. Both can't be true, because nothing is written after either.
+-- Either a call failed, or a write accepted no bytes, but not both, because nothing is written after a failed call or
+-- after such a write.
 abbrev pub Breaks : (has_failed has_stalled : Bool) → Type 0
 Breaks has_failed has_stalled =
     ((has_failed ≡ true) × (has_stalled ≡ false)) ⊎ ((has_failed ≡ false) × (has_stalled ≡ true))
