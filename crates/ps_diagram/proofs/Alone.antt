@@ -12,7 +12,7 @@ use Rattle.ps_diagram.specs.Tree.{Tree, leaf_at, IsBlind, IsTestOf}
 use Rattle.ps_diagram.proofs.Cells.{bool_cases, true_is_not_false}
 
 -- The tree reads only propositions from `level` on. The tree has the leaf 1 at each letter that agrees with `letter` on
--- the propositions that are at least `level` and less than n. At every other letter, it has no leaf.
+-- the propositions that are at least `level` and less than n, and no leaf at other letters.
 pub record IsAlone (n level letter : ℕ) (t : Tree) : Type 0 where
   pub blind : IsBlind level t
   pub here : (f : ℕ → Bool) → ((q : ℕ) → level ≤ q → q < n → f q ≡ is_in q letter) → leaf_at t f ≡ Some 1
