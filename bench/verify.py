@@ -1,7 +1,7 @@
 #!/usr/bin/env python3
 """Judges printed circuits with a literal changed, by `verify` and by an enumeration; or times `verify`.
 
-  bench/verify.py PSYN --changed SEED [--literals N] [FILE..]
+  bench/verify.py PSYN --changed SEED [--literals N] [--most VERTICES] [FILE..]
   bench/verify.py PSYN --times RUNS [FILE..]
 
 A FILE is an HOA text. Where none is given, the automata are two of examples/files, those of the gallery and of bench/synth.py.
@@ -9,7 +9,8 @@ The circuits are those that `synth` prints, with and without --moore.
 
 --changed changes N literals of each circuit (50; all, where there are no more), which SEED draws, one at a time. What `verify`
 answers must be what an enumeration of the product in Python says (tools/tests/products.py), and `lasso` must confirm each
-counterexample. A line for each circuit has the answers, and how many products were too large.
+counterexample. A line for each circuit has the answers, and how many products had more than VERTICES vertices (50,000), or more
+than 20 inputs.
 
 --times has a line for each circuit: the least processor time of RUNS runs of `synth` and of `verify` of the same text, in
 turn, in seconds, and the second over the first. Where no FILE is given, there is also a circuit that copies 20 inputs to 20
@@ -19,6 +20,7 @@ import argparse
 import collections
 import dataclasses
 import glob
+import itertools
 import os
 import subprocess
 import sys
@@ -64,7 +66,11 @@ def cases(psyn, named):
     """For each automaton and either order a line's beginning, and the case."""
     for name, spec in named:
         for moore in (False, True):
-            case = changes.case_of(psyn, spec, moore)
+            try:
+                case = changes.case_of(psyn, spec, moore)
+            except changes.TooSlow as why:
+                print(f"{name:22} synth{' --moore' * moore}: {why}", flush=True)
+                continue
             made = circuit.read(case.text)
             role = ("environment" if case.env else "controller") + ", --moore" * moore
             sizes = f"{len(made.inputs):2} inputs {len(made.latches):3} latches {len(made.gates):6} gates"
@@ -126,7 +132,7 @@ def copies(psyn, count=20):
 
 
 def measure(psyn, runs, files):
-    for said, case in [*cases(psyn, automata(psyn, files)), *([] if files else copies(psyn))]:
+    for said, case in itertools.chain(cases(psyn, automata(psyn, files)), [] if files else copies(psyn)):
         flags = " --moore" * case.moore
         asked = (f"synth{flags}\n{case.spec}", f"verify{' --env' * case.env}{flags}\n{case.spec}%%\n{case.text}")
         found = [[timed(psyn, given.encode()) for given in asked] for _ in range(runs)]
@@ -139,10 +145,12 @@ def main():
     words.add_argument("psyn")
     words.add_argument("--changed")
     words.add_argument("--literals", type=int, default=LITERALS)
+    words.add_argument("--most", type=int, default=products.MOST_VERTICES)
     words.add_argument("--times", type=int)
     words.add_argument("files", nargs="*")
     given = words.parse_intermixed_args()
     psyn = os.path.abspath(given.psyn)
+    products.MOST_VERTICES = given.most
     if given.changed is not None:
         compare(psyn, given.changed, given.literals, given.files)
     elif given.times:

@@ -42,17 +42,21 @@ class TooSlow(Exception):
     """The program does not answer in time."""
 
 
+def refuse_if_late(status):
+    if status is None:
+        raise TooSlow(f"no answer within {rows.SECONDS} s")
+
+
 def refuse_unless(is_so, *what):
     if not is_so:
-        raise AssertionError("\n".join(str(it)[:4_000] for it in what))
+        raise AssertionError("\n".join(str(it)[:2_000] for it in what))
 
 
 def answered(psyn, spec, text, env, moore):
     """The first line of what `verify` answers; a counterexample is put before `lasso`."""
     flags = " --env" * env + " --moore" * moore
     answer, status = ask(psyn, "verify" + flags, spec, text)
-    if status is None:
-        raise TooSlow(f"no answer within {rows.SECONDS} s")
+    refuse_if_late(status)
     first, _, counterexample = answer.partition("\n")
     refuse_unless(status == (1 if first.startswith("fault") else 0), first, status, spec, text, flags)
     if first == "loses":
@@ -94,5 +98,6 @@ class Case:
 def case_of(psyn, spec, moore):
     """An automaton with the circuit that `synth` prints."""
     answer, status = ask(psyn, "synth" + " --moore" * moore, spec)
+    refuse_if_late(status)
     refuse_unless(status in (10, 20), answer, spec)
     return Case(psyn, spec, answer.partition("\n")[2], status == 20, moore)
