@@ -1,4 +1,5 @@
 pub mod Answered
+pub mod Attracted
 pub mod Begins
 pub mod Begun
 pub mod Below
@@ -7,6 +8,7 @@ pub mod Climbs
 pub mod Counted
 pub mod Deep
 pub mod Depths
+pub mod Divided
 pub mod Done
 pub mod Ending
 pub mod Forms
@@ -18,6 +20,8 @@ pub mod Kept
 pub mod Measure
 pub mod Orders
 pub mod Ranked
+pub mod SetTables
 pub mod Sets
+pub mod Tops
 pub mod Turning
 pub mod Walks

@@ -1,3 +1,4 @@
 pub mod Answers
 pub mod Depths
+pub mod Divisions
 pub mod Inner

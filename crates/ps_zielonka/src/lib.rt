@@ -15,6 +15,7 @@
 //! | `regions` | for every game: player 0 holds the region by the first strategy, player 1 the rest by the second |
 //! | `regions_in` | the same, computed in tables with numbers of a given width |
 //! | `regions_within` | the result of `regions`, or none if a budget of placements is used up first |
+//! | `each_game_is_divided` | a law: on each game player 0 holds a region, and player 1 the rest |
 //!
 //! A strategy has moves only at vertices that its player owns and wins. `Counts` records the depth of nested calls. The
 //! depth is at most the number of distinct priorities, and at least 1 if there is a vertex. The depth is at least 2 if
@@ -28,9 +29,11 @@ mod answer;
 mod attraction;
 mod board;
 mod frame;
+mod laws;
 mod level;
 mod nest;
 mod order;
 mod solver;
 
+pub use laws::each_game_is_divided;
 pub use solver::{regions, regions_in, regions_within};

@@ -1,0 +1,10 @@
+//! A law about the definitions.
+
+ghost use Rattle.ps_game.specs.Games.{ParityGame, IsGame};
+ghost use Rattle.ps_zielonka.specs.Divisions.{Division};
+
+/// Each vertex of a game is won by one of the players: player 0 holds a region by a table of moves, and player 1 holds
+/// the rest by another. This law is about games, not about calls, so it needs no memory.
+pub fn each_game_is_divided()
+    ensures { (game : ParityGame) → IsGame game → Division game }
+{}
