@@ -5,3 +5,4 @@ pub mod Counted
 pub mod Judged
 pub mod OneVerdict
 pub mod Parts
+pub mod SomeJudgement

@@ -1,6 +1,6 @@
-//! Laws: the verdict on a solution is unique, except for the cycle that it reports.
+//! Laws: there is a verdict on a solution, and it is unique, except for the cycle that it reports.
 
-ghost use Rattle.std.specs.Prelude.{◌≡◌, ℕ, List, Option, Bool};
+ghost use Rattle.std.specs.Prelude.{◌≡◌, ◌⊎◌, ℕ, List, Option, Bool};
 ghost use Rattle.ps_game.specs.Games.{ParityGame, IsGame};
 ghost use Rattle.ps_certificate.specs.Certificates.{CertificateData, IsFirstFlaw};
 ghost use Rattle.ps_certificate.specs.declared.flaw.Flaw.{Flaw};
@@ -26,3 +26,15 @@ pub fn one_verdict()
     ensures no_cycle { (game : ParityGame) (won : List Bool) (first second : List (Option ℕ)) (player : ℕ)
         (cycle : List ℕ) → IsSolution game won first second → ¬ IsCycleOf game won first second player cycle }
 {}
+
+/// A solution of a game holds and has a certificate, or it has a first flaw, or a player loses a cycle.
+pub fn solution_is_judged()
+    ensures { (game : ParityGame) (won : List Bool) (first second : List (Option ℕ)) → IsGame game →
+        (IsSolution game won first second ×
+        ((certificate : CertificateData) × IsCertificateOf game won first second certificate)) ⊎
+        ((flaw : Flaw) × IsFirstFlaw game (claimed game won first second) flaw) ⊎
+        ((player : ℕ) × (cycle : List ℕ) × IsCycleOf game won first second player cycle) }
+{
+    ps_certificate::first_flaw_is_there();
+    ps_measure::counts_are_there();
+}

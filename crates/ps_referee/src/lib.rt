@@ -13,6 +13,7 @@
 //! | `JudgeFault::number`, `name` | the number and name of a fault in psyn's list of faults |
 //! | `one_certificate` | a law: a solution has at most one certificate |
 //! | `one_verdict` | a law: a solution never has both a flaw and a lost cycle; if it holds, it has neither |
+//! | `solution_is_judged` | a law: a solution holds and has a certificate, or has a flaw, or a lost cycle |
 //!
 //! Moves may be any numbers. Only the moves of the winners at their own vertices are checked. A cycle that player 1
 //! loses is reported only if player 0 holds the vertices that player 0 is claimed to win.
@@ -27,4 +28,4 @@ mod laws;
 
 pub use fault::JudgeFault;
 pub use judging::{certificate_of_solution, judge};
-pub use laws::{one_certificate, one_verdict};
+pub use laws::{one_certificate, one_verdict, solution_is_judged};
