@@ -7,3 +7,4 @@ pub mod Visiting
 pub mod Exploring
 pub mod Starting
 pub mod GameThere
+pub mod GameSound

@@ -5,3 +5,4 @@ pub mod ListedPaths
 pub mod Walking
 pub mod EndlessRuns
 pub mod LassosAreWon
+pub mod FileLassos

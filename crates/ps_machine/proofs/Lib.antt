@@ -1,6 +1,7 @@
 mod BoardLetters
 mod BoardMoves
 mod BoardSteps
+mod CertificateThere
 mod Choosing
 mod FileBoards
 mod LeastLetters

@@ -1,12 +1,12 @@
 //! Laws about the definitions.
 
-ghost use Rattle.std.specs.Prelude.{◌≡◌, ℕ, ◌<◌, ◌≤◌, List, length};
+ghost use Rattle.std.specs.Prelude.{◌≡◌, ℕ, ◌<◌, ◌≤◌, List, Ok, length};
 ghost use Rattle.ps_hoa.specs.Files.{FileData};
 ghost use Rattle.ps_hoa.specs.Sound.{AreNames, IsSoundFile};
 ghost use Rattle.ps_automaton.specs.Answers.{IsAdmitted};
 ghost use Rattle.ps_automaton.specs.Automata.{AutomatonData, IsBuiltFrom};
 ghost use Rattle.ps_automaton.specs.Chains.{Chain};
-ghost use Rattle.ps_game.specs.Games.{NamedGameData, ParityGame};
+ghost use Rattle.ps_game.specs.Games.{IsGame, NamedGameData, ParityGame};
 ghost use Rattle.ps_certificate.specs.Certificates.{CertificateData, Fits, IsValid};
 ghost use Rattle.ps_machine.specs.Behaviours.{Behaviour, IsMachine, LassosWon};
 ghost use Rattle.ps_machine.specs.Behaving.{BehavesAs};
@@ -15,6 +15,7 @@ ghost use Rattle.ps_machine.specs.BuiltBoards.{board_of};
 ghost use Rattle.ps_machine.specs.Extracting.{HasPropositions, IsMachineOf};
 ghost use Rattle.ps_machine.specs.FileGames.{IsGameOfFile, board_of_file};
 ghost use Rattle.ps_machine.specs.Keys.{mover_of};
+ghost use Rattle.ps_machine.specs.Solving.{AnswersLeast};
 ghost use Rattle.ps_machine.specs.declared.key.Key.{Key};
 ghost use Rattle.ps_machine.specs.declared.key.Order.{Order};
 
@@ -27,6 +28,15 @@ pub fn lassos_won()
         IsValid game certificate →
         IsMachine m → HasPropositions a.names (board_of order a) m →
         IsMachineOf (board_of order a) (mover_of order) keys game certificate m → LassosWon file m }
+{}
+
+/// The same for the game of a file, by any automaton of the file.
+pub fn lassos_of_file_won()
+    ensures { (order : Order) (file : FileData) (game : NamedGameData) (is_game : IsGameOfFile order file game)
+        (certificate : CertificateData) (m : Behaviour) → Fits game.game certificate → IsValid game.game certificate →
+        IsMachine m → HasPropositions file.names (board_of_file order file is_game.auto) m →
+        IsMachineOf (board_of_file order file is_game.auto) (mover_of order) is_game.keys game.game certificate m →
+        LassosWon file m }
 {}
 
 /// A board has at most one game: any two games of a board have the same keys and are equal.
@@ -46,6 +56,12 @@ pub fn one_game_of_file()
 pub fn game_is_there()
     ensures { (order : Order) (file : FileData) → IsSoundFile file → IsAdmitted file →
         (game : NamedGameData) × IsGameOfFile order file game }
+{}
+
+/// The game that a file defines is a game.
+pub fn game_of_file_is_game()
+    ensures { (order : Order) (file : FileData) (game : NamedGameData) → IsGameOfFile order file game →
+        IsGame game.game }
 {}
 
 /// Each valid certificate of a board's game has a machine whose propositions have the given names.
@@ -79,3 +95,14 @@ pub fn one_machine_of_file()
         IsMachineOf (board_of_file order file second.auto) (mover_of order) second.keys game.game certificate o →
         BehavesAs m o }
 {}
+
+/// Each game has a certificate that psyn's own solver may answer: one that fits, is valid and has the least counts. This
+/// law is about games, not about calls: a call may also fail because it is out of memory.
+pub fn each_game_has_a_certificate()
+    ensures { (game : NamedGameData) → IsGame game.game →
+        (certificate : CertificateData) × AnswersLeast game (Ok certificate) }
+{
+    ps_zielonka::each_game_is_divided();
+    ps_referee::solution_is_judged();
+    ps_referee::one_verdict();
+}

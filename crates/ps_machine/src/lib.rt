@@ -20,9 +20,10 @@
 //!
 //! | Law | What it states |
 //! |---|---|
-//! | `lassos_won` | the winner of vertex 0 wins each word of the machine of a valid certificate |
+//! | `each_game_has_a_certificate` | each game has a certificate that fits, is valid and has the least counts |
+//! | `lassos_won`, `lassos_of_file_won` | the winner of vertex 0 wins each word of the machine of a valid certificate |
 //! | `one_game`, `one_game_of_file` | an automaton, and a file, have at most one game for each order of moves |
-//! | `game_is_there` | a file that is accepted has a game |
+//! | `game_is_there`, `game_of_file_is_game` | a file that is accepted has a game; what a file defines is a game |
 //! | `machine_is_there` | a valid certificate of an automaton's game has a machine |
 //! | `one_machine`, `one_machine_of_file` | a certificate of an automaton's or a file's game has at most one machine |
 #![tactic(auto)]
@@ -52,8 +53,8 @@ pub use fault::SolveFault;
 pub use game::{AutomatonGame, game_of};
 pub use key::{Key, Order};
 pub use laws::{
-    game_is_there, lassos_won, machine_is_there, one_game, one_game_of_file, one_machine,
-    one_machine_of_file,
+    each_game_has_a_certificate, game_is_there, game_of_file_is_game, lassos_of_file_won,
+    lassos_won, machine_is_there, one_game, one_game_of_file, one_machine, one_machine_of_file,
 };
 pub use machine::{Machine, Row};
 pub use numbering::{KeyedGame, Successors, game_by_keys};
