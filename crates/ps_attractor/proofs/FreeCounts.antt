@@ -9,7 +9,7 @@ use Rattle.ps_attractor.specs.declared.aim.Aim.{Aim}
 use Rattle.ps_attractor.specs.Tables.{TablesData, level_of}
 use Rattle.ps_attractor.specs.Steps.{Look, NotFree, Escapes, Own, Others, free_count}
 
--- the trail grows by the vertices that are no longer free, and its earlier entries are unchanged
+-- the trail grows by as many entries as there are fewer free vertices, and its earlier entries are unchanged
 pub record Keeps (aim : Aim) (old new : TablesData) : Type 0 where
   pub frees : free_count aim new + length new.trail ≡ free_count aim old + length old.trail
   pub longer : length old.trail ≤ length new.trail

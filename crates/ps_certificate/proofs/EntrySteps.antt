@@ -178,7 +178,8 @@ module _ (odd even ids : List ℕ) where
       → Stops causes whole old (found_of e) → IsErrAnd r (λ y. y ≡ e) → TellsHead odd even ids old r new
   head_fails old new e r s i = search (rules, err_from_is_err_and)
 
-  -- the lines of the vertices, after what precedes them
+  -- When what precedes the vertices' lines has been parsed, up to `now`, an error in these lines is an error of the
+  -- whole text, and if the lines are parsed, so is the whole.
   module _ (compact : Bool) (all : List ℕ) (same : all ≡ ids) (start now : Stream Seen)
       (k : Carries causes whole start (all_entries compact odd even ids) now) where
     abbrev with_lists : List EntryData → CertificateData

@@ -9,7 +9,7 @@ use std::test::Fail;
 /// Two vertices of player 1.
 const GAME: &[u8] = b"7 0 1 9; 9 1 1 9;";
 
-/// The number of entries of the certificate, or the offset at which the text is rejected.
+/// The number of entries of the certificate; or the offset at which the text is rejected, or none for any other fault.
 type Answer = Result<usize, Option<usize>>;
 
 /// The result of a solver that was fed a text.

@@ -75,7 +75,7 @@ module _ {t : Table} {leaves nodes : List ℕ} (none : ℕ) (nothing : HasLeaf t
 
 -- ## A row from the row for the next proposition
 
--- a node that tests p, with the nodes at the indices i and i + `half` of the longer row as sides
+-- a node that tests p, and whose sides are the nodes of the old row at the indices i and i + `half`
 abbrev pub TestsAt : Table → Table → ℕ → ℕ → ℕ → List ℕ → ℕ → ℕ → Type 0
 TestsAt t u p none half nodes i made =
     IsNode u made × IsTestOf p (tree_of t (get_or nodes i none)) (tree_of t (get_or nodes (half + i) none))

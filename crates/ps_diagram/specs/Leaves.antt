@@ -1,4 +1,4 @@
--- Leaves that are joined or changed.
+-- What the operations on diagrams make of the leaves at one letter, and when two leaves do not clash.
 use Rattle.std.specs.Prelude.{◌≡◌, ℕ, Option, Some, None}
 
 -- the first leaf if there is one, and otherwise the second

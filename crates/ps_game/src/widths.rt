@@ -13,7 +13,7 @@ pub trait Width: Copy {
     /// The largest number that fits the type.
     const LIMIT: usize;
 
-    /// The value that represents a number.
+    /// The value of this type that represents a number.
     fn of(number: usize) -> Self
         requires { number ≤ LIMIT }
         ensures { value result ≡ number };

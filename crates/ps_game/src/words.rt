@@ -7,7 +7,7 @@ ghost use Rattle.std.specs.List.{sum_by};
 
 use std::simd::prelude::*;
 
-/// The number of words processed at a time.
+/// The number of 64-bit words processed at a time.
 const LANES: usize = 8;
 
 /// Sets each bit that is set in the other words.

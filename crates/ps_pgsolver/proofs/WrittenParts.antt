@@ -1,6 +1,6 @@
 -- The text that is written for a game, as a list of signs, belongs to the grammar and has no error.
 --     IsReadable known ids node      the node can be read after nodes with these ids
---     AreReadable known before nodes      the nodes can be read one after the other
+--     AreReadable known before nodes      each node can be read after `before` and the nodes in front of it
 --     written_answers      the answer to the signs of a whole text
 use Rattle.std.proofs.Common.{◌≡◌, ℕ, ◌<◌, List, [], ◌∷◌, ◌++◌, length, Option, Some, None, Ok, refl, sym, ap, subst}
 use Rattle.std.proofs.Common.{rules, ◌∙◌, arith, append_assoc, append-nil}

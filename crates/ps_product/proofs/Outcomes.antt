@@ -46,7 +46,7 @@ along_kept s {t} ws ms k h = record {
       };
 }
 
--- the truths of one more wire
+-- if `ms` are the truths along the wires `ws`, and m is the truth along w, then `ms` and m are those along `ws` and w
 pub along_more : (s : Site) {t : Table} (ws : List Wire) (ms : List Truth) {ws' : List Wire} {ms' : List Truth}
     (w : Wire) (m : Truth) → AreTruthsAlong s t ws ms → IsTruthAlong s t w m → ws' ≡ ws ++ w ∷ [] →
     ms' ≡ ms ++ m ∷ [] → AreTruthsAlong s t ws' ms'

@@ -30,7 +30,7 @@ use Rattle.ps_program.specs.CommandLine.{words_with, AreRead, Says, LinesAreRead
 use Rattle.ps_program.specs.Inner.Usages.{usage_of, with_flags}
 use Rattle.ps_program.specs.declared.commands.Usage.{Usage as Row}
 
--- by the table, clap answers as it does for a simple command
+-- the table is a simple command, for which clap's contracts say what the words give
 pub table-simple : is_simple table ≡ true
 unfolding table clap_on_literals
 table-simple = refl

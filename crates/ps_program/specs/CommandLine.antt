@@ -28,9 +28,9 @@ use Rattle.ps_program.specs.declared.commands.TextKind.TheVariants as kind
 
 -- ---- the commands
 
--- A command: its name, its flags, each of which is written after `--`, and the kinds of its texts in their order. Then
--- come the flags that add a text, with its kind, the line that the command with given flags is, and what `help` says
--- about it.
+-- A command: its name; its flags, each of which is written after `--`; the kinds of its texts, in order; the flags that
+-- add a text, each with the kind of that text; for each choice of flags, the `Line` that the command means; and what
+-- `help` says about the command.
 pub record Usage : Type 0 where
   pub name : Text
   pub flags : List Text

@@ -4,7 +4,7 @@
 --     IsUndetermined line texts      the line may have more than one correct answer
 --     IsReplaying solver      the solver may only answer the result of parsing the text that it was fed
 --     AgreeAsReports order full text a b      two reports for a text have the same winner and the automaton's game
---     AgreeInWinners compact game a b      in two certificates of the game, each vertex has the same winner
+--     AgreeInWinners compact game a b      the answers a and b print certificates of the game with the same winners
 --     AgreeAsLosing order role file c a b      on both stimuli, the circuit has the wrong verdict
 --     HasOneAnswer solvers      any two answers are equal, or agree as above, or one of them is the line of a fault
 --     HasOneCertified solvers      with a given certificate, `synth` has one answer if the solver replays it

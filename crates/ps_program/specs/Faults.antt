@@ -1,5 +1,5 @@
--- If there is a fault, the program writes a line instead of a result, with the word `fault`, a number, a name and a
--- place.
+-- If there is a fault, the program writes a line instead of a result, with the word `fault`, a number and a name, and
+-- with a place if the fault has one.
 use Rattle.std.specs.Prelude.{ℕ, List, [], ◌++◌, Option, Some, None, codes, decimal, flat_map}
 use Rattle.ps_program.specs.declared.fault.FaultLine.{FaultLine}
 use Rattle.ps_program.specs.declared.fault.Place.{Place}

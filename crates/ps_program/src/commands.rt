@@ -34,7 +34,7 @@ pub enum Line {
     Refused,
     /// Asks for the help text.
     Help,
-    /// Asks whether each path that follows a certificate's moves stays in its region.
+    /// Asks whether a certificate's moves are right, and each remaining edge leads to a vertex with the same winner.
     Closed,
     /// Asks whether a certificate of a game is valid.
     Check,

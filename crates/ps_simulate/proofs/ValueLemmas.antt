@@ -21,7 +21,7 @@ use Rattle.ps_simulate.proofs.RowLemmas.{target_is, IsScheduled-rows, IsRowInTab
 use Rattle.ps_simulate.specs.NeededGates.{numbered_row}
 use Rattle.ps_simulate.proofs.WorkLemmas.{work_out-other, work_out-row}
 
--- the value of each variable, taken from a table in the order of the indices
+-- the value of each variable, from 0 to the greatest, taken from a table that has the values by place
 abbrev pub values_by : CircuitData → List Bool → List Bool
 values_by c table = map (λ v. get_or table (place_of_variable c v) false) (range_with_len 0 (c.most + 1))
 

@@ -1,5 +1,5 @@
 -- `times` and `many`. Each item takes a sign, and no sign both continues an item and begins an item.
---     laws_times, laws_many      the laws, with the sets First and More of the items
+--     laws_times, laws_many      the laws of repeated items: they begin with First, and continue with More or First
 --     covers_item      if an item begins here, `many` is parsed as this item followed by `many`
 --     read_nothing, read_none      if no item begins here, `many` is parsed as the empty list
 --     joint_many, joint_times      the joint of an item and the items after it

@@ -58,7 +58,7 @@ header_apart test e t h k = false_true (sym e ∙ ap test (sym h) ∙ k)
 pub some_there : (o : Option (Unit {0})) → (o ≡ None → ⊥) → o ≡ Some tt
 some_there o h = grind arith
 
--- the test for unknown names, written as in the specification
+-- the value of `is_unknown_capital` (specs/Causes)
 abbrev pub is_unknown : List ℕ → Bool
 is_unknown name = cond (is_spelled name) false (begins_capital name)
 

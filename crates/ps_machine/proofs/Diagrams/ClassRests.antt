@@ -116,7 +116,7 @@ pub renamed_within : (t : Table) {places values : List ℕ} (rest : ℕ) → val
     (x : ℕ) → x < 2 ^ t.propositions → IfSome (leaf_of t rest x) (λ k. k < length values)
 renamed_within t rest same within = search rules
 
--- a class in the list, with its letter and its rest
+-- if c is at an index of the list, then some class of the list has c's letter and c's rest
 pub any_class : (list : List Class) {letter : ℕ} {c : Class} → c.letter ≡ letter → (k : ℕ) → k < length list →
     ((d : Class) → get_or list k d ≡ c) → Any (λ (d : Class). (d.letter ≡ letter) × (d.rest ≡ c.rest)) list
 any_class list {c} is k within at = (k, c, within, at c, (is, refl))

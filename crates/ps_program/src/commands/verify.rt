@@ -30,8 +30,8 @@ use std::alloc::{AllocError, Global};
 /// # Errors
 ///
 /// Fails if a text is missing; else with the first fault of the automaton, else of the circuit; else if the circuit's
-/// symbols are not those of its role; else if the circuit moves first, but its outputs depend on its inputs; or if
-/// memory runs out.
+/// symbols are not those of its role; else if the circuit moves first, but at some latches that a trace reaches, its
+/// outputs depend on its inputs; or if memory runs out.
 pub fn verify(alloc: Global, order: Order, role: Role, texts: &[u8]) -> Result<Answer, Refusal>
     ensures { Gives reply_of (AnswersVerify order role texts.now) result }
 {
