@@ -1,17 +1,19 @@
 -- A table with one more cell.
-use Rattle.std.proofs.Common.{◌≡◌, ℕ, ◌+◌, ◌<◌, ◌≤◌, Bool, true, false, List, [], ◌∷◌, ◌++◌, length, get_or, refl}
-use Rattle.std.proofs.Common.{sym, ◌∙◌, arith, length-append, inl, inr, ◌⊎◌, fold, Some, rules}
+use Rattle.std.proofs.Common.{◌≡◌, ℕ, ◌+◌, ◌-◌, ◌^◌, ◌<◌, ◌≤◌, Bool, true, false, List, [], ◌∷◌, ◌++◌, length, get_or}
+use Rattle.std.proofs.Common.{refl}
+use Rattle.std.proofs.Common.{ap, sym, ◌∙◌, arith, length-append, inl, inr, ◌⊎◌, fold, Some, rules}
 use Rattle.std.proofs.lemmas.List.{get_or_append_left, get_or_push}
 use Rattle.std.proofs.lemmas.List.Sums.{fold_push}
-use Rattle.std.proofs.lemmas.Option.{slice_get_within, get_or_from_slice_get}
+use Rattle.std.proofs.lemmas.Option.{slice_get_within, get_or_from_slice_get, slice_get-get_or}
 use Rattle.std.proofs.lemmas.List.Folds.{list_any_at}
 use Rattle.std.proofs.lemmas.Bool.{cases_Bool, cases_lt}
 use Rattle.std.specs.List.{list_any, slice_get}
 use Rattle.indexmap.specs.IndexSet.{insert_key}
 use Rattle.ps_diagram.specs.declared.view.View.{View}
-use Rattle.ps_diagram.specs.declared.view.View.TheVariants.{Nothing}
+use Rattle.ps_diagram.specs.declared.view.View.TheVariants.{Leaf, Nothing}
 use Rattle.ps_diagram.specs.Tree.{Tree, IsFrom, IsReduced}
 use Rattle.ps_diagram.specs.Inner.Parts.{IsPart}
+use Rattle.ps_diagram.specs.Inner.Placed.{AddsCell, ArePlacesOfLeaves}
 use Rattle.ps_diagram.specs.Table.{Table, tree_by, trees_of, tree_at, tree_in, tree_of, IsNode, IsCellWithin}
 use Rattle.ps_diagram.specs.Table.{IsSoundTable}
 use Rattle.ps_diagram.specs.Table.{Keeps}
@@ -129,24 +131,68 @@ at_place : {t u : Table} {cell : View} (place : ℕ) → IsSoundTable u → Keep
 unfolding tree_of
 at_place {u} {cell} place s keeps stays e = search (rules, slice_get_within, get_or_from_slice_get)
 
-pub interned : {t : Table} {cells : List View} {cell : View} (place : ℕ) (eq : View → View → Bool) →
-    ((a b : View) → eq a b ≡ true → a ≡ b) → ((a : View) → eq a a ≡ true) → IsSoundTable t →
+-- the cell is appended if its equal is not among the cells
+pub adds_cell : (cells : List View) (cell : View) {more : List View} (eq : View → View → Bool) →
+    ((a b : View) → eq a b ≡ true → a ≡ b) → ((a : View) → eq a a ≡ true) → more ≡ insert_key eq cells cell →
+    AddsCell cells cell more
+adds_cell cells cell eq sound_eq refl_eq is = elim (bool_cases (list_any (eq cell) cells)) [
+  | inl known ↦ inl (rw known at is)
+  | inr not ↦
+      let apart : (k : ℕ) → k < length cells → cell ≡ get_or cells k Nothing → ⊥ = search (rules, list_any_at) in
+      inr (
+        rw not at is,
+        λ place at. apart place (slice_get_within cells place cell at)
+            (sym (get_or_from_slice_get cells place cell Nothing at)),
+      )
+]
+
+-- a cell that is kept stays at its place
+kept_at : {old new : List View} {cell : View} (place : ℕ) (x : View) → AddsCell old cell new →
+    slice_get old place ≡ Some x → slice_get new place ≡ Some x
+kept_at {old} {new} {cell} place x adds at =
+    let within : place < length old = slice_get_within old place x at in
+    elim adds [
+      | inl same ↦ rw same at
+      | inr more ↦
+          let longer : place < length (old ++ cell ∷ []) = omega (arith, within, length-append old (cell ∷ [])) in
+          rw more.0 (slice_get-get_or (old ++ cell ∷ []) place x longer
+          ∙ ap Some (get_or_append_left old (cell ∷ []) x place within ∙ get_or_from_slice_get old place x x at))
+    ]
+
+-- the table of leaves stays right when a cell is added
+pub leaves_kept : {old new : List View} {cell : View} (places : List ℕ) → AddsCell old cell new →
+    ArePlacesOfLeaves old places → ArePlacesOfLeaves new places
+leaves_kept places adds are leaf place at less = kept_at place (Leaf leaf) adds (are leaf place at less)
+
+-- the table of leaves stays right when unknown places are appended
+pub leaves_roomy : (cells : List View) (old new : List ℕ) (n : ℕ) → length new ≡ n →
+    ((k d : ℕ) → k < n → k < length old → get_or new k d ≡ get_or old k d) →
+    ((k d : ℕ) → length old ≤ k → k < n → get_or new k d ≡ 2 ^ 32 - 1) →
+    ArePlacesOfLeaves cells old → ArePlacesOfLeaves cells new
+leaves_roomy cells old new n count kept fresh are leaf place at less =
+    let within : leaf < n = (let w = slice_get_within new leaf place at in omega (arith, w, count)) in
+    let here : get_or new leaf place ≡ place = get_or_from_slice_get new leaf place place at in
+    elim (cases_lt leaf (length old)) [
+      | inl low ↦ are leaf place (slice_get-get_or old leaf place low
+          ∙ ap Some (sym (kept leaf place within low) ∙ here)) less
+      | inr high ↦
+          let unknown : place ≡ 2 ^ 32 - 1 = sym here ∙ fresh leaf place high within in
+          absurd (omega (arith, unknown, less))
+    ]
+
+pub interned : {t : Table} {cells : List View} {cell : View} (place : ℕ) → IsSoundTable t →
     IsCellWithin (length t.cells) cell → IsFrom 0 t.propositions (tree_in t.cells cell) →
     IsReduced (tree_in t.cells cell) →
-    cells ≡ insert_key eq t.cells cell → ((k : View) × (slice_get cells place ≡ Some k) × (eq cell k ≡ true)) →
+    AddsCell t.cells cell cells → slice_get cells place ≡ Some cell →
     Interned t (record { propositions = t.propositions; cells = cells }) cell place
-interned {t} {cells} {cell} place eq sound_eq refl_eq s w o r is stored =
-    let stands : slice_get cells place ≡ Some cell = rw (sound_eq cell stored.0 stored.2) stored.1 in
-    elim (bool_cases (list_any (eq cell) t.cells)) [
-      | inl known ↦
-          let same : cells ≡ t.cells = rw known at is in
-          rw same (at_place place s (keeps_refl t) refl (rw same at stands))
-      | inr not ↦
-          let same : cells ≡ t.cells ++ cell ∷ [] = rw not at is in
-          let new : (k : ℕ) → k < length t.cells → cell ≡ get_or t.cells k Nothing → ⊥ = search (rules, list_any_at) in
-          rw same (at_place place (sound_more s w o r new) (keeps_more t cell) (tree_in-old t.cells cell cell w)
-          (rw same at stands))
-    ]
+interned {t} {cells} {cell} place s w o r adds there = elim adds [
+  | inl same ↦ rw same (at_place place s (keeps_refl t) refl (rw same at there))
+  | inr new ↦
+      let apart : (k : ℕ) → k < length t.cells → cell ≡ get_or t.cells k Nothing → ⊥ =
+      search (rules, slice_get-get_or) in
+      rw new.0 (at_place place (sound_more s w o r apart) (keeps_more t cell) (tree_in-old t.cells cell cell w)
+      (rw new.0 at there))
+]
 
 pub part_of : {t : Table} {node : ℕ} (cell : View) → IsSoundTable t → IsNode t node →
     get_or t.cells node Nothing ≡ cell → IsPart t node cell

@@ -2,9 +2,11 @@
 
 pub mod Chosen
 pub mod Composed
+pub mod Hashed
 pub mod Known
 pub mod Numbered
 pub mod Parts
+pub mod Placed
 pub mod Products
 pub mod Rests
 pub mod Rows

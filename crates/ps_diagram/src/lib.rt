@@ -31,7 +31,8 @@
 //! propositions (`AreClasses`). `classes_from` divides the letters for a node of another store. `classes` and
 //! `classes_from` keep every node. `copy` returns a store with the same nodes.
 //!
-//! A store never drops a node. Equal diagrams are one node, which a hash table finds. `negated`, `guard`, `fill`,
+//! A store never drops a node. Equal diagrams are one node, which a hash table or, for small leaves, a table by leaf
+//! finds. `negated`, `guard`, `fill`,
 //! `relabel` and `relabel_from` visit each node of the given diagram once. `overlay` and `both` visit each pair of
 //! nodes that they reach once, and `choose` each triple. `composed_from` visits each node once, and chooses between its
 //! sides by the truth of its proposition; if this truth is the same at every letter, only one side is visited. The
@@ -46,6 +47,7 @@ mod classes;
 mod cofactors;
 mod composed;
 mod fault;
+mod interning;
 mod labels;
 mod letter;
 mod maps;

@@ -8,8 +8,8 @@ ghost use Rattle.ps_diagram.specs.Table.{Table, IsNode, IsSoundTable, IsCellWith
 ghost use Rattle.ps_diagram.specs.Views.{Sees};
 ghost use Rattle.ps_diagram.specs.declared.view.View.TheVariants.{Nothing};
 
+use crate::interning::Cells;
 use crate::view::{Node, View};
-use indexmap::IndexSet;
 use std::alloc::{AllocError, Global};
 use std::marker::Model;
 
@@ -20,7 +20,7 @@ use std::marker::Model;
 pub struct Store {
     alloc: Global,
     propositions: u32,
-    cells: IndexSet<View>,
+    cells: Cells,
 }
 
 impl Model for Store {
@@ -28,9 +28,9 @@ impl Model for Store {
 
     ghost Value = { Table };
 
-    ghost view = { λ s. record { propositions = s.propositions; cells = s.cells.keys } };
+    ghost view = { λ s. record { propositions = s.propositions; cells = s.cells } };
 
-    ghost invariant = { λ s. IsSoundTable (record { propositions = s.propositions; cells = s.cells.keys }) };
+    ghost invariant = { λ s. IsSoundTable (record { propositions = s.propositions; cells = s.cells }) };
 }
 
 impl Store {
@@ -43,7 +43,7 @@ impl Store {
         Store {
             alloc,
             propositions,
-            cells: IndexSet::new(alloc),
+            cells: Cells::new(alloc),
         }
     }
 
@@ -130,7 +130,7 @@ impl Store {
         ensures same { IfOk result (λ store. store ≡ self.now) }
         ensures sound { IsSoundTable self.now }
     {
-        let cells = self.cells.clone()?;
+        let cells = self.cells.copy()?;
         Ok(Store {
             alloc: self.alloc,
             propositions: self.propositions,
@@ -144,7 +144,7 @@ impl Store {
         ensures sound { IsSoundTable self.now }
         ensures part { IsPart self.now node result }
     {
-        self.cells.as_slice()[node.place]
+        self.cells.at(node.place)
     }
 
     /// The diagram that leads to `low` if the proposition is false, and to `high` if it is true.
@@ -185,7 +185,7 @@ impl Store {
         ensures tree { IfOk result
             (λ node. tree_of self.new node ≡ tree_in self.old.cells cell) }
     {
-        let (place, _) = self.cells.insert_full(cell)?;
+        let place = self.cells.place_of(cell)?;
         Ok(Node { place })
     }
 }

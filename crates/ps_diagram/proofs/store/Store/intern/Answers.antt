@@ -1,22 +1,21 @@
 use Rattle.std.proofs.Common.{◌≡◌, sym, ◌∙◌, ap}
 use Rattle.ps_diagram.specs.Table.{Table, tree_in}
 use Rattle.ps_diagram.proofs.Cells.{Interned, interned}
-use Rattle.ps_diagram.proofs.Keys.{same_view, view_same}
 use Rattle.ps_diagram.proofs.store.Store.intern.Goals as goal
 
 old : goal.In_ok-place → Table
-old c = record { propositions = c.self.inside.propositions; cells = c.self.inside.cells.keys }
+old c = record { propositions = c.self.inside.propositions; cells = c.self.inside.cells }
 
 new : goal.In_ok-place → Table
-new c = record { propositions = c.self.inside.propositions; cells = c.insert_full.new.self.keys }
+new c = record { propositions = c.self.inside.propositions; cells = c.place_of.new.self }
 
 done : (c : goal.In_ok-place) → Interned (old c) (new c) c.args.cell c.in_ok-place.place
 unfolding old new
 done c =
     let was : c.args.self.now ≡ old c = sym c.self.view_is in
-    interned c.in_ok-place.place _ same_view view_same c.self.invariant (rw was at c.requires.within)
-    (rw was at c.requires.ordered) (rw was at c.requires.reduced) c.in_ok-place.ensures.keys
-    c.in_ok-place.ensures.stored
+    interned c.in_ok-place.place c.self.invariant (rw was at c.requires.within)
+    (rw was at c.requires.ordered) (rw was at c.requires.reduced) c.in_ok-place.ensures.adds
+    c.in_ok-place.ensures.there
 
 pub invariant_of-self-2 : goal.invariant_of-self-2
 unfolding new

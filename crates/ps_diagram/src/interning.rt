@@ -1,0 +1,133 @@
+//! The cells of a store, and the place of each.
+
+ghost use Rattle.std.specs.Prelude.{◌≡◌, ◌<◌, [], IfOk, IfSome, OnErr, OnOk, Some, length, slice_get, slice_index_or};
+ghost use Rattle.ps_diagram.specs.Inner.Placed.{AddsCell};
+ghost use Rattle.ps_diagram.specs.declared.view.View.TheVariants.{Leaf, Nothing};
+
+use crate::view::View;
+use indexmap::IndexSet;
+use std::alloc::{AllocError, Global};
+use std::marker::Model;
+
+/// In the table of leaves: the leaf's place is not known.
+const UNKNOWN: u32 = u32::MAX;
+
+/// Different cells, in order. A hash table finds the place of a cell. Half of the cells that are sought are leaves, and
+/// most leaves are small numbers, so a second table has the places of small leaves, by leaf.
+#[derive(Debug, Drop)]
+pub(crate) struct Cells {
+    /// The cells.
+    list: IndexSet<View>,
+    /// The place of each leaf, or `UNKNOWN`.
+    leaves: Vec<u32>,
+}
+
+impl Model for Cells {
+    ghost use Rattle.std.specs.Prelude.{List};
+    ghost use Rattle.ps_diagram.specs.Inner.Placed.{ArePlacesOfLeaves};
+    ghost use Rattle.ps_diagram.specs.declared.view.View.{View};
+
+    ghost Value = { List View };
+
+    ghost view = { λ c. c.list.keys };
+
+    ghost invariant = { λ c. ArePlacesOfLeaves c.list.keys c.leaves.items };
+}
+
+impl Cells {
+    /// No cells.
+    pub(crate) fn new(alloc: Global) -> Self
+        ensures { result ≡ [] }
+    {
+        Cells {
+            list: IndexSet::new(alloc),
+            leaves: Vec::new(alloc),
+        }
+    }
+
+    /// The same cells.
+    pub(crate) fn copy(&self) -> Result<Self, AllocError>
+        ensures { IfOk result (λ cells. cells ≡ self.now) }
+    {
+        let list = self.list.clone()?;
+        let leaves = self.leaves.clone()?;
+        Ok(Cells { list, leaves })
+    }
+
+    /// The cell at a place.
+    pub(crate) fn at(&self, place: usize) -> View
+        requires { place < length self.now }
+        ensures { result ≡ slice_index_or self.now place Nothing }
+    {
+        self.list.as_slice()[place]
+    }
+
+    /// The place of a cell. A new cell is appended to the others.
+    pub(crate) fn place_of(&mut self, cell: View) -> Result<usize, AllocError>
+        ensures adds { OnOk result (AddsCell self.old cell self.new) }
+        ensures there { IfOk result (λ place. slice_get self.new place ≡ Some cell) }
+        ensures err { OnErr result (self.new ≡ self.old) }
+    {
+        match cell {
+            View::Leaf(leaf) => self.place_of_leaf(leaf),
+            _ => self.place_by_hash(cell),
+        }
+    }
+
+    /// The same for a leaf.
+    fn place_of_leaf(&mut self, leaf: u64) -> Result<usize, AllocError>
+        ensures adds { OnOk result (AddsCell self.old (Leaf leaf) self.new) }
+        ensures there { IfOk result (λ place. slice_get self.new place ≡ Some (Leaf leaf)) }
+        ensures err { OnErr result (self.new ≡ self.old) }
+    {
+        if let Some(place) = self.known(leaf) {
+            return Ok(place);
+        }
+        self.make_room(leaf)?;
+        let place = self.place_by_hash(View::Leaf(leaf))?;
+        self.note(leaf, place);
+        Ok(place)
+    }
+
+    /// The same, by the hash of the cell.
+    fn place_by_hash(&mut self, cell: View) -> Result<usize, AllocError>
+        ensures adds { OnOk result (AddsCell self.old cell self.new) }
+        ensures there { IfOk result (λ place. slice_get self.new place ≡ Some cell) }
+        ensures err { OnErr result (self.new ≡ self.old) }
+    {
+        let (place, _) = self.list.insert_full(cell)?;
+        Ok(place)
+    }
+
+    /// The place of a leaf, if the table has it.
+    fn known(&self, leaf: u64) -> Option<usize>
+        ensures { IfSome result (λ place. slice_get self.now place ≡ Some (Leaf leaf)) }
+    {
+        match self.leaves.get(leaf as usize).copied() {
+            Some(place) if place != UNKNOWN => Some(place as usize),
+            _ => None,
+        }
+    }
+
+    /// Makes room for a leaf in the table, unless the leaf is larger than the number of cells.
+    fn make_room(&mut self, leaf: u64) -> Result<(), AllocError>
+        ensures { self.new ≡ self.old }
+    {
+        let leaf = leaf as usize;
+        if self.leaves.len() <= leaf && leaf <= self.list.len() {
+            self.leaves.resize(leaf + 1, UNKNOWN)?;
+        }
+        Ok(())
+    }
+
+    /// Notes the place of a leaf, if the table has room for it.
+    fn note(&mut self, leaf: u64, place: usize)
+        requires { slice_get self.old place ≡ Some (Leaf leaf) }
+        ensures { self.new ≡ self.old }
+    {
+        let leaf = leaf as usize;
+        if leaf < self.leaves.len() && place < UNKNOWN as usize {
+            self.leaves[leaf] = place as u32;
+        }
+    }
+}
