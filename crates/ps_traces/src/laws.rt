@@ -6,7 +6,7 @@ ghost use Rattle.ps_hoa.specs.Sound.{AreNames, IsSoundFile};
 ghost use Rattle.ps_automaton.specs.Answers.{IsAdmitted};
 ghost use Rattle.ps_automaton.specs.Automata.{AutomatonData, IsBuiltFrom};
 ghost use Rattle.ps_automaton.specs.Chains.{Chain};
-ghost use Rattle.ps_game.specs.Games.{ParityGame};
+ghost use Rattle.ps_game.specs.Games.{NamedGameData, ParityGame};
 ghost use Rattle.ps_certificate.specs.Certificates.{CertificateData, Fits, IsValid};
 ghost use Rattle.ps_circuit.specs.Circuits.{CircuitData, IsCircuit};
 ghost use Rattle.ps_aiger.specs.Encoded.{Encodes};
@@ -15,6 +15,7 @@ ghost use Rattle.ps_machine.specs.Behaviours.{Behaviour, IsMachine, IsLasso, Las
 ghost use Rattle.ps_machine.specs.Boards.{IsGameOf};
 ghost use Rattle.ps_machine.specs.BuiltBoards.{board_of};
 ghost use Rattle.ps_machine.specs.Extracting.{HasPropositions, IsMachineOf};
+ghost use Rattle.ps_machine.specs.FileGames.{IsGameOfFile, board_of_file};
 ghost use Rattle.ps_machine.specs.Solving.{winner_at_start};
 ghost use Rattle.ps_machine.specs.Keys.{mover_of};
 ghost use Rattle.ps_machine.specs.declared.key.Key.{Key};
@@ -139,5 +140,18 @@ pub fn certified_circuit_answers()
         Encodes m c → IsWitness order file (winner_at_start certificate) c }
 {
     lassos_won();
+    circuit_has_one_values();
+}
+
+/// The same for a certificate of a file's game, by any automaton of the file.
+pub fn certified_circuit_of_file_answers()
+    ensures { (order : Order) (file : FileData) (game : NamedGameData) (is_game : IsGameOfFile order file game)
+        (certificate : CertificateData) (m : Behaviour) (c : CircuitData) → Fits game.game certificate →
+        IsValid game.game certificate → IsMachine m →
+        HasPropositions file.names (board_of_file order file is_game.auto) m →
+        IsMachineOf (board_of_file order file is_game.auto) (mover_of order) is_game.keys game.game certificate m →
+        Encodes m c → IsWitness order file (winner_at_start certificate) c }
+{
+    ps_machine::lassos_of_file_won();
     circuit_has_one_values();
 }

@@ -19,12 +19,14 @@
 //! | `circuit_has_shape` | inputs and outputs are the player's, by name; who moves first sees no input of the step |
 //! | `circuit_answers` | the preceding laws in one record, `IsWitness` |
 //! | `certified_circuit_answers` | `IsWitness` from a valid certificate of an automaton's game, in both orders |
+//! | `certified_circuit_of_file_answers` | the same by any automaton of the file |
 #![tactic(auto)]
 
 mod laws;
 
 pub use laws::{
-    certified_circuit_answers, circuit_answers, circuit_has_machine_words, circuit_has_shape,
-    circuit_is_won, every_input_goes_on, every_meeting_goes_on, every_meeting_is_rejected,
-    every_trace_has_letters, in_time_where_reached, meeting_is_one, verdict_is_there,
+    certified_circuit_answers, certified_circuit_of_file_answers, circuit_answers,
+    circuit_has_machine_words, circuit_has_shape, circuit_is_won, every_input_goes_on,
+    every_meeting_goes_on, every_meeting_is_rejected, every_trace_has_letters,
+    in_time_where_reached, meeting_is_one, verdict_is_there,
 };
