@@ -1,15 +1,14 @@
 -- The line that is printed for a judged solution.
-use Rattle.std.proofs.Common.{◌≡◌, ◌⊎◌, ◌∙◌, ◌<◌, ℕ, Bool, List, length, Option, Some, None, Result, Ok, Err, IfSome}
-use Rattle.std.proofs.Common.{refl, sym, ap, subst, inl, inr, arith, rules, zero, suc}
-use Rattle.std.specs.List.{All}
+use Rattle.std.proofs.Common.{◌≡◌, ◌⊎◌, ◌∙◌, ◌<◌, ℕ, Bool, List, Option, None, Result, Ok, Err, IfSome}
+use Rattle.std.proofs.Common.{refl, sym, ap, subst, inl, inr, arith}
 use Rattle.std.proofs.lemmas.List.{get_or_default}
-use Rattle.std.proofs.lemmas.Bool.{cases_Bool, cases_eq}
+use Rattle.std.proofs.lemmas.Bool.{cases_Bool}
 use Rattle.ps_text.specs.Answers.{Found}
-use Rattle.ps_game.specs.Games.{ParityGame, NamedGameData, IsGame, vertex_count, owner_of}
+use Rattle.ps_game.specs.Games.{ParityGame, NamedGameData, IsGame, vertex_count}
 use Rattle.ps_game.specs.Regions.{has, move_at}
 use Rattle.ps_certificate.specs.declared.flaw.Flaw.{Flaw}
 use Rattle.ps_certificate.specs.declared.flaw.Flaw.TheVariants as flaw
-use Rattle.ps_certificate.specs.Certificates.{CertificateData, IsFirstFlaw, IsFlaw, Remains, choice_of}
+use Rattle.ps_certificate.specs.Certificates.{CertificateData, IsFirstFlaw, IsFlaw, choice_of}
 use Rattle.ps_certificate.specs.Written.{text_in}
 use Rattle.ps_certificate.specs.declared.fault.CertCause.{CertCause}
 use Rattle.ps_referee.specs.declared.fault.JudgeFault.{JudgeFault}
@@ -17,14 +16,14 @@ use Rattle.ps_referee.specs.declared.fault.JudgeFault.TheVariants.{Unclosed, Bad
 use Rattle.ps_referee.specs.Solutions.{claimed, IsCertificateOf, IsCycleOf, IsRefusal, IsSolution}
 use Rattle.ps_referee.proofs.Claims.{choice_is}
 use Rattle.ps_solution.specs.Reading.{ReadsSolution}
-use Rattle.ps_solution.specs.Solved.{SolutionData, AreMoves}
+use Rattle.ps_solution.specs.Solved.{SolutionData}
 use Rattle.ps_program.specs.declared.answer.Answer.{Answer}
 use Rattle.ps_program.specs.declared.answer.Refusal.{Refusal}
 use Rattle.ps_program.specs.declared.answer.Refusal.TheVariants as refusal
 use Rattle.ps_program.specs.Faults.{fault_text}
 use Rattle.ps_program.specs.Judging.{ReadsSolutionText, ReadsSolved, Judges, IsRefusalLine, Names, IsTold, HasPlaces}
 use Rattle.ps_program.specs.Judging.{claim}
-use Rattle.ps_program.specs.Judging.{AnswersJudge, LosesCycle, cycle_text}
+use Rattle.ps_program.specs.Judging.{LosesCycle}
 use Rattle.ps_program.specs.Outcomes.{Gives}
 use Rattle.ps_program.specs.Replies.{Reply, reply_of, text_reply}
 use Rattle.ps_program.specs.Texts.{CutsInTwo, ReadsGameText, NamesVertices, flaw_text}

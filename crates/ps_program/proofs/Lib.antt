@@ -20,6 +20,14 @@ pub mod OneTrace
 pub mod OutcomeLemmas
 pub mod ProgramLemmas
 pub mod SolverLemmas
+pub mod SomeAnswer
+pub mod SomeCut
+pub mod SomeLaws
+pub mod SomeLine
+pub mod SomeReport
+pub mod SomeRun
+pub mod SomeStage
+pub mod SomeStep
 pub mod StreamLemmas
 pub mod SynthLemmas
 pub mod TextLemmas

@@ -18,7 +18,6 @@ use Rattle.ps_program.specs.Simulating.{AnswersSim, PrintsTrace}
 use Rattle.ps_program.specs.Cut.{HasFewerSeparators}
 use Rattle.ps_program.specs.Determined.{NeedsItsTexts}
 use Rattle.ps_program.specs.Outcomes.{Then}
-use Rattle.ps_program.specs.Program.{AnswersLine}
 use Rattle.ps_program.specs.Replies.{Reply, text_reply}
 use Rattle.ps_program.specs.Solvers.{Solvers}
 use Rattle.ps_program.specs.Synthesis.{AnswersBy, AnswersReport}

@@ -1,5 +1,5 @@
 -- The answer of `verify` is determined, except for the stimulus on which the circuit loses.
-use Rattle.std.proofs.Common.{◌≡◌, ◌⊎◌, ◌∙◌, ℕ, List, length, Result, Ok, Err, refl, sym, ap, inl, inr, arith}
+use Rattle.std.proofs.Common.{◌≡◌, ◌⊎◌, ◌∙◌, ℕ, List, Result, Ok, Err, sym, ap, inl, inr}
 use Rattle.ps_circuit.specs.Circuits.{CircuitData}
 use Rattle.ps_hoa.specs.Files.{FileData}
 use Rattle.ps_machine.specs.declared.key.Order.{Order}
@@ -15,7 +15,6 @@ use Rattle.ps_program.specs.Outcomes.{Then, printed}
 use Rattle.ps_program.specs.Replies.{Reply}
 use Rattle.ps_program.specs.Texts.{CutsInTwo, ReadsCircuitText}
 use Rattle.ps_program.specs.Verifying.{AnswersVerify, IsProductLine, ReadsVerified, TellsJudgement, VerifiesText}
-use Rattle.ps_program.specs.Verifying.{loses_reply}
 use Rattle.ps_program.proofs.OneCut.{cut_one}
 use Rattle.ps_program.proofs.OneStep.{IsOne, err_of, ok_of, then_one_or}
 

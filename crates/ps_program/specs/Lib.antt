@@ -1,3 +1,4 @@
+pub mod Answered
 pub mod Automata
 pub mod Checks
 pub mod CommandLine

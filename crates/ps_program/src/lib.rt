@@ -11,6 +11,7 @@
 //! | `solve`, `cert`, `synth` | the answers of commands that use a solver |
 //! | `lines_are_read`, `missing_text_is_told` | laws: how command lines are read; a command needs each of its texts |
 //! | `one_answer` | a law: an input has one answer, except for what a solver may choose |
+//! | `some_answer`, `own_solvers_may_answer` | laws: an input has an answer, except that nothing is said of `verify` |
 //!
 //! The file `specs/Program.antt` defines the answer to an input, with one case for each command.
 #![tactic(auto)]
@@ -49,7 +50,7 @@ pub use commands::verify::verify;
 pub use commands::{Line, SynthLine, TextKind};
 pub use cut::first_line;
 pub use fault::{FaultLine, Place};
-pub use laws::{missing_text_is_told, one_answer};
+pub use laws::{missing_text_is_told, one_answer, own_solvers_may_answer, some_answer};
 pub use printing::print;
 pub use program::answer_to;
 pub use reading::{INPUT_LIMIT, InputFault, read_input};

@@ -1,5 +1,5 @@
 -- The table of commands in the code.
-use Rattle.std.specs.Prelude.{ℕ, List, Bool, map}
+use Rattle.std.specs.Prelude.{Bool, map}
 use Rattle.clap.specs.Words.{Text}
 use Rattle.ps_program.specs.CommandLine.{Usage, compact_flag, order_given, role_given, synth_given}
 use Rattle.ps_program.specs.declared.commands.Line.{Line}

@@ -1,4 +1,3 @@
-use Rattle.std.proofs.Common.{sym}
 use Rattle.ps_program.proofs.CommandLemmas.{longer_than_each, no_hyphen}
 use Rattle.ps_program.proofs.command_line.names_nothing.Goals as goal
 

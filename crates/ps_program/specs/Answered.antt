@@ -1,0 +1,103 @@
+-- Inputs have answers, so the definitions of answers are not met by having none.
+--     HasReply solvers input      some reply is an answer to the input
+--     IsPlainLine line      the line calls no solver, and is not `verify`
+--     HasSomeLine      each first line asks for something
+--     HasSomeAnswer solvers      each input whose first line is plain has an answer
+--     MayCertify solver      the solver may answer a valid certificate of each game
+--     MayReplay solver      the solver may answer the result of parsing each text that it is fed, and is not sure
+--     HasSomeSolved solvers      if the first solver may certify, each input with `solve` or `cert` has an answer
+--     IsPrintable compact game certificate circuit      a report can hold the three texts, and they are parsed again
+--     HasSomeSynthesis solvers      if the solver may certify or replay, and what it answers is printable, each input
+--               with `synth` has an answer
+use Rattle.std.specs.Prelude.{◌≡◌, ◌↔◌, ⊤, ℕ, Bool, true, false, IsTrue, List, Some, Result, Ok}
+use Rattle.ps_certificate.specs.Certificates.{CertificateData}
+use Rattle.ps_circuit.specs.Circuits.{CircuitData}
+use Rattle.ps_game.specs.Games.{IsGame, NamedGameData}
+use Rattle.ps_hoa.specs.Files.{FileData}
+use Rattle.ps_machine.specs.FileGames.{IsGameOfFile}
+use Rattle.ps_machine.specs.Solvers.{SolverData, answers_now, once_fed}
+use Rattle.ps_machine.specs.Solving.{IsCertified, Replays, winner_at_start}
+use Rattle.ps_machine.specs.declared.fault.SolveFault.{SolveFault}
+use Rattle.ps_synthesis.specs.Printing.{PrintsCertificate, PrintsCircuit, PrintsGame}
+use Rattle.ps_synthesis.specs.Promises.{IsAcceptedText}
+use Rattle.ps_synthesis.specs.Reports.{IsWinnersCircuit}
+use Rattle.ps_synthesis.specs.declared.report.Report.{Report}
+use Rattle.ps_program.specs.declared.commands.Line.{Line}
+use Rattle.ps_program.specs.declared.commands.Line.TheVariants.{Refused, Help, Closed, Check, Judge, Sim, Lasso}
+use Rattle.ps_program.specs.declared.commands.Line.TheVariants.{Game, Solve, Cert, Synth}
+use Rattle.ps_program.specs.declared.commands.SynthLine.{SynthLine}
+use Rattle.ps_program.specs.CommandLine.{IsLine}
+use Rattle.ps_program.specs.Cut.{behind_line, first_line}
+use Rattle.ps_program.specs.Program.{AnswersInput}
+use Rattle.ps_program.specs.Replies.{Reply}
+use Rattle.ps_program.specs.Solvers.{Solvers}
+use Rattle.ps_program.specs.Texts.{CutsInTwo}
+
+abbrev pub HasReply : Solvers → List ℕ → Type 0
+HasReply solvers input = (reply : Reply) × AnswersInput solvers input reply
+
+-- ---- without a solver
+
+abbrev pub IsPlainLine : Line → Type 0
+IsPlainLine Refused = ⊤
+IsPlainLine Help = ⊤
+IsPlainLine Closed = ⊤
+IsPlainLine Check = ⊤
+IsPlainLine (Judge compact) = ⊤
+IsPlainLine Sim = ⊤
+IsPlainLine (Lasso role) = ⊤
+IsPlainLine (Game order) = ⊤
+IsPlainLine line = ⊥
+
+abbrev pub HasSomeLine : Type 0
+HasSomeLine = (first_line : List ℕ) → (line : Line) × IsLine first_line line
+
+abbrev pub HasSomeAnswer : Solvers → Type 0
+HasSomeAnswer solvers =
+    (input : List ℕ) (line : Line) → IsLine (first_line input) line → IsPlainLine line → HasReply solvers input
+
+-- ---- with a solver
+
+abbrev pub MayCertify : SolverData → Type 0
+MayCertify solver = (game : NamedGameData) → IsGame game.game →
+    (certificate : CertificateData) × IsCertified game certificate × answers_now solver game (Ok certificate)
+
+pub record MayReplay (solver : SolverData) : Type 0 where
+  pub unsure : solver.is_sure ≡ false
+  pub replays : (text : List ℕ) (game : NamedGameData) (answer : Result CertificateData SolveFault) →
+      Replays game (Some text) answer → answers_now (once_fed text solver) game answer
+
+-- the line asks for the certificate of a game
+abbrev pub IsSolved : Line → Type 0
+IsSolved (Solve compact) = ⊤
+IsSolved (Cert order compact) = ⊤
+IsSolved line = ⊥
+
+abbrev pub HasSomeSolved : Solvers → Type 0
+HasSomeSolved solvers = MayCertify solvers.built_in → (input : List ℕ) (line : Line) →
+    IsLine (first_line input) line → IsSolved line → HasReply solvers input
+
+abbrev pub IsPrintable : Bool → NamedGameData → CertificateData → CircuitData → Type 0
+IsPrintable compact game certificate circuit =
+    (report : Report) × PrintsGame report.game_text.items game
+    × PrintsCertificate compact report.certificate_text.items game certificate
+    × PrintsCircuit report.circuit_text.items circuit × (IsTrue report.realizable ↔ (winner_at_start certificate ≡ 0))
+
+-- each report that the solver may lead to is printable
+abbrev pub IsPrintedBy : SolverData → SynthLine → List ℕ → Type 0
+IsPrintedBy solver asked text = (file : FileData) (game : NamedGameData) (is_game : IsGameOfFile asked.order file game)
+    (certificate : CertificateData) (circuit : CircuitData) → IsAcceptedText text file →
+    answers_now solver game (Ok certificate) → IsCertified game certificate →
+    IsWinnersCircuit asked.order file game is_game certificate circuit →
+    IsPrintable asked.compact game certificate circuit
+
+-- the solver that is asked may answer, and what it answers is printable
+abbrev pub MaySynthesise : (cert : Bool) → Solvers → SynthLine → List ℕ → Type 0
+MaySynthesise false solvers asked texts = MayCertify solvers.built_in × IsPrintedBy solvers.built_in asked texts
+MaySynthesise true solvers asked texts = MayReplay solvers.replay
+    × ((text certificate : List ℕ) → CutsInTwo texts (Ok (text, certificate)) →
+    IsPrintedBy (once_fed certificate solvers.replay) asked text)
+
+abbrev pub HasSomeSynthesis : Solvers → Type 0
+HasSomeSynthesis solvers = (input : List ℕ) (asked : SynthLine) → IsLine (first_line input) (Synth asked) →
+    MaySynthesise asked.cert solvers asked (behind_line input) → HasReply solvers input
