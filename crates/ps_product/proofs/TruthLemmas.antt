@@ -8,9 +8,10 @@ use Rattle.ps_diagram.specs.Leaves.{chosen, opposite}
 use Rattle.ps_diagram.specs.Letters.{assignment}
 use Rattle.ps_diagram.specs.Table.{Table, IsNode, Keeps, leaf_of}
 use Rattle.ps_diagram.specs.Tree.{leaf_at}
+use Rattle.ps_diagram.proofs.KnownLemmas.{keeps_trans}
 use Rattle.ps_diagram.proofs.Truths.{opposite_of}
 use Rattle.ps_circuit.specs.Values.{AreValues}
-use Rattle.ps_product.specs.Inner.Knowing.{IsTruthAt, Knows}
+use Rattle.ps_product.specs.Inner.Knowing.{IsReady, IsSite, IsTruthAt, Knows, Learns}
 use Rattle.ps_product.specs.Inner.Nets.{value_at}
 use Rattle.ps_product.specs.Truths.{IsTruth, IsVarying, bits_at, truth_at}
 use Rattle.ps_product.specs.declared.site.Site.{Site}
@@ -74,6 +75,28 @@ known_kept s {t} {u} known k h = record {
       (λ letter lt. truth_same k truth at.is_truth letter)
       (λ letter values lt are. sym (at.holds letter values lt are));
 }
+
+pub learnt : {s : Site} {t u : Table} {known : List (Option Truth)} → Keeps t u → Knows s u known → Learns s t u known
+learnt keeps knows = record { keeps = keeps; knows = knows }
+
+-- what was learnt stays when the table grows further
+pub learns_on : (s : Site) {t u v : Table} (known : List (Option Truth)) → Learns s t u known → Keeps u v →
+    Learns s t v known
+learns_on s known h k = record { keeps = keeps_trans h.keeps k; knows = known_kept s known k h.knows }
+
+-- a site stays a site when the table grows
+pub site_kept : {s : Site} {t u : Table} → Keeps t u → IsSite s t → IsSite s u
+site_kept k h = record {
+  is_circuit = h.is_circuit;
+  inputs = h.inputs;
+  named = rw k.propositions h.named;
+  latches = h.latches;
+}
+
+-- when truths have been learnt, further truths may be found
+pub ready_on : {s : Site} {t u : Table} {known more : List (Option Truth)} → IsReady s t known → Learns s t u more →
+    IsReady s u more
+ready_on r h = record { site = site_kept h.keeps r.site; knows = h.knows }
 
 -- one truth more becomes known
 pub known_more : (s : Site) {t : Table} (known : List (Option Truth)) {more : List (Option Truth)} (place : ℕ)

@@ -2,15 +2,16 @@
 --     truth_at t truth letter      whether the truth is true at the letter
 --     IsTruth t truth      the truth is `Never`, `Always`, or a node that is true at some but not all letters
 --     bits_at propositions letter      the bits of these propositions at a letter
+--     MakesTruth old new result bit      a call made the truth with the given bit at each letter
 --     IsTruthOf c propositions latches t truth literal      the truth is the literal's bit at each letter
 --     AreTruthsOf, IsOutcome      like `IsTruthOf`, for lists of literals; for the outputs and the next latches
 use Rattle.std.specs.Prelude.{◌≡◌, ℕ, ◌^◌, ◌<◌, Bool, true, false, not, is_some, if◌then◌else◌, List, length, map}
-use Rattle.std.specs.Prelude.{slice_get, Some}
+use Rattle.std.specs.Prelude.{slice_get, IfOk, Result, Some}
 use Rattle.ps_label.specs.Truth.{is_in}
 use Rattle.ps_circuit.specs.Circuits.{CircuitData}
 use Rattle.ps_circuit.specs.Values.{AreValues, bit_of}
 use Rattle.ps_diagram.specs.Labels.{IsOneOrNone, one_where}
-use Rattle.ps_diagram.specs.Table.{Table, IsNode, leaf_of}
+use Rattle.ps_diagram.specs.Table.{Table, IsNode, Keeps, leaf_of}
 use Rattle.ps_product.specs.declared.truth.Truth.{Truth}
 use Rattle.ps_product.specs.declared.truth.Truth.TheVariants.{Never, Always, Sometimes}
 use Rattle.ps_simulate.specs.declared.plan.Wire.{Wire}
@@ -34,6 +35,13 @@ IsTruth t (Sometimes node) = IsVarying t node
 -- the bit that a wire reads, given the bit at its place
 abbrev pub bit_by_wire : Wire → Bool → Bool
 bit_by_wire w b = if w.is_negated then not b else b
+
+-- the nodes so far remain, also if memory runs out; the truth holds exactly at the letters at which `bit` is true
+pub record MakesTruth {E : Type 0} (old new : Table) (result : Result Truth E) (bit : ℕ → Bool) : Type 0 where
+  pub keeps : Keeps old new
+  pub is_truth : IfOk result (IsTruth new)
+  pub truth : IfOk result
+      (λ truth. (letter : ℕ) → letter < 2 ^ old.propositions → truth_at new truth letter ≡ bit letter)
 
 abbrev pub bits_at : List ℕ → ℕ → List Bool
 bits_at propositions letter = map (λ p. is_in p letter) propositions

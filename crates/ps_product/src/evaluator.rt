@@ -1,8 +1,8 @@
 //! Computes outputs and next latches as truths.
 
-ghost use Rattle.std.specs.Prelude.{◌≡◌, ◌<◌, length, map, All, IfOk};
+ghost use Rattle.std.specs.Prelude.{◌≡◌, ◌<◌, length, All, IfOk};
 ghost use Rattle.ps_diagram.specs.Table.{Keeps};
-ghost use Rattle.ps_product.specs.Inner.Knowing.{AreTruthsAlong, IsSite, Knows};
+ghost use Rattle.ps_product.specs.Inner.Knowing.{AreTruthsAlong, IsReady, Learns};
 ghost use Rattle.ps_product.specs.Truths.{IsOutcome};
 ghost use Rattle.ps_simulate.specs.Plans.{variables};
 
@@ -98,11 +98,9 @@ fn truths_of(
     truths: &mut Truths,
     wires: &[Wire],
 ) -> Result<Vec<Truth>, AllocError>
-    requires site { IsSite site truths.old }
+    requires ready { IsReady site truths.old known.old }
     requires within { All (λ w. w.place < length (variables site.net.now)) wires.now }
-    requires knows { Knows site truths.old known.old }
-    ensures keeps { Keeps truths.old truths.new }
-    ensures knows { Knows site.entry truths.new known.new }
+    ensures learns { Learns site.entry truths.old truths.new known.new }
     ensures truths { IfOk result (λ made. AreTruthsAlong site.entry truths.new wires.now made.items) }
 {
     let mut made = Vec::new(alloc);

@@ -1,8 +1,7 @@
 //! Refines a diagram so that its leaves also distinguish the bits of truths.
 
-ghost use Rattle.std.specs.Prelude.{◌≡◌, All, IfOk, [], ◌∷◌};
-ghost use Rattle.ps_diagram.specs.Table.{IsNode, Keeps};
-ghost use Rattle.ps_product.specs.Inner.Edges.{IsGroupedBy, IsTotal};
+ghost use Rattle.std.specs.Prelude.{All, [], ◌∷◌};
+ghost use Rattle.ps_product.specs.Inner.Edges.{Groups, IsWhole};
 ghost use Rattle.ps_product.specs.Truths.{IsTruth};
 
 use crate::truth::Truth;
@@ -18,12 +17,9 @@ pub(crate) fn grouped(
     node: Node,
     truths: &[Truth],
 ) -> Result<Node, AllocError>
-    requires held { IsNode store.old node }
-    requires total { IsTotal store.old node }
+    requires whole { IsWhole store.old node }
     requires truths { All (IsTruth store.old) truths.now }
-    ensures keeps { Keeps store.old store.new }
-    ensures held { IfOk result (λ made. IsNode store.new made) }
-    ensures grouped { IfOk result (λ made. IsGroupedBy store.old store.new node made truths.now) }
+    ensures { Groups store.old store.new node truths.now result }
 {
     let mut made = node;
     for truth in truths {
@@ -34,12 +30,9 @@ pub(crate) fn grouped(
 
 /// Like `grouped`, but for a single truth.
 fn split_by(alloc: Global, store: &mut Store, node: Node, truth: Truth) -> Result<Node, AllocError>
-    requires held { IsNode store.old node }
-    requires total { IsTotal store.old node }
+    requires whole { IsWhole store.old node }
     requires truth { IsTruth store.old truth }
-    ensures keeps { Keeps store.old store.new }
-    ensures held { IfOk result (λ made. IsNode store.new made) }
-    ensures grouped { IfOk result (λ made. IsGroupedBy store.old store.new node made (truth ∷ [])) }
+    ensures { Groups store.old store.new node (truth ∷ []) result }
 {
     let Truth::Sometimes(condition) = truth else {
         return Ok(node);

@@ -1,6 +1,6 @@
 //! A circuit whose literals refer to variables by their places.
 
-ghost use Rattle.std.specs.Prelude.{◌≡◌, ℕ, ◌<◌, length, map, IfOk, IsTrue, MatchOption};
+ghost use Rattle.std.specs.Prelude.{◌≡◌, ℕ, ◌<◌, length, map, IfOk, MatchOption};
 ghost use Rattle.ps_circuit.specs.Circuits.{CircuitData, IsCircuit};
 ghost use Rattle.ps_product.specs.Inner.Nets.{IsGateAt, front_of, sides_of};
 ghost use Rattle.ps_simulate.specs.Plans.{variables, wire_of};
@@ -62,17 +62,17 @@ impl<'a> Net<'a> {
         ensures { IfOk result (λ net. net ≡ circuit.now) }
     {
         let places = Places::new(alloc, circuit)?;
-        Net::by_places(alloc, circuit, &places)
+        Net::by_places(alloc, &places)
     }
 
     /// The net of a circuit, given the places of its variables.
-    fn by_places(alloc: Global, circuit: &'a Circuit, places: &Places) -> Result<Self, AllocError>
-        requires { places.now ≡ circuit.now }
-        ensures { IfOk result (λ net. net ≡ circuit.now) }
+    fn by_places(alloc: Global, places: &Places<'a>) -> Result<Self, AllocError>
+        ensures { IfOk result (λ net. net ≡ places.now) }
     {
-        let gates = gate_sides(alloc, circuit, places)?;
-        let outputs = output_wires(alloc, circuit, places)?;
-        let nexts = next_wires(alloc, circuit, places)?;
+        let circuit = places.circuit();
+        let gates = gate_sides(alloc, places)?;
+        let outputs = output_wires(alloc, places)?;
+        let nexts = next_wires(alloc, places)?;
         Ok(Net {
             circuit,
             front: 1 + circuit.inputs().len() + circuit.latches().len(),
@@ -126,10 +126,10 @@ impl<'a> Net<'a> {
 }
 
 /// The literals that each gate reads.
-fn gate_sides(alloc: Global, circuit: &Circuit, places: &Places) -> Result<Vec<Sides>, AllocError>
-    requires { places.now ≡ circuit.now }
-    ensures { IfOk result (λ sides. sides.items ≡ map (sides_of circuit.now) circuit.now.gates) }
+fn gate_sides(alloc: Global, places: &Places) -> Result<Vec<Sides>, AllocError>
+    ensures { IfOk result (λ sides. sides.items ≡ map (sides_of places.now) places.now.gates) }
 {
+    let circuit = places.circuit();
     let mut sides = Vec::new(alloc);
     for gate in circuit.gates() {
         sides.push(Sides {

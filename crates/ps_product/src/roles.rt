@@ -5,14 +5,12 @@ ghost use Rattle.std.specs.Option.{option_copied};
 ghost use Rattle.ps_hoa.specs.Files.{is_among};
 ghost use Rattle.ps_hoa.specs.Memory.{bytes_of};
 ghost use Rattle.ps_hoa.specs.Sound.{AreNames};
-ghost use Rattle.ps_simulate.specs.Inner.Namings.{IsPropositionOf};
-ghost use Rattle.ps_simulate.specs.Symbols as symbols;
 ghost use Rattle.ps_simulate.specs.Symbols.{AreNamesOnce, HasSymbols};
 ghost use Rattle.ps_product.specs.Inner.Roles.{AreRoles, IsFull, IsListing};
 
 use ps_automaton::Automaton;
 use ps_circuit::Circuit;
-use ps_simulate::Role;
+use ps_simulate::{Role, input_symbols, is_in_list, output_symbols, proposition_of};
 use std::alloc::{AllocError, Global};
 
 /// The propositions of a circuit's inputs and outputs.
@@ -40,7 +38,7 @@ pub(crate) fn roles_of(
 {
     let names = automaton.names();
     let controllable = automaton.controllable();
-    let reads = reads_controllable(role);
+    let reads = role.reads_controllable();
     let symbols = input_symbols(alloc, circuit)?;
     let Some(inputs) = propositions_of(alloc, names, controllable, reads, &symbols)? else {
         return Ok(None);
@@ -50,67 +48,6 @@ pub(crate) fn roles_of(
         return Ok(None);
     };
     Ok(Some(Roles { inputs, outputs }))
-}
-
-/// Whether the inputs are the controllable propositions.
-fn reads_controllable(role: Role) -> bool
-    ensures { result ≡ symbols.reads_controllable role }
-{
-    match role {
-        Role::Controller => false,
-        Role::Environment => true,
-    }
-}
-
-/// The names of the inputs.
-fn input_symbols(alloc: Global, circuit: &Circuit) -> Result<Vec<Option<&[u8]>>, AllocError>
-    ensures symbols { IfOk result (λ symbols. map option_copied symbols.items ≡ circuit.now.input_names) }
-{
-    let mut symbols = Vec::new(alloc);
-    for k in 0..circuit.inputs().len() {
-        symbols.push(circuit.input_name(k))?;
-    }
-    Ok(symbols)
-}
-
-/// The names of the outputs.
-fn output_symbols(alloc: Global, circuit: &Circuit) -> Result<Vec<Option<&[u8]>>, AllocError>
-    ensures symbols { IfOk result (λ symbols. map option_copied symbols.items ≡ circuit.now.output_names) }
-{
-    let mut symbols = Vec::new(alloc);
-    for k in 0..circuit.outputs().len() {
-        symbols.push(circuit.output_name(k))?;
-    }
-    Ok(symbols)
-}
-
-/// Whether a proposition is in a list.
-fn is_in_list(list: &[u32], proposition: usize) -> bool
-    ensures { result ≡ is_among proposition list.now }
-{
-    for other in list {
-        if proposition == *other as usize {
-            return true;
-        }
-    }
-    false
-}
-
-/// The proposition that a symbol names, if it is controllable (or, if `wanted` is false, not controllable).
-fn proposition_of(
-    names: &[Vec<u8>],
-    controllable: &[u32],
-    wanted: bool,
-    symbol: &[u8],
-) -> Option<usize>
-    ensures { IsPropositionOf (map bytes_of names.now) controllable.now wanted symbol.now result }
-{
-    for (p, name) in names.iter().enumerate() {
-        if name.as_slice() == symbol && is_in_list(controllable, p) == wanted {
-            return Some(p);
-        }
-    }
-    None
 }
 
 /// The proposition of each symbol, if the symbols name exactly the controllable propositions (or, if `wanted` is false,
@@ -132,27 +69,6 @@ fn propositions_of(
     ensures none { IfOk result (λ list. IfNone list (¬ AreNamesOnce (map bytes_of names.now) controllable.now wanted
         (map option_copied symbols.now))) }
 {
-    match listed(alloc, names, controllable, wanted, symbols)? {
-        Some(list) if is_full(names.len(), controllable, wanted, &list) => Ok(Some(list)),
-        _ => Ok(None),
-    }
-}
-
-/// The proposition of each symbol, if each names a proposition on the wanted side, and no two the same.
-fn listed(
-    alloc: Global,
-    names: &[Vec<u8>],
-    controllable: &[u32],
-    wanted: bool,
-    symbols: &[Option<&[u8]>],
-) -> Result<Option<Vec<u32>>, AllocError>
-    requires few { length names.now ≤ 64 }
-    ensures listing { IfOk result (λ list. IfSome list (λ l.
-        IsListing (map bytes_of names.now) controllable.now wanted (map option_copied symbols.now) (length symbols.now)
-        l.items)) }
-    ensures none { IfOk result (λ list. IfNone list (¬ AreNamesOnce (map bytes_of names.now) controllable.now wanted
-        (map option_copied symbols.now))) }
-{
     let mut list = Vec::new(alloc);
     for symbol in symbols {
         let Some(name) = symbol else {
@@ -162,6 +78,9 @@ fn listed(
             Some(p) if !is_in_list(&list, p) => list.push(p as u32)?,
             _ => return Ok(None),
         }
+    }
+    if !is_full(names.len(), controllable, wanted, &list) {
+        return Ok(None);
     }
     Ok(Some(list))
 }

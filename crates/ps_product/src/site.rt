@@ -1,12 +1,12 @@
 //! Evaluates a circuit at given latches, gate by gate.
 
-ghost use Rattle.std.specs.Prelude.{◌≡◌, ℕ, ◌^◌, ◌<◌, ◌&&◌, length, slice_index_or, IfOk, IsSome, IsTrue, None, not};
+ghost use Rattle.std.specs.Prelude.{◌≡◌, ℕ, ◌<◌, ◌&&◌, length, slice_index_or, IfOk, IsSome, IsTrue, None, not};
 ghost use Rattle.std.specs.Prelude.{if◌then◌else◌, OnOk};
 ghost use Rattle.std.specs.Prelude.{false};
 ghost use Rattle.ps_diagram.specs.Table.{Keeps, Table};
-ghost use Rattle.ps_product.specs.Inner.Knowing.{IsSite, IsStep, IsTruthAt, Knows};
-ghost use Rattle.ps_product.specs.Inner.Nets.{IsGateAt, front_of};
-ghost use Rattle.ps_product.specs.Truths.{IsTruth, truth_at, bit_by_wire};
+ghost use Rattle.ps_product.specs.Inner.Knowing.{IsReady, IsSite, IsStep, IsTruthAt, Learns};
+ghost use Rattle.ps_product.specs.Inner.Nets.{front_of};
+ghost use Rattle.ps_product.specs.Truths.{IsTruth, MakesTruth, truth_at, bit_by_wire};
 ghost use Rattle.ps_simulate.specs.Plans.{variables};
 
 use crate::known::Known;
@@ -35,11 +35,9 @@ impl<'s, 'c> Site<'s, 'c> {
         truths: &mut Truths,
         place: u32,
     ) -> Result<(), AllocError>
-        requires site { IsSite self truths.old }
+        requires ready { IsReady self truths.old known.old }
         requires within { place < length (variables self.net.now) }
-        requires knows { Knows self truths.old known.old }
-        ensures keeps { Keeps truths.old truths.new }
-        ensures knows { Knows self.entry truths.new known.new }
+        ensures learns { Learns self.entry truths.old truths.new known.new }
         ensures here { OnOk result (IsSome (slice_index_or known.new place None)) }
     {
         if known.get(place).is_some() {
@@ -68,11 +66,9 @@ impl<'s, 'c> Site<'s, 'c> {
         truths: &mut Truths,
         place: u32,
     ) -> Result<Option<u32>, AllocError>
-        requires site { IsSite self truths.old }
+        requires ready { IsReady self truths.old known.old }
         requires within { place < length (variables self.net.now) }
-        requires knows { Knows self truths.old known.old }
-        ensures keeps { Keeps truths.old truths.new }
-        ensures knows { Knows self.entry truths.new known.new }
+        ensures learns { Learns self.entry truths.old truths.new known.new }
         ensures step { IfOk result (IsStep self.entry.net.now place known.old known.new) }
         ensures size { length known.new ≡ length known.old }
     {
@@ -138,12 +134,9 @@ fn conjunction(
 ) -> Result<Truth, AllocError>
     requires one { IsTruth truths.old one }
     requires other { IsTruth truths.old other }
-    ensures keeps { Keeps truths.old truths.new }
-    ensures is_truth { IfOk result (λ made. IsTruth truths.new made) }
-    ensures truth { IfOk result (λ made. (letter : ℕ) → letter < 2 ^ truths.old.propositions →
-        truth_at truths.new made letter ≡
-        (bit_by_wire sides.first (truth_at truths.old one letter) &&
-        bit_by_wire sides.second (truth_at truths.old other letter))) }
+    ensures { MakesTruth truths.old truths.new result (λ letter.
+        bit_by_wire sides.first (truth_at truths.old one letter) &&
+        bit_by_wire sides.second (truth_at truths.old other letter)) }
 {
     let one = truths.along(one, sides.first)?;
     let other = truths.along(other, sides.second)?;

@@ -3,8 +3,8 @@
 ghost use Rattle.std.specs.Prelude.{◌≡◌, ℕ, ◌^◌, ◌<◌, ◌≤◌, ◌&&◌, not, is_some, IfOk};
 ghost use Rattle.ps_label.specs.Truth.{is_in};
 ghost use Rattle.ps_diagram.specs.Labels.{IsOneOrNone};
-ghost use Rattle.ps_diagram.specs.Table.{IsNode, Keeps, Table, leaf_of};
-ghost use Rattle.ps_product.specs.Truths.{IsTruth, truth_at, bit_by_wire};
+ghost use Rattle.ps_diagram.specs.Table.{IsNode, Table, leaf_of};
+ghost use Rattle.ps_product.specs.Truths.{IsTruth, MakesTruth, truth_at, bit_by_wire};
 
 use ps_diagram::{Node, Store};
 use ps_simulate::Wire;
@@ -81,10 +81,7 @@ impl Truths {
     /// The truth of a proposition.
     pub fn proposition(&mut self, proposition: u32) -> Result<Truth, AllocError>
         requires named { proposition < self.old.propositions }
-        ensures keeps { Keeps self.old self.new }
-        ensures is_truth { IfOk result (λ truth. IsTruth self.new truth) }
-        ensures truth { IfOk result (λ truth. (letter : ℕ) → letter < 2 ^ self.old.propositions →
-            truth_at self.new truth letter ≡ is_in proposition letter) }
+        ensures { MakesTruth self.old self.new result (λ letter. is_in proposition letter) }
     {
         let node = self.store.of_proposition(proposition)?;
         Ok(self.truth_of(node))
@@ -94,10 +91,8 @@ impl Truths {
     pub fn both(&mut self, first: Truth, second: Truth) -> Result<Truth, AllocError>
         requires first { IsTruth self.old first }
         requires second { IsTruth self.old second }
-        ensures keeps { Keeps self.old self.new }
-        ensures is_truth { IfOk result (λ truth. IsTruth self.new truth) }
-        ensures truth { IfOk result (λ truth. (letter : ℕ) → letter < 2 ^ self.old.propositions →
-            truth_at self.new truth letter ≡ (truth_at self.old first letter && truth_at self.old second letter)) }
+        ensures { MakesTruth self.old self.new result
+            (λ letter. truth_at self.old first letter && truth_at self.old second letter) }
     {
         let one = match first {
             Truth::Never => return Ok(Truth::Never),
@@ -116,10 +111,7 @@ impl Truths {
     /// The negation of a truth.
     pub fn negated(&mut self, truth: Truth) -> Result<Truth, AllocError>
         requires held { IsTruth self.old truth }
-        ensures keeps { Keeps self.old self.new }
-        ensures is_truth { IfOk result (λ made. IsTruth self.new made) }
-        ensures truth { IfOk result (λ made. (letter : ℕ) → letter < 2 ^ self.old.propositions →
-            truth_at self.new made letter ≡ not (truth_at self.old truth letter)) }
+        ensures { MakesTruth self.old self.new result (λ letter. not (truth_at self.old truth letter)) }
     {
         match truth {
             Truth::Never => Ok(Truth::Always),
@@ -134,10 +126,7 @@ impl Truths {
     /// The truth of a wire's literal: the given truth, negated if the wire is negated.
     pub(crate) fn along(&mut self, truth: Truth, wire: Wire) -> Result<Truth, AllocError>
         requires held { IsTruth self.old truth }
-        ensures keeps { Keeps self.old self.new }
-        ensures is_truth { IfOk result (λ made. IsTruth self.new made) }
-        ensures truth { IfOk result (λ made. (letter : ℕ) → letter < 2 ^ self.old.propositions →
-            truth_at self.new made letter ≡ bit_by_wire wire (truth_at self.old truth letter)) }
+        ensures { MakesTruth self.old self.new result (λ letter. bit_by_wire wire (truth_at self.old truth letter)) }
     {
         if wire.is_negated {
             return self.negated(truth);

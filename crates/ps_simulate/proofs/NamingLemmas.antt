@@ -15,8 +15,8 @@ use Rattle.ps_hoa.specs.Files.{is_among}
 use Rattle.ps_hoa.specs.Header.{is_name_among}
 use Rattle.ps_hoa.specs.Sound.{AreNames}
 use Rattle.ps_simulate.specs.declared.role.Role.{Role}
-use Rattle.ps_simulate.specs.Symbols.{IsSymbol, AreNamesOnce, reads_controllable, sets_controllable}
-use Rattle.ps_simulate.specs.Inner.Namings.{ArePut, ArePlacesOf, IsPropositionOf}
+use Rattle.ps_simulate.specs.Symbols.{IsPropositionOf, IsSymbol, AreNamesOnce, reads_controllable, sets_controllable}
+use Rattle.ps_simulate.specs.Inner.Namings.{ArePut, ArePlacesOf}
 
 -- ## Names that differ
 

@@ -1,7 +1,7 @@
 -- A step may leave out the rows that are not needed.
 use Rattle.std.proofs.Common.{◌≡◌, ◌≢◌, ℕ, suc, ◌<◌, ◌≤◌, ◌⊎◌, ◌&&◌, inl, inr, Bool, true, false, List, [], ◌∷◌, map}
 use Rattle.std.proofs.Common.{length}
-use Rattle.std.proofs.Common.{get_or, refl, sym, subst, ap, ap₂, ◌∙◌, arith, All, rules, length-set, get_or-set_same}
+use Rattle.std.proofs.Common.{get_or, refl, sym, subst, ap, ap₂, ◌∙◌, arith, All, length-set, get_or-set_same}
 use Rattle.std.proofs.Common.{get_or-set_other}
 use Rattle.std.specs.Prelude.{slice_set}
 use Rattle.std.proofs.lemmas.Bool.{cases_Bool, cases_eq, cases_lt}
@@ -11,8 +11,7 @@ use Rattle.ps_circuit.specs.Values.{Steps}
 use Rattle.ps_simulate.specs.declared.plan.Wire.{Wire}
 use Rattle.ps_simulate.specs.declared.plan.Row.{Row}
 use Rattle.ps_simulate.specs.declared.plan.Plan.{Plan}
-use Rattle.ps_simulate.specs.NeededGates.{AreNeeded, IsPlanOfNeeded, IsScheduled, Needs, NeedsWhatItReads, NeedsWire}
-use Rattle.ps_simulate.specs.NeededGates.{needed_rows}
+use Rattle.ps_simulate.specs.NeededGates.{IsPlanOfNeeded, IsScheduled, Needs, NeedsWhatItReads, NeedsWire, needed_rows}
 use Rattle.ps_simulate.specs.NeededGates.{no_row, numbered_row}
 use Rattle.ps_simulate.specs.Plans.{IsPlan, IsRowInTable, IsWorkedOut, read, variables, work_out, work_row}
 use Rattle.ps_simulate.specs.Tables.{IsValueTable}

@@ -4,7 +4,7 @@ use Rattle.std.specs.Prelude.{◌≡◌, ℕ, ◌+◌, ◌<◌, ◌==◌, ◌&&�
 use Rattle.std.specs.Prelude.{slice_index_or, slice_set}
 use Rattle.std.specs.List.{position_or_len}
 use Rattle.ps_circuit.specs.declared.parts.Gate.{Gate}
-use Rattle.ps_circuit.specs.Circuits.{CircuitData, definitions, ReadsGate}
+use Rattle.ps_circuit.specs.Circuits.{CircuitData, IsCircuit, ReadsGate, definitions}
 use Rattle.ps_circuit.specs.Literals.{is_negated, variable}
 use Rattle.ps_components.specs.Orders.{IsOrder}
 use Rattle.ps_simulate.specs.declared.plan.Wire.{Wire}
@@ -34,6 +34,7 @@ row_at c i = gate_row c (slice_index_or c.gates i no_gate)
 
 -- the rows are in an order in which each gate comes after the gates that it reads
 pub record AreGateRows (c : CircuitData) (rows : List Row) : Type 0 where
+  pub is_circuit : IsCircuit c
   pub order : List ℕ
   pub is_order : IsOrder (ReadsGate c.gates) (length c.gates) order
   pub each : rows ≡ map (row_at c) order

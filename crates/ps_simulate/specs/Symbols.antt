@@ -1,5 +1,6 @@
 -- The inputs and outputs of a circuit that carry the names of an automaton's propositions.
 --     IsSymbol names symbols k p      symbol k is the name of proposition p
+--     IsPropositionOf names controllable wanted symbol p      p is the wanted kind's proposition that the symbol names
 --     AreNamesOnce names controllable wanted symbols      the symbols name all propositions of the wanted kind, once
 --     HasSymbols role names controllable c      the circuit has the inputs and outputs of its role
 use Rattle.std.specs.Prelude.{◌≡◌, ℕ, ◌<◌, Bool, true, false, List, [], length, Option, None, Some, slice_index_or}
@@ -11,6 +12,13 @@ use Rattle.ps_simulate.specs.declared.role.Role.TheVariants.{Controller, Environ
 pub record IsSymbol (names : List (List ℕ)) (symbols : List (Option (List ℕ))) (k p : ℕ) : Type 0 where
   pub within : p < length names
   pub is : slice_index_or symbols k None ≡ Some (slice_index_or names p [])
+
+-- the proposition that the symbol names, or `None` if there is no such proposition
+abbrev pub IsPropositionOf : List (List ℕ) → List ℕ → Bool → List ℕ → Option ℕ → Type 0
+IsPropositionOf names controllable wanted symbol (Some p) =
+    (p < length names) × (slice_index_or names p [] ≡ symbol) × (is_among p controllable ≡ wanted)
+IsPropositionOf names controllable wanted symbol None =
+    (p : ℕ) → p < length names → is_among p controllable ≡ wanted → ¬ (slice_index_or names p [] ≡ symbol)
 
 pub record AreNamesOnce (names : List (List ℕ)) (controllable : List ℕ) (wanted : Bool)
     (symbols : List (Option (List ℕ))) : Type 0 where

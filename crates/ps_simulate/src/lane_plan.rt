@@ -37,14 +37,12 @@ pub struct LanePlan {
 
 impl LanePlan {
     ghost use Rattle.std.specs.Prelude.{List};
-    ghost use Rattle.ps_circuit.specs.Circuits.{IsCircuit};
     ghost use Rattle.ps_simulate.specs.LanePlans.{IsLanePlan};
     ghost use Rattle.ps_simulate.specs.declared.plan.Plan.{Plan};
 
     /// The plan of a circuit. Fails if out of memory.
     pub fn new(alloc: Global, circuit: &Circuit) -> Result<Self, AllocError>
-        ensures plan { IfOk result (λ p. (plan : Plan) × (places : List ℕ) × IsLanePlan circuit.now plan places p) }
-        ensures well_formed { IsCircuit circuit.now }
+        ensures { IfOk result (λ p. (plan : Plan) × (places : List ℕ) × IsLanePlan circuit.now plan places p) }
     {
         let gates = circuit.gates();
         let plan = Plan::new(alloc, circuit)?;

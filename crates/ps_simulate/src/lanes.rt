@@ -2,7 +2,6 @@
 
 ghost use Rattle.std.specs.Prelude.{◌≡◌, ℕ, ◌+◌, ◌<◌, ◌≤◌, ◌⊎◌, [], length, map, slice_get, slice_index_or, All, IfOk};
 ghost use Rattle.std.specs.Prelude.{Some, false};
-ghost use Rattle.ps_circuit.specs.Circuits.{IsCircuit};
 ghost use Rattle.ps_circuit.specs.Literals.{variable};
 ghost use Rattle.ps_circuit.specs.Values.{resets};
 ghost use Rattle.ps_simulate.specs.Lanes.{all_or_none, lane_bit, lane_of};
@@ -85,8 +84,7 @@ impl<'a> LaneSimulator<'a> {
 
 /// The resets of the latches, for each run.
 fn first_words(alloc: Global, circuit: &Circuit) -> Result<Vec<[u64; 4]>, AllocError>
-    ensures latches { IfOk result (λ words. (lane : ℕ) → lane < 256 → lane_of words.items lane ≡ resets circuit.now) }
-    ensures well_formed { IsCircuit circuit.now }
+    ensures { IfOk result (λ words. (lane : ℕ) → lane < 256 → lane_of words.items lane ≡ resets circuit.now) }
 {
     let mut words = Vec::new(alloc);
     for latch in circuit.latches() {

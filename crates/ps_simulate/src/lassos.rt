@@ -1,15 +1,15 @@
 //! Runs of a circuit on a lasso: the circuit reads a stem once and then a lap repeatedly, until its latch values
 //! repeat.
 
-ghost use Rattle.std.specs.Prelude.{◌≡◌, ◌+◌, ◌*◌, ◌^◌, ◌<◌, ◌≤◌, Bool, List, [], ℕ, false, length, All, IfOk, IfErr};
-ghost use Rattle.std.specs.Prelude.{IsTrue, IsOk, OnOk, vec_len};
+ghost use Rattle.std.specs.Prelude.{◌≡◌, ◌+◌, ◌*◌, ◌<◌, Bool, List, [], false, length, All, IfOk, IfErr};
+ghost use Rattle.std.specs.Prelude.{IsTrue, OnOk, vec_len};
 ghost use Rattle.ps_circuit.specs.Values.{resets};
 ghost use Rattle.ps_hoa.specs.Files.{FileData};
 ghost use Rattle.ps_automaton.specs.Automata.{IsBuiltFrom};
 ghost use Rattle.ps_automaton.specs.Chains.{Chain};
 ghost use Rattle.ps_simulate.specs.Stimuli.{letters_of};
 ghost use Rattle.ps_simulate.specs.Lassos.{IsVerdictOf};
-ghost use Rattle.ps_simulate.specs.LassoFaults.{HasNoLassoFault, IsLassoFault};
+ghost use Rattle.ps_simulate.specs.LassoFaults.{AreWide, HasNoLassoFault, IsLassoFault};
 ghost use Rattle.ps_simulate.specs.LassoRuns.{HavePlaces, IsSeen, ReadsWord, RepeatsBy};
 ghost use Rattle.ps_simulate.specs.Inner.Namings.{IsNaming, names_of};
 ghost use Rattle.ps_simulate.specs.declared.lassos.LassoFault.TheVariants.{OutOfMemory};
@@ -133,17 +133,17 @@ fn verdict_of(
     stem: &[Vec<bool>],
     lap: &[Vec<bool>],
 ) -> Result<Verdict, AllocError>
-    requires stem { All (λ letter. length letter ≡ length circuit.now.inputs) (letters_of stem.now) }
-    requires lap { All (λ letter. length letter ≡ length circuit.now.inputs) (letters_of lap.now) }
+    requires wide { AreWide circuit.now (letters_of stem.now) (letters_of lap.now) }
     requires some { 0 < length lap.now }
     requires naming { IsNaming circuit.now naming.now }
     requires names { names_of naming.now ≡ automaton.now.names }
     ensures { IfOk result (λ verdict. (file : FileData) (chain : Chain) → IsBuiltFrom file chain automaton.now →
         IsVerdictOf file circuit.now (letters_of stem.now) (letters_of lap.now) verdict) }
 {
-    let repetition = first_repetition(alloc, circuit, naming, stem, lap)?;
-    let letters = repetition.letters.as_slice();
-    let start = stem.len() + repetition.first * lap.len();
+    let mut run = Run::new(alloc, circuit)?;
+    let first = run.first_repetition(alloc, naming, stem, lap)?;
+    let letters = run.letters.as_slice();
+    let start = stem.len() + first * lap.len();
     let (before, behind) = letters.split_at(start);
     Ok(Verdict {
         accepted: automaton.accepts(before, behind)?,
@@ -163,37 +163,6 @@ fn are_wide(width: usize, letters: &[Vec<bool>]) -> bool
         }
     }
     true
-}
-
-/// The letters of a trace up to the first lap that begins with the latch values of an earlier lap, and the index of
-/// that earlier lap.
-#[derive(Drop)]
-struct Repetition {
-    letters: Vec<u64>,
-    first: usize,
-}
-
-/// Reads the stem, and then laps until a lap begins with the latch values of an earlier lap. Fails if out of memory.
-fn first_repetition(
-    alloc: Global,
-    circuit: &Circuit,
-    naming: &Naming,
-    stem: &[Vec<bool>],
-    lap: &[Vec<bool>],
-) -> Result<Repetition, AllocError>
-    requires stem { All (λ letter. length letter ≡ length circuit.now.inputs) (letters_of stem.now) }
-    requires lap { All (λ letter. length letter ≡ length circuit.now.inputs) (letters_of lap.now) }
-    requires some { 0 < length lap.now }
-    requires naming { IsNaming circuit.now naming.now }
-    ensures { IfOk result (λ r. RepeatsBy (names_of naming.now) circuit.now (letters_of stem.now) (letters_of lap.now)
-        r.first r.letters.items) }
-{
-    let mut run = Run::new(alloc, circuit)?;
-    let first = run.first_repetition(alloc, naming, stem, lap)?;
-    Ok(Repetition {
-        letters: run.letters,
-        first,
-    })
 }
 
 /// A running circuit, and the letters that the automaton has read so far.
@@ -230,8 +199,7 @@ impl<'a> Run<'a> {
         stem: &[Vec<bool>],
         lap: &[Vec<bool>],
     ) -> Result<usize, AllocError>
-        requires stem { All (λ letter. length letter ≡ length self.old.simulator.circuit.inputs) (letters_of stem.now) }
-        requires lap { All (λ letter. length letter ≡ length self.old.simulator.circuit.inputs) (letters_of lap.now) }
+        requires wide { AreWide self.old.simulator.circuit (letters_of stem.now) (letters_of lap.now) }
         requires some { 0 < length lap.now }
         requires naming { IsNaming self.old.simulator.circuit naming.now }
         requires latches { self.old.simulator.latches ≡ resets self.old.simulator.circuit }

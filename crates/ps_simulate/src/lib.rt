@@ -7,9 +7,12 @@
 //! | `LaneSimulator::new(circuit)`, `step_lanes`, `latch` | 256 runs at once: bit b of word w belongs to run 64·w + b |
 //! | `parse_stimulus(text, width, split)` | the letters of a text, a line of digits each, or the first fault |
 //! | `parse_letters(text, width)` | the same for a text without a lap, with all bits in a single list |
-//! | `Places::new(circuit)`, `wire(literal)` | the index of a literal's variable in a table without gaps |
-//! | `output_wires(circuit, places)`, `next_wires` | the wires of the outputs and of the latches' next literals |
+//! | `Places::new(circuit)`, `circuit`, `wire(literal)` | the index of a literal's variable in a table without gaps |
+//! | `output_wires(places)`, `next_wires` | the wires of the outputs and of the latches' next literals |
 //! | `lasso(circuit, automaton, role, stem, lap)` | the `Verdict` at the first repetition, or a `LassoFault` |
+//! | `input_symbols(circuit)`, `output_symbols` | the optional names of the inputs and of the outputs |
+//! | `proposition_of(names, controllable, wanted, symbol)` | the proposition on that side that a symbol names |
+//! | `is_in_list`, `Role::reads_controllable`, `sets_controllable` | which propositions are on a side |
 //! | `LassoFault::number`, `StimulusCause::number`, `name` | the number and the name of a fault or cause |
 //!
 //! `Role` states whether a circuit is a controller or an environment.
@@ -41,6 +44,7 @@ mod plan;
 mod role;
 mod simulator;
 mod stimulus;
+mod symbols;
 
 pub use fault::{StimulusCause, StimulusFault};
 pub use lanes::LaneSimulator;
@@ -54,3 +58,4 @@ pub use simulator::Simulator;
 pub use stimulus::{
     Stimulus, parse_stimulus, stimulus_text_has_one_answer, stimulus_text_has_some_answer,
 };
+pub use symbols::{input_symbols, is_in_list, output_symbols, proposition_of};

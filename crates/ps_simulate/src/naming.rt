@@ -8,10 +8,10 @@ ghost use Rattle.ps_hoa.specs.Files.{is_among};
 ghost use Rattle.ps_hoa.specs.Memory.{bytes_of};
 ghost use Rattle.ps_hoa.specs.Sound.{AreNames};
 ghost use Rattle.ps_simulate.specs.Symbols.{AreNamesOnce, HasSymbols};
-ghost use Rattle.ps_simulate.specs.Inner.Namings.{ArePlacesOf, ArePut, IsNaming, IsPropositionOf, bit_at_place};
-ghost use Rattle.ps_simulate.specs.Inner.Namings.{names_of};
+ghost use Rattle.ps_simulate.specs.Inner.Namings.{ArePlacesOf, ArePut, IsNaming, bit_at_place, names_of};
 
 use crate::role::Role;
+use crate::symbols::{input_symbols, is_in_list, output_symbols, proposition_of};
 use ps_automaton::Automaton;
 use ps_circuit::Circuit;
 use std::alloc::{AllocError, Global};
@@ -79,60 +79,6 @@ impl<'a> Naming<'a> {
     }
 }
 
-/// The optional names of the inputs. Fails if out of memory.
-fn input_symbols(alloc: Global, circuit: &Circuit) -> Result<Vec<Option<&[u8]>>, AllocError>
-    ensures symbols { IfOk result (λ symbols. map option_copied symbols.items ≡ circuit.now.input_names) }
-    ensures each { length circuit.now.input_names ≡ length circuit.now.inputs }
-{
-    let mut symbols = Vec::new(alloc);
-    for k in 0..circuit.inputs().len() {
-        symbols.push(circuit.input_name(k))?;
-    }
-    Ok(symbols)
-}
-
-/// The optional names of the outputs. Fails if out of memory.
-fn output_symbols(alloc: Global, circuit: &Circuit) -> Result<Vec<Option<&[u8]>>, AllocError>
-    ensures symbols { IfOk result (λ symbols. map option_copied symbols.items ≡ circuit.now.output_names) }
-    ensures each { length circuit.now.output_names ≡ length circuit.now.outputs }
-{
-    let mut symbols = Vec::new(alloc);
-    for k in 0..circuit.outputs().len() {
-        symbols.push(circuit.output_name(k))?;
-    }
-    Ok(symbols)
-}
-
-/// Whether a proposition is controllable.
-fn is_controllable(controllable: &[u32], proposition: usize) -> bool
-    ensures { result ≡ is_among proposition controllable.now }
-{
-    for other in controllable {
-        if proposition == *other as usize {
-            return true;
-        }
-    }
-    false
-}
-
-/// The proposition that a symbol names. If `wanted` is true, the proposition must be controllable; otherwise it must
-/// not be controllable.
-fn proposition_of(
-    names: &[Vec<u8>],
-    controllable: &[u32],
-    wanted: bool,
-    symbol: &[u8],
-) -> Option<usize>
-    ensures { IsPropositionOf (map bytes_of names.now) controllable.now wanted symbol.now result }
-{
-    for (p, name) in names.iter().enumerate() {
-        if name.as_slice() == symbol && is_controllable(controllable, p) == wanted {
-            return Some(p);
-        }
-    }
-    None
-}
-
 /// For each proposition, the index of the symbol that names it. The result is `None` unless the symbols are exactly the
 /// names of the wanted propositions, each once: the controllable propositions if `wanted` is true, and all others if
 /// `wanted` is false.
@@ -193,7 +139,7 @@ fn is_full(controllable: &[u32], wanted: bool, places: &[Option<usize>]) -> bool
         (slice_index_or places.now p None ≡ None) }
 {
     for (p, place) in places.iter().enumerate() {
-        if place.is_none() && is_controllable(controllable, p) == wanted {
+        if place.is_none() && is_in_list(controllable, p) == wanted {
             return false;
         }
     }

@@ -44,6 +44,14 @@ impl<'a> Places<'a> {
         Ok(Places { circuit, ids })
     }
 
+    /// The circuit.
+    pub fn circuit(&self) -> &'a Circuit
+        ensures circuit { result.now ≡ self.now }
+        ensures well_formed { IsCircuit self.now }
+    {
+        self.circuit
+    }
+
     /// The number of indices.
     pub fn count(&self) -> usize
         ensures { result ≡ length (variables self.now) }

@@ -1,7 +1,6 @@
 //! The table of gates that a simulator evaluates.
 
-ghost use Rattle.std.specs.Prelude.{◌≡◌, ◌<◌, length, map, slice_index_or, All, IfOk};
-ghost use Rattle.ps_circuit.specs.Circuits.{IsCircuit};
+ghost use Rattle.std.specs.Prelude.{◌≡◌, ◌<◌, length, map, IfOk};
 ghost use Rattle.ps_simulate.specs.Plans.{AreGateRows, wire_of};
 
 use crate::places::Places;
@@ -45,39 +44,34 @@ pub struct Plan {
 }
 
 impl Plan {
-    ghost use Rattle.ps_circuit.specs.Circuits.{IsCircuit};
     ghost use Rattle.ps_simulate.specs.Plans.{IsPlan};
 
     /// The plan of a circuit. Fails if out of memory.
     pub fn new(alloc: Global, circuit: &Circuit) -> Result<Self, AllocError>
-        ensures plan { IfOk result (IsPlan circuit.now) }
-        ensures well_formed { IfOk result (λ _. IsCircuit circuit.now) }
+        ensures { IfOk result (IsPlan circuit.now) }
     {
         let places = Places::new(alloc, circuit)?;
-        Plan::by_places(alloc, circuit, &places)
+        Plan::by_places(alloc, &places)
     }
 
     /// The plan of a circuit, given the index of each of its variables. Fails if out of memory.
-    fn by_places(alloc: Global, circuit: &Circuit, places: &Places) -> Result<Self, AllocError>
-        requires { places.now ≡ circuit.now }
-        ensures plan { IfOk result (IsPlan circuit.now) }
-        ensures well_formed { IfOk result (λ _. IsCircuit circuit.now) }
+    fn by_places(alloc: Global, places: &Places) -> Result<Self, AllocError>
+        ensures { IfOk result (IsPlan places.now) }
     {
         Ok(Plan {
             size: places.count(),
-            rows: rows_of(alloc, circuit, places)?,
-            outputs: output_wires(alloc, circuit, places)?,
-            nexts: next_wires(alloc, circuit, places)?,
+            rows: rows_of(alloc, places)?,
+            outputs: output_wires(alloc, places)?,
+            nexts: next_wires(alloc, places)?,
         })
     }
 }
 
 /// A row for each gate, in an order in which each gate comes after the gates that it reads. Fails if out of memory.
-fn rows_of(alloc: Global, circuit: &Circuit, places: &Places) -> Result<Vec<Row>, AllocError>
-    requires { places.now ≡ circuit.now }
-    ensures rows { IfOk result (λ rows. AreGateRows circuit.now rows.items) }
-    ensures well_formed { IfOk result (λ _. IsCircuit circuit.now) }
+fn rows_of(alloc: Global, places: &Places) -> Result<Vec<Row>, AllocError>
+    ensures { IfOk result (λ rows. AreGateRows places.now rows.items) }
 {
+    let circuit = places.circuit();
     let gates = circuit.gates();
     let order = circuit.order();
     let mut rows = Vec::new(alloc);
@@ -97,14 +91,10 @@ fn rows_of(alloc: Global, circuit: &Circuit, places: &Places) -> Result<Vec<Row>
 /// # Errors
 ///
 /// Fails if out of memory.
-pub fn output_wires(
-    alloc: Global,
-    circuit: &Circuit,
-    places: &Places,
-) -> Result<Vec<Wire>, AllocError>
-    requires { places.now ≡ circuit.now }
-    ensures { IfOk result (λ wires. wires.items ≡ map (wire_of circuit.now) circuit.now.outputs) }
+pub fn output_wires(alloc: Global, places: &Places) -> Result<Vec<Wire>, AllocError>
+    ensures { IfOk result (λ wires. wires.items ≡ map (wire_of places.now) places.now.outputs) }
 {
+    let circuit = places.circuit();
     let mut wires = Vec::new(alloc);
     for &output in circuit.outputs() {
         wires.push(places.wire(output))?;
@@ -117,14 +107,10 @@ pub fn output_wires(
 /// # Errors
 ///
 /// Fails if out of memory.
-pub fn next_wires(
-    alloc: Global,
-    circuit: &Circuit,
-    places: &Places,
-) -> Result<Vec<Wire>, AllocError>
-    requires { places.now ≡ circuit.now }
-    ensures { IfOk result (λ wires. wires.items ≡ map (λ l. wire_of circuit.now l.next) circuit.now.latches) }
+pub fn next_wires(alloc: Global, places: &Places) -> Result<Vec<Wire>, AllocError>
+    ensures { IfOk result (λ wires. wires.items ≡ map (λ l. wire_of places.now l.next) places.now.latches) }
 {
+    let circuit = places.circuit();
     let mut wires = Vec::new(alloc);
     for latch in circuit.latches() {
         wires.push(places.wire(latch.next))?;

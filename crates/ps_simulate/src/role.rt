@@ -14,7 +14,7 @@ impl Role {
     ghost use Rattle.ps_simulate.specs.Symbols as symbols;
 
     /// Whether the inputs are the controllable propositions.
-    pub(crate) fn reads_controllable(self) -> bool
+    pub fn reads_controllable(self) -> bool
         ensures { result ≡ symbols.reads_controllable self }
     {
         match self {
@@ -24,7 +24,7 @@ impl Role {
     }
 
     /// Whether the outputs are the controllable propositions.
-    pub(crate) fn sets_controllable(self) -> bool
+    pub fn sets_controllable(self) -> bool
         ensures { result ≡ symbols.sets_controllable self }
     {
         match self {

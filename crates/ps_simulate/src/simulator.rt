@@ -2,7 +2,6 @@
 
 ghost use Rattle.std.specs.Prelude.{◌≡◌, ℕ, ◌+◌, ◌<◌, ◌≤◌, ◌⊎◌, length, map, slice_get, slice_index_or, All, IfOk};
 ghost use Rattle.std.specs.Prelude.{Some, false};
-ghost use Rattle.ps_circuit.specs.Circuits.{IsCircuit};
 ghost use Rattle.ps_simulate.specs.Plans.{IsRowInTable, IsWorkedOut, read, work_out};
 
 use crate::needed::plan_of_needed;
@@ -37,7 +36,6 @@ impl<'a> Model for Simulator<'a> {
 
 impl<'a> Simulator<'a> {
     ghost use Rattle.ps_circuit.specs.Values.{Steps, resets};
-    ghost use Rattle.ps_simulate.specs.Plans.{variables};
 
     /// Starts a circuit, with its latches at their resets. Fails if out of memory.
     pub fn new(alloc: Global, circuit: &'a Circuit) -> Result<Self, AllocError>
@@ -85,8 +83,7 @@ impl<'a> Simulator<'a> {
 
 /// The resets of the latches. Fails if out of memory.
 fn first_latches(alloc: Global, circuit: &Circuit) -> Result<Vec<bool>, AllocError>
-    ensures latches { IfOk result (λ bits. bits.items ≡ map (λ l. l.reset) circuit.now.latches) }
-    ensures well_formed { IsCircuit circuit.now }
+    ensures { IfOk result (λ bits. bits.items ≡ map (λ l. l.reset) circuit.now.latches) }
 {
     circuit
         .latches()

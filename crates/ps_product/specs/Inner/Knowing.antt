@@ -3,7 +3,7 @@ use Rattle.std.specs.Prelude.{◌≡◌, ℕ, ◌^◌, ◌<◌, Bool, List, leng
 use Rattle.std.specs.Prelude.{slice_index_or, slice_set}
 use Rattle.ps_circuit.specs.Circuits.{CircuitData, IsCircuit}
 use Rattle.ps_circuit.specs.Values.{AreValues}
-use Rattle.ps_diagram.specs.Table.{Table}
+use Rattle.ps_diagram.specs.Table.{Keeps, Table}
 use Rattle.ps_product.specs.Inner.Nets.{IsBelow, read_at, value_at}
 use Rattle.ps_product.specs.Truths.{IsTruth, bits_at, truth_at}
 use Rattle.ps_product.specs.declared.site.Site.{Site}
@@ -33,6 +33,15 @@ pub record IsTruthAt (s : Site) (t : Table) (place : ℕ) (truth : Truth) : Type
 pub record Knows (s : Site) (t : Table) (known : List (Option Truth)) : Type 0 where
   pub size : length known ≡ length (variables s.net.now)
   pub each : (place : ℕ) (truth : Truth) → slice_index_or known place None ≡ Some truth → IsTruthAt s t place truth
+
+-- IsReady must hold before truths are found; Learns holds afterwards, also if memory ran out
+pub record IsReady (s : Site) (t : Table) (known : List (Option Truth)) : Type 0 where
+  pub site : IsSite s t
+  pub knows : Knows s t known
+
+pub record Learns (s : Site) (old new : Table) (known : List (Option Truth)) : Type 0 where
+  pub keeps : Keeps old new
+  pub knows : Knows s new known
 
 -- the truth at the place becomes known, or nothing changes and the place needs a lower place whose truth is not known
 abbrev pub IsStep : CircuitData → ℕ → List (Option Truth) → List (Option Truth) → Option ℕ → Type 0

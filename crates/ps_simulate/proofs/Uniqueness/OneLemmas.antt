@@ -101,7 +101,7 @@ pub HasOneValues-circuit : {c : CircuitData} → IsCircuit c → {order : List �
 HasOneValues-circuit {c} is {order} is_order = record {
   some = λ inputs latches many_inputs many_latches. (
     _,
-    AreValues-work_out is (record { order = order; is_order = is_order; each = refl }) (grind (
+    AreValues-work_out is (record { is_circuit = is; order = order; is_order = is_order; each = refl }) (grind (
       arith,
       length-variables,
       length-append,

@@ -1,18 +1,11 @@
 -- How the code finds the names of propositions among the symbols of a circuit. Only private contracts use these
 -- definitions.
-use Rattle.std.specs.Prelude.{◌≡◌, ℕ, ◌<◌, ◌≤◌, Bool, false, List, [], length, map, Option, None, Some, slice_index_or}
+use Rattle.std.specs.Prelude.{◌≡◌, ℕ, ◌<◌, ◌≤◌, Bool, false, List, length, map, Option, None, Some, slice_index_or}
 use Rattle.ps_hoa.specs.Files.{is_among}
 use Rattle.ps_hoa.specs.Memory.{bytes_of}
 use Rattle.ps_circuit.specs.Circuits.{CircuitData}
 use Rattle.ps_simulate.specs.Symbols.{IsSymbol}
 use Rattle.ps_simulate.specs.declared.naming.Naming.{Naming}
-
--- the proposition that the symbol names, or `None` if there is no such proposition
-abbrev pub IsPropositionOf : List (List ℕ) → List ℕ → Bool → List ℕ → Option ℕ → Type 0
-IsPropositionOf names controllable wanted symbol (Some p) =
-    (p < length names) × (slice_index_or names p [] ≡ symbol) × (is_among p controllable ≡ wanted)
-IsPropositionOf names controllable wanted symbol None =
-    (p : ℕ) → p < length names → is_among p controllable ≡ wanted → ¬ (slice_index_or names p [] ≡ symbol)
 
 -- the indices of the first `count` symbols are stored at the propositions that they name
 pub record ArePut (names : List (List ℕ)) (controllable : List ℕ) (wanted : Bool) (symbols : List (Option (List ℕ)))

@@ -1,4 +1,4 @@
-use Rattle.std.proofs.Common.{◌≡◌, ◌+◌, ◌++◌, ◌∷◌, [], take, ap, sym, ◌∙◌}
+use Rattle.std.proofs.Common.{◌≡◌, ◌+◌, ◌++◌, ◌∷◌, [], take, ap, sym, ◌∙◌, rules}
 use Rattle.std.proofs.lemmas.List.{take_more}
 use Rattle.ps_diagram.proofs.Cells.{keeps_refl}
 use Rattle.ps_diagram.proofs.KnownLemmas.{keeps_trans}
@@ -11,8 +11,8 @@ use Rattle.ps_product.proofs.grouping.grouped.Goals as goal
 pub loop-truth-init : goal.loop-truth-init
 loop-truth-init c = record {
   keeps = keeps_refl c.args.store.now;
-  held = c.requires.held;
-  grouped = grouped_none (keeps_refl c.args.store.now) c.requires.held c.requires.total;
+  held = c.requires.whole.held;
+  grouped = grouped_none (keeps_refl c.args.store.now) c.requires.whole.held c.requires.whole.total;
 }
 
 pub split_by-requires-clause-truth : goal.split_by-requires-clause-truth
@@ -21,16 +21,20 @@ split_by-requires-clause-truth c =
     truth_kept c.loop-truth.invariant.keeps c.truth-item.result
     (rw c.truth-item.is (c.requires.truths i c.truth-item.result c.loop-truth-test.true))
 
-pub split_by-requires-clause-total : goal.split_by-requires-clause-total
-split_by-requires-clause-total c = λ x lt.
-    c.loop-truth.invariant.grouped.total x
-    (let k = c.loop-truth.invariant.keeps in rw (← k.propositions) lt)
+pub split_by-requires-clause-whole : goal.split_by-requires-clause-whole
+split_by-requires-clause-whole c =
+    let k = c.loop-truth.invariant.keeps in
+    record {
+      held = c.loop-truth.invariant.held;
+      total = λ x lt. c.loop-truth.invariant.grouped.total x (rw (← k.propositions) lt);
+    }
 
-pub split_by-requires-clause-held : goal.split_by-requires-clause-held
-split_by-requires-clause-held c = c.loop-truth.invariant.held
-
-pub returns-in_err-made-clause-keeps : goal.returns-in_err-made-clause-keeps
-returns-in_err-made-clause-keeps c = keeps_trans c.loop-truth.invariant.keeps c.split_by.ensures.keeps
+pub returns-in_err-made : goal.returns-in_err-made
+returns-in_err-made c = record {
+  keeps = keeps_trans c.loop-truth.invariant.keeps c.split_by.ensures.keeps;
+  held = search rules;
+  grouped = search rules;
+}
 
 pub loop-truth-preserved : goal.loop-truth-preserved
 loop-truth-preserved c =

@@ -3,4 +3,4 @@ use Rattle.ps_product.specs.Inner.Nets.{sides_of}
 use Rattle.ps_product.proofs.net.gate_sides.Given as goal
 
 abbrev pub invariant-loop-gate : goal.invariant-loop-gate
-invariant-loop-gate l = l.sides.items ≡ map (sides_of l.circuit) (take l.gate-index l.gate-items)
+invariant-loop-gate l = l.sides.items ≡ map (sides_of l.places) (take l.gate-index l.gate-items)

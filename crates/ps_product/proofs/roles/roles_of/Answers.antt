@@ -6,11 +6,20 @@ use Rattle.ps_product.specs.Inner.Roles.{AreRoles, IsFull, IsListing}
 use Rattle.ps_product.specs.declared.roles.Roles.{Roles}
 use Rattle.ps_product.proofs.RoleLemmas.{are_roles, once_each, sets_is}
 use Rattle.ps_hoa.specs.Sound.{AreNames}
-use Rattle.ps_simulate.specs.Symbols.{AreNamesOnce, HasSymbols, sets_controllable}
+use Rattle.ps_simulate.specs.Symbols.{HasSymbols, sets_controllable}
 use Rattle.ps_product.proofs.roles.roles_of.Goals as goal
+use Rattle.ps_product.proofs.roles.roles_of.Goals.{In-Some-2}
 
-pub returns-clause-some : goal.returns-clause-some
-returns-clause-some c =
+-- both lists, each on its side
+both : (c : In-Some-2) → let names = map bytes_of c.names-names.result.now in
+    let set = c.controllable-controllable.result.now in
+    let reads = c.reads_controllable-reads.result in
+    let ins = c.args.circuit.now.input_names in
+    let outs = c.args.circuit.now.output_names in
+    IsListing names set reads ins (length ins) c.in-Some.inputs.items × IsFull names set reads c.in-Some.inputs.items ×
+    IsListing names set (not reads) outs (length outs) c.in-Some-2.outputs.items ×
+    IsFull names set (not reads) c.in-Some-2.outputs.items
+both c =
     let names = map bytes_of c.names-names.result.now in
     let set = c.controllable-controllable.result.now in
     let reads = c.reads_controllable-reads.result in
@@ -27,39 +36,28 @@ returns-clause-some c =
     let a : IsListing names set reads ins (length c.deref.result.now) c.in-Some.inputs.items = grind arith in
     let b : IsListing names set (not reads) outs (length c.deref-2.result.now) c.in-Some-2.outputs.items =
     grind arith in
-    let whole_a : IsFull names set reads c.in-Some.inputs.items = grind arith in
-    let whole_b : IsFull names set (not reads) c.in-Some-2.outputs.items = grind arith in
+    (rw n at a, grind arith, rw m at b, grind arith)
+
+pub returns-clause-some : goal.returns-clause-some
+returns-clause-some c =
+    let names = map bytes_of c.names-names.result.now in
+    let found = both (goal.at.returns-clause-some c).In-Some-2 in
     let roles : Roles = record { inputs = c.in-Some.inputs; outputs = c.in-Some-2.outputs } in
     let few : length names ≤ 64 = omega (arith, ap length c.names-names.ensures.names, c.names-names.ensures.few) in
     let made : AreRoles names c.args.circuit.now roles =
-    are_roles c.args.circuit.now roles few (rw n at a) whole_a (rw m at b) whole_b in
+    are_roles c.args.circuit.now roles few found.0 found.1 found.2 found.3 in
     rw c.names-names.ensures.names at made
 
 pub returns-clause-fits : goal.returns-clause-fits
 returns-clause-fits c =
     let names = map bytes_of c.names-names.result.now in
     let set = c.controllable-controllable.result.now in
+    let found = both (goal.at.returns-clause-fits c).In-Some-2 in
     let reads = c.reads_controllable-reads.result in
-    let ins = c.args.circuit.now.input_names in
-    let outs = c.args.circuit.now.output_names in
-    let at_inputs : map (option_copied {T = List ℕ}) c.deref.result.now ≡ ins =
-    ap (map (option_copied {T = List ℕ})) c.deref.ensures.value ∙ c.in_ok-symbols.ensures.symbols in
-    let at_outputs : map (option_copied {T = List ℕ}) c.deref-2.result.now ≡ outs =
-    ap (map (option_copied {T = List ℕ})) c.deref-2.ensures.value ∙ c.in_ok-symbols-2.ensures.symbols in
-    let n : length c.deref.result.now ≡ length ins =
-    sym (length-map c.deref.result.now (option_copied {T = List ℕ})) ∙ ap length at_inputs in
-    let m : length c.deref-2.result.now ≡ length outs =
-    sym (length-map c.deref-2.result.now (option_copied {T = List ℕ})) ∙ ap length at_outputs in
-    let a : IsListing names set reads ins (length c.deref.result.now) c.in-Some.inputs.items = grind arith in
-    let b : IsListing names set (not reads) outs (length c.deref-2.result.now) c.in-Some-2.outputs.items =
-    grind arith in
-    let whole_a : IsFull names set reads c.in-Some.inputs.items = grind arith in
-    let whole_b : IsFull names set (not reads) c.in-Some-2.outputs.items = grind arith in
     let differ : AreNames names = rw c.names-names.ensures.names c.names-names.ensures.sound in
     let is = c.reads_controllable-reads.ensures in
-    let one : AreNamesOnce names set reads ins = once_each names set reads ins differ (rw n at a) whole_a in
-    let other : AreNamesOnce names set (not reads) outs =
-    once_each names set (not reads) outs differ (rw m at b) whole_b in
+    let one = once_each names set reads c.args.circuit.now.input_names differ found.0 found.1 in
+    let other = once_each names set (not reads) c.args.circuit.now.output_names differ found.2 found.3 in
     let sets : not reads ≡ sets_controllable c.args.role = ap not is ∙ sym (sets_is c.args.role) in
     let has : HasSymbols c.args.role names set c.args.circuit.now = record {
       inputs = rw (← is) one;

@@ -12,5 +12,5 @@ loop-latch-preserved c lane lt = reset_on c.args.circuit.now.latches c.loop-latc
     lane lt (omega (arith, c.loop-latch-test.true, ap length c.latches-latch-items.ensures.latches))
     (grind (arith, get_or_default)) c.in_ok-push.ensures.items (c.loop-latch.invariant lane lt)
 
-pub returns-clause-latches : goal.returns-clause-latches
-returns-clause-latches c lane lt = grind (arith, take_all)
+pub returns : goal.returns
+returns c lane lt = grind (arith, take_all)

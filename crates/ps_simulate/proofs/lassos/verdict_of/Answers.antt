@@ -31,6 +31,7 @@ accepts-requires-clause-lap c = grind (arith, All-drop, few)
 
 pub returns : goal.returns
 returns c = λ file chain built.
-    let n = length c.args.stem.now + c.in_ok-repetition.repetition.first * length c.args.lap.now in
+    let n = length c.args.stem.now + c.in_ok-first.first * length c.args.lap.now in
     verdict file c.args.stem.now c.args.lap.now c.in_ok-accepts.field-0 c.requires.names built.names
-    c.in_ok-repetition.ensures (grind arith) (grind arith) (search rules) (c.in_ok-accepts.ensures file chain built)
+    (rw c.in_ok-run.ensures.circuit at c.in_ok-first.ensures) (grind arith) (grind arith) (search rules)
+    (c.in_ok-accepts.ensures file chain built)

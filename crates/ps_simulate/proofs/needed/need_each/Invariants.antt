@@ -1,4 +1,4 @@
-use Rattle.std.proofs.Common.{◌≡◌, ℕ, ◌<◌, length, get_or, take, All}
+use Rattle.std.proofs.Common.{◌≡◌, ℕ, length, take, All}
 use Rattle.ps_simulate.specs.NeededGates.{Needs, NeedsWire}
 use Rattle.ps_simulate.proofs.needed.need_each.Given as goal
 

@@ -4,7 +4,7 @@ use Rattle.ps_simulate.proofs.PlacesLemmas.{next_known}
 use Rattle.ps_simulate.proofs.plan.next_wires.Goals as goal
 
 pub wire-requires : goal.wire-requires
-wire-requires c = rw (c.requires, c.latch-item.is, c.latches-latch-items.ensures.latches)
+wire-requires c = rw (← c.circuit-circuit.ensures.circuit, c.latch-item.is, c.latches-latch-items.ensures.latches)
     (next_known c.latches-latch-items.ensures.well_formed c.loop-latch.latch-index c.latch-item.result
     (rw c.latches-latch-items.ensures.latches at c.loop-latch-test.true))
 

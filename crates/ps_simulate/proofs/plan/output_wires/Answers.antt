@@ -4,7 +4,7 @@ use Rattle.ps_simulate.proofs.PlacesLemmas.{output_known}
 use Rattle.ps_simulate.proofs.plan.output_wires.Goals as goal
 
 pub wire-requires : goal.wire-requires
-wire-requires c = rw (c.requires, c.output-item.is, c.outputs-output-items.ensures.outputs)
+wire-requires c = rw (← c.circuit-circuit.ensures.circuit, c.output-item.is, c.outputs-output-items.ensures.outputs)
     (output_known c.outputs-output-items.ensures.well_formed c.loop-output.output-index c.output-item.result
     (rw c.outputs-output-items.ensures.outputs at c.loop-output-test.true))
 

@@ -1,25 +1,32 @@
+use Rattle.std.proofs.Common.{rules}
 use Rattle.ps_simulate.proofs.PlacesLemmas.{output_known}
 use Rattle.ps_product.proofs.Outcomes.{along_kept, nexts_known, truths_of_literals, wires_of_nexts, wires_within}
 use Rattle.ps_product.proofs.evaluator.Evaluator.at.Goals as goal
 
-pub truths_of-requires-clause-site : goal.truths_of-requires-clause-site
-truths_of-requires-clause-site c = record {
-  is_circuit = c.outputs.ensures.well_formed;
-  inputs = rw c.self.view_is c.requires.inputs;
-  named = c.requires.named;
-  latches = rw c.self.view_is c.requires.latches;
+pub truths_of-requires-clause-ready : goal.truths_of-requires-clause-ready
+truths_of-requires-clause-ready c = record {
+  site = record {
+    is_circuit = c.outputs.ensures.well_formed;
+    inputs = rw c.self.view_is c.requires.inputs;
+    named = c.requires.named;
+    latches = rw c.self.view_is c.requires.latches;
+  };
+  knows = search rules;
 }
 
 pub truths_of-requires-clause-within : goal.truths_of-requires-clause-within
 truths_of-requires-clause-within c = rw c.outputs.ensures.wires
     (wires_within c.outputs.ensures.well_formed c.self.inside.net.outputs (output_known c.outputs.ensures.well_formed))
 
-pub truths_of-requires-2-clause-site : goal.truths_of-requires-2-clause-site
-truths_of-requires-2-clause-site c = record {
-  is_circuit = c.outputs.ensures.well_formed;
-  inputs = rw c.self.view_is c.requires.inputs;
-  named = rw c.truths_of.ensures.keeps.propositions c.requires.named;
-  latches = rw c.self.view_is c.requires.latches;
+pub truths_of-requires-2-clause-ready : goal.truths_of-requires-2-clause-ready
+truths_of-requires-2-clause-ready c = record {
+  site = record {
+    is_circuit = c.outputs.ensures.well_formed;
+    inputs = rw c.self.view_is c.requires.inputs;
+    named = rw c.truths_of.ensures.learns.keeps.propositions c.requires.named;
+    latches = rw c.self.view_is c.requires.latches;
+  };
+  knows = c.truths_of.ensures.learns.knows;
 }
 
 pub truths_of-requires-2-clause-within : goal.truths_of-requires-2-clause-within
@@ -30,7 +37,7 @@ pub returns-clause-outcome : goal.returns-clause-outcome
 returns-clause-outcome c = rw (← c.self.view_is) (record {
   outputs_are = truths_of_literals _ c.outputs.ensures.well_formed c.self.inside.net.outputs
       c.in_ok-outputs.outputs.items (output_known c.outputs.ensures.well_formed)
-      (along_kept _ _ c.in_ok-outputs.outputs.items c.truths_of-2.ensures.keeps
+      (along_kept _ _ c.in_ok-outputs.outputs.items c.truths_of-2.ensures.learns.keeps
       (rw c.outputs.ensures.wires at c.in_ok-outputs.ensures.truths));
   nexts_are = truths_of_literals _ c.outputs.ensures.well_formed _ c.in_ok-nexts.nexts.items
       (nexts_known c.outputs.ensures.well_formed)

@@ -3,6 +3,7 @@ use Rattle.ps_circuit.specs.Circuits.{ReadsGate}
 use Rattle.ps_components.specs.Orders.{IsOrder}
 use Rattle.ps_diagram.proofs.KnownLemmas.{keeps_trans}
 use Rattle.ps_product.proofs.Settling.{ends_with, less_left, less_waits, more_left, more_waits, popped}
+use Rattle.ps_product.proofs.TruthLemmas.{ready_on}
 use Rattle.ps_product.proofs.site.Site.settle.Goals as goal
 use Rattle.ps_product.proofs.site.Site.settle.Goals.{After-pop, In_ok-push-2}
 
@@ -24,8 +25,10 @@ loop-top-smaller c =
 
 pub loop-top-preserved : goal.loop-top-preserved
 loop-top-preserved c = record {
-  keeps = keeps_trans c.loop-top.invariant.keeps c.step.ensures.keeps;
-  knows = c.step.ensures.knows;
+  learns = record {
+    keeps = keeps_trans c.loop-top.invariant.learns.keeps c.step.ensures.learns.keeps;
+    knows = c.step.ensures.learns.knows;
+  };
   waits = more_waits c.args.self.net.now c.order-order.result.now c.in-Some.field-0.now _ c.loop-top.invariant.waits
       (split c) (order c) (rw c.in-Some-2.is at c.in_ok-lower.ensures.step) c.in_ok-push-2.ensures.items;
 }
@@ -41,14 +44,19 @@ rest c =
 
 pub loop-top-smaller-in_default-2 : goal.loop-top-smaller-in_default-2
 loop-top-smaller-in_default-2 c = less_left c.args.self.net.now c.order-order.result.now c.in-Some.field-0.now
-    c.pop.new.self.items c.loop-top.invariant.waits (rest c) c.loop-top.invariant.knows.size
+    c.pop.new.self.items c.loop-top.invariant.waits (rest c) c.loop-top.invariant.learns.knows.size
     (rw c.in_default-2.is at c.in_ok-lower.ensures.step)
 
 pub loop-top-preserved-in_default-2 : goal.loop-top-preserved-in_default-2
 loop-top-preserved-in_default-2 c = record {
-  keeps = keeps_trans c.loop-top.invariant.keeps c.step.ensures.keeps;
-  knows = c.step.ensures.knows;
+  learns = record {
+    keeps = keeps_trans c.loop-top.invariant.learns.keeps c.step.ensures.learns.keeps;
+    knows = c.step.ensures.learns.knows;
+  };
   waits = less_waits c.args.self.net.now c.order-order.result.now c.in-Some.field-0.now c.pop.new.self.items
-      c.loop-top.invariant.waits (rest c) c.loop-top.invariant.knows.size
+      c.loop-top.invariant.waits (rest c) c.loop-top.invariant.learns.knows.size
       (rw c.in_default-2.is at c.in_ok-lower.ensures.step);
 }
+
+pub step-requires-clause-ready : goal.step-requires-clause-ready
+step-requires-clause-ready c = ready_on c.requires.ready c.loop-top.invariant.learns

@@ -9,7 +9,7 @@ use Rattle.ps_simulate.proofs.lane_plan.LanePlan.new.Goals as goal
 use Rattle.ps_simulate.proofs.lane_plan.LanePlan.new.Goals.{After-deref, After-deref-2}
 
 size_is : (c : After-deref) → c.in_ok-plan.plan.size ≡ length (variables c.args.circuit.now)
-size_is c = c.in_ok-plan.ensures.plan.size_is
+size_is c = c.in_ok-plan.ensures.size_is
 
 front_is : (c : After-deref) → c.in_ok-plan.plan.size - length c.gates-gates.result.now ≡ 1 + length
     c.args.circuit.now.inputs + length c.args.circuit.now.latches
@@ -24,7 +24,7 @@ small : (c : After-deref-2) → All (λ p. p < 2 ^ 31) c.in_ok-places.places.ite
 small c = moved_small (are_moved c) (grind (arith, few_variables))
 
 many : (c : After-deref-2) → length c.in_ok-places.places.items ≡ length (variables c.args.circuit.now)
-many c = c.in_ok-places.ensures.size ∙ c.in_ok-plan.ensures.plan.size_is
+many c = c.in_ok-places.ensures.size ∙ c.in_ok-plan.ensures.size_is
 
 pub moved_places-requires-clause-fit : goal.moved_places-requires-clause-fit
 moved_places-requires-clause-fit c = search (rules, front_is, size_is, few_rows, length-variables)
@@ -53,10 +53,10 @@ literals-requires-2-clause-places c = search (rules, small)
 pub literals-requires-2-clause-within : goal.literals-requires-2-clause-within
 literals-requires-2-clause-within c = search (rules, many, nexts_within)
 
-pub returns-clause-plan : goal.returns-clause-plan
-returns-clause-plan c =
-    let b = (goal.at.returns-clause-plan c).After-deref-2 in
-    let a = (goal.at.returns-clause-plan c).After-deref in
+pub returns : goal.returns
+returns c =
+    let b = (goal.at.returns c).After-deref-2 in
+    let a = (goal.at.returns c).After-deref in
     let p = c.in_ok-plan.plan in
     let f = p.size - length c.gates-gates.result.now in
     let order : AreInOrder f c.deref-2.result.now c.deref-3.result.now = grind arith in (

@@ -7,5 +7,5 @@ invariant_of-result c =
     let plan = c.in_ok-plan.ensures in (
       plan.0,
       plan.2,
-      grind (arith, common_steps, plan.1.size_is, plan.2.size_is),
+      grind (arith, common_steps, plan.1.size_is, plan.1.rows_are.is_circuit, plan.2.size_is),
     )

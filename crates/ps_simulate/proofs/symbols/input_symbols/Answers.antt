@@ -1,6 +1,6 @@
 use Rattle.std.proofs.Common.{arith}
 use Rattle.std.proofs.lemmas.Grind.{common_steps}
-use Rattle.ps_simulate.proofs.naming.input_symbols.Goals as goal
+use Rattle.ps_simulate.proofs.symbols.input_symbols.Goals as goal
 
 pub loop-k-preserved : goal.loop-k-preserved
 loop-k-preserved c = grind (arith, common_steps)

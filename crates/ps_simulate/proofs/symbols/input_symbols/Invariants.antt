@@ -1,6 +1,6 @@
 use Rattle.std.proofs.Common.{◌≡◌, map, take}
 use Rattle.std.specs.Option.{option_copied}
-use Rattle.ps_product.proofs.roles.input_symbols.Given as goal
+use Rattle.ps_simulate.proofs.symbols.input_symbols.Given as goal
 
 abbrev pub invariant-loop-k : goal.invariant-loop-k
 invariant-loop-k l = map option_copied l.symbols.items ≡ take l.k l.circuit.input_names

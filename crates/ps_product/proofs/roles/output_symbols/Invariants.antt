@@ -1,6 +1,0 @@
-use Rattle.std.proofs.Common.{◌≡◌, map, take}
-use Rattle.std.specs.Option.{option_copied}
-use Rattle.ps_product.proofs.roles.output_symbols.Given as goal
-
-abbrev pub invariant-loop-k : goal.invariant-loop-k
-invariant-loop-k l = map option_copied l.symbols.items ≡ take l.k l.circuit.output_names
