@@ -2,7 +2,7 @@
 use Rattle.std.proofs.Common.{rules}
 use Rattle.std.proofs.Common.{◌≡◌, ◌≢◌, ◌∙◌, ℕ, zero, suc, ◌+◌, ◌<◌, ◌≤◌, ◌||◌, Bool, true, false, cond, nat_eq}
 use Rattle.std.proofs.Common.{List, [], ◌∷◌, ◌++◌, map, length, get_or, Option, Some, refl, sym, ap}
-use Rattle.std.proofs.Common.{arith, inl, inr, All, take, Vec, Result, IfOk}
+use Rattle.std.proofs.Common.{arith, inl, inr, All, take, Vec}
 use Rattle.std.specs.Prelude.{slice_index_or}
 use Rattle.std.specs.Global.{Global}
 use Rattle.std.proofs.lemmas.Bool.{eq-eqb}
@@ -70,7 +70,3 @@ symbol_more m names ps i old new r name names_are lt known is same added before 
     ap (map name_bytes) added ∙ map-append name_bytes old (Some name ∷ []) ∙ ap (λ xs. xs ++ Some name.items ∷ [])
     before ∙ ap (λ b. symbols_of m.names (take i ps) ++ Some b ∷ []) here ∙ sym (ap (symbols_of m.names)
     (take_more ps i 0 lt) ∙ map-append (λ q. Some (slice_index_or m.names q [])) (take i ps) (p ∷ []))
-
-pub ok_with : {T E : Type 0} (r : Result T E) (P Q R : T → Type 0) → ((x : T) → P x → Q x → R x) → IfOk r P →
-    IfOk r Q → IfOk r R
-ok_with r P Q R f p q = grind arith

@@ -65,7 +65,6 @@ fn output_literals(
     latches: u32,
 ) -> Result<Vec<Literal>, EncodeFault>
     requires few { latches ≤ 64 }
-    requires given { builder.old.given ≡ length machine.now.inputs + latches }
     requires behind { builder.old ≡ (next_wires (behaviour machine.now) latches).draft }
     ensures { MakesLiterals builder.old builder.new result (output_wires (behaviour machine.now) latches) }
 {

@@ -21,7 +21,7 @@ use Rattle.ps_circuit.specs.declared.fault.AigCause.{AigCause}
 use Rattle.ps_circuit.specs.declared.fault.AigCause.TheVariants.{Syntax}
 use Rattle.ps_circuit.specs.Causes.{AigFault}
 use Rattle.ps_text.specs.declared.faults.Fault.TheVariants.{Text, OutOfMemory}
-use Rattle.ps_circuit.specs.Circuits.{CircuitData, IsCircuit}
+use Rattle.ps_circuit.specs.Circuits.{CircuitData, IsCircuit, IsMadeOf}
 use Rattle.ps_text.specs.Bytes.{Seen, stream_of}
 use Rattle.ps_circuit.specs.Signs.{Field, aig_causes}
 use Rattle.ps_text.specs.Cursors.{next_byte, stream_offset}
@@ -143,13 +143,14 @@ module _ (text : List ℕ) (d : DraftData) (okay : PartAnswers aig_causes circui
       subst (IsCircuitAnswer text) (sym (y.1 ∙ ap Err (y.2 ∙ m.1))) (undefined d m.0 okay m.2 refl)
 
   pub answered : All (IsDefined d.defined) d.readings → (r : Result CircuitData AigFault) →
-      IfOk r (λ c. c ≡ d.circuit) → IfOk r IsCircuit → ((e : AigFault) → r ≡ Err e →
-      TellsCyclic d.circuit.gates d.starts (found_of e)) → IsCircuitAnswer text r
-  answered known (Ok c) same is cause = meaning d okay known (λ i. search (rules, is.acyclic)) (ap Ok same)
-  answered known (Err (Text f offset)) same is cause =
+      IfOk r (IsMadeOf d.circuit) → ((e : AigFault) → r ≡ Err e → TellsCyclic d.circuit.gates d.starts (found_of e)) →
+      IsCircuitAnswer text r
+  answered known (Ok c) made cause =
+      meaning d okay known (λ i. search (rules, made.well_formed.acyclic)) (ap Ok made.is)
+  answered known (Err (Text f offset)) made cause =
       let k = cause (Text f offset) refl in
       cyclic d k.0 offset okay known k.2 k.3 (ap (λ x. Err (record { cause = x; offset = offset })) k.1)
-  answered known (Err OutOfMemory) same is cause = tt
+  answered known (Err OutOfMemory) made cause = tt
 
 -- ## The ways in which the function can return
 

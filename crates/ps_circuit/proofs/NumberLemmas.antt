@@ -9,7 +9,7 @@ use Rattle.ps_text.specs.Readers.{Reads, Stops}
 use Rattle.ps_text.specs.Digits.{decimal_value}
 use Rattle.ps_text.proofs.Exits.{reads_give, reads_then, stops_first, stops_behind}
 use Rattle.ps_circuit.specs.declared.number.Number.{Number}
-use Rattle.ps_circuit.specs.declared.header.Header.{Header}
+use Rattle.ps_circuit.specs.declared.sizes.Header.{Header}
 use Rattle.ps_circuit.specs.declared.fault.AigCause.{AigCause}
 use Rattle.ps_circuit.specs.declared.fault.AigCause.TheVariants.{Syntax, Literal, Sections}
 use Rattle.ps_circuit.specs.Causes.{AigFault, cause_number}

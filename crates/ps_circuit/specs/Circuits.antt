@@ -66,3 +66,8 @@ pub record IsDraft (c : CircuitData) : Type 0 where
 pub record IsCircuit (c : CircuitData) : Type 0 where
   pub draft : IsDraft c
   pub acyclic : (i : ℕ) → ¬ Way (ReadsGate c.gates) i i
+
+-- the parts form the circuit c
+pub record IsMadeOf (parts c : CircuitData) : Type 0 where
+  pub is : c ≡ parts
+  pub well_formed : IsCircuit c

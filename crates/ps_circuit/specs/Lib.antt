@@ -8,7 +8,6 @@ pub mod Written
 pub mod Causes
 pub mod CauseNames
 pub mod EncodeFaultNames
-pub mod CircuitFaultNames
 pub mod Signs
 pub mod Texts
 pub mod Inner

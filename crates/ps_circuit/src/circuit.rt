@@ -3,17 +3,14 @@
 ghost use Rattle.std.specs.Prelude.{◌≡◌, ℕ, ◌<◌, length, map, slice_index, slice_index_or, IfOk, None};
 ghost use Rattle.std.specs.Option.{option_copied};
 ghost use Rattle.ps_components.specs.Orders.{IsOrder, IsFirstOnCycle};
-ghost use Rattle.ps_circuit.specs.Circuits.{CircuitData, IsDraft, IsCircuit, ReadsGate};
+ghost use Rattle.ps_circuit.specs.Circuits.{CircuitData, IsDraft, IsCircuit, IsMadeOf, ReadsGate};
 ghost use Rattle.ps_circuit.specs.Drafts.{data_of, name_bytes};
 
-use crate::encode_fault::EncodeFault;
-use crate::fault::AigCause;
 use crate::gate_graph::GateGraph;
 use crate::links::links_of;
 use crate::literal::Literal;
 use crate::parts::{Gate, Latch, Parts};
 use ps_components::{Arrangement, arrange};
-use ps_text::faults::Cause;
 use std::alloc::{AllocError, Global};
 use std::marker::Model;
 use thiserror::Error;
@@ -30,30 +27,6 @@ pub enum CircuitFault {
     /// Out of memory.
     #[error("out of memory")]
     OutOfMemory,
-}
-
-impl CircuitFault {
-    ghost use Rattle.ps_circuit.specs.CircuitFaultNames.{fault_number, fault_name};
-
-    /// The fault's number in psyn's list of faults.
-    pub fn number(self) -> u8
-        ensures { result ≡ fault_number self }
-    {
-        match self {
-            CircuitFault::Cyclic { .. } => AigCause::Cyclic.number(),
-            CircuitFault::OutOfMemory => EncodeFault::OutOfMemory.number(),
-        }
-    }
-
-    /// The fault's name.
-    pub fn name(self) -> &'static str
-        ensures { result.now ≡ fault_name self }
-    {
-        match self {
-            CircuitFault::Cyclic { .. } => AigCause::Cyclic.name(),
-            CircuitFault::OutOfMemory => EncodeFault::OutOfMemory.name(),
-        }
-    }
 }
 
 impl From<AllocError> for CircuitFault {
@@ -89,8 +62,7 @@ impl Circuit {
     /// Makes a circuit from its parts. Fails if a gate depends on itself, or if out of memory.
     pub(crate) fn new(alloc: Global, parts: Parts) -> Result<Self, CircuitFault>
         requires { IsDraft (data_of parts) }
-        ensures ok { IfOk result (λ c. c ≡ data_of parts) }
-        ensures well_formed { IfOk result (λ c. IsCircuit c) }
+        ensures made { IfOk result (IsMadeOf (data_of parts)) }
         ensures cyclic { (i : ℕ) → result ≡ Err (CircuitFault.Cyclic i) →
             IsFirstOnCycle (ReadsGate parts.gates.items) i }
     {
@@ -107,8 +79,7 @@ impl Circuit {
     pub fn in_order(alloc: Global, parts: Parts) -> Result<Self, AllocError>
         requires draft { IsDraft (data_of parts) }
         requires ordered { (i j : ℕ) → ReadsGate parts.gates.items i j → j < i }
-        ensures ok { IfOk result (λ c. c ≡ data_of parts) }
-        ensures well_formed { IfOk result (λ c. IsCircuit c) }
+        ensures { IfOk result (IsMadeOf (data_of parts)) }
     {
         let order = places_up_to(alloc, parts.gates.len())?;
         Ok(Circuit { parts, order })

@@ -1,6 +1,6 @@
 //! The first line of the text of a circuit.
 
-ghost use Rattle.std.specs.Prelude.{◌≡◌, ◌<◌, ◌^◌, IfOk};
+ghost use Rattle.std.specs.Prelude.{◌<◌, ◌^◌, IfOk};
 ghost use Rattle.ps_circuit.specs.Inner.Cursors.{Tells};
 ghost use Rattle.ps_circuit.specs.Inner.Reading.{TellsField, TellsCount, TellsHeader};
 ghost use Rattle.ps_circuit.specs.Texts as parts;
@@ -9,26 +9,11 @@ ghost use Rattle.ps_circuit.specs.Texts.{WrongMost};
 use crate::fault::{AigCause, AigFault};
 use crate::fields::{gap, line_end, more, number};
 use crate::number::Number;
+use crate::sizes::Header;
 use ps_text::cursor::Cursor;
 
 /// The largest number that a text may declare as its greatest variable.
 const MOST: u64 = 2_147_483_647;
-
-/// The numbers in the first line of a circuit's text. A number of inputs, latches, outputs or gates that does not fit
-/// into 64 bits is stored as the greatest number of 64 bits.
-#[derive(Clone, Copy)]
-pub struct Header {
-    /// The greatest variable (M).
-    pub most: u32,
-    /// The number of input lines (I).
-    pub inputs: u64,
-    /// The number of latch lines (L).
-    pub latches: u64,
-    /// The number of output lines (O).
-    pub outputs: u64,
-    /// The number of gate lines (A).
-    pub gates: u64,
-}
 
 /// Reads the first line.
 ///
@@ -36,8 +21,7 @@ pub struct Header {
 ///
 /// The first error in the line, in the order of the text.
 pub fn read_header(cursor: &mut Cursor) -> Result<Header, AigFault>
-    ensures exact { TellsHeader cursor.old result cursor.new }
-    ensures small { IfOk result (λ h. h.most < 2 ^ 31) }
+    ensures { TellsHeader cursor.old result cursor.new }
 {
     cursor.word(b"aag", AigCause::Syntax)?;
     let most = most(cursor)?;

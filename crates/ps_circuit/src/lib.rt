@@ -43,6 +43,7 @@ mod names;
 mod number;
 mod parts;
 mod reader;
+mod sizes;
 mod writer;
 
 pub use builder::{Builder, Sides};

@@ -20,6 +20,7 @@ use crate::header::field;
 use crate::literal::Literal;
 use crate::number::Number;
 use crate::parts::{Gate, Latch};
+use crate::sizes::Header;
 use ps_ids::Ids;
 use ps_text::cursor::Cursor;
 use std::alloc::{AllocError, Global};
@@ -64,13 +65,12 @@ pub trait Line {
     fn read(
         cursor: &mut Cursor,
         noted: &mut Noted,
-        most: u32,
+        header: Header,
         items: &mut Vec<Self::Item>,
     ) -> Result<(), AigFault>
-        requires { most < 2 ^ 31 }
-        ensures exact { Tells (λ _. lines_of items.new.items noted.new) (part most (lines_of items.old.items noted.old))
-            cursor.old result cursor.new }
-        ensures adds { OnOk result (adds most (lines_of items.old.items noted.old)
+        ensures exact { Tells (λ _. lines_of items.new.items noted.new)
+            (part header.most (lines_of items.old.items noted.old)) cursor.old result cursor.new }
+        ensures adds { OnOk result (adds header.most (lines_of items.old.items noted.old)
             (lines_of items.new.items noted.new)) };
 }
 
@@ -83,19 +83,18 @@ pub fn lines<L: Line>(
     alloc: Global,
     cursor: &mut Cursor,
     noted: &mut Noted,
-    most: u32,
+    header: Header,
     count: u64,
 ) -> Result<Vec<L::Item>, AigFault>
-    requires most { most < 2 ^ 31 }
-    requires row { IsRow (L.part most) }
+    requires { IsRow (L.part header.most) }
     ensures exact { (n : ℕ) → count ≡ saturated n → length cursor.old.pieces ≤ 2 ^ 63 →
-        Tells (λ v. lines_of v.items noted.new) (times n (L.part most) (lines_of [] noted.old)) cursor.old
+        Tells (λ v. lines_of v.items noted.new) (times n (L.part header.most) (lines_of [] noted.old)) cursor.old
         result cursor.new }
-    ensures grown { IfOk result (λ v. Grown (L.adds most) (lines_of [] noted.old) (lines_of v.items noted.new)) }
+    ensures grown { IfOk result (λ v. Grown (L.adds header.most) (lines_of [] noted.old) (lines_of v.items noted.new)) }
 {
     let mut items = Vec::new(alloc);
     for _ in 0..count {
-        L::read(cursor, noted, most, &mut items)?;
+        L::read(cursor, noted, header, &mut items)?;
     }
     Ok(items)
 }
@@ -120,14 +119,13 @@ fn adds(variables: &mut Ids, variable: u64) -> Result<bool, AllocError>
 }
 
 /// Reads a literal that defines its variable.
-fn definition(cursor: &mut Cursor, variables: &mut Ids, most: u32) -> Result<Number, AigFault>
-    requires { most < 2 ^ 31 }
-    ensures exact { Tells (λ n. n) (signs.number (WrongDefinition most variables.old)) cursor.old result cursor.new }
+fn definition(cursor: &mut Cursor, variables: &mut Ids, header: Header) -> Result<Number, AigFault>
+    ensures exact { Tells (λ n. n) (signs.number (WrongDefinition header.most variables.old)) cursor.old result cursor.new }
     ensures small { IfOk result (λ n. n.value < 2 ^ 32) }
-    ensures defined { IfOk result (λ n. Defines most variables.old (n.value ∷ []) variables.new) }
+    ensures defined { IfOk result (λ n. Defines header.most variables.old (n.value ∷ []) variables.new) }
 {
     let number = number(cursor)?;
-    if !can_define(number.value, most) {
+    if !can_define(number.value, header.most) {
         return Err(number.refused(AigCause::Literal));
     }
     if !adds(variables, number.variable())? {
@@ -137,14 +135,17 @@ fn definition(cursor: &mut Cursor, variables: &mut Ids, most: u32) -> Result<Num
 }
 
 /// Reads a gap and a literal, and records the literal for a later check.
-fn reading(cursor: &mut Cursor, readings: &mut Vec<Number>, most: u32) -> Result<Number, AigFault>
-    requires { most < 2 ^ 31 }
-    ensures exact { Tells (λ n. n) (parts.field (WrongLiteral most)) cursor.old result cursor.new }
+fn reading(
+    cursor: &mut Cursor,
+    readings: &mut Vec<Number>,
+    header: Header,
+) -> Result<Number, AigFault>
+    ensures exact { Tells (λ n. n) (parts.field (WrongLiteral header.most)) cursor.old result cursor.new }
     ensures small { IfOk result (λ n. n.value < 2 ^ 32) }
     ensures noted { IfOk result (λ n. readings.new.items ≡ readings.old.items ++ n ∷ []) }
 {
     let number = field(cursor)?;
-    if number.value > 2 * u64::from(most) + 1 {
+    if number.value > 2 * u64::from(header.most) + 1 {
         return Err(number.refused(AigCause::Literal));
     }
     readings.push(number)?;
@@ -164,10 +165,10 @@ impl Line for InputLine {
     fn read(
         cursor: &mut Cursor,
         noted: &mut Noted,
-        most: u32,
+        header: Header,
         items: &mut Vec<Literal>,
     ) -> Result<(), AigFault> {
-        let input = definition(cursor, &mut noted.variables, most)?;
+        let input = definition(cursor, &mut noted.variables, header)?;
         line_end(cursor)?;
         items.push(input.literal())?;
         Ok(())
@@ -206,11 +207,11 @@ impl Line for LatchLine {
     fn read(
         cursor: &mut Cursor,
         noted: &mut Noted,
-        most: u32,
+        header: Header,
         items: &mut Vec<Latch>,
     ) -> Result<(), AigFault> {
-        let own = definition(cursor, &mut noted.variables, most)?;
-        let next = reading(cursor, &mut noted.readings, most)?;
+        let own = definition(cursor, &mut noted.variables, header)?;
+        let next = reading(cursor, &mut noted.readings, header)?;
         let reset = reset(cursor, own.value)?;
         items.push(Latch {
             literal: own.literal(),
@@ -234,11 +235,11 @@ impl Line for OutputLine {
     fn read(
         cursor: &mut Cursor,
         noted: &mut Noted,
-        most: u32,
+        header: Header,
         items: &mut Vec<Literal>,
     ) -> Result<(), AigFault> {
         let output = number(cursor)?;
-        if output.value > 2 * u64::from(most) + 1 {
+        if output.value > 2 * u64::from(header.most) + 1 {
             return Err(output.refused(AigCause::Literal));
         }
         line_end(cursor)?;
@@ -261,12 +262,12 @@ impl Line for GateLine {
     fn read(
         cursor: &mut Cursor,
         noted: &mut Noted,
-        most: u32,
+        header: Header,
         items: &mut Vec<Gate>,
     ) -> Result<(), AigFault> {
-        let own = definition(cursor, &mut noted.variables, most)?;
-        let first = reading(cursor, &mut noted.readings, most)?;
-        let second = reading(cursor, &mut noted.readings, most)?;
+        let own = definition(cursor, &mut noted.variables, header)?;
+        let first = reading(cursor, &mut noted.readings, header)?;
+        let second = reading(cursor, &mut noted.readings, header)?;
         line_end(cursor)?;
         noted.starts.push(own.offset)?;
         items.push(Gate {

@@ -5,7 +5,7 @@ ghost use Rattle.std.specs.Prelude.{IfOk, Result, Err, All, Contains, IsTrue, �
 ghost use Rattle.ps_text.specs.declared.faults.Fault.{Fault};
 ghost use Rattle.ps_text.specs.declared.faults.Fault.TheVariants as faults;
 ghost use Rattle.ps_text.specs.Answers.{Found};
-ghost use Rattle.ps_circuit.specs.Circuits.{CircuitData, IsDraft, IsCircuit};
+ghost use Rattle.ps_circuit.specs.Circuits.{CircuitData, IsDraft, IsCircuit, IsMadeOf};
 ghost use Rattle.ps_text.specs.Faults.{found_of};
 ghost use Rattle.ps_circuit.specs.Drafts.{data_of};
 ghost use Rattle.ps_circuit.specs.Inner.Reading.{TellsDraft, TellsDefined, TellsCyclic, IsSoundDraft, draft_data};
@@ -53,10 +53,10 @@ fn read_draft(alloc: Global, text: &[u8]) -> Result<Draft, AigFault>
     let mut cursor = Cursor::of_lines(text);
     let header = read_header(&mut cursor)?;
     let mut noted = Noted::nothing(alloc);
-    let inputs = lines::<InputLine>(alloc, &mut cursor, &mut noted, header.most, header.inputs)?;
-    let latches = lines::<LatchLine>(alloc, &mut cursor, &mut noted, header.most, header.latches)?;
-    let outputs = lines::<OutputLine>(alloc, &mut cursor, &mut noted, header.most, header.outputs)?;
-    let gates = lines::<GateLine>(alloc, &mut cursor, &mut noted, header.most, header.gates)?;
+    let inputs = lines::<InputLine>(alloc, &mut cursor, &mut noted, header, header.inputs)?;
+    let latches = lines::<LatchLine>(alloc, &mut cursor, &mut noted, header, header.latches)?;
+    let outputs = lines::<OutputLine>(alloc, &mut cursor, &mut noted, header, header.outputs)?;
+    let gates = lines::<GateLine>(alloc, &mut cursor, &mut noted, header, header.gates)?;
     let mut names = Names::none(alloc, inputs.len(), latches.len(), outputs.len())?;
     symbols(alloc, &mut cursor, &mut names)?;
     comment(&mut cursor)?;
@@ -109,8 +109,7 @@ fn cyclic(starts: &[usize], gate: usize) -> AigFault
 fn assembled(alloc: Global, parts: Parts, starts: &[usize]) -> Result<Circuit, AigFault>
     requires draft { IsDraft (data_of parts) }
     requires starts { length starts.now ≡ length parts.gates.items }
-    ensures ok { IfOk result (λ c. c ≡ data_of parts) }
-    ensures well_formed { IfOk result (λ c. IsCircuit c) }
+    ensures made { IfOk result (IsMadeOf (data_of parts)) }
     ensures cyclic { (e : Fault AigCause) → result ≡ Err e → TellsCyclic parts.gates.items starts.now (found_of e) }
 {
     match Circuit::new(alloc, parts) {

@@ -26,7 +26,7 @@ use Rattle.ps_circuit.specs.declared.fault.AigCause.{AigCause}
 use Rattle.ps_circuit.specs.declared.fault.AigCause.TheVariants.{Cyclic, Undefined}
 use Rattle.ps_circuit.specs.declared.parts.Latch.{Latch}
 use Rattle.ps_circuit.specs.declared.parts.Gate.{Gate}
-use Rattle.ps_circuit.specs.declared.header.Header.{Header}
+use Rattle.ps_circuit.specs.declared.sizes.Header.{Header}
 use Rattle.ps_circuit.specs.declared.lines.Noted.{Noted}
 use Rattle.ps_circuit.specs.declared.reader.Draft.{Draft}
 

@@ -1,11 +1,11 @@
-use Rattle.std.proofs.Common.{arith, ◌≡◌, subst, sym}
-use Rattle.ps_circuit.specs.Circuits.{CircuitData, IsCircuit}
+use Rattle.std.proofs.Common.{arith, subst, sym}
+use Rattle.std.proofs.lemmas.Result.{IfOk-weaker}
+use Rattle.ps_circuit.specs.Circuits.{IsCircuit}
 use Rattle.ps_circuit.specs.Drafts.{data_of}
 use Rattle.ps_machine.specs.Machines.{behaviour}
 use Rattle.ps_aiger.specs.Inner.Built.{IsCircuitOf}
 use Rattle.ps_aiger.proofs.CircuitSteps.{sees}
 use Rattle.ps_aiger.proofs.CircuitThere.{IsWhole, draft, encodes, is_tidy, ordered, whole, wired}
-use Rattle.ps_aiger.proofs.EncodeLemmas.{ok_with}
 use Rattle.ps_aiger.proofs.WireLemmas.{next_many}
 use Rattle.ps_aiger.proofs.encoding.circuit_of.Goals as goal
 use Rattle.ps_aiger.proofs.encoding.circuit_of.Goals.{In_ok-parts}
@@ -38,11 +38,12 @@ returns e =
     let x = data_of c.in_ok-parts.parts in
     let machine = c.parts_of.ensures.machine in
     let r = c.requires in
-    ok_with e.in_order.result (λ (y : CircuitData). y ≡ x) IsCircuit (IsCircuitOf b) (λ y is well.
-    let encoded = encodes b machine c.args.latches x (all c) r.enough r.least (subst IsCircuit is well) in
-    subst (IsCircuitOf b) (sym is) (record {
+    IfOk-weaker e.in_order.result _ _ (λ y made.
+    let encoded = encodes b machine c.args.latches x (all c) r.enough r.least (subst IsCircuit made.is made.well_formed)
+    in
+    subst (IsCircuitOf b) (sym made.is) (record {
       encodes = encoded;
       tidy = is_tidy b machine c.args.latches x (all c);
       wired = wired b machine c.args.latches x (all c);
       sees_no_input = sees b x machine encoded;
-    })) e.in_order.ensures.ok e.in_order.ensures.well_formed
+    })) e.in_order.ensures

@@ -18,9 +18,6 @@ new-builder-requires c = grind (arith, few_inputs (behaviour c.args.machine.now)
 pub next_literals-requires-clause-given : goal.next_literals-requires-clause-given
 next_literals-requires-clause-given c = grind arith
 
-pub output_literals-requires-clause-given : goal.output_literals-requires-clause-given
-output_literals-requires-clause-given c = grind arith
-
 pub output_literals-requires-clause-behind : goal.output_literals-requires-clause-behind
 output_literals-requires-clause-behind c = sym (ap (λ (n : Wired). n.draft) c.in_ok-next.ensures.made)
 

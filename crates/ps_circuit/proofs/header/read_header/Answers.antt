@@ -5,25 +5,25 @@ use Rattle.ps_circuit.proofs.NumberLemmas.{header_exit, header_unread, past_most
 use Rattle.ps_circuit.proofs.NumberLemmas.{past_outputs, past_gates}
 use Rattle.ps_circuit.proofs.header.read_header.Goals as goal
 
-pub returns-in_err-word-clause-exact : goal.returns-in_err-word-clause-exact
-returns-in_err-word-clause-exact c = header_exit c.args.cursor.now _ _ _
+pub returns-in_err-word : goal.returns-in_err-word
+returns-in_err-word c = header_exit c.args.cursor.now _ _ _
     (stops_at chain_header header_unread _ c.in_err-word.ensures) c.from_residual.ensures.1
 
-pub returns-in_err-most-clause-exact : goal.returns-in_err-most-clause-exact
-returns-in_err-most-clause-exact c = grind (
+pub returns-in_err-most : goal.returns-in_err-most
+returns-in_err-most c = grind (
   arith,
   stops_at chain_0 (past chain_header header_unread c.in_ok-word.ensures) _ c.in_err-most.ensures.exact,
 )
 
-pub returns-in_err-inputs-clause-exact : goal.returns-in_err-inputs-clause-exact
-returns-in_err-inputs-clause-exact c = grind (
+pub returns-in_err-inputs : goal.returns-in_err-inputs
+returns-in_err-inputs c = grind (
   arith,
   stops_at (chain_1 c.in_ok-most.most)
       (past_most c.in_ok-word.ensures c.in_ok-most.ensures.exact) _ c.in_err-inputs.ensures,
 )
 
-pub returns-in_err-latches-clause-exact : goal.returns-in_err-latches-clause-exact
-returns-in_err-latches-clause-exact c =
+pub returns-in_err-latches : goal.returns-in_err-latches
+returns-in_err-latches c =
     let i = c.in_ok-inputs.ensures in
     grind (
       arith,
@@ -31,8 +31,8 @@ returns-in_err-latches-clause-exact c =
           (past_inputs c.in_ok-word.ensures c.in_ok-most.ensures.exact i.2) _ c.in_err-latches.ensures,
     )
 
-pub returns-in_err-outputs-clause-exact : goal.returns-in_err-outputs-clause-exact
-returns-in_err-outputs-clause-exact c =
+pub returns-in_err-outputs : goal.returns-in_err-outputs
+returns-in_err-outputs c =
     let i = c.in_ok-inputs.ensures in
     let l = c.in_ok-latches.ensures in
     grind (
@@ -41,8 +41,8 @@ returns-in_err-outputs-clause-exact c =
           (past_latches c.in_ok-word.ensures c.in_ok-most.ensures.exact i.2 l.2) _ c.in_err-outputs.ensures,
     )
 
-pub returns-in_err-gates-clause-exact : goal.returns-in_err-gates-clause-exact
-returns-in_err-gates-clause-exact c =
+pub returns-in_err-gates : goal.returns-in_err-gates
+returns-in_err-gates c =
     let i = c.in_ok-inputs.ensures in
     let l = c.in_ok-latches.ensures in
     let o = c.in_ok-outputs.ensures in
@@ -52,8 +52,8 @@ returns-in_err-gates-clause-exact c =
           (past_outputs c.in_ok-word.ensures c.in_ok-most.ensures.exact i.2 l.2 o.2) _ c.in_err-gates.ensures,
     )
 
-pub returns-in_err-sections-clause-exact : goal.returns-in_err-sections-clause-exact
-returns-in_err-sections-clause-exact c =
+pub returns-in_err-sections : goal.returns-in_err-sections
+returns-in_err-sections c =
     let i = c.in_ok-inputs.ensures in
     let l = c.in_ok-latches.ensures in
     let o = c.in_ok-outputs.ensures in
@@ -62,8 +62,8 @@ returns-in_err-sections-clause-exact c =
     (past_gates c.in_ok-word.ensures c.in_ok-most.ensures.exact i.2 l.2 o.2 a.2) _ c.in_err-sections.ensures)
     c.from_residual-in_err-sections.ensures.1
 
-pub returns-clause-exact : goal.returns-clause-exact
-returns-clause-exact c =
+pub returns : goal.returns
+returns c =
     let i = c.in_ok-inputs.ensures in
     let l = c.in_ok-latches.ensures in
     let o = c.in_ok-outputs.ensures in

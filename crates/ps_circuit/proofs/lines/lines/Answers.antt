@@ -8,18 +8,18 @@ use Rattle.ps_circuit.proofs.LineLemmas.{lining_from, lining_next, lining_fails,
 use Rattle.ps_circuit.proofs.lines.lines.Goals as goal
 
 pub loop-init : goal.loop-init
-loop-init g c = lining_from (g.L.Line.part c.args.most) (g.L.Line.adds c.args.most) c.requires.row c.args.count
+loop-init g c = lining_from (g.L.Line.part c.args.header.most) (g.L.Line.adds c.args.header.most) c.requires c.args.count
     c.args.cursor.now (lines_of [] c.args.noted.now) (grind arith)
 
 pub loop-preserved : goal.loop-preserved
-loop-preserved g c = lining_next (g.L.Line.part c.args.most) (g.L.Line.adds c.args.most) c.requires.row c.args.count
+loop-preserved g c = lining_next (g.L.Line.part c.args.header.most) (g.L.Line.adds c.args.header.most) c.requires c.args.count
     c.args.cursor.now (lines_of [] c.args.noted.now) c.loop-test.true c.loop.invariant c.in_ok-read.ensures.exact
     c.in_ok-read.ensures.adds
 
 pub returns-in_err-read-clause-exact : goal.returns-in_err-read-clause-exact
-returns-in_err-read-clause-exact g c = λ n k short. exits found_of aig_causes _ (times n (g.L.Line.part c.args.most)
-    (lines_of [] c.args.noted.now)) c.args.cursor.now _ _ _ (lining_fails (g.L.Line.part c.args.most)
-    (g.L.Line.adds c.args.most) c.requires.row c.args.count c.args.cursor.now (lines_of [] c.args.noted.now) _
+returns-in_err-read-clause-exact g c = λ n k short. exits found_of aig_causes _ (times n (g.L.Line.part c.args.header.most)
+    (lines_of [] c.args.noted.now)) c.args.cursor.now _ _ _ (lining_fails (g.L.Line.part c.args.header.most)
+    (g.L.Line.adds c.args.header.most) c.requires c.args.count c.args.cursor.now (lines_of [] c.args.noted.now) _
     c.loop-test.true c.loop.invariant c.in_err-read.ensures.exact n k) c.from_residual.ensures.1
 
 pub returns-clause-exact : goal.returns-clause-exact

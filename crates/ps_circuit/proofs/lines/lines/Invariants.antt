@@ -4,5 +4,5 @@ use Rattle.ps_circuit.proofs.LineLemmas.{Lining}
 use Rattle.ps_circuit.proofs.lines.lines.Given as goal
 
 abbrev pub invariant-loop : goal.invariant-loop
-invariant-loop g l = Lining (g.L.Line.part l.most) (g.L.Line.adds l.most) l.count l.counter l.initial.cursor l.cursor
+invariant-loop g l = Lining (g.L.Line.part l.header.most) (g.L.Line.adds l.header.most) l.count l.counter l.initial.cursor l.cursor
     (lines_of [] l.initial.noted) (lines_of l.items.items l.noted)

@@ -1,4 +1,5 @@
 use Rattle.std.proofs.Common.{arith, ◌∙◌, length, ap}
+use Rattle.std.proofs.lemmas.Result.{IfOk-weaker}
 use Rattle.ps_circuit.specs.Inner.Reading.{draft_data}
 use Rattle.ps_circuit.proofs.DraftReading.{answer_fails, answer_undefined, answered}
 use Rattle.ps_circuit.proofs.reader.read.Goals as goal
@@ -19,3 +20,6 @@ assembled-requires-clause-starts c = ap length c.deref.ensures.value ∙ c.in_ok
 
 pub returns-clause-exact : goal.returns-clause-exact
 returns-clause-exact c = grind (arith, answered)
+
+pub returns-clause-well_formed : goal.returns-clause-well_formed
+returns-clause-well_formed c = IfOk-weaker c.assembled.result _ _ (λ x made. made.well_formed) c.assembled.ensures.made

@@ -32,7 +32,7 @@ abbrev four : After-symbols → After-lines-4
 four c = (goal.at.After-symbols c).After-lines-4
 
 abbrev header_of : After-lines → HeaderData
-header_of c = numbers c.in_ok-header.header.most c.in_ok-header.ensures.exact.0
+header_of c = numbers c.in_ok-header.header.most c.in_ok-header.ensures.0
 
 abbrev inputs_of : After-lines-2 → Lines ℕ
 inputs_of c = lines_of c.in_ok-inputs.inputs.items c.lines.new.noted
@@ -50,10 +50,10 @@ inputs_ahead : (c : After-lines) → Ahead (input_line c.in_ok-header.header.mos
     c.of_lines-cursor.result c.read_header.new.cursor c.in_ok-header.header.inputs (lines_of [] c.nothing-noted.result)
 inputs_ahead c = record {
   n = (header_of c).inputs;
-  counted = c.in_ok-header.ensures.exact.1.inputs;
+  counted = c.in_ok-header.ensures.1.inputs;
   chain = chain_inputs (header_of c) _;
   reached =
-      past_header c.in_ok-header.ensures.exact.1.most c.of_lines-cursor.ensures.small c.in_ok-header.ensures.exact.2
+      past_header c.in_ok-header.ensures.1.most c.of_lines-cursor.ensures.small c.in_ok-header.ensures.2
       c.nothing-noted.ensures;
 }
 
@@ -105,7 +105,7 @@ none_yet c =
 
 pub returns-in_err-header-clause-exact : goal.returns-in_err-header-clause-exact
 returns-in_err-header-clause-exact c = draft_fails c.args.text.now _ _ c.of_lines-cursor.ensures.stream
-    (stops_at chain_text text_unread _ c.in_err-header.ensures.exact) c.from_residual.ensures.1
+    (stops_at chain_text text_unread _ c.in_err-header.ensures) c.from_residual.ensures.1
 
 pub returns-in_err-inputs-clause-exact : goal.returns-in_err-inputs-clause-exact
 returns-in_err-inputs-clause-exact c = draft_fails c.args.text.now _ _ c.of_lines-cursor.ensures.stream
@@ -158,20 +158,20 @@ returns-clause-sound c =
     let k = c.in_ok-names.ensures.names in
     let read = draft_reads c.args.text.now c.of_lines-cursor.ensures.stream c.in_ok-comment.ensures.1
     (all_reads _ _ _ _ _ (behind_gates b) (none_yet b) c.in_ok-symbols.ensures.exact c.in_ok-comment.ensures.0) in
-    sound_draft most (names_data c.symbols.new.names) c.in_ok-header.ensures.small (gates_placed _ _ read.0)
+    sound_draft most (names_data c.symbols.new.names) c.in_ok-header.header.small (gates_placed _ _ read.0)
     (search (rules, c.nothing-noted.ensures, c.in_ok-inputs.ensures.grown)) c.in_ok-latches.ensures.grown
     c.in_ok-outputs.ensures.grown c.in_ok-gates.ensures.grown (search (rules, each_named, c.len.ensures))
     (search (rules, each_named, c.len-2.ensures)) (search (rules, each_named, c.len-3.ensures)) n.inputs_named
     n.latches_named n.outputs_named
 
-pub lines-requires-clause-row : goal.lines-requires-clause-row
-lines-requires-clause-row c = is_row (laws_input_line c.in_ok-header.header.most)
+pub lines-requires : goal.lines-requires
+lines-requires c = is_row (laws_input_line c.in_ok-header.header.most)
 
-pub lines-requires-2-clause-row : goal.lines-requires-2-clause-row
-lines-requires-2-clause-row c = is_row (laws_latch_line c.in_ok-header.header.most)
+pub lines-requires-2 : goal.lines-requires-2
+lines-requires-2 c = is_row (laws_latch_line c.in_ok-header.header.most)
 
-pub lines-requires-3-clause-row : goal.lines-requires-3-clause-row
-lines-requires-3-clause-row c = is_row (laws_output_line c.in_ok-header.header.most)
+pub lines-requires-3 : goal.lines-requires-3
+lines-requires-3 c = is_row (laws_output_line c.in_ok-header.header.most)
 
-pub lines-requires-4-clause-row : goal.lines-requires-4-clause-row
-lines-requires-4-clause-row c = is_row (laws_gate_line c.in_ok-header.header.most)
+pub lines-requires-4 : goal.lines-requires-4
+lines-requires-4 c = is_row (laws_gate_line c.in_ok-header.header.most)

@@ -1,4 +1,4 @@
-use Rattle.std.proofs.Common.{arith, ◌≡◌, ◌∙◌, ℕ, ◌<◌, length, sym, subst}
+use Rattle.std.proofs.Common.{arith, ◌≡◌, ◌∙◌, ℕ, ◌<◌, length, refl, sym, subst}
 use Rattle.std.proofs.lemmas.Option.{slice_get_within}
 use Rattle.ps_circuit.specs.Circuits.{ReadsGate}
 use Rattle.ps_circuit.proofs.Ordered.{acyclic, order-of_places}
@@ -14,10 +14,14 @@ invariant_of-result c =
           (c.in_ok-order.ensures.count ∙ n) (λ k lt. c.in_ok-order.ensures.each k (subst (λ m. k < m) (sym n) lt)),
     )
 
-pub returns-clause-well_formed : goal.returns-clause-well_formed
-returns-clause-well_formed c =
+pub returns : goal.returns
+returns c =
     let gates = c.args.parts.gates.items in
     record {
-      draft = c.requires.draft;
-      acyclic = acyclic (ReadsGate gates) (length gates) c.requires.ordered (λ i j r. grind (arith, slice_get_within));
+      is = refl;
+      well_formed = record {
+        draft = c.requires.draft;
+        acyclic = acyclic (ReadsGate gates) (length gates) c.requires.ordered
+            (λ i j r. grind (arith, slice_get_within));
+      };
     }

@@ -1,4 +1,4 @@
-use Rattle.std.proofs.Common.{arith}
+use Rattle.std.proofs.Common.{arith, refl}
 use Rattle.ps_circuit.specs.Drafts.{data_of}
 use Rattle.ps_circuit.proofs.LinksLemmas.{gates_once, links_within, order-of_links, acyclic-of_links, cyclic-of_links}
 use Rattle.ps_circuit.proofs.circuit.Circuit.new.Goals as goal
@@ -12,8 +12,8 @@ invariant_of-graph c = record { within = links_within _ _ c.in_ok-links.ensures 
 pub invariant_of-result : goal.invariant_of-result
 invariant_of-result c = grind (arith, acyclic-of_links, order-of_links)
 
-pub returns-in-Order-clause-well_formed : goal.returns-in-Order-clause-well_formed
-returns-in-Order-clause-well_formed c = grind (arith, acyclic-of_links)
+pub returns-in-Order-clause-made : goal.returns-in-Order-clause-made
+returns-in-Order-clause-made c = record { is = refl; well_formed = grind (arith, acyclic-of_links) }
 
 pub returns-in-Cyclic-clause-cyclic : goal.returns-in-Cyclic-clause-cyclic
 returns-in-Cyclic-clause-cyclic c =

@@ -9,24 +9,24 @@ use Rattle.ps_circuit.proofs.lines.LatchLineLine.read.Goals as goal
 pub returns-in_err-own-clause-exact : goal.returns-in_err-own-clause-exact
 unfolding latch_line
 returns-in_err-own-clause-exact c =
-    exits_at (chain_latch c.args.most (lines_of c.args.items.now.items c.args.noted.now)) unread _ _ _ _
+    exits_at (chain_latch c.args.header.most (lines_of c.args.items.now.items c.args.noted.now)) unread _ _ _ _
     c.in_err-own.ensures.exact c.from_residual.ensures.1
 
 pub returns-in_err-next-clause-exact : goal.returns-in_err-next-clause-exact
 returns-in_err-next-clause-exact c =
     let before = lines_of c.args.items.now.items c.args.noted.now in
-    exits_at (chain_next c.args.most before c.in_ok-own.own) (past_latch c.args.most before c.in_ok-own.ensures.exact) _
+    exits_at (chain_next c.args.header.most before c.in_ok-own.own) (past_latch c.args.header.most before c.in_ok-own.ensures.exact) _
     _ _ _ c.in_err-next.ensures.exact c.from_residual-in_err-next.ensures.1
 
 pub returns-in_err-reset-clause-exact : goal.returns-in_err-reset-clause-exact
 returns-in_err-reset-clause-exact c =
     let before = lines_of c.args.items.now.items c.args.noted.now in
     exits_last (λ r. add_latch before c.in_ok-own.own c.in_ok-next.next r)
-    (past_next c.args.most before c.in_ok-own.ensures.exact c.in_ok-next.ensures.exact) _ _ _ _ c.in_err-reset.ensures
+    (past_next c.args.header.most before c.in_ok-own.ensures.exact c.in_ok-next.ensures.exact) _ _ _ _ c.in_err-reset.ensures
     c.from_residual-in_err-reset.ensures.1
 
 pub returns-clause-exact : goal.returns-clause-exact
 returns-clause-exact c =
     let before = lines_of c.args.items.now.items c.args.noted.now in
-    reads_last (λ r. add_latch before c.in_ok-own.own c.in_ok-next.next r) (past_next c.args.most before
+    reads_last (λ r. add_latch before c.in_ok-own.own c.in_ok-next.next r) (past_next c.args.header.most before
     c.in_ok-own.ensures.exact c.in_ok-next.ensures.exact) c.in_ok-reset.ensures (grind arith)
