@@ -10,16 +10,12 @@ use Rattle.ps_diagram.proofs.Alone.{same_letter}
 use Rattle.ps_diagram.proofs.Letters.{letter_lt, letter_is, no_bit}
 use Rattle.ps_automaton.proofs.Deciding.{some_or_none}
 use Rattle.ps_machine.specs.Extracting.{IsOtherLetter, is_others}
+use Rattle.ps_machine.specs.Inner.ByLetters.{IsOver}
 use Rattle.ps_machine.specs.Boards.{Board, IsFirstLetter, IsSecondLetter, SameStep, SameSteps, IsClassLetter, IsMove}
 use Rattle.ps_machine.specs.declared.key.Key.TheVariants.{First}
 use Rattle.ps_machine.proofs.LeastLetters.{least_there}
 
 -- ## Letters of one player
-
--- a letter in which only propositions of a given player are true
-pub record IsOver (n : ℕ) (mine : ℕ → Bool) (y : ℕ) : Type 0 where
-  pub within : y < 2 ^ n
-  pub own : (p : ℕ) → mine p ≡ false → is_in p y ≡ false
 
 module _ (n : ℕ) (mine : ℕ → Bool) where
   -- the part of a letter that consists of the player's propositions

@@ -1,10 +1,12 @@
 mod BoardLetters
 mod BoardMoves
 mod BoardSteps
+mod ByLetters
 mod CertificateThere
 mod Choosing
 mod FileBoards
 mod LeastLetters
+mod LetterLists
 pub mod Movers
 pub mod GameKeys
 pub mod Diagrams
