@@ -4,7 +4,7 @@
 //! for a state and the priority by which the state was entered. A vertex at which the second player moves stands for a
 //! state and a class of the first player's letters. Letters of one class lead to the same steps. The classes are
 //! computed from the automaton's decision diagrams, and one vertex stands for all letters of its class. If no player has
-//! more than eight letters, `game_of` compares the letters one by one, and needs no classes.
+//! more than four letters, `game_of` compares the letters one by one, and needs no classes.
 //!
 //! | Call | What it gives |
 //! |---|---|
