@@ -30,7 +30,7 @@ pub fn lassos_won()
         IsMachineOf (board_of order a) (mover_of order) keys game certificate m → LassosWon file m }
 {}
 
-/// The same for the game of a file, by any automaton of the file.
+/// As `lassos_won`, for the game of a file: the law holds whichever automaton of the file is taken.
 pub fn lassos_of_file_won()
     ensures { (order : Order) (file : FileData) (game : NamedGameData) (is_game : IsGameOfFile order file game)
         (certificate : CertificateData) (m : Behaviour) → Fits game.game certificate → IsValid game.game certificate →

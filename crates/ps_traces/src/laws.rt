@@ -143,7 +143,8 @@ pub fn certified_circuit_answers()
     circuit_has_one_values();
 }
 
-/// The same for a certificate of a file's game, by any automaton of the file.
+/// As `certified_circuit_answers`, for a certificate of a file's game: the law holds whichever automaton of the file is
+/// taken.
 pub fn certified_circuit_of_file_answers()
     ensures { (order : Order) (file : FileData) (game : NamedGameData) (is_game : IsGameOfFile order file game)
         (certificate : CertificateData) (m : Behaviour) (c : CircuitData) → Fits game.game certificate →

@@ -19,7 +19,7 @@
 //! | `circuit_has_shape` | inputs and outputs are the player's, by name; who moves first sees no input of the step |
 //! | `circuit_answers` | the preceding laws in one record, `IsWitness` |
 //! | `certified_circuit_answers` | `IsWitness` from a valid certificate of an automaton's game, in both orders |
-//! | `certified_circuit_of_file_answers` | the same by any automaton of the file |
+//! | `certified_circuit_of_file_answers` | as before, from a file's game and by any automaton of the file |
 #![tactic(auto)]
 
 mod laws;
