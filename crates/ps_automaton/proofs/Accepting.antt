@@ -1,5 +1,6 @@
--- The deterministic automaton of a file accepts the same words as the file. If a part of the automaton's run returns to
--- its first state, the greatest priority of the part is even exactly if some run of the file accepts the word.
+-- The deterministic automaton that is built from an HOA file accepts the same lassos as the automaton that the file
+-- states. If some laps lead the deterministic automaton from a state back to this state, the greatest priority during
+-- these laps is even exactly if the file's automaton accepts the lasso.
 use Rattle.std.proofs.Common.{◌≡◌, ℕ, ◌+◌, ◌-◌, ◌*◌, ◌^◌, ◌<◌, ◌≤◌, inl, inr, suc, zero, Bool, true, rules}
 use Rattle.std.proofs.Common.{false, List, length, Some, refl, ap, sym, ◌∙◌, arith, add-one, add-zero}
 use Rattle.std.specs.Prelude.{◌↔◌, IsTrue, All}
@@ -16,7 +17,8 @@ use Rattle.ps_automaton.proofs.ChainLaws.{greatest_decides}
 use Rattle.ps_automaton.proofs.Orbits.{any_return_decides, priorities_repeat, word_repeats, word_within, word_behind}
 use Rattle.ps_automaton.proofs.Orbits.{all_below, place_below, laps_are_read, greatest_is_read}
 
--- the greatest number of the edges in a part; f gives the number of each edge
+-- if f gives each edge's priority, the greatest priority that the chain gives to consecutive edges of a run is the
+-- greatest of these values of f
 levels_are : (chain : Chain) (f : ℕ → ℕ) (sets : ℕ → ℕ → Bool) (from count : ℕ) →
     ((t : ℕ) → from ≤ t → t < from + count → f t ≡ level chain (sets t)) →
     greatest_level chain (part sets from count) ≡ greatest_from f from count
@@ -41,7 +43,7 @@ module _ {file : FileData} {chain : Chain} {a : Auto} (is_chain : chain_of file.
   sink_stays_from t is (suc n) =
       rw add-suc (cc (sink_stays_from t is n, (is_auto.sink_stays (w (t + n)) (letters (t + n))).0))
 
-  -- every priority in the sink is 1
+  -- each edge taken from the sink has the priority 1
   priority_in_sink : (t : ℕ) → state_at a w t ≡ file.states → priority_at a w t ≡ 1
   priority_in_sink t is = cc (is, (is_auto.sink_stays (w t) (letters t)).1)
 
@@ -52,7 +54,8 @@ module _ {file : FileData} {chain : Chain} {a : Auto} (is_chain : chain_of file.
         priority_in_sink t (ap (state_at a w) (omega arith) ∙ sink_stays_from from is (t - from)) in
         grind (arith, all_below, place_below)
 
-    -- if the greatest priority is even, the sink is not reached
+    -- if a segment of the run begins and ends in the same state and its greatest priority is even, the run has not
+    -- reached the sink by the end of the segment
     outside_sink : is_even (greatest_from (priority_at a w) from count) ≡ true → (t : ℕ) → t ≤ from + count →
         state_at a w t ≡ file.states → ⊥
     outside_sink even t before is = grind (
@@ -77,7 +80,8 @@ module _ {file : FileData} {chain : Chain} {a : Auto} (is_chain : chain_of file.
         | inr behind ↦ (λ set. false, λ h. absurd (omega arith))
       ]
 
-      -- the automaton's run is a run of the file, and the condition is true for the sets of its part
+      -- the deterministic automaton's run is also a run of the file's automaton, and satisfies the acceptance condition
+      -- on the segment that returns to its first state
       pub run_of_auto : (sets : ℕ → ℕ → Bool) × IsRun file w (from + count) (state_at a w) sets ×
           IsTrue (holds (is_met (part sets from count)) file.condition)
       run_of_auto =
@@ -88,7 +92,7 @@ module _ {file : FileData} {chain : Chain} {a : Auto} (is_chain : chain_of file.
             sym (search (rules, greatest_decides, part_length)) ∙ ap is_even levels ∙ even,
           )
 
-  -- a run of the file has the same states as the automaton's run
+  -- each run of the file's automaton visits the same states as the deterministic automaton's run
   run_states : {count : ℕ} {states : ℕ → ℕ} {sets : ℕ → ℕ → Bool} → IsRun file w count states sets → (t : ℕ) →
       t ≤ count → states t ≡ state_at a w t
   run_states run zero within = run.begins ∙ sym is_auto.start
@@ -162,7 +166,7 @@ module _ (file : FileData) (chain : Chain) (a : Auto) (is_chain : chain_of file.
           ∙ run_is_even is_chain is_auto w letters_are from count (some_letters accepted.laps accepted.some) run
           accepted.met
 
--- Laps that lead back to a state decide whether the word is accepted.
+-- If some laps lead from a state back to this state, their greatest priority decides whether the lasso is accepted.
 pub laps_decide : (file : FileData) (chain : Chain) (a : Auto) (stem lap : List ℕ) (before laps s : ℕ) →
     chain_of file.condition ≡ Some chain → IsAutoOf file chain a → 0 < length lap →
     All (λ letter. letter < 2 ^ length file.names) stem → All (λ letter. letter < 2 ^ length file.names) lap →

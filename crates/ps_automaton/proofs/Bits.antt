@@ -1,4 +1,4 @@
--- Sets as the bits of a number.
+-- A set of numbers, stored as the bits of one number.
 use Rattle.std.proofs.Common.{◌≡◌, ℕ, ◌+◌, ◌*◌, ◌^◌, ◌%◌, ◌<◌, List}
 use Rattle.std.proofs.Common.{◌∷◌, length, drop, get_or, arith, add-one, drop-cons, bit_or}
 use Rattle.std.specs.Prelude.{◌||◌, nat_eq}

@@ -1,4 +1,4 @@
--- The automaton that is built from a draft.
+-- The automaton that is built from a `Draft`, which holds the decision diagrams of all states' steps.
 use Rattle.std.proofs.Common.{◌≡◌, ℕ, ◌^◌, ◌<◌, ◌≤◌, ◌⊎◌, inl, inr, false, List, length, Option, Some, rules, arith}
 use Rattle.std.specs.List.{IsDistinct}
 use Rattle.std.specs.Option.{IsSomeAnd}
@@ -41,7 +41,7 @@ module _ {file : FileData} (sound : IsSoundFile file) {chain : Chain} (a : Autom
         (record { state = file.states; priority = 1 })
     sink_named letter = search rules
 
-    -- a property of each state and of the sink holds for every number up to that of the sink
+    -- a property of each state and of the sink holds for every number up to `file.states`, the number of the sink
     at_each : (P : ℕ → Type 0) → ((q : ℕ) → q < file.states → P q) → P file.states → (q : ℕ) → q ≤ file.states → P q
     at_each P states sink q low = elim (eq-or-lt_of_le low) [ inl e ↦ rw e sink | inr less ↦ states q less ]
 

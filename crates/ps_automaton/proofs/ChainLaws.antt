@@ -1,4 +1,5 @@
--- A chain decides like its condition, and the greatest number along edges decides like the chain.
+-- A chain has the same truth value as its acceptance condition. This value is true exactly if the greatest priority
+-- that the chain gives to the edges is even.
 use Rattle.std.proofs.Common.{rules, ◌≡◌, ℕ, ◌<◌, ◌≤◌, Bool, true, false, cond, List, [], ◌∷◌, ◌++◌, length, Some, refl}
 use Rattle.std.proofs.Common.{ap, sym, ◌∙◌, arith}
 use Rattle.ps_hoa.specs.Conditions.{Condition, Conditions, constant, infinitely, finitely, all_hold, any_holds}
@@ -23,7 +24,7 @@ pub level_below_first : (base : Bool) (links : List ChainLink) (has : ℕ → Bo
 level_below_first base [] has = omega arith
 level_below_first base (link ∷ links) has = grind (arith, level_below_first base links has, raised_more)
 
--- the greatest number that a chain gives along edges
+-- the greatest priority that a chain gives to a list of edges
 abbrev greatest : Bool → List ChainLink → List (ℕ → Bool) → ℕ
 greatest base links edges = greatest_level (record { links = links; base = base }) edges
 
@@ -43,7 +44,7 @@ first_left_out : (base : Bool) (link : ChainLink) (links : List ChainLink) (edge
 first_left_out base link links [] unmet = refl
 first_left_out base link links (has ∷ edges) unmet = grind (arith, first_left_out base link links edges)
 
--- in a chain without links, each edge has the number of the base
+-- if a chain has no links, the greatest priority of one or more edges is that of the chain's base
 greatest_of_base : (base : Bool) (has : ℕ → Bool) (edges : List (ℕ → Bool)) →
     greatest base [] (has ∷ edges) ≡ base_number base
 greatest_of_base base has [] = omega arith
@@ -58,7 +59,7 @@ key_law base (link ∷ links) edges some =
 
 -- ## The chain of a condition
 
--- the truth value of all operands together: whether one is true, or whether all are true
+-- the truth value of the disjunction of the operands if the flag is true, and of their conjunction otherwise
 abbrev together : (ℕ → Bool) → Bool → Conditions → Bool
 together met true cs = one_of_them met cs
 together met false cs = all_of_them met cs
@@ -67,12 +68,13 @@ abbrev joined : Bool → Bool → Bool → Bool
 joined true a b = cond a true b
 joined false a b = cond a b false
 
--- a link decides if its set is met, and otherwise the other operands decide
+-- if the set of a link's operand is met, the link's flag is the value of the disjunction or conjunction; otherwise the
+-- other operands give the value
 link_decides : (met : ℕ → Bool) (accepts : Bool) (c : Condition) {link : ChainLink} (b : Bool) →
     link_of accepts c ≡ Some link → joined accepts (holds met c) b ≡ cond (met link.colour) link.accepts b
 link_decides met accepts c b e = grind arith
 
--- operands that are all links decide before the rest of the chain decides
+-- a chain that begins with the links of some operands has the value of these operands joined with the rest of the chain
 links_decide : (met : ℕ → Bool) (accepts : Bool) (cs : Conditions) (base : Bool) (rest links : List ChainLink) →
     links_of accepts cs ≡ Some links → chain_holds base (links ++ rest) met ≡ joined accepts (together met accepts cs)
     (chain_holds base rest met)

@@ -1,4 +1,4 @@
--- The sets in the links of a chain are sets of its condition.
+-- If all sets in an acceptance condition are below a bound, so are the sets in the links of its chain.
 use Rattle.std.proofs.Common.{rules, ◌≡◌, ℕ, ◌<◌, ◌≤◌, Bool, true, false, List, [], ◌∷◌, ◌++◌, Option, Some, None}
 use Rattle.std.proofs.Common.{arith}
 use Rattle.std.specs.List.{AllByRecursion}

@@ -1,4 +1,5 @@
--- A file is either accepted or rejected: each fault can be decided, and the first of the clashes can be found.
+-- It is decidable which faults an HOA file has and which of its clashes comes first, so each file is either admitted or
+-- refused.
 use Rattle.std.proofs.Common.{◌≡◌, ◌≢◌, ◌∙◌, ℕ, zero, suc, ◌+◌, ◌^◌, ◌<◌, ◌≤◌, ◌⊎◌, inl, inr, Bool, true, false, rules}
 use Rattle.std.proofs.Common.{List, [], ◌∷◌, length, Option, Some, None, slice_get, refl, sym, arith}
 use Rattle.std.proofs.lemmas.Bool.{cases_eq, cases_lt}
@@ -16,7 +17,7 @@ use Rattle.ps_automaton.specs.declared.fault.AutomatonFault.TheVariants.{OutOfMe
 use Rattle.ps_text.proofs.Simple.{same_some}
 use Rattle.ps_automaton.proofs.TakenEdges.{clash_of}
 
--- a decidable property of numbers holds for no number less than n, or for a smallest number
+-- either no number less than n has a decidable property, or there is a smallest number that has the property
 least_below : (P : ℕ → Type 0) → ((k : ℕ) → Decided (P k)) → (n : ℕ) →
     ((m : ℕ) × P m × ((k : ℕ) → P k → m ≤ k)) ⊎ ((k : ℕ) → k < n → P k → ⊥)
 least_below P tell zero = inr (λ k lt h. absurd (omega arith))
@@ -46,7 +47,7 @@ decide_some (Some x) P tell = decide_as (λ p. (x, refl, p)) (λ h. rw (same_som
 same_or_not : (a b : Bool) → Decided (a ≡ b)
 same_or_not a b = grind arith
 
--- it is decidable whether two tests always agree, if they agree from the number n on
+-- it is decidable whether two Boolean functions on numbers agree everywhere, if they agree from the number n on
 same_tests : (f g : ℕ → Bool) (n : ℕ) → ((k : ℕ) → n ≤ k → f k ≡ g k) → Decided ((k : ℕ) → f k ≡ g k)
 same_tests f g n far = elim (least_below (λ k. f k ≢ g k) (λ k. decide_not (same_or_not (f k) (g k))) n) [
   | inl m ↦ inr (λ same. m.1 (same m.0))

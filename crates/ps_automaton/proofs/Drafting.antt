@@ -1,4 +1,4 @@
--- The steps of the states, one state after another.
+-- The decision diagrams of the automaton's steps are built, one state after another.
 use Rattle.std.proofs.Common.{rules, ◌≡◌, ℕ, ◌+◌, ◌<◌, ◌≤◌, ◌⊎◌, inl, inr, List, [], ◌∷◌, ◌++◌, length, get_or, Option}
 use Rattle.std.proofs.Common.{sym, subst, arith}
 use Rattle.std.specs.Option.{IsSomeAnd}
@@ -29,7 +29,7 @@ within_kept : (old new : List Step) → Extends old new → (o : Option ℕ) →
     IsSomeAnd o (λ k. k < length new)
 within_kept old new extends o h = grind (arith, extended_within)
 
--- the steps of a state stay right when the store and the list of steps grow
+-- a diagram still describes the steps of its state after the diagram store and the list of steps have grown
 pub steps_kept : {file : FileData} {chain : Chain} {q : ℕ} {old new : List Step} {t u : Table} {node : ℕ} →
     Extends old new → Keeps t u → IsStepsOf file chain q old t node → IsStepsOf file chain q new u node
 steps_kept {file} {chain} {q} {old} {new} {t} {u} {node} extends keeps s =
@@ -57,7 +57,7 @@ module _ (file : FileData) (chain : Chain) (steps : List Step) (t : Table) (node
   one_more {count} {node} {more} size is each last q within =
       grind (arith, cases_lt q count, get_or_append_left, get_or_push)
 
-  -- the first fault of a state is the first fault of the file, if no earlier state has a clash
+  -- if the earlier states have no clash, the first fault of the next state is the first fault of the whole file
   pub first_fault : (count : ℕ) → AreStepsOf count → (f : AutomatonFault) → IsStateFault file count f →
       IsDraftFault file f
   first_fault count each ComplementedSet h = h

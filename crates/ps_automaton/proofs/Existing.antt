@@ -1,5 +1,5 @@
--- An accepted file has an automaton: at each state and letter, its step is the edge that is taken, or leads to the
--- sink.
+-- An admitted file has a deterministic automaton: its step from a state at a letter is the edge that is taken, or leads
+-- to the sink if no edge is taken.
 use Rattle.std.proofs.Common.{◌≡◌, ◌∙◌, ℕ, ◌^◌, ◌<◌, ◌⊎◌, inl, inr, Bool, length, Some, slice_get, rules}
 use Rattle.std.proofs.Common.{refl, sym, suc, arith}
 use Rattle.std.proofs.lemmas.Bool.{cases_order}
@@ -25,7 +25,7 @@ taken_or_not file row letter = decide_as (λ h. grind (arith, slice_get_within r
     (λ edge. grind (arith, open_or_not))) (length row.edges) (λ place h. slice_get_within row.edges place h.0 h.1))
 
 module _ (file : FileData) (sound : IsSoundFile file) (chain : Chain) (deterministic : IsDeterministic file) where
-  -- edges that are taken at one letter are alike
+  -- two edges of a state that are taken at the same letter have the same target and the same acceptance sets
   alike_before : (q : ℕ) {letter : ℕ} {row : RowData} → row_of file q ≡ Some row → letter < 2 ^ length file.names →
       (s t : TakenEdge file row (length row.edges) letter) → s.place < t.place → AreAlike row s.edge t.edge
   alike_before q {letter} {row} of_state small s t less = elim (alike_or_not row s.edge t.edge) [
@@ -55,7 +55,8 @@ module _ (file : FileData) (sound : IsSoundFile file) (chain : Chain) (determini
       (decide_both (decide_below (suc letter) (2 ^ length file.names)) (decide_some (row_of file q)
       (λ row. TakenEdge file row (length row.edges) letter) (λ row. taken_or_not file row letter)))
 
-  -- a step by an edge, or to the sink if no edge is taken
+  -- the next state and the priority are those of an edge that is taken, or those of the step to the sink if no edge is
+  -- taken
   abbrev IsStep : ℕ → ℕ → ℕ → ℕ → Type 0
   IsStep q letter next priority =
       ((sets : ℕ → Bool) × Goes file q letter sets next × (priority ≡ level chain sets)) ⊎
@@ -74,7 +75,7 @@ module _ (file : FileData) (sound : IsSoundFile file) (chain : Chain) (determini
   target_within : {q letter next : ℕ} {sets : ℕ → Bool} → Goes file q letter sets next → next < file.states
   target_within {q} g = search (rules, sound_edge, row_of_state)
 
-  -- the sink has no row
+  -- the sink is not a state of the file, so no edge of the file leaves it
   from_sink : {letter : ℕ} {sets : ℕ → Bool} {to : ℕ} → Goes file file.states letter sets to → ⊥
   from_sink g = let r = row_of_state file sound file.states g.row g.of_state in omega arith
 

@@ -1,4 +1,4 @@
--- Facts about the edges of a sound row.
+-- Lemmas about the edges of a state whose row satisfies `IsSoundRow`.
 use Rattle.std.proofs.Common.{◌≡◌, ℕ, zero, suc, ◌+◌, ◌^◌, ◌<◌, ◌≤◌, inl, inr, false, List, [], ◌∷◌, length, map}
 use Rattle.std.proofs.Common.{get_or, Option, Some, None, refl, sym, ap, ◌∙◌, arith, add-zero}
 use Rattle.std.specs.List.{All, slice_get}
@@ -33,7 +33,8 @@ labelled_letter count (Some l) es a j {e} at k is = cc (all_get IsOfState es (al
 labelled_letter count None es (inl a) j {e} at k is = cc ((all_get IsStated es (all_at IsStated es a) j e at).1)
 labelled_letter count None es (inr a) j {e} at k is = grind (arith, by_letter, slice_get_within)
 
--- if the first edge of a row is for one letter, the row has an edge for each letter
+-- if the first edge of a state has an implicit label, the state has one edge for each letter, in the order of the
+-- letters
 pub by_letters_of : {file : FileData} {row : RowData} → IsSoundRow file row → {e : EdgeData} (k : ℕ) →
     slice_get row.edges 0 ≡ Some e → e.guard ≡ at_letter k → IsByLetters file row
 by_letters_of {file} {row} s {e} k at is = by_label row.label s.labelled
@@ -81,7 +82,7 @@ target_of_alike {s} {t} a b alike =
     let bits : (i : ℕ) → i < 64 → bit_at s.sets i ≡ bit_at t.sets i = grind arith in
     grind (arith, same_from_bits_below 64 s.sets t.sets a.few b.few bits)
 
--- the data of the edge at index k are at index k of the list of data
+-- the abstract value of the edge at index k is at index k of the list of abstract values
 pub edge_at : (items : List Edge) (k : ℕ) {e : Edge} → k < length items → e ≡ get_or items k e →
     slice_get (map edge_data items) k ≡ Some (edge_data e)
 edge_at items k {e} within is = grind (arith, slice_get-map, slice_get_read)

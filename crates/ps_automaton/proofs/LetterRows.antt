@@ -1,4 +1,4 @@
--- Rows in which each edge is taken at one letter.
+-- Rows of states whose edges have implicit labels, so that each edge is taken at exactly one letter.
 use Rattle.std.proofs.Common.{◌≡◌, ℕ, ◌+◌, ◌%◌, ◌^◌, ◌<◌, List, [], ◌∷◌, ◌++◌, length, get_or, Some}
 use Rattle.std.proofs.Common.{refl, ap, ◌∙◌, arith}
 use Rattle.std.specs.List.{slice_get}
@@ -18,7 +18,7 @@ use Rattle.ps_automaton.proofs.Fitting.{by_letter}
 
 -- ## Targets, one by one
 
--- the first `count` edges have their targets
+-- the first `count` entries of `targets` are the targets of the first `count` edges
 abbrev pub HaveTargets : RowData → ℕ → List Target → Type 0
 HaveTargets row count targets =
     (k : ℕ) (edge : EdgeData) → k < count → slice_get row.edges k ≡ Some edge → IsTargetAt row edge targets k
@@ -43,7 +43,7 @@ module _ {file : FileData} {row : RowData} (row_sound : IsSoundRow file row) (by
       IsEnabled file.aliases row.label edge.guard place
   open_at_place place at = rw (guard_at place at) refl
 
-  -- the edge at an index
+  -- each index less than the number of edges has an edge
   edge_there : (place : ℕ) → place < length row.edges → (edge : EdgeData) × (slice_get row.edges place ≡ Some edge)
   edge_there place within =
       let d : EdgeData = record { guard = of_state; target = 0; marks = [] } in

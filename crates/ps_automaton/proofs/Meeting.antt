@@ -1,4 +1,4 @@
--- Diagrams that have leaves at a common letter.
+-- Pairs of decision diagrams that both have a leaf at some letter.
 use Rattle.std.proofs.Common.{arith, ◌≡◌, ℕ, ◌^◌, ◌<◌, inl, inr, Bool, Option, Some, None, IsTrue, refl, sym}
 use Rattle.std.proofs.Common.{ap, ◌∙◌}
 use Rattle.std.specs.Option.{option_map}
@@ -16,7 +16,7 @@ pub kept_leaf : {t u : Table} → Keeps t u → {node : ℕ} (letter : ℕ) → 
     leaf_of u node letter ≡ leaf_of t node letter
 kept_leaf keeps {node} letter held = ap (λ (tree : Tree). leaf_at tree (assignment letter)) (keeps.same node held)
 
--- a table that keeps the nodes of a second keeps those of each table that the second keeps
+-- if store u keeps the nodes of store t, and store v keeps those of u, then v keeps the nodes of t
 pub keeps_both : {t u v : Table} → Keeps t u → Keeps u v → Keeps t v
 keeps_both a b = grind arith
 
@@ -24,7 +24,7 @@ pub mapped_some : (f : ℕ → ℕ) (o : Option ℕ) {x : ℕ} → option_map f 
 mapped_some f None {x} e = absurd (none_is_some x e)
 mapped_some f (Some y) e = (y, refl)
 
--- if two guarded diagrams clash, both diagrams have a leaf at some letter
+-- if two diagrams whose leaves were replaced by 0 and by 1 both have a leaf at a letter, so do the original diagrams
 pub guarded_meet : {t u v : Table} {one other zero_node : ℕ} (one_node : ℕ) {x y : ℕ} (letter : ℕ) → Keeps t u →
     Keeps u v → IsNode t one → IsNode t other → IsNode u zero_node →
     ((n : ℕ) → leaf_of u zero_node n ≡ option_map (λ _. 0) (leaf_of t one n)) →

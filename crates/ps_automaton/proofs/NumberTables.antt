@@ -1,4 +1,5 @@
--- The number of an edge is the greatest of the numbers that the table has for its sets, or the number of the base.
+-- The priority of an edge is the greatest among the priority of the chain's base and the priorities that a table has
+-- for the edge's sets.
 use Rattle.std.proofs.Common.{◌≡◌, ℕ, ◌+◌, ◌-◌, ◌<◌, ◌≤◌, ◌⊎◌, inl, inr, max, suc, zero, Bool, true, false, cond, List}
 use Rattle.std.proofs.Common.{rules, [], ◌∷◌, length, map, drop, set, drop-cons, get_or, refl, arith}
 use Rattle.std.specs.Prelude.{nat_eq}
@@ -11,7 +12,7 @@ use Rattle.ps_automaton.specs.Inner.Views.{link_data}
 use Rattle.ps_automaton.specs.declared.chain.Link as code
 use Rattle.ps_automaton.proofs.ChainLaws.{level_below_first, raised_more}
 
--- the greatest number of those of the first k sets that an edge has, or the number of the base
+-- the greatest among a base priority and the table's priorities for those of the first k sets that an edge has
 abbrev pub most : ℕ → List ℕ → (ℕ → Bool) → ℕ → ℕ
 most base numbers has zero = base
 most base numbers has (suc k) =
@@ -52,15 +53,14 @@ alone_below_level base [] has s is = omega arith
 alone_below_level base (link ∷ links) has s is =
     grind (arith, alone_below_level base links has s is, level_grows base link links has)
 
--- the edge has a set that alone gives the edge's number
+-- the edge has a set below 64 that alone gives the edge's priority
 record Attained (base : Bool) (links : List ChainLink) (has : ℕ → Bool) : Type 0 where
   set : ℕ
   small : set < 64
   has_it : has set ≡ true
   is : level_by base links has ≡ alone base links set
 
--- if the edge has the first link's set, its number is the number of the first link; otherwise the other links give its
--- number
+-- an edge's priority is that of the chain's base, or is the priority that one of the edge's sets alone gives
 attained : (base : Bool) (links : List ChainLink) (has : ℕ → Bool) → AreSetsBelow 64 links →
     (level_by base links has ≡ base_number base) ⊎ Attained base links has
 attained base [] has small = inl refl

@@ -1,11 +1,11 @@
--- A file is either accepted, or rejected for exactly one fault.
+-- An HOA file that is admitted is not refused, and a file is refused for at most one fault.
 use Rattle.std.proofs.Common.{◌≡◌, ◌≢◌, ℕ, refl, arith}
 use Rattle.ps_hoa.specs.Files.{FileData}
 use Rattle.ps_automaton.specs.Answers.{IsAdmitted, IsFirstClash, IsRefused}
 use Rattle.ps_automaton.specs.declared.fault.AutomatonFault.{AutomatonFault}
 use Rattle.ps_automaton.specs.declared.fault.AutomatonFault.TheVariants.{Nondeterministic, OutOfMemory}
 
--- the first clash is unique
+-- a file has at most one first pair of clashing edges
 module _ {file : FileData} {q first second p one two : ℕ} (a : IsFirstClash file q first second)
     (b : IsFirstClash file p one two) where
   same_state : q ≡ p

@@ -1,5 +1,5 @@
--- When a deterministic automaton reads a word that repeats, any two parts of the run that return to their first state
--- have the same greatest priority.
+-- In a deterministic run over a lasso, any laps that lead from a state back to this state have the same greatest
+-- priority.
 use Rattle.std.proofs.Common.{◌≡◌, ℕ, ◌+◌, ◌-◌, ◌*◌, ◌/◌, ◌%◌, ◌<◌, ◌≤◌, inl, inr, max, suc, zero, List, [], rules, ◌∷◌}
 use Rattle.std.proofs.Common.{length, get_or, refl, ap, ◌∙◌, arith, add-one, add-zero, zero-add}
 use Rattle.std.proofs.Math.Nat.{eq-or-lt_of_le, le_antisymm, mod-lt, div-add-mod, add-mul-mod_self_right}
@@ -39,7 +39,7 @@ repeats_often : {f : ℕ → ℕ} {from : ℕ} (count : ℕ) → Repeats f from 
 repeats_often {f} count again zero t low = ap f (omega arith)
 repeats_often {f} count again (suc often) t low = grind (arith, repeats_often count again often t low)
 
--- each later value is at most the greatest of the first `count` values
+-- if values repeat with the period `count`, each later value is at most the greatest of `count` successive values
 later_below : {f : ℕ → ℕ} {from count : ℕ} → Repeats f from count → 0 < count → (t : ℕ) → from ≤ t →
     f t ≤ greatest_from f from count
 later_below {f} {from} {count} again some t low =
@@ -134,7 +134,7 @@ pub laps_together : (a : Auto) (q : ℕ) (lap : List ℕ) (m n : ℕ) →
 laps_together a q lap m zero = ap (state_after a q lap) (add-zero m)
 laps_together a q lap m (suc n) = rw add-suc (ap (λ s. state_behind a s lap) (laps_together a q lap m n))
 
--- the greatest priority along some laps that follow earlier laps
+-- the greatest priority of the run during `laps` laps that follow the stem and `before` laps
 pub greatest_is_read : (a : Auto) (stem lap : List ℕ) (before laps : ℕ) →
     greatest_from (priority_at a (lasso_word stem lap)) (length stem + before * length lap) (laps * length lap)
     ≡ greatest_of_laps a (state_after a (state_behind a a.start stem) lap before) lap laps

@@ -1,4 +1,4 @@
--- A table of indices to which a new target is added.
+-- A table with the index of each target, to which a new target is added.
 use Rattle.std.proofs.Common.{◌≡◌, ℕ, ◌⊎◌, inl, inr, true, cond, List, [], ◌∷◌, ◌++◌, length, Option, None, Some, arith}
 use Rattle.std.specs.List.{slice_get}
 use Rattle.std.specs.Ordering.{is_eq}
@@ -20,7 +20,7 @@ module _ {old new : List Target} {t : Target} {place : ℕ} (is : IsPlaced old n
   pub placed_keeps : (i : ℕ) (x : Target) → slice_get old i ≡ Some x → slice_get new i ≡ Some x
   placed_keeps i x e = elim is.list [ inl same ↦ rw same e | inr more ↦ rw more (at_left old (t ∷ []) i e) ]
 
-  -- each target is an old target or the new one
+  -- each target in the new list is in the old list, or is the added target
   pub placed_is : (i : ℕ) (x : Target) → slice_get new i ≡ Some x → (slice_get old i ≡ Some x) ⊎ (x ≡ t)
   placed_is i x e = grind (arith, at_last)
 

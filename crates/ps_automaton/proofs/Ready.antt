@@ -1,4 +1,4 @@
--- The diagrams for guards stay right when the store grows.
+-- The decision diagrams of aliases and labels stay correct when the diagram store grows.
 use Rattle.std.proofs.Common.{arith, ℕ, List, Option, Some, None}
 use Rattle.ps_label.specs.Expression.{Expression}
 use Rattle.ps_diagram.specs.Labels.{AreNodesOf}

@@ -1,4 +1,5 @@
--- The leaves of a row's union are replaced by the indices of steps.
+-- The leaves of the joined diagram of a state's edges, which are indices of targets, are replaced by the indices of the
+-- steps to these targets.
 use Rattle.std.proofs.Common.{◌≡◌, ℕ, suc, ◌^◌, ◌<◌, ◌⊎◌, inl, inr, Bool, List, [], ◌∷◌, length, get_or, Option, rules}
 use Rattle.std.proofs.Common.{Some, None, refl, sym, ap, subst, ◌∙◌, arith}
 use Rattle.std.specs.List.{slice_get}
@@ -23,7 +24,7 @@ use Rattle.ps_automaton.specs.declared.targets.Target.{Target}
 use Rattle.ps_automaton.proofs.TakenEdges.{edge_of, goes_of}
 use Rattle.ps_automaton.proofs.Unions.{at_leaf, union_clear}
 
--- the number of an edge depends only on its sets less than 64
+-- the priority of an edge depends only on the edge's sets less than 64
 level_by_same : (base : Bool) (links : List ChainLink) (f g : ℕ → Bool) → AreSetsBelow 64 links →
     ((set : ℕ) → set < 64 → f set ≡ g set) → level_by base links f ≡ level_by base links g
 level_by_same base [] f g few same = refl
@@ -32,7 +33,7 @@ level_by_same base (link ∷ links) f g few same = cc (
   level_by_same base links f g (λ k d l. few (suc k) d (omega arith)) same,
 )
 
--- each leaf of a row's union is the index of a target
+-- each leaf of the joined diagram of a row's edges is the index of a target
 pub leaf_within : {file : FileData} {row : RowData} {count : ℕ} {targets : List Target} {t : Table} {node : ℕ} →
     IsUnion file row count targets t node → (letter : ℕ) → letter < 2 ^ length file.names →
     IfSome (leaf_of t node letter) (λ k. k < length targets)
@@ -45,12 +46,13 @@ leaf_within {row} {targets} {t} {node} union letter small = by_leaf (leaf_of t n
         (IsTargetAt row (union.joined.from letter k small e).edge targets) (leaf_of t node letter) e (grind arith) in
         slice_get_within targets k there.0 there.1
 
--- the leaf of a whole row at a letter: the leaf of the edge that is taken, or none if no edge is taken
+-- the joined diagram of all edges of a row: its leaf at a letter is the index of the taken edge's target, and it has no
+-- leaf if no edge is taken
 module _ {file : FileData} (sound : IsSoundFile file) {row : RowData} (row_sound : IsSoundRow file row) {chain : Chain}
     (few : AreSetsBelow 64 chain.links) {targets : List Target} {place_at : ℕ → Option ℕ}
     (joined : AreJoined file row (length row.edges) targets place_at) {steps : List Step}
     (all_steps : AreSteps file.states steps) {places : List ℕ} (are_places : ArePlaces chain targets steps places) where
-  -- the index of the step for an optional leaf
+  -- the index of the step for a leaf of the joined diagram; without a leaf, the index 0 of the step to the sink
   abbrev pub made_of : Option ℕ → ℕ
   made_of o = unwrap_or (option_map (λ k. slice_index places k) o) 0
 
@@ -71,7 +73,7 @@ module _ {file : FileData} (sound : IsSoundFile file) {row : RowData} (row_sound
   pub made_within : (o : Option ℕ) → made_of o < length steps
   made_within o = search (rules, sink_within, place_within)
 
-  -- the step of an edge that is taken
+  -- the step of an edge that is taken has the edge's target, and the priority that the chain gives to the edge's sets
   edge_step : {letter : ℕ} (e : TakenEdge file row (length row.edges) letter) (o : Option ℕ) →
       IsSomeAnd o (IsTargetAt row e.edge targets) → (sets : ℕ → Bool) →
       ((set : ℕ) → sets set ≡ is_marked row e.edge set) →

@@ -1,4 +1,4 @@
--- The steps of a state, derived from the state's row.
+-- The steps of a state are derived from the row with the state's edges.
 use Rattle.std.proofs.Common.{arith, ◌≡◌, ℕ, Some, sym, ◌∙◌}
 use Rattle.ps_text.proofs.Simple.{same_some}
 use Rattle.ps_hoa.specs.Edges.{row_of}

@@ -1,4 +1,4 @@
--- The edges of a row are joined, one by one.
+-- The edges of a state are joined into one decision diagram, one edge after another.
 use Rattle.std.proofs.Common.{◌≡◌, ◌≢◌, ℕ, ◌+◌, ◌^◌, ◌<◌, ◌≤◌, ◌⊎◌, inl, inr, List, length, Option, Some, None, sym}
 use Rattle.std.proofs.Common.{rules, subst, ◌∙◌, arith}
 use Rattle.std.specs.List.{slice_get}
@@ -19,7 +19,7 @@ use Rattle.ps_automaton.proofs.Fitting.{alike_of_target, target_of_alike}
 use Rattle.ps_automaton.proofs.TakenEdges.{clash_of}
 use Rattle.ps_automaton.proofs.Meeting.{kept_leaf, shown_is_taken, taken_is_shown}
 
--- a guarded diagram has the given leaf at the letters at which its edge is taken
+-- the diagram of an edge has the given leaf exactly at the letters at which the edge is taken
 pub marked_shows : (file : FileData) (row : RowData) (edge : EdgeData) (t u : Table) (node marked value : ℕ) →
     ShowsEdge file row edge t node 1 → ((letter : ℕ) → leaf_of u marked letter ≡ option_map (λ _. value)
     (leaf_of t node letter)) → ShowsEdge file row edge u marked value
@@ -40,7 +40,7 @@ pub wider : {file : FileData} {row : RowData} {count letter : ℕ} → TakenEdge
 wider e = search rules
 
 module _ {file : FileData} (sound : IsSoundFile file) {row : RowData} (row_sound : IsSoundRow file row) where
-  -- edges that were joined do not clash
+  -- edges that were joined into one diagram do not clash
   pub union_clear : {count : ℕ} {targets : List Target} {place_at : ℕ → Option ℕ} →
       AreJoined file row count targets place_at → {a b : ℕ} → b < count → AreClashing file row a b → ⊥
   union_clear {count} {targets} {place_at} u {a} {b} within k =
@@ -93,7 +93,8 @@ module _ {file : FileData} (sound : IsSoundFile file) {row : RowData} (row_sound
             grind arith
         by_place letter small e (inr high) = search (rules, same_some, taken_is_shown, joined_second)
 
-    -- a clash of the diagrams is a clash of two edges
+    -- if the diagram of the joined edges and the diagram of a further edge have different leaves at a letter, two edges
+    -- clash
     pub union_clash : AreDistinct new → (letter : ℕ) {x y : ℕ} → letter < 2 ^ length file.names →
         leaf_of t node letter ≡ Some x → leaf_of t marked letter ≡ Some y → x ≢ y →
         (first : ℕ) × AreClashing file row first count
@@ -109,7 +110,7 @@ module _ {file : FileData} (sound : IsSoundFile file) {row : RowData} (row_sound
               (λ alike. grind (arith, target_of_alike there.2 is alike)),
         )
 
-  -- the first clash of the row
+  -- the clash that is found first in a row satisfies `IsFirstOfRow`
   pub first_of_row : {count : ℕ} {targets : List Target} {t : Table} {node : ℕ} →
       IsUnion file row count targets t node → {first : ℕ} → AreClashing file row first count →
       ((a : ℕ) → AreClashing file row a count → first ≤ a) → IsFirstOfRow file row first count

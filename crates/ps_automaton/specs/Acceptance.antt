@@ -1,25 +1,25 @@
--- When an automaton, as its text states it, accepts a word that repeats.
+-- When the automaton that an HOA text states accepts a lasso, which is a stem followed by a lap that repeats for ever.
 --     IsRun file w count states sets      a run over the first `count` letters of the word w
---     IsAccepted file stem lap      some run returns to a state, and the condition is true for what it meets on the way
+--     IsAccepted file stem lap      some run returns to a state and satisfies the condition in between
 use Rattle.std.specs.Prelude.{◌≡◌, ℕ, zero, suc, ◌+◌, ◌*◌, ◌<◌, Bool, IsTrue, List, [], ◌∷◌, length}
 use Rattle.ps_hoa.specs.Files.{FileData}
 use Rattle.ps_hoa.specs.Edges.{Goes}
 use Rattle.ps_automaton.specs.Chains.{holds, is_met}
 use Rattle.ps_automaton.specs.Words.{lasso_word}
 
--- the state before each letter, and the sets of the edge that is taken at this letter
+-- `states` has the state before each letter, and `sets` has the acceptance sets of the edge that is taken at the letter
 pub record IsRun (file : FileData) (w : ℕ → ℕ) (count : ℕ) (states : ℕ → ℕ) (sets : ℕ → ℕ → Bool) : Type 0 where
   pub begins : states 0 ≡ file.start
   pub goes : (t : ℕ) → t < count → Goes file (states t) (w t) (sets t) (states (t + 1))
 
--- `count` values of a function, from the index `from` on
+-- the list of the values of a function at `count` successive indices, beginning at `from`
 abbrev pub part : (ℕ → ℕ → Bool) → ℕ → ℕ → List (ℕ → Bool)
 part sets from zero = []
 part sets from (suc count) = sets from ∷ part sets (from + 1) count
 
--- The word consists of `stem`, and then of `lap` for ever; `lap` is not empty. Some run reads the stem and some laps to
--- a state, and then at least one more lap back to this state. The condition is true for the sets that this last part
--- meets.
+-- The word consists of `stem`, followed by infinitely many repetitions of `lap`, which is not empty. Some run reaches a
+-- state after the stem and zero or more laps, and returns to this state after one or more further laps. The acceptance
+-- condition is true for the sets that the run meets between these two visits.
 pub record IsAccepted (file : FileData) (stem lap : List ℕ) : Type 0 where
   pub has_letter : 0 < length lap
   pub before : ℕ

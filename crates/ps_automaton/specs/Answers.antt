@@ -1,5 +1,6 @@
--- The correct results of `build`: the automaton of a file, or the first of three faults for which the file has none.
---     AreAlike row one other      two edges of a row have the same target, and the same sets with those of the row
+-- The correct results of `Automaton::build`: the automaton of an HOA file, or the first of three faults for which a
+-- file has no automaton.
+--     AreAlike row one other      two edges of a row have the same target and the same acceptance sets
 --     Clash file q first second      two edges of the state q, given by their indices, share a letter and differ
 --     IsDeterministic file      no edges clash
 --     IsAdmitted file      the file has none of the three faults
@@ -12,11 +13,12 @@ use Rattle.ps_automaton.specs.declared.fault.AutomatonFault.{AutomatonFault}
 use Rattle.ps_automaton.specs.declared.fault.AutomatonFault.TheVariants.{ComplementedSet, NonParity, Nondeterministic}
 use Rattle.ps_automaton.specs.declared.fault.AutomatonFault.TheVariants.{OutOfMemory}
 
--- the targets of two edges are equal, and so are their acceptance sets, whatever their order in the text
+-- the two edges have equal targets and equal acceptance sets; the order in which the text names the sets does not
+-- matter
 abbrev pub AreAlike : RowData → EdgeData → EdgeData → Type 0
 AreAlike row one other = (one.target ≡ other.target) × ((set : ℕ) → is_marked row one set ≡ is_marked row other set)
 
--- an earlier and a later edge of a row are both taken at some letter, and differ
+-- an earlier and a later edge of a state are taken at a common letter, but differ in their targets or acceptance sets
 pub record AreClashing (file : FileData) (row : RowData) (first second : ℕ) : Type 0 where
   pub earlier : first < second
   pub one : EdgeData
@@ -34,11 +36,12 @@ pub record Clash (file : FileData) (q first second : ℕ) : Type 0 where
   pub of_state : row_of file q ≡ Some row
   pub clashing : AreClashing file row first second
 
--- every state counts, whether it can be reached or not
+-- no two edges of a state clash, even if the state cannot be reached
 abbrev pub IsDeterministic : FileData → Type 0
 IsDeterministic file = (q first second : ℕ) → Clash file q first second → ⊥
 
--- the clash with the smallest state, then with the smallest later edge, and then with the smallest earlier edge
+-- of all clashes in a file, the one with the smallest state; among these, the one with the smallest later edge, and
+-- then with the smallest earlier edge
 pub record IsFirstClash (file : FileData) (q first second : ℕ) : Type 0 where
   pub clash : Clash file q first second
   pub least_state : (p a b : ℕ) → Clash file p a b → q ≤ p

@@ -1,8 +1,8 @@
--- The definitions by which contracts describe an automaton that was built. The automaton's steps are in decision
--- diagrams, one for each state and one for the sink.
+-- The definitions by which contracts describe an `Automaton`, the result of `Automaton::build`. The automaton's steps
+-- are in decision diagrams, one for each state and one for the sink.
 --     step_of a q letter      the step from the state q (or from the sink) by the letter
 --     auto_of a      the automaton as functions
---     IsBuiltFrom file chain a      this is the automaton of the file, whose condition is the chain
+--     IsBuiltFrom file chain a      a is the automaton of the file, whose acceptance condition is the chain
 use Rattle.std.specs.Prelude.{◌≡◌, ℕ, ◌+◌, ◌<◌, ◌≤◌, List, length, Some, IsSomeAnd, slice_index, slice_index_or}
 use Rattle.std.specs.Option.{unwrap_or}
 use Rattle.ps_diagram.specs.Table.{Table, IsNode, leaf_of}
@@ -12,7 +12,7 @@ use Rattle.ps_automaton.specs.Chains.{Chain, chain_of}
 use Rattle.ps_automaton.specs.Autos.{Auto, IsAutoOf}
 use Rattle.ps_automaton.specs.declared.step.Step.{Step}
 
--- an automaton that was built; its sink is the state whose number equals the count of states
+-- the abstract value of an `Automaton`; its sink is the state whose number equals the count of states
 pub record AutomatonData : Type 0 where
   pub names : List (List ℕ)
   pub controllable : List ℕ
@@ -25,7 +25,7 @@ pub record AutomatonData : Type 0 where
 abbrev pub node_of : AutomatonData → ℕ → ℕ
 node_of a q = slice_index a.nodes q
 
--- the step that a leaf names
+-- the step whose index is the given leaf of a diagram
 abbrev pub pair_of : AutomatonData → ℕ → Step
 pair_of a leaf = slice_index_or a.steps leaf (record { state = a.states; priority = 1 })
 
@@ -40,8 +40,8 @@ auto_of a =
       priority = λ q letter. (step_of a q letter).priority;
     }
 
--- There are at most 64 names, and they differ. Each letter leads to a leaf that names a step, and different leaves name
--- different steps.
+-- An automaton has at most 64 propositions, whose names differ. In each state's diagram, each letter leads to a leaf,
+-- which is the index of a step; different leaves stand for different steps.
 pub record IsWhole (a : AutomatonData) : Type 0 where
   pub few_names : length a.names ≤ 64
   pub are_names : AreNames a.names

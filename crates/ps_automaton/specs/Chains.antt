@@ -1,14 +1,15 @@
--- Conditions that are chains, and the numbers that a chain gives to edges. A chain is a list of links and a base. A
--- link is a set of edges together with a flag. For a part of a run, the first link whose set is met decides, and its
--- flag states whether the part is accepted. If the set of no link is met, the base decides.
+-- Acceptance conditions that are chains, and the priorities that a chain gives to edges. A chain is a list of links and
+-- a Boolean value, its base. A link is an acceptance set together with a flag. A part of a run is accepted if the flag
+-- is true in the first link whose set the part meets. If the part meets no link's set, the base states whether the part
+-- is accepted.
 --     chain_of condition      the chain of the condition, if the condition is a chain
---     level chain has      the number of an edge, given by the first link whose set the edge has, or by the base
+--     level chain has      the priority of an edge, given by the first link whose set the edge has, or by the base
 use Rattle.std.specs.Prelude.{ℕ, ◌+◌, ◌%◌, max, Bool, true, false, not, List, [], ◌∷◌, ◌++◌, Option, None, Some}
 use Rattle.std.specs.Prelude.{if◌then◌else◌, nat_eq}
 use Rattle.ps_hoa.specs.Conditions.{SetData, Condition, Conditions, constant, infinitely, finitely, all_hold, any_holds}
 use Rattle.ps_hoa.specs.Conditions.{last, more}
 
--- the set `colour`, and whether a part of a run is accepted if it meets this set and no set of an earlier link
+-- an acceptance set, and whether a part of a run is accepted if it meets this set but no set of an earlier link
 pub record ChainLink : Type 0 where
   pub colour : ℕ
   pub accepts : Bool
@@ -25,7 +26,7 @@ base_alone base = Some (record { links = []; base = base })
 abbrev pub link_to : Bool → SetData → Option ChainLink
 link_to accepts set = if set.complemented then None else Some (record { colour = set.number; accepts = accepts })
 
--- the link of an operand: of an `Inf` in a disjunction, or of a `Fin` in a conjunction
+-- the link of an operand, which must be an `Inf` in a disjunction or a `Fin` in a conjunction
 abbrev pub link_of : Bool → Condition → Option ChainLink
 link_of true (infinitely set) = link_to true set
 link_of false (finitely set) = link_to false set
@@ -39,7 +40,7 @@ links_of accepts (more c cs) = elim (link_of accepts c) [
   | Some link ↦ elim (links_of accepts cs) [ None ↦ None | Some links ↦ Some (link ∷ links) ]
 ]
 
--- the given links followed by a chain, if both exist
+-- the chain that begins with the given links and goes on with the given chain, if both exist
 abbrev pub in_front : Option (List ChainLink) → Option Chain → Option Chain
 in_front None chain = None
 in_front (Some links) None = None
@@ -50,9 +51,10 @@ one_link None = None
 one_link (Some link) = Some (link ∷ [])
 
 -- The conditions `t` and `f` are chains that consist of a base alone. `Inf` of a set is one link with the base f, and
--- `Fin` of a set is one link with the base t. In a disjunction, all operands except at most one are `Inf`. The chain of
--- the disjunction has their links in order, and then the chain of the remaining operand, or the base f if no operand
--- remains. The chain of a conjunction is built in the same way, with `Fin` and t.
+-- `Fin` of a set is one link with the base t. A disjunction can be a chain only if at most one of its operands is not
+-- an `Inf`. The chain of a disjunction has the links of the `Inf` operands in order, and then the chain of the
+-- remaining operand, or the base f if no operand remains. The chain of a conjunction is built in the same way, with
+-- `Fin` in place of `Inf` and the base t in place of f.
 abbrev mutual
   pub chain_of : Condition → Option Chain
   chain_of (constant base) = base_alone base
@@ -85,8 +87,7 @@ abbrev mutual
 
 -- ## The truth of a condition
 
--- the truth value of a condition if exactly the given sets are met infinitely often; complemented sets have no meaning
--- here
+-- the truth value of a condition if exactly the given sets are met infinitely often, as if no set were complemented
 abbrev mutual
   pub holds : (ℕ → Bool) → Condition → Bool
   holds met (constant b) = b
@@ -113,22 +114,23 @@ chain_holds base (link ∷ links) met = if met link.colour then link.accepts els
 abbrev pub is_even : ℕ → Bool
 is_even n = nat_eq (n % 2) 0
 
--- the number of the base, which is even exactly if the base is true
+-- the priority that a chain's base gives, which is even exactly if the base is true
 abbrev pub base_number : Bool → ℕ
 base_number base = if base then 0 else 1
 
--- the number of a link: the number of the next link (or of the base) if both accept or neither does, and otherwise one
--- more
+-- the priority that a link gives: the smallest number, not below the priority of the next link or the base, that is
+-- even exactly if the link accepts
 abbrev pub raised : Bool → ℕ → ℕ
 raised true next = if is_even next then next else next + 1
 raised false next = if is_even next then next + 1 else next
 
--- the number of the first link, or of the base if there is no link; numbers are computed from the end of the chain
+-- the priority that a chain's first link gives, or its base if there is no link; priorities are computed from the end
+-- of the chain
 abbrev pub first_number : Bool → List ChainLink → ℕ
 first_number base [] = base_number base
 first_number base (link ∷ links) = raised link.accepts (first_number base links)
 
--- the number of the first link whose set an edge has, or of the base
+-- the priority of an edge: that of the first link whose set the edge has, or that of the base
 abbrev pub level_by : Bool → List ChainLink → (ℕ → Bool) → ℕ
 level_by base [] has = base_number base
 level_by base (link ∷ links) has = if has link.colour then first_number base (link ∷ links) else level_by base links has
@@ -138,7 +140,7 @@ level chain has = level_by chain.base chain.links has
 
 -- ## Parts of a run
 
--- whether a set is met along edges, each of which is given by the sets that it has
+-- whether one of the edges is in the set; each edge is given by its acceptance sets
 abbrev pub is_met : List (ℕ → Bool) → ℕ → Bool
 is_met [] set = false
 is_met (has ∷ edges) set = if has set then true else is_met edges set

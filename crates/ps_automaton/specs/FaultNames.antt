@@ -1,4 +1,4 @@
--- The numbers and the names of an automaton's faults.
+-- The numbers and the names of the faults for which an HOA file has no automaton.
 use Rattle.std.specs.Prelude.{ℕ, List, codes}
 use Rattle.ps_text.specs.Faults.{memory_number, memory_name}
 use Rattle.ps_automaton.specs.declared.fault.AutomatonFault.{AutomatonFault}

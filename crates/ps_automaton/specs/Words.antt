@@ -1,4 +1,5 @@
--- Words that repeat: a stem, and then a lap for ever. A word is a function from indices, which begin at 0, to letters.
+-- Lasso words, which consist of a stem and a lap that repeats for ever. An infinite word is a function from indices,
+-- which begin at 0, to letters.
 use Rattle.std.specs.Prelude.{◌≡◌, ℕ, ◌+◌, ◌-◌, ◌%◌, ◌≤◌, List, length, nat_lt, if◌then◌else◌, slice_index}
 
 abbrev pub lasso_word : List ℕ → List ℕ → ℕ → ℕ

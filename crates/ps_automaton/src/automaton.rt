@@ -26,9 +26,9 @@ use ps_hoa::HoaFile;
 use std::alloc::{AllocError, Global};
 use std::marker::Model;
 
-/// A total, deterministic automaton with a priority on each edge. At a letter at which no edge of the text is taken,
-/// the step leads to the sink, whose number is the count of states. Each leaf of the diagrams names a pair of a state
-/// and a priority; no two leaves name the same pair.
+/// A total, deterministic automaton with a priority on each edge. If the HOA text has no edge for a state at a letter,
+/// the step leads to the sink, whose number is the count of states. Each leaf of the decision diagrams is the index of
+/// a pair of a state and a priority; different leaves stand for different pairs.
 #[derive(Drop)]
 pub struct Automaton {
     alloc: Global,
@@ -70,12 +70,13 @@ impl Model for Automaton {
 }
 
 impl Automaton {
-    /// The automaton of a file. A letter is a number whose bit p is the truth value of proposition p.
+    /// The deterministic automaton of an HOA file. A letter is a number whose bit p is the truth value of proposition
+    /// p.
     ///
     /// # Errors
     ///
-    /// Fails if the acceptance condition contains a complemented set; else if it is not a chain; else with the first
-    /// two edges of a state that are taken at a common letter and differ; or if memory runs out.
+    /// Fails if the acceptance condition contains a complemented set, or else is not a chain, or else if two different
+    /// edges of a state share a letter. Also fails if memory runs out.
     pub fn build(alloc: Global, file: &HoaFile) -> Result<Automaton, AutomatonFault>
         ensures built { IfOk result (λ automaton. (chain : Chain) × IsBuiltFrom file.now chain automaton) }
         ensures admitted { OnOk result (IsAdmitted file.now) }
@@ -85,7 +86,7 @@ impl Automaton {
         Ok(Automaton::from_draft(alloc, file, draft)?)
     }
 
-    /// The automaton of a file, made from the diagrams of its steps.
+    /// The automaton of an HOA file, made from the decision diagrams of the automaton's steps.
     fn from_draft(alloc: Global, file: &HoaFile, draft: Draft) -> Result<Automaton, AllocError>
         requires { (chain : Chain) × (chain_of file.now.condition ≡ Some chain) ×
             IsDraft file.now chain draft.pairs.steps.keys draft.pairs.store draft.nodes.items }
@@ -141,7 +142,7 @@ impl Automaton {
         self.start
     }
 
-    /// The store of the diagrams.
+    /// The store that holds the decision diagrams.
     pub fn store(&self) -> &Store
         ensures store { result.now ≡ self.now.store }
         ensures propositions { result.now.propositions ≡ length self.now.names }
@@ -150,7 +151,8 @@ impl Automaton {
         &self.store
     }
 
-    /// The diagram of a state, or of the sink. The diagram's leaf at a letter names the step (`pair`).
+    /// The decision diagram of the steps of a state, or of the sink. The diagram's leaf at a letter is the index of a
+    /// step, which the method `pair` returns.
     pub fn node(&self, state: u32) -> Node
         requires { state ≤ self.now.states }
         ensures node { result ≡ node_of self.now state }
@@ -159,7 +161,7 @@ impl Automaton {
         self.nodes[state as usize]
     }
 
-    /// The step that a leaf names.
+    /// The step whose index is a leaf of the decision diagrams.
     pub fn pair(&self, leaf: u64) -> Step
         requires { leaf < length self.now.steps }
         ensures pair { result ≡ pair_of self.now leaf }
@@ -213,8 +215,8 @@ impl Automaton {
         }
     }
 
-    /// A state that some laps reach from the given state, and the number of further laps that lead from it back to
-    /// itself.
+    /// A state that is reached from the given state by reading laps, and a number of further laps that lead from the
+    /// reached state back to itself.
     fn returning(&self, first: u32, lap: &[u64]) -> Result<Orbit, AllocError>
         requires { first ≤ self.now.states }
         ensures returns { IfOk result (λ orbit. Returns (auto_of self.now) first lap.now orbit.state orbit.laps) }
@@ -250,7 +252,7 @@ impl Automaton {
     }
 }
 
-/// The diagrams of a file whose acceptance condition is a chain without complemented sets.
+/// The decision diagrams of the steps of a file's automaton, or the first fault for which the file has no automaton.
 fn draft_of(alloc: Global, file: &HoaFile) -> Result<Draft, AutomatonFault>
     ensures draft { IfOk result (λ draft. (chain : Chain) × (chain_of file.now.condition ≡ Some chain) ×
         IsDraft file.now chain draft.pairs.steps.keys draft.pairs.store draft.nodes.items) }
@@ -267,7 +269,7 @@ fn draft_of(alloc: Global, file: &HoaFile) -> Result<Draft, AutomatonFault>
     drafted(alloc, file, &Levels { chain, numbers })
 }
 
-/// A copy of the names.
+/// A copy of the propositions' names.
 fn copied(alloc: Global, names: &[Vec<u8>]) -> Result<Vec<Vec<u8>>, AllocError>
     ensures { IfOk result (λ copy. map bytes_of copy.items ≡ map bytes_of names.now) }
 {
@@ -278,7 +280,7 @@ fn copied(alloc: Global, names: &[Vec<u8>]) -> Result<Vec<Vec<u8>>, AllocError>
     Ok(copy)
 }
 
-/// A state, and the number of laps that lead back to it.
+/// A state, and a number of laps that lead from this state back to it.
 #[derive(Clone, Copy)]
 struct Orbit {
     state: u32,

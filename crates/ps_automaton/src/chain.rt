@@ -1,4 +1,4 @@
-//! The chain of an acceptance condition, and the numbers that the chain gives to edges.
+//! The chain of an acceptance condition, and the priorities that the chain gives to edges.
 
 ghost use Rattle.std.specs.Prelude.{◌≡◌, IfOk, Some, map, not, option_map};
 ghost use Rattle.ps_hoa.specs.Values.{condition_of};
@@ -10,7 +10,7 @@ ghost use Rattle.ps_automaton.specs.Inner.Views.{chain_data, link_data};
 use ps_hoa::Cond;
 use std::alloc::{AllocError, Global};
 
-/// A set of edges, and whether a part of a run in which the set is met is accepted.
+/// A link of a chain: an acceptance set, and whether a part of a run is accepted if it meets this set.
 #[derive(Clone, Copy)]
 pub(crate) struct Link {
     /// The number of the set.
@@ -19,8 +19,8 @@ pub(crate) struct Link {
     pub accepts: bool,
 }
 
-/// The first link whose set is met decides whether a part of a run is accepted. If the set of no link is met, the base
-/// decides.
+/// The first link whose set is met decides whether a part of a run is accepted. If the part meets no link's set, the
+/// base states whether the part is accepted.
 #[derive(Drop)]
 pub(crate) struct Chain {
     /// The links, in order.
@@ -66,7 +66,8 @@ pub(crate) fn chain_of(alloc: Global, condition: &Cond) -> Result<Option<Chain>,
     Ok(base.map(|base| Chain { links, base }))
 }
 
-/// Appends the links of a condition to `links` and returns its base, if the condition is a chain.
+/// Appends the links of a condition's chain to `links` and returns the chain's base, or returns `None` if the condition
+/// is not a chain.
 fn base_behind(condition: &Cond, links: &mut Vec<Link>) -> Result<Option<bool>, AllocError>
     ensures { IfOk result (λ base. with_base links.new.items base ≡ in_front (Some (map link_data links.old.items))
         (chains.chain_of (condition_of condition.now))) }
@@ -94,7 +95,7 @@ fn base_behind(condition: &Cond, links: &mut Vec<Link>) -> Result<Option<bool>, 
 enum Gathered {
     /// All operands.
     All,
-    /// All operands but the one at the given index.
+    /// All operands but the one at the given index are links.
     AllBut(usize),
     /// At least two operands are not links.
     TooFew,
@@ -129,7 +130,8 @@ fn link_of(operand: &Cond, accepts: bool) -> Option<Link>
     }
 }
 
-/// Appends the link of a single set to `links`, and returns the base of the chain.
+/// Appends the link of a single `Inf` or `Fin` to `links` and returns the chain's base, or returns `None` if the set is
+/// complemented.
 fn one_link(
     set: u32,
     complemented: bool,

@@ -1,4 +1,4 @@
-//! The steps of all states, as diagrams.
+//! The steps of all states of an automaton, stored as decision diagrams.
 
 ghost use Rattle.std.specs.Prelude.{◌≡◌, ℕ, ◌+◌, ◌^◌, ◌<◌, ◌≤◌, List, IfErr, IfOk, IfSome, IsTrue, OnOk, Some, length};
 ghost use Rattle.std.specs.Prelude.{option_map, slice_get, slice_index, unwrap_or};
@@ -31,13 +31,13 @@ use std::alloc::{AllocError, Global};
 /// The diagrams of the states, followed by the diagram of the sink.
 #[derive(Drop)]
 pub(crate) struct Draft {
-    /// The store and the steps.
+    /// The store of the diagrams, and the list of steps whose indices are the leaves.
     pub pairs: Pairs,
     /// A diagram for each state, and then one for the sink.
     pub nodes: Vec<Node>,
 }
 
-/// The diagrams of all states and of the sink.
+/// Builds the diagrams of the steps of all states and of the sink.
 pub(crate) fn drafted(
     alloc: Global,
     file: &HoaFile,
@@ -53,7 +53,7 @@ pub(crate) fn drafted(
     Ok(Draft { pairs, nodes })
 }
 
-/// A draft without diagrams, in which the first step is the one to the sink.
+/// A diagram store without diagrams, and a list of steps that has only the step to the sink.
 fn opened(alloc: Global, file: &HoaFile) -> Result<Pairs, AllocError>
     ensures letters { IfOk result (λ pairs. pairs.store.propositions ≡ length file.now.names) }
     ensures steps { IfOk result (λ pairs. AreSteps file.now.states pairs.steps.keys) }
@@ -135,7 +135,7 @@ fn state_node(pairs: &mut Pairs, source: &Source, state: u32) -> Result<Node, Au
     row_node(pairs, source.levels, &guards)
 }
 
-/// The diagram of a row's label, if it has one.
+/// The diagram of a row's label, if the row has a label.
 fn label_node(store: &mut Store, source: &Source, row: &Row) -> Result<Option<Node>, AllocError>
     requires row { IsSoundRow source.now.file.now (row_data row.now) }
     requires letters { store.old.propositions ≡ length source.now.file.now.names }
@@ -150,7 +150,7 @@ fn label_node(store: &mut Store, source: &Source, row: &Row) -> Result<Option<No
     Ok(Some(node))
 }
 
-/// The diagram of the steps of a row's state.
+/// The diagram of the steps of the state to which a row belongs.
 fn row_node(pairs: &mut Pairs, levels: &Levels, guards: &Guards) -> Result<Node, AutomatonFault>
     requires levels { AreLevels levels.now }
     requires ready { IsReady pairs.old.store guards.now }
@@ -225,8 +225,8 @@ fn node_by_labels(
     Ok(node_of_union(pairs, levels, &union)?)
 }
 
-/// The diagram of the steps to the targets of joined edges. At a letter at which no edge is taken, the step leads to
-/// the sink.
+/// The diagram of a state's steps, made from the joined diagram of the state's edges, whose leaves are indices of
+/// targets. At a letter at which no edge is taken, the step leads to the sink.
 fn node_of_union(pairs: &mut Pairs, levels: &Levels, union: &Union) -> Result<Node, AllocError>
     requires levels { AreLevels levels.now }
     requires held { IsNode pairs.old.store union.now.node }

@@ -1,4 +1,4 @@
-//! Why a file has no automaton.
+//! Why no automaton is built from an HOA file.
 
 ghost use Rattle.std.specs.Prelude.{◌≡◌};
 ghost use Rattle.ps_automaton.specs.declared.fault.AutomatonFault.TheVariants.{OutOfMemory};

@@ -12,6 +12,6 @@ pub(crate) struct Guards<'a> {
     pub row: &'a Row,
     /// A diagram for each alias.
     pub aliases: &'a [Node],
-    /// The diagram of the row's label, if it has one.
+    /// The diagram of the row's label, if the row has a label.
     pub label: Option<Node>,
 }

@@ -10,20 +10,21 @@ ghost use Rattle.ps_automaton.specs.Chains.{Chain, chain_of, greatest_level, hol
 ghost use Rattle.ps_automaton.specs.declared.fault.AutomatonFault.{AutomatonFault};
 ghost use Rattle.ps_automaton.specs.declared.fault.AutomatonFault.TheVariants.{OutOfMemory};
 
-/// A chain gives each edge a number. In a part of a run with at least one edge, the greatest of these numbers is even
-/// exactly if the acceptance condition is true for the sets that the part meets.
+/// A chain gives each edge a priority. In a part of a run with at least one edge, the greatest priority that the chain
+/// gives is even exactly if the acceptance condition is true for the sets that the part meets.
 pub fn greatest_level_decides()
     ensures { (condition : Condition) (chain : Chain) (edges : List (ℕ → Bool)) → chain_of condition ≡ Some chain →
         0 < length edges → is_even (greatest_level chain edges) ≡ holds (is_met edges) condition }
 {}
 
-/// A file that was read and is admitted has an automaton, with a step for each state and letter.
+/// A parsed file that satisfies `IsAdmitted` has a deterministic automaton, with a step for each state and letter.
 pub fn automaton_is_there()
     ensures { (file : FileData) → IsSoundFile file → IsAdmitted file →
         (chain : Chain) × (auto : Auto) × (chain_of file.condition ≡ Some chain) × IsAutoOf file chain auto }
 {}
 
-/// A file is either admitted, or refused for exactly one cause. Memory may run out for any file.
+/// An HOA file is either admitted, or refused for exactly one fault other than running out of memory. Whatever the
+/// file, a call may also fail because memory runs out.
 pub fn refusal_is_one()
     ensures some { (file : FileData) → IsAdmitted file ⊎ ((fault : AutomatonFault) × (fault ≢ OutOfMemory) ×
         IsRefused file fault) }

@@ -1,12 +1,12 @@
 //! Parity automata: when a lasso is accepted, and total, deterministic automata with a priority on each edge.
 //!
-//! A word is a stem followed by a lap that repeats for ever. An automaton accepts the word if some run reads the stem
-//! and some laps to a state, and then at least one more lap back to this state, and the acceptance condition is true
-//! for the sets met in that last part. The definition `IsAccepted` states when a word is accepted in terms of the file
-//! alone (HOA v1, acceptance). A condition that is a chain gives each edge a number. In a part of a run, the greatest
-//! number is even exactly if the condition is true for the sets that are met (`greatest_level_decides`). The steps of
-//! an `Automaton` are stored in decision diagrams; at a letter at which no edge of the text is taken, the step leads to
-//! a sink.
+//! A word is a stem followed by a lap that repeats for ever. An automaton accepts the word if some run reaches a state
+//! after the stem and zero or more laps, and returns to this state after one or more further laps. The acceptance
+//! condition must be true for the sets that the run meets between these two visits. The definition `IsAccepted` states
+//! acceptance in terms of the HOA file alone, without the deterministic automaton (HOA v1, acceptance). An acceptance
+//! condition that is a chain gives each edge a priority. The greatest priority in a part of a run is even exactly if
+//! the condition is true for the sets that the part meets (`greatest_level_decides`). The steps of an `Automaton` are
+//! stored in decision diagrams; at a letter at which no edge of the text is taken, the step leads to a sink.
 //!
 //! | Call | What it gives |
 //! |---|---|
@@ -24,7 +24,8 @@
 //! | `greatest_level_decides` | in a part of a run, the greatest number is even exactly if the part is accepted |
 //!
 //! `build` joins the edges of a state one after another, as diagrams. So `build` does not visit every letter if a label
-//! uses only a few of many propositions. `accepts` reads the lap at most twice for each state and for the sink.
+//! uses only a few of many propositions. For an automaton with n states, `accepts` reads the lap at most 2 * (n + 1)
+//! times.
 #![tactic(auto)]
 
 mod automaton;

@@ -1,4 +1,4 @@
-//! The numbers that a chain gives to edges.
+//! The priorities that a chain gives to edges.
 
 ghost use Rattle.std.specs.Prelude.{◌≡◌, ◌^◌, ◌<◌};
 ghost use Rattle.ps_label.specs.Truth as labels;
@@ -9,17 +9,17 @@ ghost use Rattle.ps_automaton.specs.Inner.Views.{chain_data};
 
 use crate::chain::Chain;
 
-/// The largest number of sets.
+/// The largest number of acceptance sets.
 const SETS: usize = 64;
 
-/// The number of an edge without sets, and for each set the number of an edge that has only this set.
+/// The priority of an edge without acceptance sets, and for each set the priority of an edge that has only this set.
 #[derive(Clone, Copy)]
 pub(crate) struct Numbers {
     base: u64,
     by_set: [u64; SETS],
 }
 
-/// The numbers of a chain, computed from its end.
+/// The priorities that a chain gives to edges, computed from the chain's last link to its first.
 pub(crate) fn table_of(chain: &Chain) -> Numbers
     requires { AreSetsBelow 64 (chain_data chain.now).links }
     ensures { IsTable (chain_data chain.now) result.base result.by_set }
@@ -37,14 +37,14 @@ pub(crate) fn table_of(chain: &Chain) -> Numbers
     Numbers { base, by_set }
 }
 
-/// The number of a base.
+/// The priority that a chain's base gives.
 fn base_number(base: bool) -> u64
     ensures { result ≡ chains.base_number base }
 {
     if base { 0 } else { 1 }
 }
 
-/// Whether a set is in a mask.
+/// Whether an acceptance set is in a bit mask.
 fn is_in(set: usize, sets: u64) -> bool
     requires { set < 64 }
     ensures { result ≡ labels.is_in set sets }
@@ -52,7 +52,7 @@ fn is_in(set: usize, sets: u64) -> bool
     sets >> set & 1 == 1
 }
 
-/// The number of a link, given the number of the next link.
+/// The priority that a link gives, computed from the priority of the next link.
 fn raised_number(accepts: bool, next: u64) -> u64
     requires { next < 2 ^ 63 }
     ensures { result ≡ raised accepts next }
@@ -65,7 +65,7 @@ fn raised_number(accepts: bool, next: u64) -> u64
 }
 
 impl Numbers {
-    /// The number of an edge that has the sets in the mask.
+    /// The priority of an edge that has the acceptance sets in the mask.
     pub(crate) fn level(&self, sets: u64) -> u64
         ensures { (chain : chains.Chain) → AreSetsBelow 64 chain.links → IsTable chain self.now.base self.now.by_set →
             result ≡ level chain (λ set. labels.is_in set sets) }

@@ -1,4 +1,4 @@
-//! The diagrams of states while they are made, and the steps that their leaves name.
+//! The decision diagrams of states while they are built, and the steps whose indices are the leaves.
 
 use crate::levels::Levels;
 use crate::step::Step;
@@ -18,12 +18,12 @@ pub(crate) struct Pairs {
     pub steps: IndexSet<Step>,
 }
 
-/// What the steps of a state are made of.
+/// The HOA file and its chain and aliases, from which the steps of states are built.
 #[derive(Clone, Copy)]
 pub(crate) struct Source<'a> {
     /// The file.
     pub file: &'a HoaFile,
-    /// The numbers of the file's edges.
+    /// The priorities that the file's chain gives to edges.
     pub levels: &'a Levels,
     /// A diagram for each alias.
     pub aliases: &'a [Node],

@@ -44,7 +44,7 @@ impl Places {
         self.list.as_slice()
     }
 
-    /// The index of a target, which is appended if it is not in the list.
+    /// The index of a target; a target that is not in the list is appended.
     pub(crate) fn place_of(&mut self, target: Target) -> Result<usize, AllocError>
         ensures placed { IfOk result (IsPlaced self.old self.new target) }
         ensures distinct { OnOk result (AreDistinct self.new) }

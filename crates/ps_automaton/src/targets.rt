@@ -13,7 +13,7 @@ use ps_hoa::{Edge, Row};
 pub(crate) struct Target {
     /// The state.
     pub state: u32,
-    /// The sets as a mask: bit k is set k.
+    /// The sets as a bit mask, in which bit k is 1 if the edge has set k.
     pub sets: u64,
 }
 

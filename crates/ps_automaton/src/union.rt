@@ -18,11 +18,11 @@ use std::alloc::Global;
 pub(crate) struct Union {
     /// The diagram.
     pub node: Node,
-    /// The targets; a leaf is the index of its target.
+    /// The targets, whose indices are the leaves of the diagram.
     pub targets: Places,
 }
 
-/// Joins the edges of a row.
+/// Joins the edges of a row into one decision diagram.
 pub(crate) fn joined(
     alloc: Global,
     store: &mut Store,
@@ -58,7 +58,7 @@ fn add_all(store: &mut Store, guards: &Guards, union: &mut Union) -> Result<(), 
     Ok(())
 }
 
-/// Joins the edge at the index `place` to those before it.
+/// Joins the row's edge at the index `place` to the diagram of the edges before it.
 fn add(
     store: &mut Store,
     guards: &Guards,

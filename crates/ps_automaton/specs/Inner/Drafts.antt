@@ -1,4 +1,5 @@
--- How the steps of an automaton are built, row by row. (For private functions.)
+-- How the decision diagrams of an automaton's steps are built, one state of the file after another. (For private
+-- functions.)
 --     IsReady t g      the diagrams for a row's guards are in the table
 --     IsWhere leaf value P      the leaf is the value if P is true, and None if P is false
 --     IsUnion file row count targets t node      a node leads each letter to the target of the edge that is taken
@@ -43,7 +44,8 @@ pub record IsReady (t : Table) (g : Guards) : Type 0 where
   pub aliases : AreNodesOf t g.file.now.aliases g.aliases.now
   pub label : IsLabelNode t g.file.now (row_data g.row.now).label g.label
 
--- the label or the letter of a guard is valid
+-- the label of a guard uses only propositions and aliases of the file, or its letter is a letter over the file's
+-- propositions
 abbrev pub IsFit : FileData → GuardData → Type 0
 IsFit file (stated e) = IsLabelOf file e
 IsFit file of_state = Unit {0}
@@ -57,7 +59,7 @@ abbrev pub ShowsEdge : FileData → RowData → EdgeData → Table → ℕ → �
 ShowsEdge file row edge t node value = (letter : ℕ) → letter < 2 ^ length file.names →
     IsWhere (leaf_of t node letter) value (IsTaken file row edge letter)
 
--- both nodes have a leaf at some letter
+-- there is a letter at which both diagrams have a leaf
 abbrev pub Meet : Table → ℕ → ℕ → Type 0
 Meet t one other =
     (letter : ℕ) × (letter < 2 ^ t.propositions) × (x : ℕ) × (y : ℕ) × (leaf_of t one letter ≡ Some x) ×
@@ -77,7 +79,8 @@ pub record TakenEdge (file : FileData) (row : RowData) (count letter : ℕ) : Ty
   pub at_place : slice_get row.edges place ≡ Some edge
   pub taken : IsTaken file row edge letter
 
--- For the first `count` edges, letter by letter: the index of the target of the edge that is taken, or None.
+-- For each letter, `place_at` gives the index of the target of the edge that is taken among the first `count` edges, or
+-- None.
 pub record AreJoined (file : FileData) (row : RowData) (count : ℕ) (targets : List Target)
     (place_at : ℕ → Option ℕ) : Type 0 where
   pub there : (letter : ℕ) → letter < 2 ^ length file.names → (e : TakenEdge file row count letter) →
@@ -86,7 +89,7 @@ pub record AreJoined (file : FileData) (row : RowData) (count : ℕ) (targets : 
       TakenEdge file row count letter
   pub within : (place : ℕ) (target : Target) → slice_get targets place ≡ Some target → target.state < file.states
 
--- a node gives, for each letter, the index of the target of the edge that is taken, or None
+-- the diagram at a node gives, for each letter, the index of the target of the edge that is taken, or None
 pub record IsUnion (file : FileData) (row : RowData) (count : ℕ) (targets : List Target) (t : Table) (node : ℕ) : Type 0
   where
     pub held : IsNode t node
@@ -101,7 +104,7 @@ pub record AreTargets (row : RowData) (targets : List Target) : Type 0 where
   pub one_each : length targets ≡ length row.edges
   pub each : (k : ℕ) (edge : EdgeData) → slice_get row.edges k ≡ Some edge → IsTargetAt row edge targets k
 
--- the first clash of a row
+-- the first pair of clashing edges in a row
 pub record IsFirstOfRow (file : FileData) (row : RowData) (first second : ℕ) : Type 0 where
   pub clashing : AreClashing file row first second
   pub least_second : (a b : ℕ) → AreClashing file row a b → second ≤ b
@@ -119,7 +122,7 @@ pub record AreLevels (l : Levels) : Type 0 where
   pub few : AreSetsBelow 64 (chain_data l.chain).links
   pub table : IsTable (chain_data l.chain) l.numbers.base l.numbers.by_set
 
--- each step keeps its index
+-- each step of the old list has the same index in the new list
 abbrev pub Extends : List Step → List Step → Type 0
 Extends old new = (place : ℕ) (step : Step) → slice_get old place ≡ Some step → slice_get new place ≡ Some step
 
@@ -131,7 +134,7 @@ pub record AreSteps (states : ℕ) (steps : List Step) : Type 0 where
 abbrev pub step_of_target : Chain → Target → Step
 step_of_target chain target = record { state = target.state; priority = level chain (λ set. is_in set target.sets) }
 
--- the indices of the steps to the given targets
+-- for each target, `places` has the index of the step to this target
 pub record ArePlaces (chain : Chain) (targets : List Target) (steps : List Step) (places : List ℕ) : Type 0 where
   pub one_each : length places ≡ length targets
   pub each : (k place : ℕ) (target : Target) → slice_get targets k ≡ Some target → slice_get places k ≡ Some place →
@@ -168,7 +171,7 @@ IsStateFault file q (Nondeterministic p first second) =
     ((a : ℕ) → Clash file q a second → first ≤ a)
 IsStateFault file q OutOfMemory = Unit {0}
 
--- the diagrams and the steps grow while the states are built
+-- the diagram store and the list of steps only grow while the steps of states are built
 pub record Grows (states : ℕ) (old new : Pairs) : Type 0 where
   pub keeps : Keeps old.store new.store
   pub extends : Extends old.steps.keys new.steps.keys

@@ -1,4 +1,4 @@
--- How the links of a condition are appended to earlier links. (For private functions.)
+-- How the links of an acceptance condition are appended to links that were collected before. (For private functions.)
 use Rattle.std.specs.Prelude.{◌≡◌, ◌<◌, Bool, not, List, length, map, Option, None, Some, option_map, HoldsAt}
 use Rattle.ps_hoa.specs.Conditions.{operands_in}
 use Rattle.ps_hoa.specs.Values.{condition_of}
@@ -12,7 +12,7 @@ use Rattle.ps_automaton.specs.declared.chain.Gathered.TheVariants.{All, AllBut, 
 abbrev pub with_base : List Link → Option Bool → Option Chain
 with_base links base = option_map (λ b. record { links = map link_data links; base = b }) base
 
--- the chain of the operands, after the given earlier links
+-- the chain that consists of the earlier links, followed by the chain of the operands
 abbrev pub whole : Bool → List Cond → List Link → Option Chain
 whole accepts operands before =
     in_front (Some (map link_data before)) (chain_of_all accepts (operands_in (map condition_of operands)))

@@ -1,10 +1,10 @@
--- A list of different targets, and a table of their indices. (For private functions.)
+-- A list of different targets of edges, and a table of their indices. (For private functions.)
 use Rattle.std.specs.Prelude.{◌≡◌, ◌⊎◌, ℕ, List, [], ◌∷◌, ◌++◌, Option, Some, slice_get}
 use Rattle.std.specs.Ordering.{nat_cmp, ordering_then}
 use Rattle.std.specs.declared.cmp.Ordering.{Ordering}
 use Rattle.ps_automaton.specs.declared.targets.Target.{Target}
 
--- the order of pairs of a state and a mask, by the state first
+-- pairs of a state and a bit mask are ordered by the state, and then by the mask
 abbrev pub pair_cmp : ℕ × ℕ → ℕ × ℕ → Ordering
 pair_cmp p q = ordering_then (nat_cmp p.0 q.0) (nat_cmp p.1 q.1)
 
@@ -20,7 +20,7 @@ pub record IsTableOf (targets : List Target) (table : ℕ → ℕ → Option ℕ
   pub whole : (target : Target) (place : ℕ) → slice_get targets place ≡ Some target →
       table target.state target.sets ≡ Some place
 
--- the target is at this index; if it was not in the list, it is appended
+-- the target is at the index `place` of the new list, which is the old list, or the old list with the target appended
 pub record IsPlaced (old new : List Target) (target : Target) (place : ℕ) : Type 0 where
   pub list : (new ≡ old) ⊎ (new ≡ old ++ target ∷ [])
   pub stored : slice_get new place ≡ Some target

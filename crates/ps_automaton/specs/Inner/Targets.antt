@@ -1,4 +1,5 @@
--- The target of an edge: a state, and the edge's sets as a mask. (For private functions.)
+-- The target of an edge: a state, and the acceptance sets of the edge, including those of the edge's own state, as a
+-- bit mask. (For private functions.)
 use Rattle.std.specs.Prelude.{◌≡◌, ℕ, ◌^◌, ◌<◌}
 use Rattle.ps_label.specs.Truth.{is_in}
 use Rattle.ps_hoa.specs.Files.{EdgeData, RowData}

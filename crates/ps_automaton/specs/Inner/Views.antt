@@ -1,4 +1,4 @@
--- Values of the code, as the definitions describe them. (For private functions.)
+-- The abstract values of the links and chains in the code. (For private functions.)
 use Rattle.std.specs.Prelude.{map}
 use Rattle.ps_automaton.specs.Chains as chains
 use Rattle.ps_automaton.specs.declared.chain.Link.{Link}

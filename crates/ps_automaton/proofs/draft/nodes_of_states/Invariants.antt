@@ -4,7 +4,7 @@ use Rattle.ps_automaton.specs.Inner.Drafts.{AreSteps, IsStepsOf}
 use Rattle.ps_automaton.specs.Inner.Views.{chain_data}
 use Rattle.ps_automaton.proofs.draft.nodes_of_states.Given as goal
 
--- the states that were visited so far have their steps
+-- the diagrams of the states that were visited so far describe these states' steps
 abbrev pub invariant-loop-state : goal.invariant-loop-state
 invariant-loop-state l = record {
   letters : l.pairs.store.propositions ≡ length l.source.file.now.names;

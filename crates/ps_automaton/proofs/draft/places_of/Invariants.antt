@@ -5,7 +5,7 @@ use Rattle.ps_automaton.specs.Inner.Views.{chain_data}
 use Rattle.ps_automaton.specs.declared.targets.Target.{Target}
 use Rattle.ps_automaton.proofs.draft.places_of.Given as goal
 
--- the indices of the steps to the targets that were visited so far
+-- for each target visited so far, `places` has the index of the step to this target
 abbrev pub invariant-loop-target : goal.invariant-loop-target
 invariant-loop-target l = record {
   extends : Extends l.fn.steps.keys l.steps.keys;

@@ -3,7 +3,7 @@ use Rattle.ps_hoa.specs.Views.{row_data}
 use Rattle.ps_automaton.proofs.LetterRows.{HaveTargets}
 use Rattle.ps_automaton.proofs.draft.targets_of.Given as goal
 
--- the edges that were visited so far have their targets
+-- the list has the targets of the edges that were visited so far
 abbrev pub invariant-loop-edge : goal.invariant-loop-edge
 invariant-loop-edge l = record {
   so_far : length l.targets.items ≡ l.edge-index;

@@ -4,7 +4,7 @@ use Rattle.ps_hoa.specs.Views.{row_data}
 use Rattle.ps_automaton.specs.Answers.{AreClashing}
 use Rattle.ps_automaton.proofs.taken.first_clash.Given as goal
 
--- so far, no earlier edge clashes with the second edge
+-- none of the edges before the index `first` clashes with the edge at the index `second`
 abbrev pub invariant-loop-first : goal.invariant-loop-first
 invariant-loop-first l = record {
   keeps : Keeps l.initial.store l.store;

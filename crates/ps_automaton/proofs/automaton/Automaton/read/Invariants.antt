@@ -3,7 +3,7 @@ use Rattle.ps_automaton.specs.Autos.{greatest_along, state_behind}
 use Rattle.ps_automaton.specs.Automata.{auto_of}
 use Rattle.ps_automaton.proofs.automaton.Automaton.read.Given as goal
 
--- the remaining letters lead to the end state
+-- reading the remaining letters from the reached state leads to the same state as reading all letters
 abbrev pub invariant-loop-letter : goal.invariant-loop-letter
 invariant-loop-letter l = record {
   within : l.reached ≤ l.self.states;
