@@ -1,16 +1,17 @@
-//! Tests of automata: the lassos that they accept, and the letters at which labels are true.
+//! Tests of automata: the lassos that automata accept, and the letters at which labels are true.
 
 use ps_automaton::Automaton;
 use std::alloc::Global;
 use std::test::Fail;
 
-/// The automaton of a text.
+/// The automaton of an HOA text.
 fn automaton_of(alloc: Global, text: &str) -> Result<Automaton, Fail> {
     let file = ps_hoa::read(alloc, text.as_bytes())?;
     Ok(Automaton::build(alloc, &file)?)
 }
 
-/// Two states. Each request must be granted, at once or later. State 1 means that a request is pending.
+/// Two states. The automaton requires that each request is granted, at once or later. State 1 means that a request is
+/// pending.
 const TWO_STATES: &str = "HOA: v1
 States: 2
 Start: 0
@@ -27,7 +28,7 @@ State: 1
 --END--
 ";
 
-/// Whether each of two lassos over two propositions is accepted.
+/// Whether an automaton over two propositions accepts each of two fixed lassos.
 fn verdicts(automaton: &Automaton) -> Result<[bool; 2], Fail> {
     if automaton.names().len() != 2 {
         return Ok([false; 2]);
@@ -50,7 +51,7 @@ fn lassos_are_accepted(rt: HostRuntime) -> Result<(), Fail> {
     Ok(())
 }
 
-/// States with one edge each, whose labels are random.
+/// Each of 32 states has one edge with a random label.
 const DRAWN: &str =
     "HOA: v1 Start: 0 AP: 4 \"a\" \"b\" \"c\" \"d\" controllable-AP: Acceptance: 0 t --BODY--
     State: 0 [!!0&(1|3|0)|!!1&(1&1&f|!f|3&1&1)&((3&1)&0&3)] 32
@@ -94,7 +95,7 @@ const TRUTHS: [u16; 32] = [
     0x0400, 0x4040, 0x8800, 0xA0AA, 0x1F1F, 0x4450, 0xFFDD, 0xF3FF,
 ];
 
-/// The truth table of the label of a state's edge, which leads to the state 32.
+/// The truth table of the label of a state's only edge, which leads to the state 32.
 fn truths(automaton: &Automaton, state: u32) -> u16 {
     let mut truths = 0;
     if state <= automaton.states() {
@@ -107,7 +108,7 @@ fn truths(automaton: &Automaton, state: u32) -> u16 {
     truths
 }
 
-/// The first state of the text whose label has another truth table.
+/// The first state of `DRAWN` whose label has another truth table than `TRUTHS` states.
 fn first_wrong(alloc: Global) -> Result<Option<u32>, Fail> {
     let automaton = automaton_of(alloc, DRAWN)?;
     Ok((0..32).find(|state| truths(&automaton, *state) != TRUTHS[*state as usize]))

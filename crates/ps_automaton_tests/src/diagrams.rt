@@ -1,4 +1,4 @@
-//! Tests that make, with ample memory, each call on diagrams that allocates memory.
+//! Tests that call, with ample memory, every operation on decision diagrams that allocates memory.
 
 use indexmap::IndexSet;
 use ps_diagram::{OverlayError, Store};
@@ -6,7 +6,7 @@ use ps_label::{Label, Labels};
 use std::alloc::{AllocError, Global};
 use std::test::Fail;
 
-/// The values after a relabelling, a guard and a fill, each applied to the leaf 2 or to the diagram without leaves.
+/// The leaves after three operations: `relabel` and `guard` on the leaf 2, and `fill` on the diagram without leaves.
 fn changed(store: &mut Store) -> Result<[Option<u64>; 3], AllocError> {
     let two = store.leaf(2)?;
     let relabelled = store.relabel(two, &[4, 5, 6])?;
@@ -20,7 +20,7 @@ fn changed(store: &mut Store) -> Result<[Option<u64>; 3], AllocError> {
     ])
 }
 
-/// The value after the leaf 2 of another store is relabelled into a new store.
+/// The leaf that `relabel_from` makes in a new store from the leaf 2 of another store.
 fn relabelled_from(alloc: Global, store: &mut Store) -> Result<Option<u64>, AllocError> {
     if store.propositions() != 2 {
         return Ok(None);
@@ -31,7 +31,7 @@ fn relabelled_from(alloc: Global, store: &mut Store) -> Result<Option<u64>, Allo
     Ok(made.eval(relabelled, 0))
 }
 
-/// Whether the leaves 4 and 1 clash.
+/// Whether `overlay` reports a clash of the leaves 4 and 1.
 fn clashes(store: &mut Store) -> Result<bool, AllocError> {
     let first = store.leaf(4)?;
     let second = store.leaf(1)?;
@@ -44,7 +44,7 @@ fn clashes(store: &mut Store) -> Result<bool, AllocError> {
     ))
 }
 
-/// The smallest letter that leads to the leaf of a label.
+/// The smallest letter at which the diagram of a label has the leaf 1.
 fn least_letter(alloc: Global, store: &mut Store) -> Result<Option<u64>, AllocError> {
     if store.propositions() != 2 {
         return Ok(None);
@@ -53,7 +53,8 @@ fn least_letter(alloc: Global, store: &mut Store) -> Result<Option<u64>, AllocEr
     store.path_to(node, 1)
 }
 
-/// The number of leaves of a letter's diagram, and its number of classes of letters over the first proposition.
+/// The number of leaves in the diagram of the letter 3, and the number of classes that `classes_from` computes for this
+/// diagram.
 fn leaves_and_classes(alloc: Global, store: &mut Store) -> Result<(usize, usize), AllocError> {
     if store.propositions() != 2 {
         return Ok((0, 0));
@@ -84,8 +85,8 @@ fn chosen(store: &mut Store) -> Result<[Option<u64>; 4], AllocError> {
     ])
 }
 
-/// For the diagram whose leaves are pairs, made from the first proposition's diagram and the leaf 7: the indices of the
-/// pairs at the letters 1 and 0, and the number of pairs.
+/// Joins the diagram of the first proposition with the leaf 7 to a diagram of pairs. Returns the indices of the pairs
+/// at the letters 1 and 0, and the number of pairs.
 fn paired(alloc: Global, store: &mut Store) -> Result<([Option<u64>; 2], usize), AllocError> {
     if store.propositions() != 2 {
         return Ok(([None; 2], 0));
@@ -97,7 +98,7 @@ fn paired(alloc: Global, store: &mut Store) -> Result<([Option<u64>; 2], usize),
     Ok(([store.eval(paired, 1), store.eval(paired, 0)], pairs.len()))
 }
 
-/// The results of the operations on diagrams, with two propositions.
+/// The results of the tested operations on decision diagrams, with two propositions.
 #[derive(Debug, Drop, PartialEq, Eq)]
 struct Answered {
     changed: [Option<u64>; 3],
@@ -110,7 +111,7 @@ struct Answered {
     copied_propositions: u32,
 }
 
-/// The results of all calls on a store.
+/// The results of all tested operations on a store of decision diagrams.
 fn answers_of(alloc: Global, store: &mut Store) -> Result<Answered, AllocError> {
     Ok(Answered {
         changed: changed(store)?,
@@ -124,8 +125,8 @@ fn answers_of(alloc: Global, store: &mut Store) -> Result<Answered, AllocError> 
     })
 }
 
-/// The results of all calls on a new store. If an allocation failed, as in a run of `rt try --test --fail-alloc N`, the
-/// calls are repeated on the same store.
+/// The results of all tested operations on a new store of decision diagrams. If an allocation failed, as in a run of
+/// `rt try --test --fail-alloc N`, the operations are repeated on the same store.
 fn answers(alloc: Global) -> Result<Answered, AllocError> {
     let mut store = Store::new(alloc, 2);
     match answers_of(alloc, &mut store) {

@@ -4,13 +4,14 @@ use ps_hoa::read;
 use std::alloc::Global;
 use std::test::Fail;
 
-/// The debug output of the value that the parser stores for a text.
+/// The debug output of the value that the parser returns for an HOA text.
 fn kept(alloc: Global, text: &str) -> Result<String, Fail> {
     let file = read(alloc, text.as_bytes())?;
     Ok(format!(in alloc; "{file:?}")?)
 }
 
-/// The first of the given parts that the stored value of a text lacks, or None if it has all of them.
+/// The first of the given strings that the debug output of a parsed text lacks, or None if the output contains all of
+/// them.
 fn lacking(
     alloc: Global,
     text: &str,
@@ -20,13 +21,13 @@ fn lacking(
     Ok(parts.iter().find(|part| !kept.contains(**part)).copied())
 }
 
-/// A text with header items in an unusual order, comments in comments, acceptance sets, and edges without labels.
+/// An HOA text with header items in an unusual order, comments in comments, acceptance sets, and edges without labels.
 const UNUSUAL: &str =
     "HOA: v1 /*a/*b*/c*/ controllable-AP: 1 0 1 acc-name: x 1 \"y\" Alias: @x 0 Alias: @y @x&!1
     tool: \"a\" \"b\" name: \"c\" Acceptance: 2 Fin(!1) AP: 2 \"a\\\"\" \"b\" Start: 3 States: 5
     --BODY-- State: 2 {1 0 1} 3 4 {1} 0 1 State: [t] 3 {0} 3 --END--";
 
-/// The parts that the stored value of `UNUSUAL` must have.
+/// Strings that the debug output of the parsed text `UNUSUAL` must contain.
 const PARTS_OF_UNUSUAL: [&str; 11] = [
     "states: 5, start: 3,",
     "[97, 34]",
@@ -41,13 +42,14 @@ const PARTS_OF_UNUSUAL: [&str; 11] = [
     "Edge { guard: OfState, target: 3, marks: [] }",
 ];
 
-/// A text with labels that nest conjunctions and disjunctions of propositions and aliases, and with a nested condition.
+/// An HOA text whose labels nest conjunctions and disjunctions of propositions and aliases, and whose acceptance
+/// condition is nested too.
 const NESTED: &str =
     "HOA: v1 Start: 0 AP: 2 \"a\" \"b\" controllable-AP: Alias: @x 0 Alias: @y 1 Acceptance: 3
     Inf(0)&Fin(!1)|(f|Fin(2)) --BODY--
     State: 0 [@y|t] 0 [@x&!0] 0 [0&1|f] 0 [0|1|(0|1)] 0 [!(0&1)&1] 0 --END--";
 
-/// The parts that the stored value of `NESTED` must have.
+/// Strings that the debug output of the parsed text `NESTED` must contain.
 const PARTS_OF_NESTED: [&str; 6] = [
     "Stated(Either([Named(1), Truth(true)]))",
     "Stated(Both([Named(0), Neg(Atom(0))]))",
