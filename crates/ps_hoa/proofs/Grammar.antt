@@ -1,4 +1,5 @@
--- The laws of the parts of a grammar: which tokens a part can begin and continue with, and how parts are joined.
+-- The laws of a grammar: which tokens can begin and continue the texts of each production, and how productions are
+-- joined.
 
 pub mod SignLaws
 pub mod OperandLaws

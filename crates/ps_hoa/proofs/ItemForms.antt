@@ -1,4 +1,5 @@
--- The properties of the arguments of header items. Each header item has a section here, and a row in `form`.
+-- Properties of the arguments that follow the names of header items. Each kind of header item has a section in this
+-- file, and a case in `form`.
 --     IsForm h part      the properties of a part that follows an item's name, if the earlier items gave h
 --     form h item      the arguments of the item have the form (`IsForm`)
 --     judge_item      the error at an item's name can be decided
@@ -58,7 +59,7 @@ use Rattle.ps_hoa.proofs.Soundness.Keeping.{keeps_mapped, keeps_many}
 use Rattle.ps_hoa.proofs.Soundness.Places.{different_kept}
 use Rattle.ps_hoa.proofs.Soundness.SoundLabels.{keeps_label}
 
--- the tokens that can continue an item
+-- the kinds of tokens that can continue a header item
 abbrev pub is_argument : Kind → Bool
 is_argument = union is_value is_connective
 
@@ -68,8 +69,9 @@ ItemMore = Of is_argument
 abbrev pub Anything : Sign → Type 0
 Anything t = Unit {0}
 
--- The part satisfies the laws; any token may begin it, and the tokens of `ItemMore` may continue it. The part has an
--- outcome for each list of tokens, and keeps the invariant of the items so far.
+-- The grammar of an item's arguments satisfies `Laws`: any token may begin the arguments, and the tokens of `ItemMore`
+-- may continue them. For each list of tokens, the arguments are parsed or have a first error; if parsed, they keep the
+-- invariant of the header.
 pub record IsForm (h : HeaderData) (part : Part Sign HeaderData HoaCause) : Type 0 where
   pub laws : Laws Odd part Anything ItemMore (Unit {0})
   pub has : Has part
@@ -250,7 +252,7 @@ form_other h = record {
 
 -- ## Any item
 
--- the errors at the name of an item
+-- it is decidable which errors the name of a header item has
 wrong_item : (h : HeaderData) (item : Item) → Judged cause_number (IsWrongItem h item)
 wrong_item h items.Start = judge_cause cause_number causes.Start (decide_not (decide_none h.start))
 wrong_item h item = judge_none cause_number

@@ -1,4 +1,4 @@
--- Lemmas for the parsing functions.
+-- Lemmas for the proofs of the functions that parse HOA texts.
 
 pub mod NextSign
 pub mod SingleSigns

@@ -92,7 +92,7 @@ body_scope h = record { names = h.alias_names; propositions = Some (length (name
 abbrev pub some_label : Expression → Unit {0} → Option Expression
 some_label e _ = Some e
 
--- the rest of a label after `[`
+-- the grammar of a label and `]`, after the `[`
 abbrev pub label_in_brackets : HeaderData → Part Sign (Option Expression) HoaCause
 label_in_brackets h =
     then_by (labels.label (body_scope h) nesting_limit) (λ e. mapped (some_label e) (expect is_right_bracket))

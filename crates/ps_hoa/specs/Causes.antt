@@ -15,7 +15,7 @@ use Rattle.ps_text.specs.declared.faults.Fault.{Fault}
 use Rattle.ps_hoa.specs.declared.fault.HoaCause.{HoaCause}
 use Rattle.ps_hoa.specs.declared.fault.HoaCause.TheVariants as causes
 
--- either a cause with an offset, or out of memory
+-- why an HOA text was not parsed: a cause with an offset, or out of memory
 abbrev pub HoaFault : Type 0
 HoaFault = Fault HoaCause
 

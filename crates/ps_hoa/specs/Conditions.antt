@@ -75,7 +75,7 @@ set_value complemented kind text = None
 abbrev pub set_in : Bool → Sign → Option SetData
 set_in complemented sign = set_value complemented sign.kind sign.text
 
--- an `INT` above the greatest `INT`
+-- an `INT` that exceeds the limit on numbers
 abbrev pub IsTooLargeSet : Kind → List ℕ → HoaCause → Type 0
 IsTooLargeSet kinds.Int text f = (number_limit < decimal_value text) × (f ≡ causes.Limit)
 IsTooLargeSet kind text f = ⊥

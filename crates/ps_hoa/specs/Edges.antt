@@ -19,8 +19,8 @@ row_among (row ∷ rows) q = if nat_eq q row.state then Some row else row_among 
 abbrev pub row_of : FileData → ℕ → Option RowData
 row_of file q = row_among file.rows q
 
--- A guard is open at the letters at which its own label is true, at the letters at which the state's label is true, or
--- at a single letter.
+-- An edge is enabled at the letters at which its own label is true, at those at which its state's label is true, or at
+-- a single letter; its guard tells which.
 abbrev pub IsEnabled : List Expression → Option Expression → GuardData → ℕ → Type 0
 IsEnabled aliases label (stated e) letter = IsTrue (label_truth aliases letter e)
 IsEnabled aliases None of_state letter = ⊥
@@ -30,12 +30,12 @@ IsEnabled aliases label (at_letter k) letter = letter ≡ k
 abbrev pub IsTaken : FileData → RowData → EdgeData → ℕ → Type 0
 IsTaken file row edge letter = IsEnabled file.aliases row.label edge.guard letter
 
--- an edge is in its own sets and in the sets of its state
+-- an edge is in the acceptance sets that it names and in those of its state
 abbrev pub is_marked : RowData → EdgeData → ℕ → Bool
 is_marked row edge set = is_among set row.marks || is_among set edge.marks
 
--- Some edge of q is taken at this letter and leads to `next`. The sets of the edge are given as a test, so their order
--- and repetitions do not matter.
+-- An edge of the state q is taken at the letter and leads to the state `next`. `marks` tells for each acceptance set
+-- whether the edge is in it, so the order and repetitions of sets in the text do not matter.
 pub record Goes (file : FileData) (q letter : ℕ) (marks : ℕ → Bool) (next : ℕ) : Type 0 where
   pub is_letter : letter < 2 ^ length file.names
   pub row : RowData

@@ -1,4 +1,4 @@
--- The abstract value of a stored file.
+-- The abstract value of a stored HOA file.
 use Rattle.std.specs.Prelude.{map}
 use Rattle.ps_label.specs.Truth.{expressions}
 use Rattle.ps_hoa.specs.Files.{FileData}

@@ -43,7 +43,7 @@ is_among n (m ∷ ms) = if nat_eq n m then true else is_among n ms
 abbrev pub once : List ℕ → ℕ → List ℕ
 once ns n = if is_among n ns then ns else ns ++ n ∷ []
 
--- the greatest state that the edges or rows name, or `so_far` if that is greater
+-- the greatest of `so_far` and the states that the edges or rows name
 abbrev pub greatest_target : ℕ → List EdgeData → ℕ
 greatest_target so_far [] = so_far
 greatest_target so_far (e ∷ es) = greatest_target (max so_far e.target) es

@@ -154,7 +154,7 @@ item_value kind text = None
 abbrev pub item_in : Sign → Option Item
 item_in s = item_value s.kind s.text
 
--- an item whose name is not allowed here, whatever follows the name: a second `Start:`
+-- the name of a header item is an error by itself only if it is a second `Start:`
 abbrev pub IsWrongItem : HeaderData → Item → HoaCause → Type 0
 IsWrongItem h items.Start f = (h.start ≢ None) × (f ≡ causes.Start)
 IsWrongItem h item f = ⊥
@@ -173,7 +173,7 @@ with_states h n = record h { states = Some n }
 abbrev pub state_count : HeaderData → Part Sign HeaderData HoaCause
 state_count h = mapped (with_states h) (int state_limit)
 
--- `&` after a state makes the automaton alternating
+-- `&` after a state is an error, since it makes the automaton alternating
 abbrev pub IsAlternating : ℕ → Sign → HoaCause → Type 0
 IsAlternating state s f = (s.kind ≡ kinds.And) × (f ≡ causes.Alternating)
 
@@ -199,7 +199,7 @@ abbrev pub is_empty : List ℕ → Bool
 is_empty [] = true
 is_empty (b ∷ bs) = false
 
--- a string that may not be the name of a proposition, or is the name of an earlier proposition
+-- a string that is not allowed as the name of a proposition, or is the name of an earlier proposition
 abbrev pub IsBadName : List (List ℕ) → Sign → HoaCause → Type 0
 IsBadName names s f =
     IfSome (string_in s) (λ name. ((is_empty name || has_control name || is_name_among name names) ≡ true) ×
@@ -221,7 +221,7 @@ abbrev pub alias_value : Kind → List ℕ → Option (List ℕ)
 alias_value kinds.AliasName text = Some text
 alias_value kind text = None
 
--- the name of one alias more than the limit allows, or the name of an earlier alias
+-- the name of an alias beyond the limit on aliases, or the name of an earlier alias
 abbrev pub IsBadAlias : List (List ℕ) → Sign → HoaCause → Type 0
 IsBadAlias names s f = IfSome (alias_value s.kind s.text) (λ name.
     ((alias_limit ≤ length names) × (f ≡ causes.Limit)) ⊎ ((is_name_among name names ≡ true) × (f ≡ causes.Alias))) ×
@@ -245,8 +245,8 @@ abbrev pub counted_condition : HeaderData → Part Sign HeaderData HoaCause
 counted_condition h =
     then_by (int set_limit) (λ n. mapped (with_acceptance h n) (conditions.condition nesting_limit))
 
--- Each proposition has a slot of its own. All numbers that are not propositions share one slot, since it only matters
--- whether there is such a number.
+-- Among the numbers of `controllable-AP:`, each proposition has a slot of its own. All numbers that are not
+-- propositions share one slot, since it only matters whether there is such a number.
 abbrev pub slot_of : ℕ → ℕ
 slot_of n = if nat_lt n proposition_limit then n else proposition_limit
 

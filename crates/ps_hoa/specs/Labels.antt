@@ -56,8 +56,8 @@ abbrev pub IsBeyond : Option ℕ → ℕ → Type 0
 IsBeyond None n = ⊥
 IsBeyond (Some count) n = count ≤ n
 
--- an error in an operand of a single token: an `INT` that is above the greatest `INT` or is not a proposition, or an
--- unknown alias
+-- an error in an operand that is a single token: an `INT` that exceeds the limit on numbers or is not a proposition, or
+-- an unknown alias
 abbrev pub IsBadLeaf : ScopeData → Kind → List ℕ → HoaCause → Type 0
 IsBadLeaf scope kinds.Int text f =
     ((number_limit < decimal_value text) × (f ≡ causes.Limit)) ⊎

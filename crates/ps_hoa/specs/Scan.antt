@@ -113,7 +113,7 @@ abbrev pub SkipsSome : Step → Type 0
 SkipsSome (Skip n) = 0 < n
 SkipsSome (Found kind n) = Unit {0}
 
--- the end of a text is not a token of its bytes
+-- the kind of the end of a text, which no token in the text has
 abbrev pub is_finish : Kind → Bool
 is_finish Finish = true
 is_finish kind = false

@@ -7,7 +7,7 @@ use Rattle.ps_hoa.specs.declared.tokens.Kind.{Kind}
 use Rattle.ps_hoa.specs.declared.tokens.History.{History}
 use Rattle.ps_hoa.specs.declared.tokens.Token.{Token}
 
--- the token as the grammar sees it
+-- the kind and the bytes of a token, which are all that the grammar sees of it
 abbrev pub piece_of : Token → Piece Sign
 piece_of token = record { sign = record { kind = token.kind; text = token.text.now }; start = token.start }
 

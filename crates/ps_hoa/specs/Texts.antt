@@ -80,17 +80,18 @@ pub data ReadsFile (bytes : List ℕ) : Result FileData (Found HoaCause) → Typ
       PartAnswers hoa_causes file (record { pieces = in_context fresh pieces; end = length bytes }) answer →
       ReadsFile bytes answer
 
--- the fault is the answer to the text
+-- the fault is the first error of the text
 abbrev pub IsRefusedAs : List ℕ → HoaFault → Type 0
 IsRefusedAs bytes (faults.Text cause offset) = ReadsFile bytes (at_offset cause offset)
 IsRefusedAs bytes faults.OutOfMemory = ⊥
 
--- the fault is the answer to the text, or it is `OutOfMemory`
+-- the fault is the first error of the text, or it is `OutOfMemory`
 abbrev pub IsFaultOf : List ℕ → HoaFault → Type 0
 IsFaultOf bytes (faults.Text cause offset) = ReadsFile bytes (at_offset cause offset)
 IsFaultOf bytes faults.OutOfMemory = Unit {0}
 
--- the result of the parser, where `view` gives the meaning of the stored value
+-- the result of the parser: the meaning or the first error of the text, or out of memory; `view` gives the meaning of a
+-- stored value
 abbrev pub IsFileAnswer : {X : Type 0} → (X → FileData) → List ℕ → Result X HoaFault → Type 0
 IsFileAnswer view bytes (Ok x) = ReadsFile bytes (Ok (view x))
 IsFileAnswer view bytes (Err fault) = IsFaultOf bytes fault

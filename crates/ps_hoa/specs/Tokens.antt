@@ -25,8 +25,8 @@ pub record Sign : Type 0 where
 
 -- ## Blanks
 
--- The bytes complete a comment that was opened before them, and only their last byte completes it. The comment is
--- nested in `depth` further comments.
+-- The bytes end a comment that was opened before them, and only their last byte ends it. The comment is nested in
+-- `depth` further comments.
 pub data Ends : ℕ → List ℕ → Type 0 where
   closes_last : {b c : ℕ} → b ≡ 42 → c ≡ 47 → Ends 0 (b ∷ c ∷ [])
   closes : {depth b c : ℕ} {bs : List ℕ} → b ≡ 42 → c ≡ 47 → Ends depth bs → Ends (suc depth) (b ∷ c ∷ bs)
@@ -132,7 +132,7 @@ AreTokens at bytes (p ∷ ps) =
 
 -- ## Names that may occur only once, and what follows the end
 
--- the name has occurred before; `HOA:` always has
+-- the name has occurred before; `HOA:` always has, since each text begins with it
 abbrev pub has_stood : History → Option ℕ → Bool
 has_stood history None = false
 has_stood history (Some once) = get_or history.stood once false

@@ -93,7 +93,7 @@ fn row(alloc: Global, tokens: &mut Tokens, header: &Header, rows: &Rows) -> Resu
     Ok(row)
 }
 
-/// Reads `State:`, and checks that the last row is complete.
+/// Reads `State:`, and checks that the previous state has the right number of edges.
 fn begin(tokens: &mut Tokens, header: &Header, rows: &Rows) -> Result<(), HoaFault>
     ensures { ReadsAs (λ u. u) (parts.state_begins (header_data header.now) (body_data rows.now)) tokens.old
         result tokens.new }
@@ -102,7 +102,7 @@ fn begin(tokens: &mut Tokens, header: &Header, rows: &Rows) -> Result<(), HoaFau
     begin_of(token, header, rows)
 }
 
-/// Checks that a token is `State:`, and that the last row is complete.
+/// Checks that a token is `State:`, and that the previous state has the right number of edges.
 fn begin_of(token: Token, header: &Header, rows: &Rows) -> Result<(), HoaFault>
     ensures { Takes (λ u. u) state_value (IsBadNext (header_data header.now) (body_data rows.now))
         (piece_of token.entry) result }
@@ -116,7 +116,7 @@ fn begin_of(token: Token, header: &Header, rows: &Rows) -> Result<(), HoaFault>
     }
 }
 
-/// Reads `--END--`, and checks that the last row is complete.
+/// Reads `--END--`, and checks that the last state has the right number of edges.
 fn end(tokens: &mut Tokens, header: &Header, rows: &Rows) -> Result<(), HoaFault>
     ensures { ReadsAs (λ _. body_data rows.now) (parts.ended (header_data header.now) (body_data rows.now)) tokens.old
         result tokens.new }
@@ -125,7 +125,7 @@ fn end(tokens: &mut Tokens, header: &Header, rows: &Rows) -> Result<(), HoaFault
     end_of(token, header, rows)
 }
 
-/// Checks that a token is `--END--`, and that the last row is complete.
+/// Checks that a token is `--END--`, and that the last state has the right number of edges.
 fn end_of(token: Token, header: &Header, rows: &Rows) -> Result<(), HoaFault>
     ensures { Takes (λ u. u) (expect_in is_end) (IsBadClose (header_data header.now) (body_data rows.now))
         (piece_of token.entry) result }

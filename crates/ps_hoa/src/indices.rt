@@ -1,4 +1,4 @@
-//! The numbers of `controllable-AP:`.
+//! The numbers that `controllable-AP:` lists.
 
 ghost use Rattle.std.specs.Prelude.{◌≡◌, [], OnOk, OnErr};
 ghost use Rattle.ps_hoa.specs.Header.{has_place, kept, slot_of};
@@ -41,7 +41,7 @@ impl Indices {
         self.numbers.as_slice()
     }
 
-    /// Adds a number, unless its slot is taken. Fails if out of memory.
+    /// Adds a number, unless the list has a number with the same slot. Fails if out of memory.
     pub(crate) fn add(&mut self, number: u32) -> Result<(), AllocError>
         ensures ok { OnOk result (self.new ≡ kept self.old number) }
         ensures err { OnErr result (self.new ≡ self.old) }

@@ -16,7 +16,7 @@ use std::alloc::{AllocError, Global};
 /// The greatest depth to which `!` and `(` may be nested.
 const NESTING_LIMIT: usize = 256;
 
-/// A sign between operands. The sign `&` binds tighter than `|`.
+/// A connective between operands. The sign `&` binds tighter than `|`.
 #[derive(Clone, Copy)]
 pub(crate) enum Connective {
     /// `&`
@@ -33,7 +33,7 @@ pub(crate) trait Infix {
     /// The type of the meanings of parsed values.
     ghost Meaning: { Type 0 };
 
-    /// The meaning of a value.
+    /// The meaning of a parsed value.
     ghost meaning: { Self.Value → Self.Meaning };
 
     /// The part of the grammar that differs between labels and conditions.

@@ -75,7 +75,8 @@ pub(crate) fn item_named(name: &[u8]) -> Option<Item>
     None
 }
 
-/// The number of marks. A mark records the occurrence of an item that may occur only once.
+/// The number of marks, one for each item that may occur only once. A mark records the occurrence of an item that may
+/// occur only once.
 pub(crate) const ONCE_COUNT: usize = 4;
 
 /// The index of the mark of an item, if the item may occur only once.

@@ -133,8 +133,8 @@ pub(crate) fn unescaped(alloc: Global, inner: &[u8]) -> Result<Vec<u8>, AllocErr
     Ok(bytes)
 }
 
-/// The number that a run of digits represents, if it does not exceed the greatest `INT`. A byte less than `0` counts as
-/// `0`, so the function accepts any bytes.
+/// The number that a run of digits represents, if it does not exceed the greatest `INT`. A byte less than the digit `0`
+/// counts as `0`, so the function accepts any bytes.
 pub(crate) fn int_of(digits: &[u8]) -> Option<u32>
     ensures { result ≡ (if nat_le (decimal_value digits.now) number_limit then Some
         (decimal_value digits.now) else None) }

@@ -1,5 +1,5 @@
--- The laws of the body's sets, labels and edges, and how their parts are joined. The laws of states are in
--- proofs/Grammar/StateLaws.
+-- Which tokens can begin and continue the sets, labels and edges of a body (`Laws`), and how these grammars are joined.
+-- For states, see proofs/Grammar/StateLaws.
 --     laws_marks, .., laws_edge      the laws of the body's sets, labels and edges
 --     joint_braces, joint_sets      how `{`, the numbers and `}` are joined
 --     joint_bracket, joint_label      how `[`, a label and `]` are joined
@@ -33,11 +33,11 @@ use Rattle.ps_hoa.proofs.Grammar.InfixLaws.{is_start}
 use Rattle.ps_hoa.proofs.Grammar.LabelLaws.{laws_label}
 use Rattle.ps_hoa.proofs.Grammar.SignLaws.{laws_alternating}
 
--- the tokens that can continue an edge
+-- the kinds of tokens that can continue an edge
 abbrev pub lengthens_edge : Kind → Bool
 lengthens_edge = union is_and is_left_brace
 
--- a target, a set or a state: only an `INT` can have an error at such a token
+-- where the number of a target, a set or a state is expected, no token but an `INT` has an error of its own
 pub laws_target_number : (Bad : ℕ → HoaCause → Type 0) → Tight (one int_in (BadIn Bad)) is_int
 laws_target_number Bad = laws_value is_int Int [] _ refl (λ _. refl) (λ t f b. b.1)
 
@@ -101,7 +101,7 @@ module _ (h : HeaderData) where
 pub number_barred : Apart Nothing (Bar IsAlternating)
 number_barred t h k = h
 
--- a target, which `&` must not follow, and the marks after it
+-- the target of an edge, after which `&` is an error, and the acceptance sets that follow the target
 module _ (h : HeaderData) (row : RowData) (label : Option Expression) (Bad : ℕ → HoaCause → Type 0) where
   abbrev target : Part Sign ℕ HoaCause
   target = barred (one int_in (BadIn Bad)) IsAlternating

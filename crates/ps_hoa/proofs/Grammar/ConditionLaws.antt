@@ -1,4 +1,4 @@
--- The laws of acceptance conditions.
+-- Which tokens can begin and continue an acceptance condition (`Laws`).
 use Rattle.std.proofs.Common.{◌≡◌, ℕ, Bool, true, false, List, [], codes, refl, arith}
 use Rattle.std.proofs.lemmas.Slice.Eq.{bytes_eq-Decides}
 use Rattle.ps_text.specs.Parts.{Part, NoBad, one, then_by}
@@ -78,7 +78,7 @@ laws_visit = laws_tight laws_often laws_behind_often
 
 -- ## Operands
 
--- `t` and `f` are neither `Inf` nor `Fin`
+-- a token that is a constant, `t` or `f`, is neither `Inf` nor `Fin`
 pub constant_often : Apart (Taken constant_in) (Taken often_in)
 constant_often t h k = grind (arith, codes, none_is_some, bytes_eq-Decides)
 

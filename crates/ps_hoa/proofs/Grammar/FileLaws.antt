@@ -1,4 +1,4 @@
--- The laws of a whole text after the version: the header, then the body.
+-- Which tokens can begin and continue the whole of a text after the version, its header and its body (`Laws`).
 --     laws_file      the laws of the whole text
 --     joint_file      how the body is joined to the header
 use Rattle.ps_text.specs.Parts.{mapped}

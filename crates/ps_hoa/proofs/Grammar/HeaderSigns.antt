@@ -1,5 +1,5 @@
 -- The parts of a header that consist of a single token.
---     reads_token      a function that returns the result for the next token has parsed the part of the token
+--     reads_token      a function that returns the result for the next token has parsed this token
 --     signs_expect, .., signs_body      some token is taken, and the end of the text is neither taken nor an error
 --     takes_refused, takes_bad      the result for a token that is not allowed here, and for a token with an error
 use Rattle.std.proofs.Common.{◌≡◌, ℕ, ◌≤◌, Bool, cond, List, [], codes, Option, None, Some, Result, Err}
@@ -31,18 +31,18 @@ pub reads_token : {V X : Type 0} (view : X → V) {take : Sign → Option V} {Ba
     Meets found_of hoa_causes view (one take Bad) old r new
 reads_token view {take} {Bad} o piece old new r t e n = grind (arith, reads_one)
 
--- a token of another kind is not taken
+-- `expect_in` rejects a token of any kind but the expected one
 pub expect_none : (test : Kind → Bool) (kind : Kind) (sign : Sign) → IsTestOf test kind → (sign.kind ≡ kind → ⊥) →
     expect_in test sign ≡ None
 expect_none test kind sign is differs = grind arith
 
--- some token is taken, given by its kind, its text and its value
+-- proves `IsOfSigns` from one token that is accepted, given by its kind, its text and its value
 signs : {V : Type 0} {take : Sign → Option V} {Bad : Sign → HoaCause → Type 0} (kind : Kind) (text : List ℕ) (v : V) →
     take (record { kind = kind; text = text }) ≡ Some v → take (record { kind = Finish; text = [] }) ≡ None →
     ((f : HoaCause) → Bad (record { kind = Finish; text = [] }) f → ⊥) → IsOfSigns take Bad
 signs kind text v e n g = record { sign = record { kind = kind; text = text }; value = v; taken = e; end = n; good = g }
 
--- the end of the text passes only the test for its own kind
+-- a test for one kind of token accepts some token and rejects the end of the text, if the kind is not `Finish`
 pub signs_expect : (test : Kind → Bool) (kind : Kind) → IsTestOf test kind → (kind ≡ Finish → ⊥) →
     IsOfSigns (expect_in test) NoBad
 signs_expect test kind is differs = signs kind [] tt (ap (λ (b : Bool). cond b (Some tt) None) is.0)
@@ -82,6 +82,6 @@ module _ {V X : Type 0} (view : X → V) (take : Sign → Option V) (Bad : Sign 
       cause_number f ≤ cause_number g) → e ≡ Fault f piece.start → Takes view take Bad piece (Err e)
   takes_bad f bad least is = rw is (refl, inl (record { stands = bad; least = least }))
 
--- if only one error is possible, this error has the smallest number
+-- if a token can have only one error, this error is the one with the smallest number
 pub least_same : (f g : HoaCause) → g ≡ f → cause_number f ≤ cause_number g
 least_same f g e = rw e (omega arith)

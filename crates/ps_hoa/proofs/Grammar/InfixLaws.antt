@@ -1,5 +1,5 @@
--- The laws of grammars with connectives: rows of operands, and operands, whose forms are distinguished by their first
--- tokens.
+-- Which tokens can begin and continue operands and rows of operands with connectives between them (`Laws`). The first
+-- token of an operand tells its form.
 --     laws_not, .., laws_right      the laws of single tokens
 --     laws_both, laws_rows, laws_nested      the laws of rows of operands, and of rows in parentheses
 --     laws_negation, laws_holding, laws_operand      the laws of operands: after `!`, with others inside, and any
@@ -23,7 +23,7 @@ use Rattle.ps_hoa.specs.declared.tokens.Kind.TheVariants.{Not, And, Or as OrSign
 use Rattle.ps_hoa.proofs.Grammar.KindSets.{union, within, within_both, apart, plain, laws_expect}
 use Rattle.ps_hoa.proofs.Grammar.OperandLaws.{Odd, Of, nothing_apart, laws_behind, laws_held, laws_row, Known, Tight}
 
--- the tokens that begin an operand which contains another operand, the tokens that begin any operand, and the tokens
+-- the kinds of tokens that begin an operand which contains another operand, that begin any operand, and that stand
 -- between operands
 abbrev pub nests : Kind → Bool
 nests = union is_not is_left
@@ -43,7 +43,7 @@ laws_and = laws_expect is_and And refl (λ _. refl)
 pub laws_or : Tight (expect is_or) is_or
 laws_or = laws_expect is_or OrSign refl (λ _. refl)
 
--- the laws of a left parenthesis
+-- the grammar of a single left parenthesis satisfies `Tight`
 pub laws_left : Tight (expect is_left) is_left
 laws_left = laws_expect is_left LeftParen refl (λ _. refl)
 
@@ -63,7 +63,7 @@ module _ {V : Type 0} (negated : Option (V → V)) where
   pub single_holds : Apart (Of is_single) (Of (holds negated))
   single_holds t h k = apart is_single nests refl t h (holds_nests t k)
 
--- the tokens that may follow the operands of a row, or of a row of rows
+-- the tokens that can continue operands joined by `&`, and those that can continue operands joined by `&` and `|`
 abbrev pub AndMore : Sign → Type 0
 AndMore = Of is_and
 
@@ -97,7 +97,7 @@ module _ {V : Type 0} {F : Sign → Type 0} (P : Part Sign V HoaCause) (together
   laws_holding (Some negated) = wider_first (laws_forms (laws_negation negated) laws_nested not_left)
       (within_both is_not is_left (holds (Some negated)) refl refl)
 
--- no operand that contains another operand is allowed here
+-- at the limit of nesting, an operand that contains another operand is an error
 module _ {V : Type 0} (negated : Option (V → V)) where
   laws_bar : Known (bar negated) nests nests (Unit {0})
   laws_bar = weaker (laws_barred (λ _. IsTooDeep negated) (laws_give Odd tt)

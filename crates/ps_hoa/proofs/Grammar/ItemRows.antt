@@ -1,6 +1,6 @@
--- The table of item names, as the code searches it.
+-- The search for an item name in the table of item names.
 --     rows_of      the rows of the table
---     found, passed, ended      the next row has the name; it does not; there is no next row
+--     found, passed, ended      the next row has the name, has another name, or does not exist
 use Rattle.std.proofs.Common.{◌≡◌, ℕ, ◌+◌, ◌<◌, ◌≤◌, true, false, List, map, drop, length, get_or, Bor}
 use Rattle.std.proofs.Common.{Option, None, Some, ◌∷◌, suc, drop-cons, add-one, refl, ap, ◌∙◌}
 use Rattle.std.proofs.lemmas.List.{drop_all}
@@ -11,7 +11,7 @@ use Rattle.ps_hoa.specs.declared.items.Item.{Item}
 abbrev pub rows_of : List (Bor (List ℕ) × Item) → List (List ℕ × Item)
 rows_of rows = map (λ row. (row.0.now, row.1)) rows
 
--- whether the first row has the name
+-- if the first row of the table has the name, the search finds the item of this row
 here : (row : Bor (List ℕ) × Item) (rest : List (Bor (List ℕ) × Item)) (name : List ℕ) →
     bytes_eq name row.0.now ≡ true → item_among (rows_of (row ∷ rest)) name ≡ Some row.1
 here row rest name e = rw e refl

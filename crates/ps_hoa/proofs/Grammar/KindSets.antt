@@ -1,5 +1,5 @@
--- Lemmas about sets of kinds, and the laws of a single token. Each lemma about sets is checked by trying all kinds, so
--- the proof of `Each` is `refl`.
+-- Lemmas about sets of kinds of tokens, and proofs that grammars of a single token satisfy `Laws`. Each lemma about
+-- sets is checked by trying all kinds of tokens, so `refl` proves its premise `Each`.
 --     within, within_both, apart      a set, or two sets, are within another set; two sets have no common kind
 --     test_of      a set has exactly one kind
 --     plain      no kind of the set is an error by itself
@@ -49,7 +49,7 @@ at p [] n l e = absurd (omega (arith, l))
 at p (k ∷ ks) zero l e = (and_parts (p k) (all p ks) e).0
 at p (k ∷ ks) (suc n) l e = at p ks n (omega (arith, l)) (and_parts (p k) (all p ks) e).1
 
--- the index of a kind in the list is its tag
+-- the index of a kind in `kinds` is its tag, the number of the variant
 place : (k : Kind) → (tag_of the_type k < length kinds) × (get_or kinds (tag_of the_type k) Finish ≡ k)
 place k = grind arith
 
@@ -86,7 +86,8 @@ test_of p kind is e = (
 
 -- ## One sign
 
--- for every text: no kind of the set is an error by itself, and no token of another kind has a value
+-- whatever a token's bytes: if its kind is in the set, the token is no error by itself; otherwise `take` gives it no
+-- value
 abbrev pub AreSigns : {V : Type 0} → (Kind → Bool) → (Sign → Option V) → Type 0
 AreSigns p take = (text : List ℕ) → Each (λ k. cond (p k) (not (is_some (own_cause k text)))
     (not (is_some (take (record { kind = k; text = text })))))
@@ -121,7 +122,7 @@ module _ {V : Type 0} {take : Sign → Option V} {Bad : Sign → HoaCause → Ty
   pub laws_value : ((t : Sign) (f : HoaCause) → Bad t f → take t ≡ None → ⊥) → Tight (one take Bad) p
   laws_value bad = laws_sign (λ t h. has_kind p take are t (bad t h.0 h.1))
 
--- a part that follows an optional part; the tokens that begin the optional part can also continue it
+-- a token that begins an optional grammar P or the grammar Q after it begins both together
 pub laws_behind_option : {A V : Type 0} {P : Part Sign A HoaCause} {Q : A → Part Sign V HoaCause} {Null : Type 0}
     (p q m : Kind → Bool) → Known P p p (Unit {0}) → ((a : A) → Known (Q a) q m Null) → Each (beside p q) →
     Each (inside p m) → Known (then_by P Q) (union p q) m Null

@@ -1,4 +1,4 @@
--- The laws of labels.
+-- Which tokens can begin and continue a label (`Laws`).
 use Rattle.std.proofs.Common.{◌≡◌, ℕ, true, List, [], refl, arith}
 use Rattle.ps_label.specs.Expression.{Expression}
 use Rattle.ps_text.proofs.Laws.{Laws}

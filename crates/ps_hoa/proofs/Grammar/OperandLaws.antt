@@ -1,5 +1,6 @@
--- The laws of single tokens, of operands in parentheses and of rows. The second half has lemmas about the loop that
--- parses a row: its invariant, and each way in which the function can return.
+-- Which tokens can begin and continue single tokens, operands in parentheses, and rows of operands (`Laws`). The second
+-- half of this file is about the loop that parses operands with connectives between them: its invariant, and each way
+-- in which the parsing function can return.
 --     Known, Tight      the laws of a part, stated with sets of kinds
 --     laws_behind, laws_held, laws_row      the laws of a token with a part, of a part with `)`, and of a row
 --     joint_expect, joint_closed, joint_operands      what follows a token, a part with `)`, and the first operand
@@ -33,8 +34,9 @@ Odd = Own hoa_causes
 abbrev pub Of : (Kind → Bool) → Sign → Type 0
 Of test sign = test sign.kind ≡ true
 
--- The laws of a part, stated with sets of kinds: the kinds with which the part begins, the kinds with which it
--- continues, and whether it may be empty. A `Tight` part is not empty, and no token continues it.
+-- `Laws` of a grammar, stated with sets of kinds of tokens: the kinds that begin its texts, the kinds that can continue
+-- them, and whether the empty text is one of them. A grammar that satisfies `Tight` has no empty text, and no token can
+-- continue its texts.
 abbrev pub Known : {V : Type 0} → Part Sign V HoaCause → (Kind → Bool) → (Kind → Bool) → Type 0 → Type 0
 Known part first more null = Laws Odd part (Of first) (Of more) null
 
@@ -51,11 +53,11 @@ was_true b v e = grind (arith, none_is_some)
 pub taken_expect : (test : Kind → Bool) (sign : Sign) (v : Unit {0}) → expect_in test sign ≡ Some v → Of test sign
 taken_expect test sign v e = was_true (test sign.kind) v e
 
--- no sign is in both sets if one of them is empty
+-- if one of two sets of tokens is empty, no token is in both
 pub nothing_apart : (A : Sign → Type 0) → Apart Nothing A
 nothing_apart A t h k = h
 
--- a token followed by a part, and a part followed by `)`
+-- the grammar of one token followed by another grammar, and a grammar followed by `)`
 module _ {V : Type 0} (test : Kind → Bool) {P : Part Sign V HoaCause} {First More : Sign → Type 0}
     (m : Tight (expect test) test) where
   pub joint_expect : {Null : Type 0} → Laws Odd P First More Null → Joint (expect test) (λ _. P)
@@ -88,18 +90,18 @@ module _ {V : Type 0} (sign : Kind → Bool) (operand : Part Sign V HoaCause) {F
   laws_row join = laws_mapped _ _ (weaker (laws_then (laws_mapped _ _ l) (laws_many item laws_item apart) apart)
       (both_within (λ t h. h) (λ t h. absurd h.0)) (both_within (λ t h. h) (λ t h. inl h.1)) (λ n. n.0))
 
-  -- the first operand fails
+  -- if the first operand has an error, this is the first error of the whole row of operands
   pub row_fails : (join : List V → V) (old : Stream Sign) (o : Option (Found HoaCause)) →
       Stops hoa_causes operand old o → Stops hoa_causes (row sign join operand) old o
   row_fails join old o s = grind (arith, stops_mapped, stops_first, joint_operands)
 
-  -- no further operand follows the first operand
+  -- if no connective follows the first operand, the row of operands consists of this operand
   pub row_alone : (join : List V → V) {old new : Stream Sign} {v : V} → Reads operand old v new →
       Avoids (Of sign) (next_of new) → Reads (row sign join operand) old v new
   row_alone join {new = new} {v = v} r a = reads_mapped (joined join)
       (reads_then joint_operands (reads_mapped single r) (many_ends item laws_item apart (single v) new a))
 
-  -- the invariant of the loop, after some operands
+  -- the invariant of the loop that parses a row of operands, after some operands were parsed
   abbrev pub InRow : Stream Sign → List V → Stream Sign → Type 0
   InRow old vs now = Carries hoa_causes (operands sign operand) old (many (λ ws. further sign operand ws) vs) now
 
@@ -115,7 +117,7 @@ module _ {V : Type 0} (sign : Kind → Bool) (operand : Part Sign V HoaCause) {F
   row_goes_on {vs = vs} k r n =
       carries_many item laws_item apart hoa_causes k (reads_then (joint_item vs) r (reads_mapped (with_last vs) n))
 
-  -- a further operand fails
+  -- if a further operand has an error, this is the first error of the whole row of operands
   pub row_stops : (join : List V → V) {old now mid : Stream Sign} {vs : List V} (o : Option (Found HoaCause)) →
       InRow old vs now → Reads (expect sign) now tt mid → Stops hoa_causes operand mid o →
       Stops hoa_causes (row sign join operand) old o
@@ -125,7 +127,7 @@ module _ {V : Type 0} (sign : Kind → Bool) (operand : Part Sign V HoaCause) {F
       (enters_read (expect sign) (signs now.pieces) (signs mid.pieces) tt (λ w h. m.null w h) r.1))
       (stops_behind hoa_causes (joint_item vs) r o (stops_mapped hoa_causes (with_last vs) operand mid o s))))
 
-  -- no further operand follows
+  -- if no connective follows, the row consists of the operands that were parsed so far
   pub row_ends : (join : List V → V) {old now : Stream Sign} {vs : List V} → InRow old vs now →
       Avoids (Of sign) (next_of now) → Reads (row sign join operand) old (joined join vs) now
   row_ends join {now = now} {vs = vs} k a =

@@ -1,4 +1,4 @@
--- The laws of single tokens of the header: names, numbers, strings and aliases.
+-- Which tokens are the names, numbers, strings and aliases of a header (`Laws`).
 --     Named name      the tokens that are this name
 --     laws_item_name, laws_int, laws_string, laws_proposition_name, laws_new_alias      the laws of single tokens
 --     laws_alternating      a token that `&` must not follow
@@ -50,7 +50,7 @@ pub named_text : (name : List ℕ) (kind : Kind) (text : List ℕ) → name_valu
     (kind ≡ Header) × (text ≡ name)
 named_text name kind text e = grind (arith, bytes_eq-Decides text name)
 
--- a name does not pass a test for other kinds
+-- a token of the kind `Header` does not pass a test that rejects this kind
 pub header_apart : (test : Kind → Bool) → test Header ≡ false → (t : Sign) → t.kind ≡ Header → Of test t → ⊥
 header_apart test e t h k = false_true (sym e ∙ ap test (sym h) ∙ k)
 
@@ -58,7 +58,8 @@ header_apart test e t h k = false_true (sym e ∙ ap test (sym h) ∙ k)
 pub some_there : (o : Option (Unit {0})) → (o ≡ None → ⊥) → o ≡ Some tt
 some_there o h = grind arith
 
--- the value of `is_unknown_capital` (specs/Causes)
+-- whether a name begins with a capital letter and is not defined by the grammar, as `is_unknown_capital` (specs/Causes)
+-- tells it
 abbrev pub is_unknown : List ℕ → Bool
 is_unknown name = cond (is_spelled name) false (begins_capital name)
 

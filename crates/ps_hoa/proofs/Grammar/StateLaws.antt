@@ -1,4 +1,4 @@
--- The laws of states and of the whole body, and how their parts are joined.
+-- Which tokens can begin and continue a state and the whole body (`Laws`), and how these grammars are joined.
 --     laws_state, laws_states, laws_ended, laws_body      the laws of one state, of all states, and of the body
 --     joint_state, joint_state_label, joint_number, joint_name, joint_marks      how the parts of a state are joined
 --     joint_body      how the states and `--END--` are joined
@@ -27,8 +27,8 @@ use Rattle.ps_hoa.proofs.Grammar.SignLaws.{header_apart, is_string, some_there, 
 use Rattle.ps_hoa.proofs.Grammar.BodyLaws.{lengthens_edge, laws_target_number, laws_marks, laws_state_label, laws_edge}
 use Rattle.ps_hoa.proofs.Grammar.BodyLaws.{edge_apart}
 
--- the tokens that begin the marks or edges of a state, those that begin its name, marks or edges, and those that can
--- follow its first token
+-- the kinds of tokens that begin the acceptance sets or edges of a state, that begin its name, sets or edges, and that
+-- can continue a state
 abbrev begins_marks : Kind → Bool
 begins_marks = union is_left_brace begins_edge
 
@@ -62,7 +62,7 @@ module _ (h : HeaderData) (b : BodyData) where
   laws_state_begins = laws_first (record { kind = Header; text = codes "State:" }) tt refl
       (λ t k. plain_named (codes "State:") refl t k.1) (λ t k. k) (λ t k. (tt, some_there (state_value t) k.1.0))
 
-  -- what remains of a state after one of its parts
+  -- the grammars of what remains of a state: from its edges on, from its acceptance sets on, and from its name on
   module _ (label : Option Expression) (n : ℕ) where
     abbrev from_edges : List ℕ → Part Sign BodyData HoaCause
     from_edges ns = mapped (with_row b) (edges h b.edges (empty_row n label ns))

@@ -1,4 +1,4 @@
--- The laws of an arbitrary header item, and of the header.
+-- Which tokens can begin and continue a header item and the whole header (`Laws`).
 --     joint_item, joint_header      how an item's name and arguments, and the items and `--BODY--`, are joined
 --     item_begins, item_elsewhere      the next token begins an item, or does not
 --     item_loop      the properties of an item that the loop over the items needs
@@ -31,7 +31,7 @@ use Rattle.ps_hoa.proofs.Reading.NextSign.{next_same}
 header_finish : Header ≡ Finish → ⊥
 header_finish e = cc
 
--- the tokens that are names of items
+-- tokens that are the name of a header item
 abbrev pub ItemFirst : Sign → Type 0
 ItemFirst = Taken item_in
 

@@ -1,4 +1,5 @@
--- The scan over the bytes of a text gives the only list of tokens that is related to the bytes, and such a list exists.
+-- The scan over the bytes of a text finds the only list of tokens that `AreTokens` allows for these bytes, and such a
+-- list exists.
 --     only_lex, some_tokens      the list is unique, and exists
 --     no_blanks, more_blanks, no_blank_begins      whether there are blanks between two offsets
 use Rattle.std.proofs.Common.{rules, ◌≡◌, ℕ, suc, zero, ◌+◌, ◌<◌, ◌≤◌, false, List, [], ◌∷◌, ◌++◌, length, take, drop}
@@ -28,7 +29,7 @@ use Rattle.ps_hoa.proofs.Lexing.StepMeanings.{Sound, sound}
 pub whole : (n : ℕ) (bytes : List ℕ) → bytes ≡ take n bytes ++ drop n bytes
 whole n bytes = sym (take-append-drop n bytes)
 
--- the step at a token
+-- a scan at the beginning of a token finds this token, whose length is not 0
 token_is : (kind : Kind) (text rest : List ℕ) → IsToken kind text rest →
     (scan_step (text ++ rest) ≡ Found kind (length text)) × (0 < length text)
 token_is Odd text rest i = rw i.text_is (go (scan_step (i.byte ∷ rest)) (sound i.byte rest), omega arith)

@@ -104,7 +104,7 @@ lex_skips [] (suc n) at = refl
 lex_skips (b ∷ bs) zero at = let e : at ≡ at + 0 = omega arith in ap (λ (k : ℕ). lex_behind (b ∷ bs) 0 k) e
 lex_skips (b ∷ bs) (suc n) at = grind (arith, lex_skips bs n (at + 1))
 
--- the list of tokens, by what the first byte begins
+-- the list of tokens of a text, given what the scan finds at the first byte
 abbrev lex_by : ℕ → List ℕ → ℕ → Step → List (Piece Sign)
 lex_by b bs at s = elim s [
   | Skip n ↦ lex_behind bs (n - 1) (at + 1)
@@ -134,7 +134,7 @@ pub lex_token : (bytes : List ℕ) (kind : Kind) (n at : ℕ) → 0 < length byt
     (at + n) (drop n bytes)
 lex_token bytes kind n at h k m = search (rules, lex_is, lex_skips)
 
--- one iteration of a loop over blanks
+-- one iteration of a loop that skips blanks and comments
 pub lex_step : (source : List ℕ) (from at n : ℕ) → scan_step (drop at source) ≡ Skip n → 0 < n →
     lex at (drop at source) ≡ lex from (drop from source) → lex (at + n) (drop (at + n) source) ≡ lex from
     (drop from source)

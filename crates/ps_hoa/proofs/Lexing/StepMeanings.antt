@@ -1,7 +1,7 @@
--- Each step of the scan is sound: it skips a blank part, or finds the longest token that begins at its offset.
+-- Each step of the scan is sound: it skips a blank or a comment, or finds the longest token that begins at its offset.
 --     sound      the step at any bytes is sound
 --     begins_is      the bytes begin with a given word
---     skip_within, found_within      a step stays within the bytes, and moves on while there are some
+--     skip_within, found_within      a step stays within the bytes, and moves forward unless there are none
 use Rattle.std.proofs.Common.{◌≡◌, ℕ, suc, zero, ◌+◌, ◌<◌, ◌≤◌, ◌&&◌, Bool, true, false, cond, List, [], ◌∷◌, ◌++◌}
 use Rattle.std.proofs.Common.{length, take, drop, subst, length-take, refl, ap, sym, ◌∙◌, arith, inl, inr, rules}
 use Rattle.std.specs.Prelude.{Option, None, Some, codes, nat_eq}
@@ -59,7 +59,7 @@ abbrev pub Sound : List ℕ → Step → Type 0
 Sound bytes (Skip n) = IsBlankPart (take n bytes) × (n ≤ length bytes) × (0 < n)
 Sound bytes (Found kind n) = IsToken kind (take n bytes) (drop n bytes) × (n ≤ length bytes) × (0 < n)
 
--- a byte that begins nothing
+-- a byte that begins no token, blank or comment is found as a token of the kind `Odd`
 odd_here : (b : ℕ) (bs : List ℕ) → scan_step (b ∷ bs) ≡ Found Odd 1 → Sound (b ∷ bs) (Found Odd 1)
 odd_here b bs is = (
   record {
@@ -97,7 +97,7 @@ number_sound b bs e =
     let r = run_sound is_digit bs in
     search (rules, length-prefix_len, cond_sound, and_true, ltb-true, eqb-true)
 
--- the byte after a prefix
+-- a prefix of the bytes is extended by the byte that follows it
 take_head : (k : ℕ) (bs : List ℕ) (c : ℕ) → 0 < c → head_or_zero (drop k bs) ≡ c →
     (take (suc k) bs ≡ take k bs ++ c ∷ []) × (suc k ≤ length bs)
 take_head zero [] c some e = absurd (omega arith)

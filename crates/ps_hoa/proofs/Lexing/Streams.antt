@@ -45,12 +45,12 @@ step_nothing : (kind : Kind) (n : ℕ) → scan_step [] ≡ Found kind n → (ki
 unfolding scan_step
 step_nothing kind n is = (cc, cc)
 
--- the kind at the end of the text
+-- at the end of the text, the scan finds a token of the kind `Finish` with length 0
 pub finish_here : (r : ScanState) (kind : Kind) (n : ℕ) → length r.source ≤ r.at →
     scan_step (drop r.at r.source) ≡ Found kind n → (kind ≡ Finish) × (n ≡ 0)
 finish_here r kind n done is = step_nothing kind n (rw (drop_all r.at r.source done) at is)
 
--- the next piece is the first piece of the list
+-- the next token of a stream is the first of its remaining tokens
 pub next_at : (s : Stream Sign) (p : Piece Sign) (ps : List (Piece Sign)) → s.pieces ≡ p ∷ ps → next_of s ≡ p
 next_at s p ps is = rw is refl
 
@@ -68,7 +68,7 @@ behind_at_end s is = rw is refl
 take_nothing : (n : ℕ) → take n (let none : List ℕ = [] in none) ≡ []
 take_nothing n = search rules
 
--- a stream is given by its list of pieces and its end
+-- a stream is determined by its remaining tokens and the offset of its end
 shown : (r : ScanState) (ps : List (Piece Sign)) (end : ℕ) → in_context r.history (lex r.at (drop r.at r.source)) ≡ ps →
     length r.source ≡ end → stream_of r ≡ record { pieces = ps; end = end }
 unfolding stream_of
@@ -83,12 +83,12 @@ no_piece p ps e = cc
 other : (a : Bool) (kind : Kind) → is_finish kind ≡ false → cond a Behind kind ≡ Finish → ⊥
 other a kind h k = search rules
 
--- a token is never the end of the text
+-- a token that was found in the text does not have the kind `Finish`
 never : (m : History) (kind : Kind) (text : List ℕ) → is_finish kind ≡ false → kind_here m kind text ≡ Finish → ⊥
 never m kind text h k = search (rules, other)
 
 module _ (source : List ℕ) (l : Lexeme) (history : History) (h : IsLexeme source l) where
-  -- the stream begins with this token
+  -- the stream from an offset on begins with the token that was found there
   found : l.start < length source →
       (stream_of (before source l history)).pieces ≡ token_piece source l history ∷ in_context
       (history_behind source l history)
@@ -112,7 +112,7 @@ module _ (source : List ℕ) (l : Lexeme) (history : History) (h : IsLexeme sour
       (before source l history))
   rest_is at on same = search (rules, dec_lt, shown, behind_at, found, end_is, stream_none, behind_at_end, pieces_none)
 
-  -- the kind is `Finish` exactly if no token remains
+  -- the next token has the kind `Finish` exactly if no token remains
   pub finish_iff : ((token_piece source l history).sign.kind ≡ Finish) ↔
       ((stream_of (before source l history)).pieces ≡ [])
   finish_iff = let r = before source l history in
@@ -147,7 +147,7 @@ module _ {source : List ℕ} {history : History} {kind : Kind} {token : Token} (
         stream_of (record { source = source; at = start; history = behind }) ≡ behind_next (stream_of r)
     kept_rest {next = next} e f on same = grind (arith, rest_is source _ history k.lexeme next on same)
 
--- the remaining tokens from an offset on, by their relation to the bytes
+-- skipping blanks and comments does not change the list of the remaining tokens
 pub pieces_new : (source : List ℕ) (from at start : ℕ) (history : History) (pieces : List (Piece Sign)) →
     history ≡ fresh →
     start ≡ at → lex at (drop at source) ≡ lex from (drop from source) → lex from (drop from source) ≡ pieces →

@@ -45,7 +45,7 @@ pub step_is : (b : ℕ) (bs : List ℕ) → scan_step (b ∷ bs) ≡ class_step 
 unfolding scan_step
 step_is b bs = refl
 
--- the step, by the class of the first byte
+-- the step of a scan, given the class of the first byte
 pub by_class : (b : ℕ) (bs : List ℕ) (c : Class) → class_of b ≡ c → scan_step (b ∷ bs) ≡ class_step c b bs
 by_class b bs c e = step_is b bs ∙ ap (λ (k : Class). class_step k b bs) e
 
@@ -72,7 +72,7 @@ run_sound p (b ∷ bs) = go (run_sound p bs) (p b) refl
 
 -- ## Comments and strings
 
--- if an optional number has the successor n, it is the predecessor of n
+-- if adding one to an optional number gives n, the option holds the predecessor of n
 pub some_more : (o : Option ℕ) (n : ℕ) → one_more o ≡ Some n → (m : ℕ) × (o ≡ Some m) × (n ≡ suc m)
 some_more o n h = search rules
 

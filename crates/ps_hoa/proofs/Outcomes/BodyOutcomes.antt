@@ -58,7 +58,7 @@ has_state_label h = has_either hoa_causes (laws_bracketed h) laws_no_label (λ t
 
 -- ## Edges
 
--- a target, which `&` must not follow
+-- the target of an edge, after which `&` is an error
 has_target : (Bad : ℕ → HoaCause → Type 0) → JudgesAll Bad → Has (barred (one int_in (BadIn Bad)) IsAlternating)
 has_target Bad judge = has_barred hoa_causes IsAlternating (laws_target_number Bad) number_barred judge_alternating
     (has_number Bad judge)

@@ -123,7 +123,7 @@ judge_body_token h t = judge_also cause_number (search (rules, decide_kind, test
 
 -- ## The tests of the code
 
--- whether an item is present, as computed by a test for `None`
+-- if the code's test for `None` is true, the header lacks the item
 pub said_none : {A B : Type 0} (see : A → B) (o : Option A) {b : Bool} → is_some o ≡ not b → b ≡ true →
     option_map see o ≡ None
 said_none see o e t = search (rules, false_true)

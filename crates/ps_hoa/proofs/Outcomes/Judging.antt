@@ -43,7 +43,7 @@ decide_kind test kind i k = decide_as (i.1 k) (λ e. subst (λ x. test x ≡ tru
 pub no_bad : {A : Type 0} → JudgesAll (NoBad {T = A} {F = HoaCause})
 no_bad a = judge_none cause_number
 
--- a number that is too large
+-- it is decidable whether a number exceeds its limit
 large : (limit n : ℕ) → Judged cause_number (λ f. (limit < n) × (f ≡ causes.Limit))
 large limit n = judge_cause cause_number causes.Limit (decide_below (suc limit) n)
 
@@ -103,7 +103,7 @@ may_have_no_label l = search rules
 may_have_label : (l : Labelling) → Decided (MayHaveLabel l)
 may_have_label l = search rules
 
--- the text already has the largest number of edges
+-- it is decidable whether a text already has the largest number of edges
 full : (before : ℕ) (row : RowData) →
     Judged cause_number (λ f. (edge_limit ≤ before + length row.edges) × (f ≡ causes.Limit))
 full before row = judge_cause cause_number causes.Limit (decide_below edge_limit (before + length row.edges))

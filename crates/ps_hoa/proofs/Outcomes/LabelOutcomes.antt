@@ -46,7 +46,7 @@ Has part = HasOutcomes hoa_causes part
 
 -- ## Single tokens, parentheses and rows
 
--- a part of one token
+-- a grammar of one token gives each list of tokens an outcome
 pub has_signs : {V : Type 0} {take : Sign → Option V} {Bad : Sign → HoaCause → Type 0} → IsOfSigns take Bad →
     JudgesAll Bad → Has (one take Bad)
 has_signs {take = take} {Bad = Bad} o judge = has_one hoa_causes take Bad o.sign o.value o.taken judge

@@ -1,5 +1,5 @@
--- The grammars of labels and conditions with a limit on the nesting of `!` and `(` equal the grammar without a limit,
--- up to that nesting.
+-- Up to the nesting limit, the grammars of labels and conditions that limit the nesting of `!` and `(` equal the
+-- grammars without a limit.
 --     to_operand, of_operand      for a grammar in which one more level of nesting adds one form to the operands
 use Rattle.std.proofs.Common.{◌≡◌, ◌↔◌, ◌⊎◌, ℕ, zero, suc, ◌≤◌, max, true, List, [], ◌∷◌, ◌++◌, refl, sym, ap, subst}
 use Rattle.std.proofs.Common.{inl, inr, ◌∙◌, arith}
@@ -25,11 +25,11 @@ Negation {V} g P text v =
     (t : Sign) × (rest : List Sign) × (w : V) × (text ≡ t ∷ rest) × (is_not t.kind ≡ true) × g.Negates w v ×
     P.IsText rest w
 
--- an operand in which one more level of nesting is allowed
+-- an operand, if one more level of nesting is allowed: an atom, a negation, or operands in parentheses
 abbrev Form : {V : Type 0} → Grammar V → Part Sign V HoaCause → List Sign → V → Type 0
 Form g P text v = g.IsAtom text v ⊎ (Negation g P text v ⊎ (inner (rows g.together Or P)).IsText text v)
 
--- the operands of a grammar: the atoms and, if there is room, operands after `!` and in parentheses
+-- the operands of a grammar: atoms and, if the nesting limit `room` is not 0, operands after `!` or in parentheses
 record Operands {V : Type 0} (g : Grammar V) (part : ℕ → Part Sign V HoaCause) : Type 0 where
   pub atoms : (room : ℕ) (text : List Sign) (v : V) → g.IsAtom text v → (part room).IsText text v
   pub negations : (room : ℕ) (text : List Sign) (v : V) → Negation g (part room) text v →
@@ -147,7 +147,7 @@ module _ {V : Type 0} (g : Grammar V) (part : ℕ → Part Sign V HoaCause) (is 
 
 -- ## Labels and conditions
 
--- an atom is an operand for every room; without room, every operand is an atom
+-- an atom is an operand for every nesting limit; if the limit is 0, every operand is an atom
 module _ {V : Type 0} (g : InfixGrammar V) where
   atom_text : (room : ℕ) (text : List Sign) (v : V) → g.leaf.IsText text v → (operand_of g room).IsText text v
   unfolding operand_of

@@ -1,4 +1,4 @@
--- A text has at most one answer.
+-- An HOA text has at most one answer: its meaning, or its first error.
 --     one_behind      the blanks at the start of a text are unique
 --     one_version      the version is unique
 --     one_reading      the answer is unique
@@ -50,7 +50,7 @@ NoBlankBegins rest = (part more : List ℕ) → rest ≡ part ++ more → IsBlan
 same_skip : (m n : ℕ) → Skip m ≡ Skip n → m ≡ n
 same_skip m n e = cc
 
--- two blank parts that begin at the same offset are equal
+-- two blanks or comments that begin at the same offset are equal
 one_part : (p q more rest : List ℕ) → IsBlankPart p → IsBlankPart q → p ++ more ≡ q ++ rest → (p ≡ q) × (more ≡ rest)
 one_part p q more rest h k e = same_split p more q rest e (same_skip (length p) (length q)
     (sym (part_is p more h).0 ∙ ap scan_step e ∙ (part_is q rest k).0))

@@ -1,4 +1,4 @@
--- Each HOA text has an answer.
+-- Each HOA text has an answer: its meaning, or its first error.
 --     blanks_from      the blanks at an offset of the text end at some offset
 --     some_reading      each text has an answer, which is found stage by stage
 use Rattle.std.proofs.Common.{◌≡◌, ℕ, zero, suc, ◌+◌, ◌<◌, ◌≤◌, ◌⊎◌, Bool, true, false, List, length, take, drop, refl}
@@ -49,7 +49,7 @@ module _ (text : List ℕ) where
   blanks_from from = past_blanks (length text) from from (omega arith) (no_blanks text from)
 
   module _ (short : length text ≤ text_limit) where
-    -- the answer to the text, depending on the version and what follows it
+    -- the meaning or the first error of the text, depending on whether the version is `v1`
     by_version : (first second : ℕ) (o : Opens text first second) (same : Bool) →
         bytes_eq (take (prefix_len is_version_byte (drop second text)) (drop second text)) (codes "v1") ≡ same →
         SomeAnswer text

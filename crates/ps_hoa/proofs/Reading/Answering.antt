@@ -1,5 +1,5 @@
--- The answer to a text, from the results of the parsing functions. There is a lemma for each way in which the parser of
--- whole texts can return.
+-- The meaning or the first error of an HOA text follows from the results of the parsing functions. There is a lemma for
+-- each way in which the parser of whole texts can return.
 --     refused_answers      the start of the text is rejected
 --     header_fails, body_fails      the header, or the body after it, has a first error
 --     ends_answers      header and body were parsed, and the text ends after them

@@ -109,7 +109,7 @@ module _ (h : HeaderData) (s : Stream Sign) where
   no_braces_serve differs = serves_as s (right_otherwise (laws_sets (sets_of h)) laws_no_sets (there_of s)
       (expect_elsewhere tests_left_brace s differs) (λ k. k))
 
--- the edges of a row after an edge is appended
+-- the abstract values of a row's edges, after an edge is appended
 pub pushed_edge : (es new : List Edge) (e : Edge) → new ≡ es ++ e ∷ [] →
     map edge_data es ++ edge_data e ∷ [] ≡ map edge_data new
 pushed_edge es new e q = sym (ap (map edge_data) q ∙ map-append edge_data es (e ∷ []))

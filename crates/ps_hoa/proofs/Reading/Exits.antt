@@ -1,4 +1,4 @@
--- Lemmas about the ways in which a parsing function can return, for the causes of HOA texts.
+-- Lemmas about the ways in which a parsing function of HOA texts can return.
 --     Serves old P Q      from `old` on, each result of P is also a result of Q: it is parsed, or it stops at an error
 --     serves_as, itself, serves_both      `Serves` holds because of the next token; for a part and itself; in two steps
 --     serves_meets      a result that meets the contract of P also meets that of Q

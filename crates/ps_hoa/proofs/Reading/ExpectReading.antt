@@ -35,7 +35,7 @@ pub record Tests (test : Kind → Bool) (kind : Kind) : Type 0 where
   pub is : IsTestOf test kind
   pub proper : kind ≡ Finish → ⊥
 
--- a token that is taken begins its part
+-- a token that the grammar of one token accepts begins a text of this grammar
 pub sign_begins : {V : Type 0} (take : Sign → Option V) (Bad : Sign → HoaCause → Type 0) (s : Stream Sign) {v : V} →
     ((next_of s).sign.kind ≡ Finish → ⊥) → take (next_of s).sign ≡ Some v → Enters (one take Bad) (there_of s)
 sign_begins take Bad s {v} proper e =
@@ -86,7 +86,7 @@ tests_left_brace = record { is = test_of is_left_brace LeftBrace refl refl; prop
 pub tests_right_brace : Tests is_right_brace RightBrace
 tests_right_brace = record { is = test_of is_right_brace RightBrace refl refl; proper = λ e. cc }
 
--- the test passes exactly the kind `LeftBracket`
+-- `is_left_bracket` accepts exactly the kind `LeftBracket`
 pub tests_left_bracket : Tests is_left_bracket LeftBracket
 tests_left_bracket = record { is = test_of is_left_bracket LeftBracket refl refl; proper = λ e. cc }
 
@@ -99,7 +99,7 @@ tests_int = record { is = test_of is_int Int refl refl; proper = λ e. cc }
 pub tests_string : Tests is_string Text
 tests_string = record { is = test_of is_string Text refl refl; proper = λ e. cc }
 
--- a token that begins the first alternative of `either` begins the whole part
+-- a token that begins the first alternative of `either` begins the whole grammar
 pub enters_left : {V : Type 0} (P Q : Part Sign V HoaCause) (there : Option Sign) → Enters P there →
     Enters (either P Q) there
 enters_left P Q there h = search rules

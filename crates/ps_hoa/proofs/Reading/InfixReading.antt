@@ -40,7 +40,7 @@ use Rattle.ps_hoa.proofs.Reading.ExpectReading.{expect_elsewhere, inner_fails, i
 use Rattle.ps_hoa.proofs.Reading.NextSign.{next_there, next_same}
 use Rattle.ps_hoa.proofs.Reading.RowReading.{Row}
 
--- the tokens that may follow an operand of a connective, without being parsed with it
+-- the tokens that can continue what stands on one side of the connective
 abbrev pub Behind : Connective → Sign → Type 0
 Behind connectives.And = Nothing
 Behind connectives.Or = AndMore
@@ -101,7 +101,7 @@ module _ {V : Type 0} (g : InfixGrammar V) (is : IsLeaf g.leaf) where
   bar_read old other = reads_barred (λ _. IsTooDeep g.negated) (laws_give Odd tt) (nothing_apart _) (λ t f e b.
       false_true (sym other ∙ ap (λ (s : Sign). holds g.negated s.kind) (next_same old t e) ∙ b.0)) (reads_give old tt)
 
-  -- the operand contains no other operand
+  -- if the next token begins no operand that contains another one, an operand is parsed as a leaf of the grammar
   pub leaf_serves : (room : ℕ) (old : Stream Sign) {p : Piece Sign} → p ≡ next_of old →
       holds g.negated p.sign.kind ≡ false → Serves old g.leaf (operand g room)
   unfolding operand
@@ -118,7 +118,7 @@ module _ {V : Type 0} (g : InfixGrammar V) (is : IsLeaf g.leaf) where
       (avoids_kind (holds g.negated) old
       (λ i. false_true (sym other ∙ ap (λ q. holds g.negated q.sign.kind) at ∙ i))) (λ b. b))
 
-  -- the next token begins an operand that contains another operand
+  -- the next token begins an operand that contains another operand, after `!` or in parentheses
   module _ (room : ℕ) (old : Stream Sign) {p : Piece Sign} (at : p ≡ next_of old)
       (h : holds g.negated p.sign.kind ≡ true) where
     kind_there : (next_of old).sign.kind ≡ p.sign.kind

@@ -15,7 +15,7 @@ use Rattle.ps_hoa.specs.Body.{BadIn}
 use Rattle.ps_hoa.specs.Inner.Reads.{Takes, IsTaken, IsWorst, IsRefusal}
 use Rattle.ps_hoa.specs.declared.fault.HoaCause.{HoaCause}
 
--- a property of the number, given that there is a number
+-- if an option is not `None`, its number has the property that `IfSome` states
 there : (o : Option ℕ) (P : ℕ → Type 0) → IfSome o P → (o ≡ None → ⊥) → (n : ℕ) × (o ≡ Some n) × P n
 there o P h k = search rules
 

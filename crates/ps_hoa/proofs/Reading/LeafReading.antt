@@ -75,7 +75,7 @@ module _ {old mid : Stream Sign} {often : Bool} (e : often_in (next_of old).sign
       visit_reads q = served.reads _ _ (reads_then joint_visit often_read (reads_then (joint_set often) l
           (reads_then (joint_closed_set often) m (reads_mapped (before (visits often v)) q))))
 
--- the next token is neither `Inf` nor `Fin`
+-- if the next token is neither `Inf` nor `Fin`, an atom of a condition is a constant
 pub constant_serves : (old : Stream Sign) → often_in (next_of old).sign ≡ None →
     Serves old (one constant_in NoBad) atom
 constant_serves old e = serves_as old (grind (arith, laws_constant))

@@ -1,5 +1,5 @@
--- Rows of operands, one after the other. The lemmas relate a grammar that is built from parts to a grammar that is
--- given by relations.
+-- Rows of operands with a connective between them. The lemmas relate the grammar of operands that combinators build to
+-- the grammar that specs/Nesting gives by relations.
 use Rattle.std.proofs.Common.{rules, arith, ◌≡◌, ℕ, zero, suc, Bool, true, cond, List, [], ◌∷◌, ◌++◌, None, Some, refl}
 use Rattle.std.proofs.Common.{sym, ap, subst, ◌∙◌, append_assoc, append-nil}
 use Rattle.ps_text.specs.Parts.{Part, times}

@@ -40,13 +40,13 @@ module _ (text : List ℕ) where
   pub number-among : (names : List (List ℕ)) → is_some (alias_number names text) ≡ is_name_among text names
   number-among names = search (rules, lt-ltb, among_place, no_place, le-ltb)
 
-  -- a name that is new, within the limit of aliases
+  -- the name of a new alias is accepted while the number of aliases is below its limit
   pub new_alias_taken : (names : List (List ℕ)) (kind : Kind) → kind ≡ AliasName → length names < alias_limit →
       is_name_among text names ≡ false →
       IsTaken alias_name_in (IsBadAlias names) (record { kind = kind; text = text }) text
   new_alias_taken names kind e short new = search (rules, false_true)
 
-  -- a name of an earlier alias
+  -- the name of an earlier alias is an error
   module _ (names : List (List ℕ)) (kind : Kind) (e : kind ≡ AliasName) (short : length names < alias_limit)
       (old : is_name_among text names ≡ true) where
     pub old_alias_bad : IsBadAlias names (record { kind = kind; text = text }) Alias

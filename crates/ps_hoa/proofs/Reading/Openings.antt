@@ -1,4 +1,4 @@
--- The opening of a text, and how it determines the answer to the text.
+-- The opening of an HOA text, `HOA:` and the version, and how it determines the text's meaning or first error.
 use Rattle.std.proofs.Common.{Bool, ◌≡◌, ℕ, ◌+◌, ◌-◌, ◌≤◌, true, false, List, ◌++◌, length, take, drop, ap, sym, subst}
 use Rattle.std.proofs.Common.{◌∙◌, arith, length-drop, rules}
 use Rattle.std.specs.Prelude.{codes, Result}

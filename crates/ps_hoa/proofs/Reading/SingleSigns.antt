@@ -1,5 +1,5 @@
--- A function that reads one token meets its contract: its result for the next token implies that it parsed the part, or
--- stopped at the part's first error.
+-- If the result of a function is right for the next token, the function has parsed a grammar of one token, or has
+-- stopped at the grammar's first error.
 use Rattle.std.proofs.Common.{rules, arith, ◌≡◌, ℕ, ◌⊎◌, List, [], ◌∷◌, Option, None, Some, Result, Ok, Err, refl, sym}
 use Rattle.std.proofs.Common.{◌∙◌, ap, inl, inr}
 use Rattle.ps_text.specs.Answers.{Piece, Stream}
@@ -16,11 +16,11 @@ use Rattle.ps_text.specs.declared.faults.Fault.TheVariants.{Text, OutOfMemory}
 use Rattle.ps_hoa.specs.declared.tokens.Kind.{Kind}
 use Rattle.ps_hoa.specs.declared.tokens.Kind.TheVariants.{Finish}
 
--- the sign that stands for the end of a text
+-- the token that stands for the end of a text
 abbrev pub end_sign : Sign
 end_sign = record { kind = Finish; text = [] }
 
--- a part of one token: some token is taken, and the end of the text is neither taken nor an error
+-- a grammar of one token, which accepts some token, and for which the end of the text is neither accepted nor an error
 pub record IsOfSigns {V : Type 0} (take : Sign → Option V) (Bad : Sign → HoaCause → Type 0) : Type 0 where
   pub sign : Sign
   pub value : V
@@ -55,7 +55,7 @@ module _ {V X : Type 0} (view : X → V) {take : Sign → Option V} {Bad : Sign 
   }) new o.sign o.value o.taken (λ t h. ap take (sym (same_some p.sign t h)) ∙ k.none)
       (λ t f h b. grind (arith, same_some)) (Text cause offset) (λ i. Some (record { cause = k.cause i; offset = x i }))
 
-  -- a function that takes the next token as stated reads a part of one token
+  -- a function that returns the right result for the next token meets the contract of parsing a grammar of one token
   pub reads_one : (old new : Stream Sign) (r : Result X HoaFault) → Takes view take Bad (next_of old) r →
       new ≡ behind_next old → Meets found_of hoa_causes view (one take Bad) old r new
   reads_one old new r = go old.pieces old.end r

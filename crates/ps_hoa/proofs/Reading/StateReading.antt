@@ -77,7 +77,7 @@ module _ (s : Stream Sign) where
   no_name_serves differs =
       search (rules, serves_as, right_otherwise, laws_named, laws_no_name, expect_elsewhere, tests_string)
 
--- the edges of a new row
+-- parsing the edges of a row that has no edge yet
 pub edges_serve : (h : HeaderData) {before count : ℕ} {row empty : RowData} → before ≡ count → row ≡ empty →
     (s : Stream Sign) → Serves s (edges h before row) (edges h count empty)
 edges_serve h {before} {count} {row} e q s = search (rules, Serves, itself)

@@ -1,5 +1,5 @@
--- The invariant of the items so far: numbers are within their limits, names differ, and each alias uses only earlier
--- aliases.
+-- The invariant of the header items parsed so far: numbers are within their limits, names differ, and each alias uses
+-- only earlier aliases.
 --     Kept h      items that give h satisfy the invariant
 --     keeps_number, keeps_int      a number that was parsed has no error, and is within its limit
 --     one_more_alias, few_more      the invariant holds with one more alias
@@ -34,7 +34,7 @@ use Rattle.ps_hoa.proofs.Soundness.SoundLabels.{NamesBelow, below}
 if_there : {X : Type 0} {o : Option X} (P : X → Type 0) {x : X} → o ≡ Some x → P x → IfSome o P × (o ≡ None → ⊥)
 if_there P {x} e h = (subst (λ o. IfSome o P) (sym e) h, λ k. none_is_some x (sym k ∙ e))
 
--- an INT without an error
+-- the number of an accepted `INT` has none of the errors that `Bad` states
 pub keeps_number : (Bad : ℕ → HoaCause → Type 0) → Keeps (one int_in (BadIn Bad)) (λ n. (f : HoaCause) → Bad n f → ⊥)
 keeps_number Bad = keeps_one int_in (BadIn Bad) (λ t n e good f b. good f (if_there (λ m. Bad m f) e b))
 
@@ -55,7 +55,8 @@ pub record HasAliases (names : List (List ℕ)) (es : List Expression) : Type 0 
   pub few : length es ≤ alias_limit
   pub rise : NamesRise 0 es
 
--- the invariant: the states, propositions, aliases, sets and controllable propositions are within their limits
+-- the invariant: the numbers of states, propositions, aliases and sets are within their limits, and no name and no
+-- controllable proposition occurs twice
 abbrev pub Kept : HeaderData → Type 0
 Kept h = IfSome h.states (λ n. n ≤ state_limit) × ((length (names_of h) ≤ proposition_limit) × AreNames (names_of h)) ×
     HasAliases h.alias_names h.aliases × IfSome h.acceptance (λ a. a.sets ≤ set_limit) ×

@@ -1,4 +1,4 @@
--- Properties that hold for the value of a part if the part has no error in its text.
+-- Properties that hold for the value of each text of a grammar if the text has no error.
 --     Keeps part S      S holds for the value of each text of the part without an error
 --     keeps_give, .., keeps_barred      `Keeps` holds for each combinator if it holds for the combined parts
 --     keeps_read      S holds for the value of a part that was parsed
@@ -13,7 +13,7 @@ IsQuiet {T} {V} {F} part text =
 abbrev pub Keeps : {T V F : Type 0} → Part T V F → (V → Type 0) → Type 0
 Keeps {T} {V} {F} part S = (text : List T) (v : V) → part.IsText text v → IsQuiet part text → S v
 
--- the property that holds for every value
+-- the property that is true of all values holds for every grammar
 pub keeps_nothing : {T V F : Type 0} (part : Part T V F) → Keeps part (λ _. Unit {0})
 keeps_nothing part text v i q = tt
 
@@ -24,12 +24,13 @@ keeps_less part h k text v i q = h v (k text v i q)
 pub keeps_give : {T V F : Type 0} (S : V → Type 0) (v : V) → S v → Keeps (give {T = T} {V = V} {F = F} v) S
 keeps_give S v s text w i q = subst S (sym i.1) s
 
--- a part of one token has a property that each taken token has
+-- the values of a grammar of one token have a property if the value of each accepted token has it
 pub keeps_one : {T V F : Type 0} {S : V → Type 0} (take : T → Option V) (Bad : T → F → Type 0) →
     ((t : T) (v : V) → take t ≡ Some v → ((f : F) → Bad t f → ⊥) → S v) → Keeps (one take Bad) S
 keeps_one take Bad h text v i q = h i.0 v i.2 (λ f b. q [] [] i.0 f i.1 (refl, b))
 
--- a sequence of two parts has a property of its values if its second part has it for each value of the first
+-- the values of two grammars in sequence have a property if the second grammar's values have it for each value of the
+-- first grammar
 pub keeps_then : {T A B F : Type 0} {S : A → Type 0} {R : B → Type 0} {P : Part T A F} {Q : A → Part T B F} →
     Keeps P S → ((a : A) → S a → Keeps (Q a) R) → Keeps (then_by P Q) R
 keeps_then {P = P} {Q = Q} p q text b i quiet = q i.value (p i.left i.value i.is_left left) i.right b i.is_right right
@@ -47,7 +48,7 @@ keeps_then {P = P} {Q = Q} p q text b i quiet = q i.value (p i.left i.value i.is
       is_cause = c;
     }))
 
--- a sequence of two parts has a property that its second part always has
+-- the values of two grammars in sequence have a property if the second grammar's values always have it
 pub keeps_behind : {T A B F : Type 0} {R : B → Type 0} (P : Part T A F) {Q : A → Part T B F} →
     ((a : A) → Keeps (Q a) R) → Keeps (then_by P Q) R
 keeps_behind P q = keeps_then (keeps_nothing P) (λ a _. q a)
@@ -56,7 +57,7 @@ pub keeps_either : {T V F : Type 0} {S : V → Type 0} {P Q : Part T V F} → Ke
 keeps_either p q text v (inl i) quiet = p text v i (λ front rest t f e c. quiet front rest t f e (inl c))
 keeps_either p q text v (inr i) quiet = q text v i (λ front rest t f e c. quiet front rest t f e (inr c))
 
--- a property of mapped values is a property of a part whose value is mapped
+-- the values of a grammar mapped by h have a property if h gives this property to each value of the grammar
 pub keeps_mapped : {T A B F : Type 0} (S : B → Type 0) (h : A → B) (P : Part T A F) → Keeps P (λ a. S (h a)) →
     Keeps (mapped h P) S
 keeps_mapped S h P k text b i quiet = subst S (sym i.2) (k text i.0 i.1 quiet)
@@ -70,7 +71,7 @@ module _ {T C F : Type 0} {S : C → Type 0} (item : C → Part T C F) (k : (c :
   keeps_times zero c s = keeps_give S c s
   keeps_times (suc n) c s = keeps_then (k c s) (keeps_times n)
 
-  -- a repetition has a property that its first value has and each item keeps
+  -- the values of a repetition have a property if the initial value has it and each item keeps it
   pub keeps_many : (c : C) → S c → Keeps (many item c) S
   keeps_many c s text v i quiet = keeps_times i.0 c s text v i.1 (λ front rest t f e d. quiet front rest t f e (i.0, d))
 

@@ -1,4 +1,4 @@
--- The slots of numbers.
+-- The slots of numbers, each of which keeps one number.
 --     different_kept      numbers that are kept differ
 use Rattle.std.proofs.Common.{◌≡◌, ℕ, false, List, [], ◌∷◌, refl, rules}
 use Rattle.std.specs.Prelude.{nat_eq}

@@ -1,4 +1,4 @@
--- Every parsed file is sound.
+-- Every parsed HOA file satisfies `IsSoundFile`.
 use Rattle.std.proofs.Common.{◌≡◌, ℕ, ◌^◌, ◌<◌, ◌≤◌, ◌≢◌, max, true, List, [], ◌∷◌, length, Option, None, Some, Ok}
 use Rattle.std.proofs.Common.{refl, inl, inr, arith, rules}
 use Rattle.std.specs.Option.{IfSome, unwrap_or}

@@ -21,14 +21,14 @@ pub record IsWorst (Bad : Sign → HoaCause → Type 0) (sign : Sign) (f : HoaCa
   pub stands : Bad sign f
   pub least : (g : HoaCause) → Bad sign g → cause_number f ≤ cause_number g
 
--- the token is not taken, and f is the token's own cause or `Syntax`
+-- the grammar rejects the token, and f is the token's own cause, or `Syntax` if the token has none
 pub record IsRefusal {V : Type 0} (take : Sign → Option V) (Bad : Sign → HoaCause → Type 0) (sign : Sign)
     (f : HoaCause) : Type 0 where
   pub none : take sign ≡ None
   pub good : (g : HoaCause) → Bad sign g → ⊥
   pub cause : f ≡ refusal_of hoa_causes (Some sign)
 
--- the token is taken
+-- the grammar accepts the token, which has no error
 pub record IsTaken {V : Type 0} (take : Sign → Option V) (Bad : Sign → HoaCause → Type 0) (sign : Sign) (v : V) : Type 0
   where
     pub some : take sign ≡ Some v

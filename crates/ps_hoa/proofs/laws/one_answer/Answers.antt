@@ -1,4 +1,4 @@
--- The law `one_answer` is the lemma `one_reading`.
+-- The lemma `one_reading` proves the law `one_answer`.
 use Rattle.ps_hoa.proofs.Outcomes.OneReading.{one_reading}
 use Rattle.ps_hoa.proofs.laws.one_answer.Goals as goal
 

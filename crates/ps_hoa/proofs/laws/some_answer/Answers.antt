@@ -1,4 +1,4 @@
--- The law `some_answer` is the lemma `some_reading`.
+-- The lemma `some_reading` proves the law `some_answer`.
 use Rattle.ps_hoa.proofs.Outcomes.SomeReading.{some_reading}
 use Rattle.ps_hoa.proofs.laws.some_answer.Goals as goal
 

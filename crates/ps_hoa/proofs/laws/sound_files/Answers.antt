@@ -1,4 +1,4 @@
--- The law `sound_files` is the lemma `sound_file`.
+-- The lemma `sound_file` proves the law `sound_files`.
 use Rattle.ps_hoa.proofs.Soundness.SoundFiles.{sound_file}
 use Rattle.ps_hoa.proofs.laws.sound_files.Goals as goal
 

@@ -1,4 +1,4 @@
--- Each clause of the law `sound_parts` is a lemma.
+-- A lemma proves each clause of the law `sound_parts`.
 use Rattle.ps_hoa.proofs.Soundness.SoundLaws.{sound_row, row_of_state, sound_edge}
 use Rattle.ps_hoa.proofs.laws.sound_parts.Goals as goal
 

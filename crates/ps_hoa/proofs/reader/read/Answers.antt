@@ -48,7 +48,7 @@ returns-in_err-finish-clause-answer c =
 pub file-requires : goal.file-requires
 file-requires c = sound c.in_ok-header.ensures c.in_ok-rows.ensures
 
--- the assembly returns either a file with the right value, or out of memory
+-- the function that assembles a file returns either a file with the right abstract value, or `OutOfMemory`
 made : (text : List ℕ) (v : FileData) (r : Result HoaFile HoaFault) →
     ((x : HoaFile) → seen x ≡ v → IsFileAnswer seen text (Ok x)) →
     IfOk r (λ x. seen x ≡ v) → IfErr r (λ e. e ≡ OutOfMemory) → IsFileAnswer seen text r

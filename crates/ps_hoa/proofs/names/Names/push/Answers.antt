@@ -1,4 +1,4 @@
--- The names and the table of their numbers, after a name is appended.
+-- A list of names and the table of their numbers, after a name is appended.
 use Rattle.std.proofs.Common.{◌≡◌, cond, ◌++◌, ◌∷◌, [], None, Some, length, map, ap, ◌∙◌, arith}
 use Rattle.std.specs.Str.{bytes_eq}
 use Rattle.std.proofs.lemmas.Bool.{cond-true}

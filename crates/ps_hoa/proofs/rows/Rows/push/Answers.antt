@@ -1,4 +1,4 @@
--- The rows and the table of their indices, after a row is appended.
+-- The list of rows and the table of their indices, after a row is appended.
 use Rattle.std.proofs.Common.{◌≡◌, ◌++◌, ◌∷◌, [], map, arith}
 use Rattle.std.proofs.lemmas.Bool.{cond-true}
 use Rattle.std.proofs.lemmas.List.{map-append, length-map}
