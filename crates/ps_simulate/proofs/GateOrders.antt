@@ -1,5 +1,6 @@
--- If no number below n leads back to itself, the numbers can be ordered such that each comes after those to which it
--- leads. In particular, the gates of a circuit can be ordered.
+-- If no number below n leads back to itself by a relation, the numbers below n can be ordered such that each comes
+-- after all numbers to which it is related. In particular, the gates of a circuit can be ordered such that each comes
+-- after the gates that it reads.
 use Rattle.std.proofs.Common.{◌≡◌, ◌≢◌, ℕ, zero, suc, ◌+◌, ◌<◌, inl, inr, List, [], ◌∷◌, ◌++◌, length, get_or, sym}
 use Rattle.std.proofs.Common.{ap, ◌∙◌, arith, Some, length-append, rules}
 use Rattle.std.specs.Prelude.{slice_get}
@@ -26,13 +27,13 @@ stands_or_not xs j = decide_as (λ c. (c.0, c.1, get_or_default xs c.0 0 j c.1 �
 
 module _ (R : ℕ → ℕ → Type 0) (n : ℕ) (to_within : (i j : ℕ) → R i j → j < n) (decide : (i j : ℕ) → Decided (R i j))
     (acyclic : (i : ℕ) → Way R i i → ⊥) where
-  -- distinct numbers below n, each after all numbers to which it leads
+  -- distinct numbers below n, each of which comes after all numbers to which it is related
   record IsPart (xs : List ℕ) : Type 0 where
     below : (k : ℕ) → k < length xs → get_or xs k 0 < n
     once : (k l : ℕ) → k < l → l < length xs → get_or xs k 0 ≢ get_or xs l 0
     behind : (k j : ℕ) → k < length xs → R (get_or xs k 0) j → (l : ℕ) × (l < k) × (get_or xs l 0 ≡ j)
 
-  -- a longer list that keeps the numbers of a shorter list, and has all numbers with the property P
+  -- a list that keeps the numbers of the list `old`, and has all numbers with the property P
   record Grown (old : List ℕ) (P : ℕ → Type 0) : Type 0 where
     new : List ℕ
     is_part : IsPart new
@@ -60,7 +61,7 @@ module _ (R : ℕ → ℕ → Type 0) (n : ℕ) (to_within : (i j : ℕ) → R i
         })
       ]
 
-  -- distinct numbers below n, each of which leads to i
+  -- distinct numbers below n, each of which leads to i by steps of the relation
   record IsPath (path : List ℕ) (i : ℕ) : Type 0 where
     below : (k : ℕ) → k < length path → get_or path k 0 < n
     differ : (k l d : ℕ) → k < l → l < length path → get_or path k d ≢ get_or path l d
@@ -79,7 +80,7 @@ module _ (R : ℕ → ℕ → Type 0) (n : ℕ) (to_within : (i j : ℕ) → R i
       leads zero k_lt = last r
       leads (suc k) k_lt = Way-join (is.leads k (omega (arith, k_lt))) (last r)
 
-  -- a number is added after all numbers to which it leads
+  -- a depth-first search adds a number to the list after all numbers to which it is related
   visit : (fuel : ℕ) {i : ℕ} (path : List ℕ) → IsPath path i → n < fuel + length path → i < n → (xs : List ℕ) →
       IsPart xs → Grown xs (λ k. i ≡ k)
   visit zero path is_path many lt xs is = absurd (omega (arith, many, few_below n path is_path.below is_path.differ))

@@ -1,4 +1,4 @@
--- The bits of one lane in a table of words behave like the bits of a plain table.
+-- In a table for 256 runs at once, the bits of each run behave like the bits in the table of a single run.
 use Rattle.std.proofs.Common.{◌≡◌, ℕ, ◌+◌, ◌/◌, ◌%◌, ◌<◌, ◌&&◌, ◌==◌, Bool, true, false, not, cond, List, []}
 use Rattle.std.proofs.Common.{◌∷◌, ◌++◌, map, take, drop, length, get_or, arith, rules}
 use Rattle.std.specs.Prelude.{◌^◌, replicate, slice_set, slice_get, Some}
@@ -37,7 +37,7 @@ bit_in-and a b lane lt la lb = search (rules, get_or-zip2, bit_at_and, both, bit
 pub bit_in-mask : (b : Bool) (lane : ℕ) → lane < 256 → lane_bit (replicate 4 (all_or_none b)) lane ≡ b
 bit_in-mask b lane lt = search (rules, get_or-replicate, mask_bit)
 
--- the effect of applying a mask to all words of a value
+-- the exclusive or of a value's words with a mask negates the value in each lane if all bits of the mask are 1
 bit_in-flipped : (a : List ℕ) (b : Bool) (lane : ℕ) → lane < 256 → length a ≡ 4
     → lane_bit (zip2 bit_xor a (replicate 4 (all_or_none b))) lane ≡ cond b (not (lane_bit a lane)) (lane_bit a lane)
 bit_in-flipped a b lane lt le =
@@ -54,13 +54,13 @@ bit_in-flipped a b lane lt le =
       flipped b (bit_at x i) (bit_at-lt x i) (mask_bit b i (omega arith)),
     )
 
--- the words of a literal
+-- the words that are read for a literal have the value of the literal in each lane
 pub bit_in-read : (values : List (List ℕ)) (wire : Wire) {m : ℕ} (lane : ℕ) → lane < 256 → wire.place < length values →
     length (get_or values wire.place []) ≡ 4 → m ≡ all_or_none wire.is_negated →
     lane_bit (zip2 bit_xor (get_or values wire.place []) (replicate 4 m)) lane ≡ read (lane_of values lane) wire
 bit_in-read values wire lane lt place four e = search (rules, bit_in-flipped, get_or-map)
 
--- the evaluation of one row in all lanes
+-- if one row is evaluated in all 256 lanes at once, it is evaluated in each single lane
 pub worked_on : (rows : List Row) (values initial : List (List ℕ)) (a b : List ℕ) (k lane : ℕ) → lane < 256 →
     k < length rows → length a ≡ 4 → length b ≡ 4 → lane_bit a lane ≡ read (lane_of values lane)
     (get_or rows k no_row).first → lane_bit b lane ≡ read (lane_of values lane) (get_or rows k no_row).second →
@@ -70,7 +70,8 @@ pub worked_on : (rows : List Row) (values initial : List (List ℕ)) (a b : List
 worked_on rows values initial a b k lane less lt la lb first second before =
     search (rules, no_row, bit_in-and, map-set, drop-cons)
 
--- the values of the first literals, and of one more literal
+-- if the first k entries of a table are the values of the first k literals, the same is true after one more literal is
+-- read
 pub read_on : (literals : List ℕ) (values table : List (List ℕ)) (words : List ℕ) (k lane : ℕ) → k < length literals →
     k < length table → lane_bit words lane ≡ read (lane_of values lane) (wire_in (get_or literals k 0)) →
     take k (lane_of table lane) ≡ map (λ l. read (lane_of values lane) (wire_in l)) (take k literals) →
@@ -90,7 +91,7 @@ read_on literals values table words k lane lt room here before =
       map-append bit (take k literals) (get_or literals k 0 ∷ []),
     )
 
--- the words of a latch's reset, after the words of the earlier latches
+-- in each lane, a list of the first latches' resets can be extended by the reset of one more latch
 pub reset_on : (latches : List Latch) (words : List (List ℕ)) {more : List (List ℕ)} {m : ℕ} (k lane : ℕ) → lane < 256 →
     k < length latches → m ≡ all_or_none (get_or latches k no_latch).reset → more ≡ words ++ replicate 4 m ∷ [] →
     lane_of words lane ≡ map (λ (l : Latch). l.reset) (take k latches) →
@@ -114,7 +115,7 @@ same_lane xs ys p q lane hp hq e = search (rules, get_or-map)
 pub length-lane : (xs : List (List ℕ)) (lane : ℕ) → length (lane_of xs lane) ≡ length xs
 length-lane xs lane = let f : List ℕ → Bool = λ ws. lane_bit ws lane in length-map xs f
 
--- the lowest bit after a shift
+-- the value of a latch in a lane is the lowest bit of one of the latch's words after a shift
 pub latch_is : (rows : List (List ℕ)) {words : List ℕ} (number lane : ℕ) → number < length rows →
     words ≡ get_or rows number words
     → slice_get (lane_of rows lane) number ≡ Some (bit_and (get_or words (lane / 64) 0 / 2 ^ (lane % 64)) 1 == 1)

@@ -1,4 +1,4 @@
--- The plan of the lanes: the new indices of a circuit's rows.
+-- The plan of a circuit for 256 runs at once, which gives new indices to the values of the gates.
 use Rattle.std.proofs.Common.{◌≡◌, ℕ, zero, suc, ◌+◌, ◌-◌, ◌/◌, ◌^◌, ◌⊎◌, ◌<◌, ◌≤◌, Bool, inl, inr, List, [], ◌∷◌, ◌++◌}
 use Rattle.std.proofs.Common.{map, take, drop, length, get_or, refl, ap, ◌∙◌, arith, All, rules}
 use Rattle.std.proofs.Common.{get_or-set_same, get_or-set_other}
@@ -38,7 +38,7 @@ module _ {c : CircuitData} (is : IsCircuit c) where
     abbrev pub front : ℕ
     front = 1 + length c.inputs + length c.latches
 
-    -- there are no more rows than gates
+    -- a plan has at most as many rows as the circuit has gates
     pub few_rows : length rows ≤ length c.gates
     few_rows = grind (arith, few_below, slice_get-get_or, length-rows is are)
 
@@ -54,7 +54,7 @@ module _ {c : CircuitData} (is : IsCircuit c) where
         at : (k : ℕ) → k < length rows → (numbered_row rows k).target ≡ (get_or rows k d).target
         at k lt = ap (λ (r : Row). r.target) (get_or_default rows k no_row d lt)
 
-    -- each index of the table is either before the gates, or the index of a row
+    -- each index of the table of values belongs to the constant, an input or a latch, or is the target of a row
     whose : (p : ℕ) → p < length (variables c) →
         (p < front) ⊎ ((k : ℕ) × (k < length rows) × (p ≡ (numbered_row rows k).target))
     whose p lt = elim (cases_lt p front) [
@@ -87,7 +87,7 @@ module _ {c : CircuitData} (is : IsCircuit c) where
       pub AreMoved-rows : AreMoved (length (variables c)) front places
       AreMoved-rows = record { each = each; within = within_table; once = one_each; kept = kept }
 
-    -- the lemmas about the rows of a circuit, for other rows and sizes that are equal to the circuit's
+    -- the lemmas about a circuit's rows, stated for all rows and sizes that are equal to the circuit's
     pub gate_rows_at : {size f : ℕ} {given : List Row} → size ≡ length (variables c) → f ≡ front → given ≡ rows →
         All (IsGateRow f size) given
     gate_rows_at size_is front_is e k d lt = search (rules, gate_rows)
@@ -103,7 +103,7 @@ pub moved_small : {size front : ℕ} {places : List ℕ} → AreMoved size front
     All (λ p. p < 2 ^ 31) places
 moved_small {places} are few k d lt = search (rules, get_or_default)
 
--- gates with successive indices
+-- `rows_from` gives one row for each gate
 pub length-rows_from : (place : ℕ) (gates : List Operands) → length (rows_from place gates) ≡ length gates
 length-rows_from place [] = refl
 length-rows_from place (g ∷ gates) = ap suc (length-rows_from (place + 1) gates)
@@ -128,7 +128,7 @@ rows_from-append : (place : ℕ) (gates : List Operands) (g : Operands) →
 rows_from-append place [] g = ap (λ n. row_of_operands n g ∷ []) (omega arith)
 rows_from-append place (h ∷ gates) g = grind (arith, rows_from-append (place + 1) gates g)
 
--- one more renumbered row
+-- if the first k rows were renumbered, the list of gates can be extended by one more renumbered row
 pub rows_more : (rows : List Row) (places : List ℕ) (gates : List Operands) {more : List Operands}
     (first second front k : ℕ) → k < length rows → AreInOrder front places rows →
     wire_in first ≡ move_wire places (get_or rows k no_row).first →
@@ -149,7 +149,7 @@ rows_more rows places gates first second front k lt in_order at_first at_second 
       map-append (move_row places) (take k rows) (r ∷ []),
     )
 
--- one more renumbered index
+-- the properties of a renumbering are kept when one more row gets its new index
 module _ (rows : List Row) (places : List ℕ) (front : ℕ) {size : ℕ} (n : ℕ) {target : ℕ} (lt : n < length rows)
     (e : target ≡ (get_or rows n no_row).target) (gates : All (IsGateRow front size) rows) (many : length places ≡ size)
   where
@@ -166,7 +166,7 @@ module _ (rows : List Row) (places : List ℕ) (front : ℕ) {size : ℕ} (n : �
         go : (k < n) ⊎ (n ≤ k) → moved (slice_set places target (front + n)) (get_or rows k d).target ≡ front + k
         go h = grind (arith, get_or-set_other, default, get_or-set_same)
 
--- the evaluation of one gate in all lanes
+-- if one gate is evaluated in all 256 lanes at once, it is evaluated in each single lane
 pub gate_on : (front : ℕ) (gates : List Operands) (values initial : List (List ℕ)) (a b : List ℕ) (k lane : ℕ) →
     lane < 256 → k < length gates → length a ≡ 4 → length b ≡ 4
     → lane_bit a lane ≡ read (lane_of values lane) (wire_in (get_or gates k no_operands).first) →
@@ -181,18 +181,18 @@ gate_on front gates values initial a b k lane less lt la lb first second before 
     rows_from_at front gates k lt in
     grind (arith, worked_on, length-rows_from)
 
--- the literals of a gate have indices within the table
+-- the literals that a gate reads have indices within the table of values
 pub gate_fits : (front size : ℕ) (gates : List Operands) (k : ℕ) → k < length gates →
     All (IsRowInTable size) (rows_from front gates)
     → ((get_or gates k no_operands).first / 2 < size) × ((get_or gates k no_operands).second / 2 < size)
 gate_fits front size gates k lt within = grind (arith, length-rows_from front gates, rows_from_at front gates k lt)
 
--- the gates have indices within the table
+-- the values of the gates have indices within the table of values
 pub gates_end : (front size : ℕ) (gates : List Operands) (rows : List Row) (places : List ℕ) →
     rows_from front gates ≡ map (move_row places) rows → front + length rows ≤ size → front + length gates ≤ size
 gates_end front size gates rows places e fit = search (rules, length-rows_from, length-map)
 
--- after the last gate
+-- after the last gate, all rows are evaluated
 pub all_done : (front : ℕ) (gates : List Operands) (k : ℕ) → length gates ≤ k → (values initial : List Bool)
     → work_out (drop k (rows_from front gates)) values ≡ work_out (rows_from front gates) initial →
     values ≡ work_out (rows_from front gates) initial

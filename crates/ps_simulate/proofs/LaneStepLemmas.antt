@@ -1,4 +1,4 @@
--- The values that a step of the 256 runs reads from its table, in one lane.
+-- What a single lane reads from the table of values when 256 runs take a step at once.
 use Rattle.std.proofs.Common.{◌≡◌, ℕ, ◌+◌, ◌/◌, ◌<◌, ◌≤◌, Bool, false, List, map, length, get_or, sym, ap, rules}
 use Rattle.std.proofs.Common.{◌∙◌, arith, All}
 use Rattle.std.specs.Prelude.{replicate}
@@ -41,7 +41,7 @@ module _ {c : CircuitData} {p : LanePlan} {values latches : List (List ℕ)} (t 
   pub size_is : p.size ≡ length (variables c)
   size_is = t.is_lane_plan.size_is ∙ t.is_lane_plan.is_plan.size_is
 
-  -- the table has the constant, the inputs, the latches and the gates
+  -- the table has one value for the constant and one for each input, latch and gate
   pub room : p.size ≡ 1 + length c.inputs + length c.latches + length c.gates
   room = omega (arith, size_is, length-variables c)
 
@@ -80,7 +80,7 @@ module _ {c : CircuitData} {p : LanePlan} {values latches : List (List ℕ)} (t 
   gates_fit = gates_end p.front p.size p.gates.items t.plan.rows.items t.places t.is_lane_plan.gates_are
       (grind (arith, few_rows, room))
 
-  -- the table has the constant
+  -- in each lane, the value at the index 0 of the table is the constant false
   pub constant_there : (lane : ℕ) → lane < 256 → get_or (lane_of values lane) 0 false ≡ false
   constant_there lane lt =
       let are = t.is_lane_plan.are_moved in

@@ -1,4 +1,4 @@
--- Runs of a circuit through words, and their first repetition.
+-- Runs of a circuit that reads words, up to the first repetition of latch values.
 use Rattle.std.proofs.Common.{◌≡◌, ◌≢◌, ℕ, zero, suc, ◌+◌, ◌-◌, ◌*◌, ◌^◌, ◌<◌, ◌≤◌, inl, inr, Bool, false, List, rules}
 use Rattle.std.proofs.Common.{[], ◌∷◌, ◌++◌, None, Vec, All, length, take, drop, get_or, map, refl, ap, sym, ◌∙◌, arith}
 use Rattle.std.proofs.Common.{append_assoc, add-one, length-append}
@@ -36,14 +36,14 @@ AreLetters-append names c [] ys us vs a b = rw a b
 AreLetters-append names c (m ∷ ms) ys [] vs a b = absurd a
 AreLetters-append names c (m ∷ ms) ys (u ∷ us) vs a b = (a.0, AreLetters-append names c ms ys us vs a.1 b)
 
--- there is one letter for each moment
+-- a trace has one letter for each step
 pub length_letters : (names : List (List ℕ)) (c : CircuitData) (ms : List Moment) (ls : List ℕ) →
     AreLetters names c ms ls → length ls ≡ length ms
 length_letters names c [] ls a = ap length a
 length_letters names c (m ∷ ms) [] a = absurd a
 length_letters names c (m ∷ ms) (u ∷ us) a = ap suc (length_letters names c ms us a.1)
 
--- each letter has only the propositions that have names
+-- each letter of a trace is less than 2^n, where n is the number of propositions
 pub few_letters : (names : List (List ℕ)) (c : CircuitData) (ms : List Moment) (ls : List ℕ) →
     AreLetters names c ms ls → (k d : ℕ) → k < length ls → get_or ls k d < 2 ^ length names
 few_letters names c [] ls a k d lt = absurd (let e : length ls ≡ 0 = ap length a in omega arith)
@@ -167,7 +167,7 @@ pub HasRead-next : {names : List (List ℕ)} {c d : CircuitData} {stem lap seen 
     length from ≡ length c.latches → HasRead names c stem lap seen' new last
 HasRead-next seen' same at h s r wide = search (rules, HasRead-lap)
 
--- each lap with new latch values leaves fewer lists of bits that were not seen
+-- each lap that begins with new latch values leaves fewer lists of latch values that were not seen
 pub fewer : {names : List (List ℕ)} {c : CircuitData} {stem lap seen' : List (List Bool)} {new : List ℕ}
     {last : List Bool} (seen : List (List Bool)) (latches : List Bool) → HasRead names c stem lap seen' new last →
     IsSeen seen seen' latches None →
@@ -194,7 +194,7 @@ letter_at items i {item} d lt is = search (rules, get_or-map)
 times_more : (i l : ℕ) → suc i * l ≡ i * l + l
 times_more i l = grind arith
 
--- the first of the two laps ends no later than the second lap begins
+-- of the two laps that begin with the same latch values, the first ends no later than the second begins
 pub lap_within : {names : List (List ℕ)} {c : CircuitData} {stem lap : List (List Bool)} {i : ℕ} {letters : List ℕ}
     (h : RepeatsBy names c stem lap i letters) → length stem + i * length lap + length lap ≤ length letters
 lap_within {lap} {i} h = grind (
@@ -210,7 +210,8 @@ pub lap_length : {names : List (List ℕ)} {c : CircuitData} {stem lap : List (L
 lap_length {names} {c} {stem} {lap} {i} count {letters} h e =
     grind (arith, length_of_letters h, mul-sub (length lap) h.j i, mul_comm (length lap) (h.j - i))
 
--- the first of the two laps ends no later than the second lap begins, for words that are stored in a `Vec`
+-- of the two laps that begin with the same latch values, the first ends no later than the second begins; here, words
+-- are stored in a `Vec`
 pub lap_within_items : {names : List (List ℕ)} {c : CircuitData} (stem lap : List (Vec Bool Global)) {i : ℕ}
     {letters : List ℕ} (h : RepeatsBy names c (letters_of stem) (letters_of lap) i letters)
     → length stem + i * length lap + length lap ≤ length letters

@@ -1,4 +1,4 @@
--- The bits of letters.
+-- Lemmas about setting single bits of a letter.
 use Rattle.std.proofs.Common.{◌≡◌, ◌≢◌, ℕ, ◌*◌, ◌^◌, ◌%◌, ◌<◌, Bool, true, false, [], refl, ap, sym, ◌∙◌, rules, bit_or}
 use Rattle.std.proofs.Common.{nat_eq, arith}
 use Rattle.std.specs.Prelude.{◌||◌}

@@ -17,7 +17,7 @@ length-letters_in width (suc count) bits = ap suc (length-letters_in width count
 mul_suc : (m n : ℕ) → suc m * n ≡ n + m * n
 mul_suc m n = grind arith
 
--- the number of bits after the first letter
+-- the number of bits that remain after the bits of the first letter
 rest_length : (width count : ℕ) (bits : List Bool) → length bits ≡ suc count * width →
     (length (drop width bits) ≡ count * width) × (width ≤ length bits)
 rest_length width count bits whole = grind (arith, mul_suc, length-drop)
@@ -27,7 +27,7 @@ pub whole-push : {width : ℕ} (count : ℕ) (bits letter : List Bool) → lengt
     length letter ≡ width → length (bits ++ letter) ≡ suc count * width
 whole-push {width} count bits letter whole fits = omega (arith, length-append bits letter, mul_suc count width)
 
--- the letters after a letter is appended
+-- appending the bits of a letter to the list of bits appends this letter to the letters
 pub letters_in-push : {width : ℕ} (count : ℕ) (bits letter : List Bool) → length bits ≡ count * width →
     length letter ≡ width → letters_in width (suc count) (bits ++ letter) ≡ letters_in width count bits ++ letter ∷ []
 letters_in-push {width} zero bits letter whole fits = search (rules, nil_from_length, take_all)
@@ -35,7 +35,7 @@ letters_in-push {width} (suc count) bits letter whole fits =
     let rest = rest_length width count bits whole in
     search (rules, take-append-le, drop-append-le, letters_in-push count (drop width bits) letter rest.0 fits)
 
--- the letter at an index
+-- the letter at the index i has the `width` bits from i * width on
 pub slice_get-letters_in : (width count : ℕ) (bits : List Bool) (i : ℕ) → i < count →
     slice_get (letters_in width count bits) i ≡ Some (take width (drop (i * width) bits))
 slice_get-letters_in width zero bits i lt = absurd (omega arith)
@@ -48,7 +48,7 @@ pub letter_within : (place count width : ℕ) {size : ℕ} → place < count →
     place * width + width ≤ size
 letter_within place count width lt is = search (rules, mul-le-mul_right)
 
--- the first error in the current line is the answer to the text
+-- if the current line has a first error, this is the first error of the text
 pub IsLettersAnswer-line : {text : List ℕ} {width start end : ℕ} {s : StimulusData} →
     HasRead text width false false start s → {line : List ℕ}
     → lines_of (drop start text) ≡ line ∷ lines_of (drop (end + 1) text) → start + length line ≡ end →

@@ -29,7 +29,7 @@ reads-unmoved places values (w ∷ ws) within = ap₂ ◌∷◌ (sym (read-unmov
     (reads-unmoved places values ws (λ k d lt. within (suc k) d (omega arith)))
 
 module _ {size front : ℕ} {places : List ℕ} (are : AreMoved size front places) where
-  -- setting a value in the original table is setting it at the new index in the renumbered table
+  -- setting a value at a new index in the renumbered table is setting the value at the old index in the original table
   unmoved-set : (values : List Bool) (t : ℕ) (x : Bool) → t < size → length values ≡ size
       → unmoved places (slice_set values (moved places t) x) ≡ slice_set (unmoved places values) t x
   unmoved-set values t x lt many = ext_get_or false _ _ (grind (arith, length-unmoved, length-set))

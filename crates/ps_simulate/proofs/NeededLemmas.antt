@@ -1,4 +1,4 @@
--- A step may leave out the rows that are not needed.
+-- A step need not evaluate the rows whose values are not needed.
 use Rattle.std.proofs.Common.{◌≡◌, ◌≢◌, ℕ, suc, ◌<◌, ◌≤◌, ◌⊎◌, ◌&&◌, inl, inr, Bool, true, false, List, [], ◌∷◌, map}
 use Rattle.std.proofs.Common.{length}
 use Rattle.std.proofs.Common.{get_or, refl, sym, subst, ap, ap₂, ◌∙◌, arith, All, length-set, get_or-set_same}
@@ -33,7 +33,7 @@ needs_less needed q p n = elim (cases_eq p q) [
   | inr differ ↦ inl (sym (get_or-set_other needed q p true false differ) ∙ n)
 ]
 
--- the set of needed values after the values that a row reads are added
+-- the needed values, after the values that a row reads are added to them
 abbrev pub with_sides : List Bool → Row → List Bool
 with_sides needed r = slice_set (slice_set needed r.first.place true) r.second.place true
 
@@ -45,7 +45,7 @@ needs_sides needed r within p h = needs_more (slice_set needed r.first.place tru
 
 module _ {rows : List Row} (is : IsScheduled rows) (needed : List Bool) (n : ℕ) (lt : n < length rows)
     (within : IsRowInTable (length needed) (numbered_row rows n)) where
-  -- no row reads the target of a later row
+  -- a row reads neither its own target nor the target of a later row
   needed_before : (k : ℕ) → n ≤ k → k < length rows →
       Needs (with_sides needed (numbered_row rows n)) (numbered_row rows k).target →
       Needs needed (numbered_row rows k).target

@@ -33,7 +33,7 @@ module _ {c : CircuitData} (is : IsCircuit c) where
       (get_or (variables c) (place_of_variable c (variable literal)) 0 ≡ variable literal)
   known_at literal k lt e = search (rules, place_of-at)
 
-  -- a literal whose variable is 0 or defined has an index
+  -- the variable of a literal has an index if the variable is 0 or the circuit defines it
   pub place_known : (literal : ℕ) → IsKnown (definitions c) literal
       → (place_of_variable c (variable literal) < length (variables c)) ×
       (get_or (variables c) (place_of_variable c (variable literal)) 0 ≡ variable literal)
@@ -47,7 +47,7 @@ module _ {c : CircuitData} (is : IsCircuit c) where
       Contains (map f xs) (f (get_or xs i d))
   contains_mapped f xs i d lt = (i, omega (arith, length-map xs f), get_or-map f xs i d (f (get_or xs i d)) lt)
 
-  -- the variables of a gate's literals are defined or 0
+  -- the variable of the literal that stands for a gate's own value is defined
   pub gate_known : (i : ℕ) (d : Gate) → i < length c.gates → IsKnown (definitions c) (get_or c.gates i d).literal
   gate_known i d lt = contains_variable _ (Contains-append_right (c.inputs ++ map (λ l. l.literal) c.latches) _ _
       (contains_mapped (λ g. g.literal) c.gates i d lt))
@@ -59,7 +59,7 @@ module _ {c : CircuitData} (is : IsCircuit c) where
   reads_contain (g ∷ gates) zero d lt = ((0, omega arith, refl), (1, omega arith, refl))
   reads_contain (g ∷ gates) (suc i) d lt = search (rules, Contains-append_right, reads_contain gates i d (omega arith))
 
-  -- both literals of each gate are defined
+  -- for both literals that a gate reads, the variable is defined or 0
   pub sides_known : (i : ℕ) (d : Gate) → i < length c.gates
       → IsKnown (definitions c) (get_or c.gates i d).first × IsKnown (definitions c) (get_or c.gates i d).second
   sides_known i d lt =

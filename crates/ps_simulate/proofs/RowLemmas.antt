@@ -1,4 +1,4 @@
--- The rows of a circuit.
+-- The rows of a plan, one for each gate of a circuit.
 use Rattle.std.proofs.Common.{◌≡◌, ℕ, suc, ◌+◌, ◌<◌, List, ◌++◌, map, length, rules}
 use Rattle.std.proofs.Common.{get_or, sym, subst, ap, ◌∙◌, arith, Some, length-append}
 use Rattle.std.proofs.lemmas.List.{length-map, get_or-map, get_or_append_left, get_or-append-add}
@@ -32,7 +32,7 @@ module _ (c : CircuitData) where
   pub length-definitions : length (definitions c) ≡ length c.inputs + length c.latches + length c.gates
   length-definitions = grind (arith, length-append, length-map)
 
-  -- the variables are the constant, the inputs, the latches and the gates
+  -- the list of a circuit's variables has one entry for the constant and one for each input, latch and gate
   pub length-variables : length (variables c) ≡ length c.inputs + length c.latches + length c.gates + 1
   length-variables = omega (arith, length-definitions, length-map (definitions c) variable)
 
@@ -53,7 +53,7 @@ module _ {c : CircuitData} (is : IsCircuit c) where
   place_of-same l m kl km e = search (rules, place_known)
 
   module _ {rows : List Row} (are : AreGateRows c rows) where
-    -- the index of a row's gate
+    -- the index of the gate that a row evaluates
     abbrev pub gate_place : ℕ → ℕ
     gate_place k = get_or are.order k 0
 
@@ -97,7 +97,7 @@ module _ {c : CircuitData} (is : IsCircuit c) where
           (search (rules, gate_at, reads, sides_known, gate_within, row_is));
     }
 
-    -- the indices of a row are within the table
+    -- the indices in a row are within the table of values
     pub IsRowInTable-row : (k : ℕ) → k < length rows → IsRowInTable (length (variables c)) (numbered_row rows k)
     IsRowInTable-row k lt =
         let sides = sides_known is (gate_place k) no_gate (gate_within k lt) in

@@ -1,4 +1,4 @@
--- The values that a step reads from its table.
+-- What a step of a circuit reads from its table of values.
 use Rattle.std.proofs.Common.{◌≡◌, ℕ, suc, ◌<◌, Bool, false, List, [], ◌∷◌, map, length, get_or, refl, sym, ap, ap₂}
 use Rattle.std.proofs.Common.{◌∙◌, arith, All}
 use Rattle.std.proofs.lemmas.List.Elements.{All-from_get_or, All-map}
@@ -29,7 +29,7 @@ module _ {c : CircuitData} (is : IsCircuit c) {plan : Plan} (p : IsPlan c plan) 
   nexts_within = rw p.nexts_are (All-map (λ w. w.place < length (variables c)) (λ (l : Latch). wire_of c l.next)
       c.latches (grind (arith, All-from_get_or, place_known, next_known)))
 
--- the values of literals, as the table has them
+-- what is read from the table for some literals are the values of these literals
 reads : {A : Type 0} (literal : A → ℕ) (wire : A → Wire) (table values : List Bool) (xs : List A) (d : A)
     → ((k : ℕ) → k < length xs → read table (wire (get_or xs k d)) ≡ bit_of values (literal (get_or xs k d)))
     → map (read table) (map wire xs) ≡ map (λ x. bit_of values (literal x)) xs
@@ -37,7 +37,8 @@ reads literal wire table values [] d same = refl
 reads literal wire table values (x ∷ xs) d same =
     ap₂ ◌∷◌ (same 0 (omega arith)) (reads literal wire table values xs d (λ k lt. same (suc k) (omega arith)))
 
--- the part of a step after the evaluation of the rows
+-- after the rows are evaluated, the outputs and latch values that are read from the table complete a step of the
+-- circuit
 pub Steps-worked_out : {c : CircuitData} → IsCircuit c → {plan : Plan} → IsPlan c plan →
     {inputs latches values outputs next : List Bool} → length inputs ≡ length c.inputs →
     length latches ≡ length c.latches → IsWorkedOut plan.rows.items inputs latches (length (variables c)) values →
@@ -54,7 +55,7 @@ Steps-worked_out {c} is {plan} p {inputs} {latches} {values} many_inputs many_la
           no_latch (λ k lt. sym (bit_of-values_by is values _ (next_known is k no_latch lt)));
     }
 
--- a step keeps the invariant of the table
+-- a step keeps the invariant of the table of values
 pub IsValueTable-worked_out : {c : CircuitData} {plan : Plan} {old latches inputs values : List Bool} (next : List Bool)
     →
     IsValueTable c plan old latches → IsWorkedOut plan.rows.items inputs latches (length (variables c)) values →

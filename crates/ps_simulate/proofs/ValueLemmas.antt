@@ -21,7 +21,7 @@ use Rattle.ps_simulate.proofs.RowLemmas.{target_is, IsScheduled-rows, IsRowInTab
 use Rattle.ps_simulate.specs.NeededGates.{numbered_row}
 use Rattle.ps_simulate.proofs.WorkLemmas.{work_out-other, work_out-row}
 
--- the value of each variable, from 0 to the greatest, taken from a table that has the values by place
+-- the value of each variable, from 0 to the greatest, taken from a table that has the values by index
 abbrev pub values_by : CircuitData → List Bool → List Bool
 values_by c table = map (λ v. get_or table (place_of_variable c v) false) (range_with_len 0 (c.most + 1))
 
@@ -55,7 +55,7 @@ module _ {c : CircuitData} (is : IsCircuit c) where
   module _ {rows : List Row} (are : AreGateRows c rows) {inputs latches table : List Bool}
       (each : length table ≡ length (variables c)) (many_inputs : length inputs ≡ length c.inputs)
       (many_latches : length latches ≡ length c.latches) (holds : HasSources inputs latches table) where
-    -- evaluating the rows does not change the values before those of the gates
+    -- evaluating the rows does not change the values of the constant, the inputs and the latches
     kept : (p : ℕ) → p < suc (length c.inputs + length c.latches) →
         get_or (work_out rows table) p false ≡ get_or table p false
     kept p lt = work_out-other rows table p (λ k less e. omega (arith, target_is is are k less))
@@ -116,7 +116,7 @@ module _ {c : CircuitData} (is : IsCircuit c) where
       gates_are = All-from_get_or (MeetsGate (values_by c (work_out rows table))) c.gates no_gate gate_holds;
     }
 
--- the table before the evaluation of the rows
+-- the table of values before any row is evaluated
 abbrev pub first_table : CircuitData → List Bool → List Bool → List Bool
 first_table c inputs latches = false ∷ inputs ++ latches ++ replicate (length c.gates) false
 

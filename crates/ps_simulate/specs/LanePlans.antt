@@ -1,4 +1,4 @@
--- The table of 256 simultaneous runs, which is the table of a plain run with renumbered indices. The new indices list
+-- The plan for 256 simultaneous runs, which is the plan of a single run with renumbered indices. The new indices list
 -- the gates in the order of evaluation.
 use Rattle.std.specs.Prelude.{◌≡◌, ◌≢◌, ℕ, ◌+◌, ◌<◌, ◌≤◌, Bool, false, List, [], ◌∷◌, map, length, slice_index_or}
 use Rattle.ps_circuit.specs.Circuits.{CircuitData}
@@ -14,7 +14,7 @@ use Rattle.ps_simulate.specs.Plans.{IsPlan}
 abbrev pub wire_in : ℕ → Wire
 wire_in literal = record { place = variable literal; is_negated = is_negated literal }
 
--- gates with successive indices, from the given index on
+-- rows for the given gates, whose values have successive indices from the given index on
 abbrev pub rows_from : ℕ → List Operands → List Row
 rows_from place [] = []
 rows_from place (g ∷ gates) =
@@ -32,15 +32,15 @@ abbrev pub move_row : List ℕ → Row → Row
 move_row places r =
     record { target = moved places r.target; first = move_wire places r.first; second = move_wire places r.second }
 
--- the values in the order of their old indices
+-- the values of a renumbered table in the order of their old indices
 abbrev pub unmoved : List ℕ → List Bool → List Bool
 unmoved places values = map (λ p. slice_index_or values p false) places
 
--- the first indices stay
+-- the renumbering does not change the indices below `front`
 abbrev pub AreKept : ℕ → List ℕ → Type 0
 AreKept front places = (p : ℕ) → p < front → moved places p ≡ p
 
--- the rows get successive new indices
+-- the targets of the rows get successive new indices, from `front` on
 abbrev pub AreInOrder : ℕ → List ℕ → List Row → Type 0
 AreInOrder front places rows =
     (k : ℕ) (d : Row) → k < length rows → moved places (slice_index_or rows k d).target ≡ front + k
@@ -50,7 +50,7 @@ pub record IsGateRow (front size : ℕ) (r : Row) : Type 0 where
   pub behind : front ≤ r.target
   pub within : r.target < size
 
--- no two rows have the same index
+-- no two rows have the same target
 abbrev pub AreOnce : List Row → Type 0
 AreOnce rows =
     (k l : ℕ) (d : Row) → k < l → l < length rows → (slice_index_or rows k d).target ≢ (slice_index_or rows l d).target
@@ -62,7 +62,7 @@ pub record AreMoved (size front : ℕ) (places : List ℕ) : Type 0 where
   pub once : (p q : ℕ) → p < size → q < size → moved places p ≡ moved places q → p ≡ q
   pub kept : AreKept front places
 
--- the plan of a plain run, with renumbered indices
+-- the plan for 256 runs is the plan of a single run with renumbered indices
 pub record IsLanePlan (c : CircuitData) (plan : Plan) (places : List ℕ) (p : LanePlan) : Type 0 where
   pub is_plan : IsPlan c plan
   pub are_moved : AreMoved p.size p.front places

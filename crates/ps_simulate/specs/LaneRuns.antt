@@ -4,18 +4,18 @@ use Rattle.ps_circuit.specs.Circuits.{CircuitData}
 use Rattle.ps_circuit.specs.Values.{Moment, Steps, GoesOn}
 use Rattle.ps_simulate.specs.Lanes.{lane_of}
 
--- the words of one step; the latches are those before the step
+-- one step of 256 runs at once: four words for each latch, input and output; the latches are those before the step
 pub record LaneMoment : Type 0 where
   pub latches : List (List ℕ)
   pub inputs : List (List ℕ)
   pub outputs : List (List ℕ)
 
--- the bits of one lane
+-- the step of a single lane
 abbrev pub moment_in : ℕ → LaneMoment → Moment
 moment_in lane m =
     record { latches = lane_of m.latches lane; inputs = lane_of m.inputs lane; outputs = lane_of m.outputs lane }
 
--- a step in each lane
+-- each of the 256 lanes takes a step of the circuit
 abbrev pub StepsInLanes : CircuitData → List (List ℕ) → List (List ℕ) → List (List ℕ) → List (List ℕ) → Type 0
 StepsInLanes c latches inputs outputs next =
     (lane : ℕ) → lane < 256 → Steps c (lane_of latches lane) (lane_of inputs lane) (lane_of outputs lane)
@@ -28,9 +28,9 @@ GoOnInLanes c latches (m ∷ ms) last =
     (next : List (List ℕ)) × (m.latches ≡ latches) × StepsInLanes c latches m.inputs m.outputs next ×
     GoOnInLanes c next ms last
 
--- For every list of steps, the steps of each lane form a run from the latch values of that lane. Every plain run from
--- these latch values on the letters of the lane is the same run: it has the same outputs, and the same latch values
--- before each step and at the end.
+-- For every list of steps, the steps of each lane form a run from the latch values of that lane. Every run of the
+-- circuit from these latch values on the letters of the lane is this run: it has the same outputs, and the same latch
+-- values before each step and at the end.
 abbrev pub AreLanesPlain : CircuitData → Type 0
 AreLanesPlain c =
     (latches last : List (List ℕ)) (ms : List LaneMoment) → GoOnInLanes c latches ms last →

@@ -12,7 +12,7 @@ use Rattle.ps_simulate.specs.Tables.{IsValueTable}
 abbrev pub all_or_none : Bool → ℕ
 all_or_none is_set = if is_set then 2 ^ 64 - 1 else 0
 
--- the bit of one lane
+-- the bit that a value's words have for one lane
 abbrev pub lane_bit : List ℕ → ℕ → Bool
 lane_bit words lane = bit_at (slice_index words (lane / 64)) (lane % 64) == 1
 
@@ -25,7 +25,7 @@ pub record LaneSimulation : Type 0 where
   pub circuit : CircuitData
   pub latches : List (List ℕ)
 
--- each lane has a table of the plain simulator, with renumbered indices
+-- in each lane, the values are those in the table of a single run, with renumbered indices
 pub record AreLaneTables (c : CircuitData) (p : LanePlan) (values latches : List (List ℕ)) : Type 0 where
   pub plan : Plan
   pub places : List ℕ

@@ -13,7 +13,7 @@ pub record AreWide (c : CircuitData) (stem lap : List (List Bool)) : Type 0 wher
   pub stem_is : All (λ letter. length letter ≡ length c.inputs) stem
   pub lap_is : All (λ letter. length letter ≡ length c.inputs) lap
 
--- there is no fault
+-- none of the faults `Width`, `EmptyLap` and `Symbols` applies
 pub record HasNoLassoFault (role : Role) (a : AutomatonData) (c : CircuitData) (stem lap : List (List Bool)) : Type 0
   where
     pub wide : AreWide c stem lap

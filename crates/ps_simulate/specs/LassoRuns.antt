@@ -1,4 +1,4 @@
--- Runs of a circuit through words. Only private contracts use these definitions.
+-- Runs of a circuit that reads words. Only private contracts use these definitions.
 use Rattle.std.specs.Prelude.{◌≡◌, ◌≢◌, ℕ, ◌<◌, ◌++◌, Bool, List, [], ◌∷◌, Option, None, Some, length, map, slice_get}
 use Rattle.std.specs.Prelude.{slice_index_or, Vec}
 use Rattle.std.specs.BTreeMap.{BTreeMap, btree_map_len, get}
@@ -29,8 +29,8 @@ pub record RepeatsBy (names : List (List ℕ)) (c : CircuitData) (stem lap : Lis
   pub repeats : RepeatsLatches c stem lap i j trace
   pub are_letters : AreLetters names c trace letters
 
--- The circuit has read one lap for each entry of `seen`. The entries of `seen` are the latch values before each lap, in
--- order, and all of them differ.
+-- After the stem, the circuit has read one lap for each entry of `seen`. The entries of `seen` are the latch values
+-- before each lap, in order, and all of them differ.
 pub record HasRead (names : List (List ℕ)) (c : CircuitData) (stem lap : List (List Bool)) (seen : List (List Bool))
     (letters : List ℕ) (last : List Bool) : Type 0 where
   pub trace : List Moment

@@ -1,7 +1,7 @@
 -- The verdict of an automaton on a circuit, a stem that is read once, and a lap that is read repeatedly.
 --     IsLetterOf names c m letter      each proposition has the bit of the input or output of its name in the step
 --     RepeatsLatches c stem lap i j trace      the first repetition: the latches before lap j are those before lap i
---     IsVerdictOf file c stem lap verdict      whether the trace so far is accepted, as a lasso that returns to lap i
+--     IsVerdictOf file c stem lap verdict      whether the trace is accepted, as a lasso that returns to lap i
 use Rattle.std.specs.Prelude.{◌≡◌, ◌≢◌, ℕ, zero, suc, ◌+◌, ◌-◌, ◌*◌, ◌^◌, ◌<◌, ◌↔◌, Bool, false, IsTrue, List, [], ◌∷◌}
 use Rattle.std.specs.Prelude.{◌++◌, length, map, take, drop, slice_index_or}
 use Rattle.ps_label.specs.Truth.{is_in}
@@ -19,7 +19,7 @@ pub record IsLetterOf (names : List (List ℕ)) (c : CircuitData) (m : Moment) (
   pub inputs : (k p : ℕ) → IsSymbol names c.input_names k p → is_in p letter ≡ slice_index_or m.inputs k false
   pub outputs : (k p : ℕ) → IsSymbol names c.output_names k p → is_in p letter ≡ slice_index_or m.outputs k false
 
--- a letter for each step
+-- the letters of a trace, one for each step
 abbrev pub AreLetters : List (List ℕ) → CircuitData → List Moment → List ℕ → Type 0
 AreLetters names c [] letters = letters ≡ []
 AreLetters names c (m ∷ ms) [] = ⊥
@@ -27,7 +27,7 @@ AreLetters names c (m ∷ ms) (letter ∷ letters) = IsLetterOf names c m letter
 
 -- ## The first repetition
 
--- a given number of consecutive laps
+-- the word that repeats a lap a given number of times
 abbrev pub laps_of : List (List Bool) → ℕ → List (List Bool)
 laps_of lap zero = []
 laps_of lap (suc laps) = laps_of lap laps ++ lap

@@ -24,7 +24,7 @@ pub record IsScheduled (rows : List Row) : Type 0 where
   pub second_behind : (k l : ℕ) → k < length rows → l < length rows →
       (numbered_row rows k).second.place ≡ (numbered_row rows l).target → l < k
 
--- the value at this index is needed
+-- the value at the index `place` is needed
 abbrev pub Needs : List Bool → ℕ → Type 0
 Needs needed place = slice_index_or needed place false ≡ true
 

@@ -10,7 +10,7 @@ pub record StimulusData : Type 0 where
 abbrev pub letters_of : List (Vec Bool Global) → List (List Bool)
 letters_of letters = map (λ letter. letter.items) letters
 
--- letters of a given width and number, whose bits are in a single list
+-- a given number of letters of a given width, cut from a single list of bits
 abbrev pub letters_in : ℕ → ℕ → List Bool → List (List Bool)
 letters_in width zero bits = []
 letters_in width (suc count) bits = take width bits ∷ letters_in width count (drop width bits)

@@ -62,7 +62,7 @@ pub record IsStimulus (text : List ℕ) (width : ℕ) (split : Bool) (s : Stimul
 abbrev pub IsDigit : ℕ → Type 0
 IsDigit byte = (byte ≡ 48) ⊎ (byte ≡ 49)
 
--- a divider is required, and line k is the first one
+-- a divider is required, and line k is the first divider
 pub record Divides (split : Bool) (lines : List (List ℕ)) (k : ℕ) : Type 0 where
   pub wanted : split ≡ true
   pub there : slice_get lines k ≡ Some divider

@@ -1,10 +1,11 @@
--- The invariant of a simulator's table.
+-- The invariant of a simulator's table of values.
 use Rattle.std.specs.Prelude.{◌≡◌, Bool, false, List, length, slice_index_or}
 use Rattle.ps_circuit.specs.Circuits.{CircuitData, IsCircuit}
 use Rattle.ps_simulate.specs.declared.plan.Plan.{Plan}
 use Rattle.ps_simulate.specs.Plans.{IsPlan, variables}
 
--- a table with a value for each index, of which the first is the constant, and a list with a value for each latch
+-- a table with a value for each index of the plan, beginning with the constant false, and a list with a value for each
+-- latch
 pub record IsValueTable (c : CircuitData) (plan : Plan) (values latches : List Bool) : Type 0 where
   pub is_circuit : IsCircuit c
   pub is_plan : IsPlan c plan

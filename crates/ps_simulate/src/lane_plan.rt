@@ -1,4 +1,4 @@
-//! The table of gates for 256 simultaneous runs.
+//! The plan of a circuit's gates for 256 simultaneous runs.
 
 ghost use Rattle.std.specs.Prelude.{◌≡◌, ℕ, ◌+◌, ◌^◌, ◌<◌, ◌≤◌, length, map, All, IfOk};
 ghost use Rattle.ps_simulate.specs.LanePlans.{AreInOrder, AreKept, AreOnce, IsGateRow, move_row, move_wire, rows_from};
@@ -18,9 +18,10 @@ pub struct Operands {
     pub second: Literal,
 }
 
-/// What a step evaluates in all lanes. The values of the gates are in the order of evaluation, so a gate needs only
-/// eight bytes, and a step writes its table from front to back. The table does not fit into the processor's fastest
-/// caches, so the time of a step depends on how much it reads from and writes to the table.
+/// What a step evaluates in 256 runs at once: the gates, the outputs and the next values of the latches. The values of
+/// the gates are in the order of evaluation, so a gate needs only eight bytes, and a step writes its table from front
+/// to back. The table does not fit into the processor's fastest caches, so the time of a step depends on how much it
+/// reads from and writes to the table.
 #[derive(Drop)]
 pub struct LanePlan {
     /// The length of the table of values.
@@ -29,9 +30,9 @@ pub struct LanePlan {
     pub front: usize,
     /// The operands of each gate, in the order of evaluation.
     pub gates: Vec<Operands>,
-    /// The literals of the outputs, with indices as in `Operands`.
+    /// The literals of the outputs, whose variables are indices into the table of values.
     pub outputs: Vec<Literal>,
-    /// The literals of the latches' next values, with indices as in `Operands`.
+    /// The literals of the latches' next values, whose variables are indices into the table of values.
     pub nexts: Vec<Literal>,
 }
 
@@ -40,7 +41,7 @@ impl LanePlan {
     ghost use Rattle.ps_simulate.specs.LanePlans.{IsLanePlan};
     ghost use Rattle.ps_simulate.specs.declared.plan.Plan.{Plan};
 
-    /// The plan of a circuit. Fails if out of memory.
+    /// The plan of a circuit for 256 simultaneous runs. Fails if out of memory.
     pub fn new(alloc: Global, circuit: &Circuit) -> Result<Self, AllocError>
         ensures { IfOk result (λ p. (plan : Plan) × (places : List ℕ) × IsLanePlan circuit.now plan places p) }
     {

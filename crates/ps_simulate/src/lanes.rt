@@ -135,7 +135,8 @@ fn work_words(gates: &[Operands], front: usize, values: &mut [[u64; 4]])
     }
 }
 
-/// Fills the table for a step. The constant 0 is already in the table.
+/// Fills the table of values in a step: copies the inputs and the latches, and evaluates the gates. The constant 0 is
+/// already in the table.
 fn fill_words(
     gates: &[Operands],
     front: usize,

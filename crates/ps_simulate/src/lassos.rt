@@ -90,8 +90,9 @@ impl From<AllocError> for LassoFault {
 }
 
 /// Runs a circuit through a stem and then repeatedly through a lap, until a lap begins with the same latch values as an
-/// earlier lap. The result states whether the automaton accepts the trace of this run, continued forever by repeating
-/// the letters between the two laps. Letters have a bit for each input, in the circuit's order.
+/// earlier lap. The result states whether the automaton accepts this run's trace, continued forever by repeating the
+/// letters from the earlier of these two laps up to the later. Letters have a bit for each input, in the circuit's
+/// order.
 ///
 /// # Errors
 ///
@@ -124,7 +125,8 @@ pub fn lasso(
     Ok(verdict_of(alloc, circuit, automaton, &naming, stem, lap)?)
 }
 
-/// The verdict on a circuit, given its naming with the names of the automaton's propositions. Fails if out of memory.
+/// The verdict on a circuit whose inputs and outputs were matched with the automaton's propositions by name. Fails if
+/// out of memory.
 fn verdict_of(
     alloc: Global,
     circuit: &Circuit,
@@ -174,7 +176,7 @@ struct Run<'a> {
 }
 
 impl<'a> Run<'a> {
-    /// The state before the first letter: the latches have their first values. Fails if out of memory.
+    /// The state before the first letter: the latches have their reset values. Fails if out of memory.
     fn new(alloc: Global, circuit: &'a Circuit) -> Result<Run<'a>, AllocError>
         ensures circuit { IfOk result (λ run. run.simulator.circuit ≡ circuit.now) }
         ensures latches { IfOk result (λ run. run.simulator.latches ≡ resets circuit.now) }

@@ -15,7 +15,7 @@ pub fn circuit_has_one_values()
     ensures { (c : CircuitData) → IsCircuit c → HasOneValues c }
 {}
 
-/// If a circuit takes letters in 256 lanes at once, each lane behaves like a plain run on the letters of that lane.
+/// If a circuit takes letters in 256 lanes at once, each lane behaves like a single run on the letters of that lane.
 pub fn lanes_are_plain_runs()
     ensures { (c : CircuitData) → IsCircuit c → AreLanesPlain c }
 {

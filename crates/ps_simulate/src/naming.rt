@@ -80,8 +80,8 @@ impl<'a> Naming<'a> {
 }
 
 /// For each proposition, the index of the symbol that names it. The result is `None` unless the symbols are exactly the
-/// names of the wanted propositions, each once: the controllable propositions if `wanted` is true, and all others if
-/// `wanted` is false.
+/// names of the wanted propositions, each once. Wanted are the controllable propositions if `wanted` is true, and all
+/// others if it is false.
 fn places_of(
     alloc: Global,
     names: &[Vec<u8>],

@@ -86,7 +86,7 @@ fn rows_of(alloc: Global, places: &Places) -> Result<Vec<Row>, AllocError>
     Ok(rows)
 }
 
-/// The wires of the outputs.
+/// The literals of the outputs, with indices into the table.
 ///
 /// # Errors
 ///
@@ -102,7 +102,7 @@ pub fn output_wires(alloc: Global, places: &Places) -> Result<Vec<Wire>, AllocEr
     Ok(wires)
 }
 
-/// The wires of the latches' next values.
+/// The literals of the latches' next values, with indices into the table.
 ///
 /// # Errors
 ///

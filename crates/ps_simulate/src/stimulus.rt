@@ -78,7 +78,7 @@ pub fn stimulus_text_has_some_answer()
     ensures { (text : List ℕ) (width : ℕ) (split : Bool) → HasSomeAnswer text width split }
 {}
 
-/// The end of the line that begins at `start`: the next newline, or the end of the text.
+/// The end of the line that begins at `start`: the offset of the next newline, or the end of the text.
 pub(crate) fn line_end(text: &[u8], start: usize) -> usize
     requires { start < length text.now }
     ensures from { start ≤ result }

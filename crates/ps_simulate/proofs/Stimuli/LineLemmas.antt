@@ -13,7 +13,7 @@ use Rattle.ps_simulate.specs.StimulusTexts.{lines_of, start_of, digit_of, digits
 
 -- ## Lines
 
--- the first line reaches to a newline or to the end
+-- the first line reaches to the first newline or to the end of the text
 lines_of-first : (bytes : List ℕ) → 0 < length bytes →
     lines_of bytes ≡ take (prefix_len is_inner bytes) bytes ∷ lines_of (drop (prefix_len is_inner bytes + 1) bytes)
 lines_of-first [] some = absurd (omega arith)
@@ -32,7 +32,7 @@ lines_of-drop text start {n} some is =
     lines_of-first bytes (omega (arith, length-drop start text)) ∙
     ap₂ (λ (k : ℕ) (others : List ℕ). take k bytes ∷ lines_of others) first rest
 
--- a line ends at the computed offset
+-- the offset of a line's start plus the line's length is the offset of its end
 pub line_length : (text : List ℕ) (start end : ℕ) → start ≤ end → end ≤ length text →
     start + length (take (end - start) (drop start text)) ≡ end
 line_length text start end from within =
@@ -57,13 +57,13 @@ digit_is bit = search rules
 pub digit_of-is : (byte : ℕ) → IsDigit byte → digit_of (byte == 49) ≡ byte
 digit_of-is byte h = search rules
 
--- the line of a letter is not a divider
+-- a line that spells a letter is not the divider `-`
 pub digits_of-divider : (letter : List Bool) → digits_of letter ≢ divider
 digits_of-divider [] e = cc
 digits_of-divider (true ∷ letter) e = omega (arith, ap (λ (l : List ℕ). get_or l 0 0) e)
 digits_of-divider (false ∷ letter) e = omega (arith, ap (λ (l : List ℕ). get_or l 0 0) e)
 
--- the line of a letter has no error
+-- a line that spells a letter of the right width has no error
 pub letter_none : (letter : List Bool) {line : List ℕ} (start : ℕ) {width : ℕ} (cause : StimulusCause) (offset : ℕ)
     → line ≡ digits_of letter → length letter ≡ width → StandsInLine line start width cause offset → ⊥
 letter_none letter start cause offset h k m = search (rules, length-map, slice_get-map, digit_is)

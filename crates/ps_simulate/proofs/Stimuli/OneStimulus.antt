@@ -1,4 +1,4 @@
--- The text of a stimulus has at most one answer.
+-- The text of a stimulus has at most one answer: its letters, or its first error.
 use Rattle.std.proofs.Common.{◌≡◌, ℕ, inl, inr, Bool, true, false, List, [], ◌∷◌, ◌++◌, map, length}
 use Rattle.std.proofs.Common.{refl, sym, ap, ◌∙◌, arith, Ok, Err}
 use Rattle.std.proofs.lemmas.List.{append-nil}

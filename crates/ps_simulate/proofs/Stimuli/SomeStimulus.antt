@@ -113,7 +113,7 @@ module _ (text : List ℕ) (width : ℕ) (split : Bool) where
   abbrev Answer : Type 0
   Answer = HasSomeAnswer text width split
 
-  -- no line is left
+  -- the answer to the text when all lines were read
   at_end : (in_lap wanted : Bool) (start : ℕ) (s : StimulusData) → HasRead text width split in_lap start s →
       length text ≤ start → split ≡ wanted → Answer
   at_end false true start s h past e =
@@ -121,7 +121,7 @@ module _ (text : List ℕ) (width : ℕ) (split : Bool) where
   at_end false false start s h past e = (Ok s, IsStimulus-end h past (sym e))
   at_end true wanted start s h past e = (Ok s, IsStimulus-end h past (sym (h.wanted refl)))
 
-  -- the answer for a line, given an answer for the lines that follow
+  -- the answer to the text at the current line, given the answer at the next line
   module _ (in_lap : Bool) (start size : ℕ) (s : StimulusData) (h : HasRead text width split in_lap start s)
       (some : start < length text) (first : FirstLine (drop start text) size)
       (later : (b : Bool) (t : StimulusData) → HasRead text width split b (start + size + 1) t → Answer) where
@@ -151,7 +151,7 @@ module _ (text : List ℕ) (width : ℕ) (split : Bool) where
     by_line false true e x (inr other) = as_letter (grind (arith, at_line h next ends)) (line_answer line start width)
     by_line false true e x (inl is) = later true s (HasRead-divider (rw e at h) next ends is x)
 
-  -- the answer for the remaining lines, by recursion on the number of remaining bytes
+  -- the answer to the text after some lines were read, by recursion on the number of remaining bytes
   from_line : (n : ℕ) {in_lap : Bool} {start : ℕ} {s : StimulusData} → HasRead text width split in_lap start s →
       length text ≤ start + n → Answer
   from_line zero {in_lap} {start} {s} h left = at_end in_lap split start s h (omega (arith, left)) refl

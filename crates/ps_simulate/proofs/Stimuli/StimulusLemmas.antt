@@ -26,7 +26,7 @@ All-slice_get : {X : Type 0} (P : X → Type 0) (xs : List X) (k : ℕ) {x : X} 
 All-slice_get P xs k {x} all there =
     rw (get_or_from_slice_get xs k x x there) at (all k x (slice_get_within xs k x there))
 
--- a line among the lines of some letters is the line of one of the letters
+-- each of the lines that spell some letters is the line of one of these letters
 pub mapped : (letters : List (List Bool)) (k : ℕ) {line : List ℕ} → slice_get (map digits_of letters) k ≡ Some line
     → (letter : List Bool) × (slice_get letters k ≡ Some letter) × (line ≡ digits_of letter)
 mapped letters k {line} there = grind (arith, slice_get-map, option_map)
@@ -43,7 +43,7 @@ no_divider letters k there = (let m = mapped letters k there in digits_of-divide
 
 -- ## Lines that spell letters
 
--- the divider comes after the stem
+-- the divider is the line after the lines of the stem's letters
 pub divides_at : {split : Bool} (s : StimulusData) (rest lines : List (List ℕ)) → lines ≡ spelled true s ++ rest →
     split ≡ true → Divides split lines (length s.stem)
 divides_at s rest lines is wanted = record {
@@ -57,7 +57,7 @@ divides_at s rest lines is wanted = record {
   first = grind (arith, no_divider, slice_get-left, length-map, append_assoc);
 }
 
--- the lines of the letters have no error
+-- the lines that were read so far, each of which spells a letter, have no error
 pub no_cause : {split : Bool} (in_lap : Bool) (s : StimulusData) (rest lines : List (List ℕ)) (width : ℕ) →
     lines ≡ spelled in_lap s ++ rest → All (λ letter. length letter ≡ width) s.stem →
     All (λ letter. length letter ≡ width) s.lap → (in_lap ≡ true → split ≡ true) →

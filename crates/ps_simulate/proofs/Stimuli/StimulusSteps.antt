@@ -58,7 +58,7 @@ module _ {text : List ℕ} {width : ℕ} {split in_lap : Bool} {start end : ℕ}
     end_is : end + 1 ≡ extent (spelled in_lap s ++ line ∷ [])
     end_is = search (rules, sum_by_push)
 
-    -- the line of a letter
+    -- the invariant is kept when a line that spells a letter is read
     pub HasRead-letter : (letter : List Bool) → line ≡ digits_of letter → length line ≡ width →
         HasRead text width split in_lap (end + 1) (with_letter in_lap s letter)
     HasRead-letter letter is each = grind (
@@ -70,7 +70,7 @@ module _ {text : List ℕ} {width : ℕ} {split in_lap : Bool} {start end : ℕ}
       no_lap_with in_lap s letter h.no_lap,
     )
 
-    -- the next line after the lines that were read
+    -- the current line is the first line of the text that was not read yet
     pub at_line : slice_get (lines_of text) (length (spelled in_lap s)) ≡ Some line
     at_line = ap (λ (ls : List (List ℕ)). slice_get ls (length (spelled in_lap s))) behind ∙ slice_get-right
         (spelled in_lap s) (line ∷ lines_of (drop (end + 1) text)) (length (spelled in_lap s)) 0 (omega arith)
@@ -78,7 +78,7 @@ module _ {text : List ℕ} {width : ℕ} {split in_lap : Bool} {start end : ℕ}
     start_here : start_of (lines_of text) (length (spelled in_lap s)) ≡ start
     start_here = search (rules, behind, take_at)
 
-    -- the first error in the current line is the first error in the text
+    -- if the current line is no divider, its first error is the first error of the text
     pub IsFirstError-in_line : start < length text → end ≤ length text →
         ¬ Divides split (lines_of text) (length (spelled in_lap s)) → {cause : StimulusCause} {offset : ℕ} →
         IsFirstError (StandsInLine line start width) cause offset →
@@ -108,7 +108,7 @@ module _ {text : List ℕ} {width : ℕ} {split in_lap : Bool} {start end : ℕ}
                 let from = in_line_from l.line _ width other there l.in_line in
                 inl (grind (arith, bound, start_here)))
 
--- the line of the divider
+-- the invariant is kept when the divider is read
 pub HasRead-divider : {text : List ℕ} {width : ℕ} {split : Bool} {start end : ℕ} {s : StimulusData} →
     HasRead text width split false start s → {line : List ℕ}
     → lines_of (drop start text) ≡ line ∷ lines_of (drop (end + 1) text) → start + length line ≡ end → line ≡ divider →
@@ -116,7 +116,8 @@ pub HasRead-divider : {text : List ℕ} {width : ℕ} {split : Bool} {start end 
 HasRead-divider {text} {width} {split} {start} {end} {s} h {line} next length_is is wanted =
     grind (arith, pushed h next length_is, end_is h next length_is)
 
--- the line of a letter is not the required divider
+-- the current line is not the required divider if the lap has begun, if the line is not `-`, or if no divider is
+-- required
 pub not_divides : {text : List ℕ} {width : ℕ} {split : Bool} (in_lap : Bool) {start : ℕ} {s : StimulusData} →
     HasRead text width split in_lap start s
     → (in_lap ≡ true) ⊎ (¬ (slice_get (lines_of text) (length (spelled in_lap s)) ≡ Some divider) ⊎ (split ≡ false)) →
@@ -163,7 +164,7 @@ IsFirstError-end {text} {width} {split} {start} {s} h past wanted = record {
 
 -- ## The values of the code
 
--- the invariant also holds for any equal lists of letters
+-- the invariant is kept when its lists of letters are replaced by equal lists
 pub HasRead-same : (text : List ℕ) (width : ℕ) (split in_lap in_lap' : Bool) (start : ℕ)
     (stem stem' lap lap' : List (List Bool)) → in_lap ≡ in_lap' → stem ≡ stem' → lap ≡ lap'
     → HasRead text width split in_lap start (record { stem = stem; lap = lap }) →

@@ -1,4 +1,4 @@
--- The values of a circuit exist and are unique.
+-- For given inputs and latches, the values of a circuit exist, and are unique at each variable that is 0 or defined.
 use Rattle.std.proofs.Common.{◌≡◌, ℕ, zero, suc, ◌+◌, ◌-◌, ◌⊎◌, ◌%◌, ◌<◌, ◌≤◌, ◌==◌, Bool, false, not, cond, inl, inr}
 use Rattle.std.proofs.Common.{List, length, get_or, refl, sym, ap, subst, ◌∙◌, arith, rules, length-append}
 use Rattle.std.proofs.lemmas.List.{length-map, length-replicate, get_or-map}
@@ -24,7 +24,7 @@ module _ {c : CircuitData} (is : IsCircuit c) {order : List ℕ}
   bit_same : (literal : ℕ) → Same (variable literal) → bit_of values literal ≡ bit_of others literal
   bit_same literal e = ap (λ (x : Bool). cond (literal % 2 == 1) (not x) x) e
 
-  -- if two lists of values agree at a literal that defines a variable, they agree at the variable
+  -- if two lists of values agree at a literal that defines a variable, they also agree at this variable
   at_definition : (k : ℕ) {literal : ℕ} → k < length (definitions c) → get_or (definitions c) k 0 ≡ literal →
       bit_of values literal ≡ bit_of others literal → Same (variable literal)
   at_definition k {literal} lt e same = search (rules, bit_of-definition)
@@ -43,7 +43,7 @@ module _ {c : CircuitData} (is : IsCircuit c) {order : List ℕ}
       (sym (grind (arith, get_or-map)) ∙ ap (λ bits. get_or bits k false) (a.latches_are ∙ sym b.latches_are)
       ∙ get_or-map (λ (l : Latch). bit_of others l.literal) c.latches k no_latch false lt)
 
-  -- the values agree at a literal whose variable is defined or 0, if they agree at the gate to which it may belong
+  -- two lists of values agree at a variable that is 0 or defined, if they agree at the gate that may define it
   side_same : (literal : ℕ) → IsKnown (definitions c) literal
       → ((i : ℕ) → i < length c.gates → variable literal ≡ variable (get_or c.gates i no_gate).literal →
       Same (variable literal)) → Same (variable literal)
@@ -69,7 +69,7 @@ module _ {c : CircuitData} (is : IsCircuit c) {order : List ℕ}
           let there : length c.inputs + length c.latches + i ≡ k = omega arith in
           gate i less (sym (ap variable (grind (arith, definitions_gate)) ∙ same)))
 
-  -- the values agree at each gate whose position in the order is below n
+  -- two lists of values agree at each gate whose position in the order is below n
   gates_same : (n i : ℕ) (less : i < length c.gates) → (is_order.each i less).0 < n →
       Same (variable (get_or c.gates i no_gate).literal)
   gates_same zero i less lt = absurd (omega arith)

@@ -17,7 +17,7 @@ maps_agree f g (x ∷ xs) d same =
 -- ---- steps
 
 module _ (c : CircuitData) (is : IsCircuit c) (one : HasOneValues c) where
-  -- the outputs of a step and the latches after it are unique
+  -- the latches and inputs of a step determine its outputs and the latches after it
   steps_agree : (latches inputs outputs next outputs' next' : List Bool) → Steps c latches inputs outputs next →
       Steps c latches inputs outputs' next' → (outputs ≡ outputs') × (next ≡ next')
   steps_agree latches inputs outputs next outputs' next' a b =

@@ -1,4 +1,4 @@
--- A circuit has at most one verdict.
+-- For an automaton, a circuit, a stem and a lap, there is at most one verdict.
 use Rattle.std.proofs.Common.{◌≡◌, ◌∙◌, ℕ, zero, suc, ◌<◌, ◌≤◌, inl, inr, Bool, List, [], ◌∷◌, ◌++◌, map, get_or}
 use Rattle.std.proofs.Common.{length, refl, sym, ap, arith, rules, append_assoc}
 use Rattle.std.specs.Prelude.{◌↔◌, IsTrue}
@@ -48,7 +48,7 @@ module _ {c : CircuitData} (is_circuit : IsCircuit c) (one : HasOneValues c) whe
   no_letters (m ∷ ms) e = absurd (cc)
 
   module _ (stem lap : List (List Bool)) where
-    -- there is no second repetition
+    -- the first repetition of latch values cannot end at two different laps
     not_earlier : (i j i' j' : ℕ) (ms ns : List Moment) → RepeatsLatches c stem lap i j ms →
         RepeatsLatches c stem lap i' j' ns → j < j' → ⊥
     not_earlier i j i' j' ms ns a b lt =

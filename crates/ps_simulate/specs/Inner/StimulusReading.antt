@@ -15,7 +15,7 @@ pub record HasRead (text : List ℕ) (width : ℕ) (split in_lap : Bool) (start 
   pub wanted : in_lap ≡ true → split ≡ true
   pub no_lap : in_lap ≡ false → s.lap ≡ []
 
--- the result for a line that should be a letter: its bits, or the first error in the line
+-- the result for a line that must spell a letter: the letter's bits, or the first error in the line
 abbrev pub ReadsLine : List ℕ → ℕ → ℕ → Result (Vec Bool Global) StimulusFault → Type 0
 ReadsLine line start width (Ok letter) = (line ≡ digits_of letter.items) × (length line ≡ width)
 ReadsLine line start width (Err (Text cause offset)) = IsFirstError (StandsInLine line start width) cause offset

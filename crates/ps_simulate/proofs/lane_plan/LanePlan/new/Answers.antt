@@ -19,7 +19,7 @@ are_moved : (c : After-deref-2) → AreMoved c.in_ok-plan.plan.size
     (c.in_ok-plan.plan.size - length c.gates-gates.result.now) c.in_ok-places.places.items
 are_moved c = search (rules, AreMoved_at, length-variables)
 
--- the new indices are small enough for literals
+-- the new indices are less than 2^31, so they can be variables of literals
 small : (c : After-deref-2) → All (λ p. p < 2 ^ 31) c.in_ok-places.places.items
 small c = moved_small (are_moved c) (grind (arith, few_variables))
 

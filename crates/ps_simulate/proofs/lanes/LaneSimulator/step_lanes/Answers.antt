@@ -9,7 +9,7 @@ use Rattle.ps_simulate.proofs.LaneStepLemmas.{IsValueTable-lane}
 use Rattle.ps_simulate.proofs.lanes.LaneSimulator.step_lanes.Goals as goal
 use Rattle.ps_simulate.proofs.lanes.LaneSimulator.step_lanes.Goals.{After-fill_words, After-read_words-2}
 
--- the table after the evaluation of the gates
+-- what the table of values holds after the gates are evaluated
 table_is : (c : After-fill_words) → take c.self.inside.values.len
     (c.fill_words.new.values ++ drop (length c.fill_words.new.values) c.self.inside.values.items) ≡
     c.fill_words.new.values
@@ -58,7 +58,7 @@ pub read_words-requires-2-clause-fit : goal.read_words-requires-2-clause-fit
 read_words-requires-2-clause-fit c =
     search (rules, latches_many, nexts_many, c.self.invariant, c.deref_mut-2.ensures.value, c.deref-5.ensures.value)
 
--- the letter has words for each input of the circuit
+-- the given inputs have an entry of four words for each input of the circuit
 letters_fit : (c : After-read_words-2) → length c.args.inputs.now ≡ length c.self.inside.circuit.now.inputs
 letters_fit c = c.requires.inputs_fit ∙ sym (ap (λ (v : LaneSimulation). length v.circuit.inputs) c.self.view_is)
 

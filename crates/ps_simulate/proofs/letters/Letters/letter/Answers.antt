@@ -3,11 +3,11 @@ use Rattle.ps_simulate.proofs.LetterLists.{length-letters_in, slice_get-letters_
 use Rattle.ps_simulate.proofs.letters.Letters.letter.Goals as goal
 use Rattle.ps_simulate.proofs.letters.Letters.letter.Goals.{After-self}
 
--- a letter has this index
+-- the index is less than the number of letters
 is_there : (c : After-self) → c.args.place < c.self.inside.count
 is_there c = grind (arith, length-letters_in)
 
--- the bits of the letter are within the list
+-- the bits of the letter are within the list of all bits
 within : (c : After-self) → c.args.place * c.self.inside.width + c.self.inside.width ≤ length c.self.inside.bits.items
 within c = letter_within c.args.place c.self.inside.count c.self.inside.width (is_there c) c.self.invariant
 

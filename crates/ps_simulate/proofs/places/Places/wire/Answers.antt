@@ -7,7 +7,7 @@ use Rattle.ps_simulate.proofs.PlacesLemmas.{place_known, variables_once}
 use Rattle.ps_simulate.proofs.places.Places.wire.Goals as goal
 use Rattle.ps_simulate.proofs.places.Places.wire.Goals.{After-place}
 
--- the table has the index of the literal's variable
+-- the search finds the index of the literal's variable
 found : (c : After-place) → c.place.result ≡ Some (place_of_variable c.args.self.now (variable c.args.literal))
 found c = search (rules, place_known, position, position_here, variables_once)
 
