@@ -1,4 +1,4 @@
--- The laws about a circuit, combined into one.
+-- The separate laws about the winner's circuit are combined into `IsWitness`.
 use Rattle.std.proofs.Common.{◌≡◌, ◌≢◌, ℕ, Bool, if◌then◌else◌, ap, subst}
 use Rattle.std.proofs.lemmas.Bool.{ne_eqb}
 use Rattle.ps_hoa.specs.Files.{FileData}

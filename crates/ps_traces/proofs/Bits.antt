@@ -29,7 +29,7 @@ few_bits n x off =
 
 -- ## Sums
 
--- no bit is set in both numbers
+-- no bit is set in both of two numbers
 pub record AreApart (x y : ℕ) : Type 0 where
   pub apart : (p : ℕ) → bit_at x p + bit_at y p < 2
 
@@ -46,7 +46,8 @@ bit_of_sum (suc p) x y h =
     let rest = bit_of_sum p (x / 2) (y / 2) (rest_apart x y h) in
     rw (bit_at-suc (x + y) p, bit_at-suc x p, bit_at-suc y p, half) rest
 
--- if a bit is not set in one number, the sum has the bit of the other number
+-- if no bit is set in both of two numbers, and a bit is not set in one of them, their sum has this bit of the other
+-- number
 pub in_sum_left : (p x y : ℕ) → AreApart x y → is_in p y ≡ false → is_in p (x + y) ≡ is_in p x
 in_sum_left p x y h off = grind (arith, bit_at-lt y p, bit_of_sum p x y h)
 
@@ -64,7 +65,7 @@ bit_with q [] bits = false
 bit_with q (p ∷ ps) [] = false
 bit_with q (p ∷ ps) (bit ∷ bits) = cond (nat_eq q p) bit (bit_with q ps bits)
 
--- all numbers are greater than `low`, and ascend
+-- the list ascends, and all its numbers are greater than `low`
 pub record Rises (low : ℕ) (ps : List ℕ) : Type 0 where
   pub above : (k d : ℕ) → k < length ps → low < get_or ps k d
   pub rising : AllPairs (λ p q. p < q) ps

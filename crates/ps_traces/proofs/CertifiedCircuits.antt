@@ -1,4 +1,4 @@
--- The circuit of a certificate's machine.
+-- Properties of the circuit that implements the machine of a certificate.
 use Rattle.std.proofs.Common.{rules, ◌≡◌, ℕ, ◌<◌, ◌==◌, arith}
 use Rattle.ps_hoa.specs.Files.{FileData}
 use Rattle.ps_automaton.specs.Automata.{AutomatonData, IsBuiltFrom}
@@ -14,7 +14,7 @@ use Rattle.ps_traces.specs.Answers.{role_of}
 use Rattle.ps_traces.specs.Roles.{IsMachineFor, is_read_by}
 use Rattle.ps_traces.specs.Shapes.{moves_first}
 
--- which player moves first, and what that player reads
+-- a player moves first exactly if its role does, and reads the propositions that its role reads
 turn_is : (order : Order) (player : ℕ) → player < 2 → (mover_of order == player) ≡ moves_first order (role_of player)
 turn_is order player lt = grind arith
 
@@ -27,7 +27,7 @@ pub is_for : (order : Order) (file : FileData) (chain : Chain) (a : AutomatonDat
     → m.is_first ≡ (mover_of order == m.player) → m.player < 2 → IsMachineFor order (role_of m.player) file m
 is_for order file chain a m built has turn two = search (rules, reads_as, turn_is)
 
--- the same by any automaton of the file
+-- in the game of any automaton of the file, a player reads the propositions that its role reads
 file_reads_as : (order : Order) (file : FileData) (auto : Auto) (player p : ℕ) → player < 2 →
     is_others (mover_of order == player) (board_of_file order file auto) p ≡ is_read_by (role_of player)
     file.controllable p

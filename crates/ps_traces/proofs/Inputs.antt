@@ -1,4 +1,4 @@
--- Reading a stem and then laps returns to the same latches.
+-- When a circuit reads a stem and then a lap again and again, its latch values recur.
 use Rattle.std.proofs.Common.{◌≡◌, ℕ, zero, suc, ◌^◌, ◌<◌, Bool, List, [], ◌++◌, length, refl, arith, rules}
 use Rattle.std.proofs.Math.Nat.{mul-le-mul_right}
 use Rattle.std.proofs.lemmas.List.{length-map, map-append}

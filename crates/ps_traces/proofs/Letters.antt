@@ -1,4 +1,4 @@
--- Each step has exactly one letter.
+-- Exactly one letter belongs to each step of a circuit.
 use Rattle.std.proofs.Common.{◌≡◌, ℕ, inl, inr, Bool, false, List, [], ◌∷◌, length, get_or, Option, refl}
 use Rattle.std.proofs.Common.{ap, sym, ◌∙◌, arith, rules}
 use Rattle.std.proofs.lemmas.Bool.{cases_lt}
@@ -17,14 +17,14 @@ use Rattle.ps_traces.specs.Inputs.{HasLetters}
 
 module _ {role : Role} {names : List (List ℕ)} {controllable : List ℕ} {c : CircuitData} (are_names : AreNames names)
     (has : HasSymbols role names controllable c) where
-  -- a symbol names a proposition of the side to which the symbol belongs
+  -- each symbol names a proposition of the wanted kind: controllable, or not controllable
   of_side : (wanted : Bool) (symbols : List (Option (List ℕ))) (k p : ℕ) →
       AreNamesOnce names controllable wanted symbols → IsSymbol names symbols k p → is_among p controllable ≡ wanted
   of_side wanted symbols k p once s =
       let found = once.some k (within symbols k (get_or names p []) s.is) in
       grind (arith, some_same, names_differ)
 
-  -- a bit for each proposition, which is the bit of its input or output
+  -- for each proposition there is a bit, which is the bit of the input or output that it names
   bit_of : (m : Moment) (p : ℕ) → (bit : Bool) ×
       ((k : ℕ) → IsSymbol names c.input_names k p → bit ≡ get_or m.inputs k false) ×
       ((k : ℕ) → IsSymbol names c.output_names k p → bit ≡ get_or m.outputs k false)
@@ -55,7 +55,7 @@ module _ {role : Role} {names : List (List ℕ)} {controllable : List ℕ} {c : 
   letters [] = ([], refl)
   letters (m ∷ ms) = let rest = letters ms in (letter m ∷ rest.0, (letter_of_moment m, rest.1))
 
-  -- each list of moments spells a list of letters
+  -- exactly one list of letters belongs to each list of steps
   pub has_letters : (ms : List Moment) → HasLetters names c ms
   has_letters ms = let found = letters ms in
       grind (arith, letters, one_letters)

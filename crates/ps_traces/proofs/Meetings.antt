@@ -1,4 +1,5 @@
--- The meeting of a circuit with a finite-state controller never ends, is unique, and returns to an earlier point.
+-- The joint run of a circuit and a finite-state controller, called their meeting, never ends, is unique, and returns to
+-- an earlier pair of latch values and memory state.
 use Rattle.std.proofs.Common.{◌≡◌, ℕ, zero, suc, ◌+◌, ◌*◌, ◌^◌, ◌<◌, Bool, false, List, [], ◌∷◌, length, refl, sym, ◌∙◌}
 use Rattle.std.proofs.Common.{arith, rules, ◌++◌, length-append}
 use Rattle.std.specs.Prelude.{replicate}
@@ -18,7 +19,7 @@ use Rattle.ps_simulate.proofs.LassoLemmas.{GoesOn-append}
 use Rattle.ps_traces.proofs.Returns.{come_back, legs, legs_go}
 use Rattle.ps_traces.proofs.Runs.{next_reached, resets_reached, step}
 
--- a step whose inputs are the controller's answer to the outputs
+-- a step of a circuit whose inputs are the controller's answer to the circuit's outputs
 pub record JointStep (c : CircuitData) (k : FiniteController) (latches : List Bool) (memory : ℕ) : Type 0 where
   pub inputs : List Bool
   pub outputs : List Bool
@@ -28,7 +29,7 @@ pub record JointStep (c : CircuitData) (k : FiniteController) (latches : List Bo
   pub outputs_wide : length outputs ≡ length c.outputs
   pub next_wide : length next ≡ length c.latches
 
--- if inputs come before outputs, the circuit's outputs don't depend on its inputs
+-- in the order `Mealy` the environment moves first, so the outputs of its circuit don't depend on the circuit's inputs
 joint_mealy : (c : CircuitData) (k : FiniteController) → HasOneValues c → IsInTimeWhereReached Mealy Environment c →
     IsController Mealy c k → (latches : List Bool) (memory : ℕ)
     → IsReachedByTrace c latches → length latches ≡ length c.latches → memory < k.size → JointStep c k latches memory
@@ -40,7 +41,7 @@ joint_mealy c k one in_time is latches memory reached held within =
     let same : before.outputs ≡ now.outputs = in_time refl latches _ _ _ _ _ _ reached before.steps now.steps in
     grind arith
 
--- if outputs come before inputs, the controller's letter does not depend on what it reads
+-- in the order `Moore` the controller moves first, so its letter does not depend on the letter that it reads
 joint_moore : (c : CircuitData) (k : FiniteController) → HasOneValues c → IsController Moore c k →
     (latches : List Bool) (memory : ℕ)
     → length latches ≡ length c.latches → memory < k.size → JointStep c k latches memory
@@ -60,7 +61,7 @@ joint_step Moore c k one in_time is latches memory reached held within =
 
 module _ (order : Order) (c : CircuitData) (k : FiniteController) (one : HasOneValues c)
     (in_time : IsInTimeWhereReached order Environment c) (is : IsController order c k) where
-  -- a point of the meeting: the latches and the controller's memory state
+  -- a point of the meeting: the circuit's latch values and the controller's memory state
   record Place : Type 0 where
     latches : List Bool
     memory : ℕ
@@ -88,7 +89,7 @@ module _ (order : Order) (c : CircuitData) (k : FiniteController) (one : HasOneV
         (step_at (place t)).outputs_wide;
   }
 
-  -- the steps of the meeting
+  -- the steps of the circuit in its joint run with the controller
 
   abbrev At : Type 0
   At = List Bool × ℕ

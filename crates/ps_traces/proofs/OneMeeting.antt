@@ -1,4 +1,4 @@
--- The meeting is unique.
+-- A circuit and a finite-state controller have only one joint run, their meeting.
 use Rattle.std.proofs.Common.{◌≡◌, ℕ, ◌<◌, Bool, List, [], ◌∷◌, length, refl, ap, sym, ◌∙◌, arith, rules}
 use Rattle.std.proofs.lemmas.List.{length-map}
 use Rattle.ps_circuit.specs.Circuits.{CircuitData, IsCircuit}
@@ -17,7 +17,7 @@ module _ (c : CircuitData) (is_circuit : IsCircuit c) (one : HasOneValues c) whe
       length outputs ≡ length c.outputs
   outputs_wide s = ap length s.outputs_are ∙ length-map c.outputs (bit_of s.values)
 
-  -- two answers of the controller at the same latches and the same memory state are equal
+  -- two answers of the controller in the same memory state, at the same latch values of the circuit, are equal
   same_inputs : (order : Order) (k : FiniteController) → IsInTimeWhereReached order Environment c →
       IsController order c k →
       (memory : ℕ) {latches inputs outputs next inputs' outputs' next' : List Bool} → IsReachedByTrace c latches →

@@ -1,4 +1,4 @@
--- A property of all latches is a property of the latches that traces reach.
+-- Outputs that are in time at all latch values are in time at the latch values that traces reach.
 use Rattle.ps_circuit.specs.Circuits.{CircuitData}
 use Rattle.ps_machine.specs.declared.key.Order.{Order}
 use Rattle.ps_simulate.specs.declared.role.Role.{Role}

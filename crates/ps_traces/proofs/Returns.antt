@@ -1,4 +1,5 @@
--- Among values below a bound some value recurs, and therefore some point of a run recurs.
+-- In an infinite sequence of numbers below a bound some number recurs, and therefore some point of an infinite run
+-- recurs.
 --     comes_again      among values below a bound, some value recurs
 --     legs, legs_go      the steps from one point to a later one
 --     come_back      if numbers below a bound identify the points, steps lead to some point and then back to it
@@ -26,7 +27,7 @@ comes_again f bound below =
     repeats bound values (λ k d lt. rw (at k d (omega (arith, lt, many))) (below k)) (omega (arith, many)) in
     grind arith
 
--- steps lead from each point to the next
+-- the points of an infinite run, and the steps that lead from each point to the next
 module _ {S : Type 0} (Goes : S → List Moment → S → Type 0) (stay : (s : S) → Goes s [] s)
     (join : (r s t : S) (xs ys : List Moment) → Goes r xs s → Goes s ys t → Goes r (xs ++ ys) t) (place : ℕ → S)
     (leg : ℕ → List Moment) (goes : (t : ℕ) → Goes (place t) (leg t) (place (suc t))) where

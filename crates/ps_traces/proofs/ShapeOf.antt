@@ -1,4 +1,4 @@
--- The circuit of a machine has the shape of the machine's player.
+-- The circuit of a machine has the inputs, the outputs and the order of moves of the machine's role (`HasShape`).
 use Rattle.std.proofs.Common.{◌≡◌, ℕ, ◌<◌, ◌⊎◌, inl, Bool, true, List, [], map, length, get_or, Option}
 use Rattle.std.proofs.Common.{None, Some, IsTrue, ap, sym, ◌∙◌, subst, arith, rules}
 use Rattle.std.specs.List.{AllPairs}
@@ -42,7 +42,7 @@ module _ (names : List (List ℕ)) (controllable : List ℕ) (wanted : Bool) (ps
   is_symbol : (k : ℕ) → k < length ps → IsSymbol names symbols k (get_or ps k 0)
   is_symbol k lt = record { within = within (get_or ps k 0) (is_there ps k lt); is = symbol_at k lt }
 
-  -- the k-th symbol names the k-th proposition
+  -- the symbol at the index k names the proposition at the index k of the list
   back : (k p : ℕ) → IsSymbol names symbols k p → (k < length ps) × (get_or ps k 0 ≡ p)
   back k p s =
       let lt : k < length ps = search (rules, cases_lt, size, get_or_past) in

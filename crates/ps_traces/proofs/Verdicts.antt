@@ -1,6 +1,6 @@
--- An automaton, and a circuit with the symbols of its role, have a verdict on each stem and lap. Laps are read until
--- the latches recur. When the letters between the two occurrences of these latches are repeated, the automaton's states
--- recur.
+-- For an automaton and a circuit with the inputs and outputs of its role, each stem and lap has a verdict. The circuit
+-- reads laps until its latch values recur. When the letters between the two occurrences of these latches are repeated,
+-- the automaton's states recur.
 use Rattle.std.proofs.Common.{◌≡◌, ◌∙◌, ℕ, zero, suc, ◌+◌, ◌-◌, ◌*◌, ◌^◌, ◌<◌, ◌≤◌, ◌⊎◌, ◌↔◌, inl, inr, Bool, List, []}
 use Rattle.std.proofs.Common.{◌∷◌, ◌++◌, length, get_or, take, drop, IsTrue, Some, refl, sym, ap, arith, length-drop}
 use Rattle.std.proofs.Common.{rules, ◌≢◌}
@@ -102,7 +102,7 @@ module _ (role : Role) (file : FileData) (c : CircuitData) (stem lap : List (Lis
     letters : List ℕ
     repeats_by : RepeatsBy file.names c stem lap i letters
 
-  -- the fuel is greater than the number of lists of bits that are not in `seen`
+  -- the fuel is greater than the number of lists of latch values that are not in `seen`
   search_on : (fuel : ℕ) (seen : List (List Bool)) (letters : List ℕ) (last : List Bool) →
       HasRead file.names c stem lap seen letters last → length last ≡ length c.latches
       → 2 ^ length c.latches - length seen < fuel → HasRepetition

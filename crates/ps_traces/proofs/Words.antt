@@ -97,13 +97,13 @@ module _ (m : Behaviour) (is : IsMachine m) where
       is_output : IsOutput m output
       is_output = is.plays_own memory input (memory_below s.latches)
 
-      -- a proposition that the machine reads
+      -- for a proposition that the machine reads, the letter has the bit of the machine's input letter
       read_bit : (p : ℕ) → p < length m.names → is_among p m.inputs ≡ true → is_in p letter ≡ is_in p input
       read_bit p lt among =
           let at = stands_in p m.inputs among in
           grind (arith, symbol_at, bit_with_at, in_input)
 
-      -- a proposition that the machine outputs
+      -- for a proposition that the machine outputs, the letter has the bit of the machine's output letter
       played_bit : (p : ℕ) → p < length m.names → is_among p m.outputs ≡ true → is_in p letter ≡ is_in p output
       played_bit p lt among =
           let at = stands_in p m.outputs among in
@@ -158,7 +158,7 @@ module _ (m : Behaviour) (is : IsMachine m) where
       whole_size : length (stem ++ lap) ≡ length moments
       whole_size = length_letters m.names c moments (stem ++ lap) are_letters
 
-      -- the latches are the same after the stem and after the lap
+      -- the machine's memory state is the same after the stem and after the lap
       returns : memory_at (length stem) ≡ memory_at (length (stem ++ lap))
       returns =
           let here : get_or (latches_along moments word.trace.back) (length word.stem_moments) [] ≡ word.trace.back =

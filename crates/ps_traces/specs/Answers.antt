@@ -1,5 +1,5 @@
--- The properties of the winner's circuit. The winner's circuit is a controller if the automaton can be realised, and
--- otherwise an environment.
+-- The properties of the circuit of the player who wins an automaton's game. The winner's circuit is a controller if
+-- player 0 wins, and otherwise an environment.
 --     role_of player      player 0 is the controller
 --     IsWitness order file player c      the circuit has its role's shape, and all of its words are accepted, or none
 use Rattle.std.specs.Prelude.{◌≡◌, ◌≢◌, ℕ, List, if◌then◌else◌, nat_eq}
@@ -17,19 +17,22 @@ use Rattle.ps_traces.specs.Meetings.{FiniteController, IsController, IsOneMeetin
 abbrev pub role_of : ℕ → Role
 role_of player = if nat_eq player 0 then Controller else Environment
 
--- the circuit and a controller have exactly one meeting of each length, and the meeting is rejected
+-- a circuit and a controller have exactly one joint trace of each length, and the automaton rejects the word of their
+-- joint lasso trace
 pub record LosesMeeting (file : FileData) (c : CircuitData) (k : FiniteController) : Type 0 where
   pub one : (count : ℕ) → IsOneMeeting c k count
   pub rejected : IsRejected file c k
 
--- All words of a controller's circuit are accepted, and none of an environment's. Each input extends to a lasso word.
--- The meeting of an environment with every finite-state controller extends to a lasso word, which is rejected.
+-- The automaton accepts all lasso words of a controller's circuit, and none of an environment's circuit. Each periodic
+-- input extends to a lasso trace of the circuit. The joint run of an environment's circuit and any finite-state
+-- controller is a lasso trace, whose word the automaton rejects.
 pub record IsWitness (order : Order) (file : FileData) (player : ℕ) (c : CircuitData) : Type 0 where
   pub is_circuit : IsCircuit c
   pub shape : HasShape order (role_of player) file c
   pub accepted : player ≡ 0 → AllAccepted file c
   pub rejected : player ≢ 0 → NoneAccepted file c
-  -- there are traces and letters to which the properties of acceptance apply
+  -- each periodic input extends to a lasso trace, and each trace has letters, so there are words that are accepted or
+  -- rejected
   pub goes_on : EachInputGoesOn c
   pub letters : (moments : List Moment) → HasLetters file.names c moments
   pub meetings : player ≢ 0 → (k : FiniteController) → IsController order c k → LosesMeeting file c k

@@ -22,7 +22,7 @@ pub record GoesOnInLasso (c : CircuitData) (stem lap : List (List Bool)) : Type 
   pub stem_reads : inputs_of stem_moments ≡ stem ++ laps_of lap before
   pub lap_reads : inputs_of lap_moments ≡ laps_of lap laps
 
--- letters of the circuit's width
+-- each letter has one bit for each input of the circuit
 abbrev pub AreInputs : CircuitData → List (List Bool) → Type 0
 AreInputs c letters = All (λ letter. length letter ≡ length c.inputs) letters
 
@@ -30,7 +30,7 @@ abbrev pub EachInputGoesOn : CircuitData → Type 0
 EachInputGoesOn c =
     (stem lap : List (List Bool)) → AreInputs c stem → AreInputs c lap → 0 < length lap → GoesOnInLasso c stem lap
 
--- exactly one list of letters belongs to the steps
+-- exactly one list of letters belongs to the steps of a trace
 pub record HasLetters (names : List (List ℕ)) (c : CircuitData) (moments : List Moment) : Type 0 where
   pub letters : List ℕ
   pub are_letters : AreLetters names c moments letters

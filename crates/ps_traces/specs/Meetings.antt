@@ -1,6 +1,6 @@
--- Finite-state controllers, and their meetings with the circuit of an environment. Letters are lists of bits in the
--- circuit's order: a controller reads one bit for each output of the circuit, and outputs one bit for each input of the
--- circuit.
+-- Finite-state controllers, and their joint runs (meetings) with the circuit of an environment. Letters are lists of
+-- bits in the circuit's order: a controller reads one bit for each output of the circuit, and outputs one bit for each
+-- input of the circuit.
 --     FiniteController      a size, a first memory state, and tables for the next state and the output letter
 --     IsController order c k      the tables stay within their ranges, and the controller outputs its letters in time
 --     GoesJointly c k latches memory moments to last      the joint trace from these latches and this memory state
@@ -22,11 +22,11 @@ pub record FiniteController : Type 0 where
   pub next : ℕ → List Bool → ℕ
   pub plays : ℕ → List Bool → List Bool
 
--- the width of the letters that the controller reads
+-- a letter that the controller reads has one bit for each output of the circuit
 abbrev pub HasInputWidth : CircuitData → List Bool → Type 0
 HasInputWidth c letter = length letter ≡ length c.outputs
 
--- if outputs come before inputs, the controller's letter depends only on its memory state
+-- in the order `Moore`, the letter that the controller outputs depends only on its memory state
 abbrev pub IsTimely : Order → CircuitData → FiniteController → Type 0
 IsTimely Mealy c k = Unit {0}
 IsTimely Moore c k =
@@ -55,13 +55,13 @@ pub record GoesJointly (c : CircuitData) (k : FiniteController) (latches : List 
   pub goes_on : GoesOn c latches moments to
   pub answers : AnswersMoments k memory moments last
 
--- a list of steps is a beginning of the meeting
+-- the steps are a joint trace of the circuit and the controller from their first states
 pub record IsMeeting (c : CircuitData) (k : FiniteController) (moments : List Moment) : Type 0 where
   pub latches : List Bool
   pub memory : ℕ
   pub goes : GoesJointly c k (resets c) k.first moments latches memory
 
--- the meeting has exactly one beginning of a given length
+-- the circuit and the controller have exactly one joint trace of the given length
 pub record IsOneMeeting (c : CircuitData) (k : FiniteController) (count : ℕ) : Type 0 where
   pub moments : List Moment
   pub many : length moments ≡ count
@@ -77,7 +77,7 @@ pub record MeetsInLasso (c : CircuitData) (k : FiniteController) : Type 0 where
   pub goes_there : GoesJointly c k (resets c) k.first stem latches memory
   pub comes_back : GoesJointly c k latches memory lap latches memory
 
--- the meeting is a lasso trace of the circuit
+-- the joint run of a circuit and a controller is a lasso trace of the circuit
 abbrev pub lasso_of : (c : CircuitData) (k : FiniteController) (m : MeetsInLasso c k) → IsLassoTrace c m.stem m.lap
 lasso_of c k m =
     record { some = m.some; back = m.latches; goes_there = m.goes_there.goes_on; comes_back = m.comes_back.goes_on }

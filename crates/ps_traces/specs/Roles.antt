@@ -1,4 +1,4 @@
--- The machines of a player.
+-- Which machines are machines for a role.
 --     IsMachineFor order role file m      the machine has the file's names, and the role's inputs and order of moves
 use Rattle.std.specs.Prelude.{◌≡◌, ℕ, ◌<◌, Bool, not, List, length}
 use Rattle.ps_hoa.specs.Files.{FileData, is_among}

@@ -1,4 +1,4 @@
--- The shape of the circuit of a player.
+-- The inputs, the outputs and the order of moves that the circuit of a role must have.
 --     HasShape order role file c      the circuit has the role's inputs and outputs, by name, and outputs come in time
 --     SeesNoInputWhereReached c      at latches that some trace reaches, the outputs do not depend on the inputs
 use Rattle.std.specs.Prelude.{◌≡◌, Bool, true, false, IsTrue, List}
@@ -12,14 +12,14 @@ use Rattle.ps_simulate.specs.Symbols.{HasSymbols}
 use Rattle.ps_simulate.specs.declared.role.Role.{Role}
 use Rattle.ps_simulate.specs.declared.role.Role.TheVariants.{Controller, Environment}
 
--- if inputs come before outputs, the environment moves first; if outputs come before inputs, the controller does
+-- in the order `Mealy` the environment moves first, and in the order `Moore` the controller moves first
 abbrev pub moves_first : Order → Role → Bool
 moves_first Mealy Controller = false
 moves_first Mealy Environment = true
 moves_first Moore Controller = true
 moves_first Moore Environment = false
 
--- a player who moves first does not see the letter of the other player in the same step
+-- the outputs of a player who moves first do not depend on the other player's letter in the same step
 abbrev pub IsInTime : Order → Role → CircuitData → Type 0
 IsInTime order role c = IsTrue (moves_first order role) → SeesNoInput c
 

@@ -64,7 +64,8 @@ pub fn verdict_is_there()
 }
 
 /// The outputs of a circuit are in time if its player moves second, or if they depend only on the latches. Outputs that
-/// are in time at all latches are in time at the latches that traces reach, which is all that meetings require.
+/// are in time at all latch values are in time at the latch values that traces reach, which is all that the laws about
+/// meetings require.
 pub fn in_time_where_reached()
     ensures { (order : Order) (role : Role) (c : CircuitData) → IsInTime order role c →
         IsInTimeWhereReached order role c }
@@ -87,7 +88,7 @@ pub fn every_meeting_goes_on()
     circuit_has_one_values();
 }
 
-/// If the automaton accepts no lasso trace of an environment's circuit, it rejects the circuit's meeting with every
+/// If the automaton accepts no lasso trace of an environment's circuit, it rejects the circuit's joint trace with every
 /// finite-state controller.
 pub fn every_meeting_is_rejected()
     ensures { (order : Order) (file : FileData) (c : CircuitData) (k : FiniteController) → AreNames file.names →
@@ -103,8 +104,9 @@ pub fn circuit_has_machine_words()
         IsLassoWord m.names c stem lap → IsLasso m stem lap }
 {}
 
-/// If a machine of player 0 wins its lassos, the automaton accepts all words of the lasso traces of the machine's
-/// circuit. If a machine of player 1 wins its lassos, the automaton accepts no word of a lasso trace of the circuit.
+/// If a machine of player 0 wins all its lassos, the automaton accepts all words of the lasso traces of the machine's
+/// circuit. If a machine of player 1 wins all its lassos, the automaton accepts no word of a lasso trace of the
+/// machine's circuit.
 pub fn circuit_is_won()
     ensures accepted { (file : FileData) (m : Behaviour) (c : CircuitData) → IsMachine m → m.names ≡ file.names →
         Encodes m c → LassosWon file m → m.player ≡ 0 → AllAccepted file c }
@@ -118,7 +120,7 @@ pub fn circuit_has_shape()
         IsMachineFor order role file m → Encodes m c → HasShape order role file c }
 {}
 
-/// The circuit of the winner's machine has all properties of a winner's circuit.
+/// The circuit of a machine that wins all its lassos has all properties of a winner's circuit.
 pub fn circuit_answers()
     ensures { (order : Order) (file : FileData) (m : Behaviour) (c : CircuitData) → IsMachine m →
         IsMachineFor order (role_of m.player) file m → Encodes m c → LassosWon file m →
@@ -143,8 +145,8 @@ pub fn certified_circuit_answers()
     circuit_has_one_values();
 }
 
-/// As `certified_circuit_answers`, for a certificate of a file's game: the law holds whichever automaton of the file is
-/// taken.
+/// The law `certified_circuit_answers` also holds for a certificate of a file's game, whichever automaton of the file
+/// the game is made from.
 pub fn certified_circuit_of_file_answers()
     ensures { (order : Order) (file : FileData) (game : NamedGameData) (is_game : IsGameOfFile order file game)
         (certificate : CertificateData) (m : Behaviour) (c : CircuitData) → Fits game.game certificate →

@@ -1,5 +1,5 @@
-//! Laws about infinite runs of circuits. Periodic inputs, and meetings with finite-state controllers, extend to lasso
-//! traces. If a machine wins its lassos, the machine's circuit wins its lasso traces as well.
+//! Laws about infinite runs of circuits. Periodic inputs, and joint traces with finite-state controllers, extend to
+//! lasso traces. If a machine wins all its lassos, the machine's circuit wins its lasso traces as well.
 //!
 //! Each law is the contract of a function with an empty body. A lasso trace consists of a stem and a non-empty lap of
 //! steps, with the same latches after the stem and after the lap. The word of a lasso trace joins inputs and outputs by

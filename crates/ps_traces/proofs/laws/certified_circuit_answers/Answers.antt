@@ -1,5 +1,5 @@
--- The machine of a certificate is a machine for its player, and wins its lassos, so the machine's circuit has the
--- properties of the winner's circuit.
+-- The machine of a valid certificate belongs to the winner and wins its lassos, so the circuit of the machine satisfies
+-- `IsWitness`.
 use Rattle.std.proofs.Common.{◌≡◌, ℕ, ◌==◌, subst, rules}
 use Rattle.ps_machine.specs.Keys.{mover_of}
 use Rattle.ps_traces.specs.Answers.{IsWitness}

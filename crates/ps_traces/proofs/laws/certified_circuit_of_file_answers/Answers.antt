@@ -1,5 +1,5 @@
--- The machine of a certificate is a machine for its player, and wins its lassos, whichever automaton of the file is
--- taken.
+-- The machine of a valid certificate belongs to the winner and wins its lassos, whichever automaton of the file the
+-- game is made from.
 use Rattle.std.proofs.Common.{◌≡◌, ℕ, ◌==◌, subst, rules}
 use Rattle.ps_machine.specs.Keys.{mover_of}
 use Rattle.ps_traces.specs.Answers.{IsWitness}
