@@ -1,5 +1,5 @@
--- A chain has the same truth value as its acceptance condition. This value is true exactly if the greatest priority
--- that the chain gives to the edges is even.
+-- A chain has the same truth value as its acceptance condition, which is true exactly if the greatest priority that the
+-- chain gives to the edges is even.
 use Rattle.std.proofs.Common.{rules, ◌≡◌, ℕ, ◌<◌, ◌≤◌, Bool, true, false, cond, List, [], ◌∷◌, ◌++◌, length, Some, refl}
 use Rattle.std.proofs.Common.{ap, sym, ◌∙◌, arith}
 use Rattle.ps_hoa.specs.Conditions.{Condition, Conditions, constant, infinitely, finitely, all_hold, any_holds}

@@ -17,9 +17,9 @@ abbrev pub part : (ℕ → ℕ → Bool) → ℕ → ℕ → List (ℕ → Bool)
 part sets from zero = []
 part sets from (suc count) = sets from ∷ part sets (from + 1) count
 
--- The word consists of `stem`, followed by infinitely many repetitions of `lap`, which is not empty. Some run reaches a
--- state after the stem and zero or more laps, and returns to this state after one or more further laps. The acceptance
--- condition is true for the sets that the run meets between these two visits.
+-- The word consists of `stem`, followed by infinitely many repetitions of `lap`, which is not empty. Some run visits a
+-- state after the stem and zero or more laps, and again after one or more further laps, and satisfies the acceptance
+-- condition between the two visits.
 pub record IsAccepted (file : FileData) (stem lap : List ℕ) : Type 0 where
   pub has_letter : 0 < length lap
   pub before : ℕ

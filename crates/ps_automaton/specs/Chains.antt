@@ -32,7 +32,7 @@ link_of true (infinitely set) = link_to true set
 link_of false (finitely set) = link_to false set
 link_of accepts c = None
 
--- the links of the operands, if every operand is a link
+-- the links of the operands, if every operand has a link
 abbrev pub links_of : Bool → Conditions → Option (List ChainLink)
 links_of accepts last = Some []
 links_of accepts (more c cs) = elim (link_of accepts c) [
@@ -50,11 +50,11 @@ abbrev pub one_link : Option ChainLink → Option (List ChainLink)
 one_link None = None
 one_link (Some link) = Some (link ∷ [])
 
--- The conditions `t` and `f` are chains that consist of a base alone. `Inf` of a set is one link with the base f, and
--- `Fin` of a set is one link with the base t. A disjunction can be a chain only if at most one of its operands is not
--- an `Inf`. The chain of a disjunction has the links of the `Inf` operands in order, and then the chain of the
--- remaining operand, or the base f if no operand remains. The chain of a conjunction is built in the same way, with
--- `Fin` in place of `Inf` and the base t in place of f.
+-- The acceptance conditions `t` and `f` are chains without links, which have only a base. The chain of `Inf` of a set
+-- has one link and the base f, and the chain of `Fin` of a set has one link and the base t. A disjunction can be a
+-- chain only if at most one of its operands is not an `Inf`. The chain of a disjunction has the links of the `Inf`
+-- operands in order, and then the chain of the remaining operand, or the base f if no operand remains. The chain of a
+-- conjunction is built like that of a disjunction, with `Fin` in place of `Inf` and the base t in place of f.
 abbrev mutual
   pub chain_of : Condition → Option Chain
   chain_of (constant base) = base_alone base
@@ -104,7 +104,7 @@ abbrev mutual
   one_of_them met last = false
   one_of_them met (more c cs) = if holds met c then true else one_of_them met cs
 
--- the truth value of a chain, which is given by the first link whose set is met, or by the base
+-- the truth value of a chain: that of the first link whose set is met, or that of the base if the set of no link is met
 abbrev pub chain_holds : Bool → List ChainLink → (ℕ → Bool) → Bool
 chain_holds base [] met = base
 chain_holds base (link ∷ links) met = if met link.colour then link.accepts else chain_holds base links met

@@ -182,7 +182,8 @@ impl Automaton {
         }
     }
 
-    /// Whether the word is accepted that consists of a stem and a lap that repeats for ever. Fails if memory runs out.
+    /// Whether the automaton accepts the word that consists of a stem and a lap that repeats for ever. Fails if memory
+    /// runs out.
     pub fn accepts(&self, stem: &[u64], lap: &[u64]) -> Result<bool, AllocError>
         requires some { 0 < length lap.now }
         requires stem { All (λ letter. letter < 2 ^ length self.now.names) stem.now }

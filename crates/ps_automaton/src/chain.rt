@@ -19,8 +19,8 @@ pub(crate) struct Link {
     pub accepts: bool,
 }
 
-/// The first link whose set is met decides whether a part of a run is accepted. If the part meets no link's set, the
-/// base states whether the part is accepted.
+/// The first link whose set a part of a run meets decides whether the part is accepted. If the part of the run meets no
+/// link's set, the chain's base states whether the part is accepted.
 #[derive(Drop)]
 pub(crate) struct Chain {
     /// The links, in order.

@@ -167,7 +167,7 @@ fn row_node(pairs: &mut Pairs, levels: &Levels, guards: &Guards) -> Result<Node,
     }
 }
 
-/// Whether each edge of a row is taken at a single letter, whose number is the index of the edge.
+/// Whether each edge in a state's row is taken at a single letter, whose number is the index of the edge.
 fn is_by_letters(row: &Row) -> bool
     ensures { IsTrue result → (file : FileData) → IsSoundRow file (row_data row.now) →
         IsByLetters file (row_data row.now) }
@@ -178,7 +178,7 @@ fn is_by_letters(row: &Row) -> bool
     }
 }
 
-/// The diagram of the steps of a row each of whose edges is taken at a single letter.
+/// The diagram of the steps of a state each of whose edges is taken at a single letter.
 fn node_by_letters(pairs: &mut Pairs, levels: &Levels, guards: &Guards) -> Result<Node, AllocError>
     requires levels { AreLevels levels.now }
     requires ready { IsReady pairs.old.store guards.now }
@@ -194,7 +194,7 @@ fn node_by_letters(pairs: &mut Pairs, levels: &Levels, guards: &Guards) -> Resul
     Ok(node)
 }
 
-/// The targets of a row's edges, in the order of the edges.
+/// The targets of the edges in a state's row, in the order of the edges.
 fn targets_of(alloc: Global, guards: &Guards) -> Result<Vec<Target>, AllocError>
     requires file { IsSoundFile guards.now.file.now }
     requires row { IsSoundRow guards.now.file.now (row_data guards.now.row.now) }
@@ -207,7 +207,7 @@ fn targets_of(alloc: Global, guards: &Guards) -> Result<Vec<Target>, AllocError>
     Ok(targets)
 }
 
-/// The diagram of the steps of a row whose edges have labels.
+/// The diagram of the steps of a state whose edges have labels.
 fn node_by_labels(
     pairs: &mut Pairs,
     levels: &Levels,
@@ -226,7 +226,7 @@ fn node_by_labels(
 }
 
 /// The diagram of a state's steps, made from the joined diagram of the state's edges, whose leaves are indices of
-/// targets. At a letter at which no edge is taken, the step leads to the sink.
+/// targets. At a letter at which no edge of the state is taken, the step leads to the sink.
 fn node_of_union(pairs: &mut Pairs, levels: &Levels, union: &Union) -> Result<Node, AllocError>
     requires levels { AreLevels levels.now }
     requires held { IsNode pairs.old.store union.now.node }

@@ -7,7 +7,7 @@ use ps_hoa::HoaFault;
 use std::alloc::{AllocError, AllocFailed};
 use thiserror::Error;
 
-/// Why a file has no automaton.
+/// Why no automaton is built from an HOA file.
 #[derive(Debug, Clone, Copy, PartialEq, Eq, Error)]
 pub enum AutomatonFault {
     /// The acceptance condition contains a complemented set.

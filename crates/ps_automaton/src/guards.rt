@@ -1,9 +1,9 @@
-//! The letters at which the edges of a row are taken, as diagrams.
+//! The letters at which the edges of a state are taken, as decision diagrams.
 
 use ps_diagram::Node;
 use ps_hoa::{HoaFile, Row};
 
-/// A row of a file, with the diagrams of the file's aliases and of the row's label.
+/// The row of a state in an HOA file, with the diagrams of the file's aliases and of the row's label.
 #[derive(Clone, Copy)]
 pub(crate) struct Guards<'a> {
     /// The file.

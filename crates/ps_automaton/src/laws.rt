@@ -1,4 +1,4 @@
-//! Laws about the definitions.
+//! Laws about the definitions of this crate.
 
 ghost use Rattle.std.specs.Prelude.{◌≡◌, ◌≢◌, ◌⊎◌, ℕ, ◌<◌, Bool, List, Some, length};
 ghost use Rattle.ps_hoa.specs.Conditions.{Condition};

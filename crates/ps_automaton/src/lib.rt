@@ -1,12 +1,12 @@
 //! Parity automata: when a lasso is accepted, and total, deterministic automata with a priority on each edge.
 //!
-//! A word is a stem followed by a lap that repeats for ever. An automaton accepts the word if some run reaches a state
-//! after the stem and zero or more laps, and returns to this state after one or more further laps. The acceptance
-//! condition must be true for the sets that the run meets between these two visits. The definition `IsAccepted` states
-//! acceptance in terms of the HOA file alone, without the deterministic automaton (HOA v1, acceptance). An acceptance
-//! condition that is a chain gives each edge a priority. The greatest priority in a part of a run is even exactly if
-//! the condition is true for the sets that the part meets (`greatest_level_decides`). The steps of an `Automaton` are
-//! stored in decision diagrams; at a letter at which no edge of the text is taken, the step leads to a sink.
+//! A word is a stem followed by a lap that repeats for ever. An automaton accepts the word if some run visits a state
+//! after the stem and zero or more laps, and again after one or more laps, and satisfies the acceptance condition
+//! between the two visits. The definition `IsAccepted` states acceptance in terms of the HOA file alone, without the
+//! deterministic automaton (HOA v1, acceptance). An acceptance condition that is a chain gives each edge a priority.
+//! The greatest priority in a part of a run is even exactly if the condition is true for the sets that the part meets
+//! (`greatest_level_decides`). The steps of an `Automaton` are stored in decision diagrams; at a letter at which no
+//! edge of the text is taken, the step leads to a sink.
 //!
 //! | Call | What it gives |
 //! |---|---|
@@ -20,12 +20,12 @@
 //! | Law | What it says |
 //! |---|---|
 //! | `automaton_is_there` | an admitted file has an automaton, with a step for each state and letter |
-//! | `refusal_is_one` | each file is either admitted, or refused for exactly one cause |
-//! | `greatest_level_decides` | in a part of a run, the greatest number is even exactly if the part is accepted |
+//! | `refusal_is_one` | each file is either admitted, or refused for exactly one fault |
+//! | `greatest_level_decides` | in a part of a run, the greatest priority is even exactly if the part is accepted |
 //!
-//! `build` joins the edges of a state one after another, as diagrams. So `build` does not visit every letter if a label
-//! uses only a few of many propositions. For an automaton with n states, `accepts` reads the lap at most 2 * (n + 1)
-//! times.
+//! `build` joins the edges of a state one after another, as decision diagrams, so it does not visit every letter if a
+//! label uses only a few of many propositions. For an automaton with n states, `accepts` reads the lap at most 2 * (n +
+//! 1) times.
 #![tactic(auto)]
 
 mod automaton;

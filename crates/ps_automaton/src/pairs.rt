@@ -7,7 +7,7 @@ use ps_diagram::{Node, Store};
 use ps_hoa::HoaFile;
 use std::alloc::Global;
 
-/// Diagrams whose leaves are indices of steps. The first step leads to the sink.
+/// Decision diagrams whose leaves are indices of the automaton's steps. The first step leads to the sink.
 #[derive(Drop)]
 pub(crate) struct Pairs {
     /// The allocator.

@@ -1,4 +1,4 @@
-//! The letters at which an edge is taken, as a diagram.
+//! The letters at which an edge is taken, as a decision diagram.
 
 ghost use Rattle.std.specs.Prelude.{◌≡◌, ◌↔◌, ℕ, ◌+◌, ◌<◌, ◌≤◌, IfOk, IsTrue, OnOk, Some, length, slice_get};
 ghost use Rattle.ps_diagram.specs.Table.{IsNode, Keeps};
@@ -13,7 +13,7 @@ use ps_diagram::{Node, OverlayError, Store};
 use ps_hoa::{Edge, Guard};
 use std::alloc::AllocError;
 
-/// The diagram that has the leaf 1 at the letters at which an edge of the row is taken, and no leaf elsewhere.
+/// The diagram of an edge, which has the leaf 1 at the letters at which the edge is taken, and no leaf elsewhere.
 pub(crate) fn taken(store: &mut Store, guards: &Guards, edge: &Edge) -> Result<Node, AllocError>
     requires ready { IsReady store.old guards.now }
     requires fit { IsFit guards.now.file.now (edge_data edge.now).guard }
@@ -32,7 +32,7 @@ pub(crate) fn taken(store: &mut Store, guards: &Guards, edge: &Edge) -> Result<N
     }
 }
 
-/// The diagram that has the leaf `value` at the letters at which an edge of the row is taken, and no leaf elsewhere.
+/// The diagram of an edge, which has the leaf `value` at the letters at which the edge is taken, and no leaf elsewhere.
 pub(crate) fn marked(
     store: &mut Store,
     guards: &Guards,
@@ -71,7 +71,7 @@ fn meet(store: &mut Store, one: Node, other: Node) -> Result<bool, AllocError>
     }
 }
 
-/// The first edge of the row that clashes with the given later edge.
+/// The first edge of a state that clashes with the given later edge of the state.
 pub(crate) fn first_clash(
     store: &mut Store,
     guards: &Guards,

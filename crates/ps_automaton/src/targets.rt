@@ -17,7 +17,7 @@ pub(crate) struct Target {
     pub sets: u64,
 }
 
-/// The target of an edge of a row.
+/// The target of an edge in a state's row.
 pub(crate) fn target_of(row: &Row, edge: &Edge) -> Target
     requires row { All (λ set. set < 64) row.now.marks.items }
     requires edge { All (λ set. set < 64) edge.now.marks.items }
@@ -29,7 +29,7 @@ pub(crate) fn target_of(row: &Row, edge: &Edge) -> Target
     }
 }
 
-/// A list of sets as a mask, in which bit k is set k.
+/// A list of acceptance sets as a bit mask, in which bit k is set k.
 fn mask_of(sets: &[u32]) -> u64
     requires { All (λ set. set < 64) sets.now }
     ensures { (set : ℕ) → set < 64 → is_in set result ≡ is_among set sets.now }

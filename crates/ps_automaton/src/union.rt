@@ -1,4 +1,4 @@
-//! Joins the edges of a row into one diagram.
+//! Joins the edges of a state into one decision diagram.
 
 ghost use Rattle.std.specs.Prelude.{◌≡◌, ◌+◌, ◌<◌, IfErr, IfOk, OnOk, length};
 ghost use Rattle.ps_diagram.specs.Table.{IsNode, Keeps};
@@ -13,7 +13,8 @@ use crate::targets::target_of;
 use ps_diagram::{Node, OverlayError, Store};
 use std::alloc::Global;
 
-/// The joined edges: the leaf at a letter is the index of the target of the edge that is taken at this letter.
+/// The joined edges of a state: the leaf at a letter is the index of the target of the edge that is taken at this
+/// letter.
 #[derive(Drop)]
 pub(crate) struct Union {
     /// The diagram.
@@ -22,7 +23,7 @@ pub(crate) struct Union {
     pub targets: Places,
 }
 
-/// Joins the edges of a row into one decision diagram.
+/// Joins the edges of a state into one decision diagram.
 pub(crate) fn joined(
     alloc: Global,
     store: &mut Store,
@@ -42,7 +43,7 @@ pub(crate) fn joined(
     Ok(union)
 }
 
-/// Joins all edges of the row, one after the other.
+/// Joins all edges of the state, one after the other.
 fn add_all(store: &mut Store, guards: &Guards, union: &mut Union) -> Result<(), AutomatonFault>
     requires ready { IsReady store.old guards.now }
     requires union { IsUnion guards.now.file.now (row_data guards.now.row.now) 0 union.old.targets store.old

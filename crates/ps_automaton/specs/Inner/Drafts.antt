@@ -71,7 +71,7 @@ abbrev pub IsTargetAt : RowData → EdgeData → List Target → ℕ → Type 0
 IsTargetAt row edge targets place =
     (target : Target) × (slice_get targets place ≡ Some target) × IsTargetOf row edge target
 
--- an edge, among the first `count` edges of a row, that is taken at a letter
+-- one of the first `count` edges of a state's row that is taken at a letter
 pub record TakenEdge (file : FileData) (row : RowData) (count letter : ℕ) : Type 0 where
   pub place : ℕ
   pub within : place < count
@@ -95,11 +95,11 @@ pub record IsUnion (file : FileData) (row : RowData) (count : ℕ) (targets : Li
     pub held : IsNode t node
     pub joined : AreJoined file row count targets (leaf_of t node)
 
--- each edge of a row is taken at exactly one letter, whose number is the index of the edge
+-- each edge in a state's row is taken at exactly one letter, whose number is the index of the edge
 abbrev pub IsByLetters : FileData → RowData → Type 0
 IsByLetters file row = AreAtLetters 0 row.edges × (length row.edges ≡ 2 ^ length file.names)
 
--- the targets of a row's edges, in the order of the edges
+-- the targets of the edges in a state's row, in the order of the edges
 pub record AreTargets (row : RowData) (targets : List Target) : Type 0 where
   pub one_each : length targets ≡ length row.edges
   pub each : (k : ℕ) (edge : EdgeData) → slice_get row.edges k ≡ Some edge → IsTargetAt row edge targets k
