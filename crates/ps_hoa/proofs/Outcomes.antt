@@ -1,4 +1,4 @@
--- Each text has exactly one answer: its meaning, or its first error.
+-- Each HOA text has exactly one answer: its meaning, or its first error.
 
 pub mod Judging
 pub mod Nesting

@@ -1,4 +1,4 @@
--- Every parsed file is sound.
+-- Every parsed HOA file satisfies `IsSoundFile`.
 
 pub mod Keeping
 pub mod NameSets

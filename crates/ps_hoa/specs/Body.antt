@@ -102,7 +102,8 @@ state_label h = either (then_by (expect is_left_bracket) (λ _. label_in_bracket
 
 -- ## Edges
 
--- how the edges of a row are labelled: by the row's label, by a label of each edge, by their order, or not known yet
+-- how the edges of a state are labelled: by the state's label, by a label of each edge, by their order, or not known
+-- yet
 abbrev pub first_labelling : List EdgeData → Labelling
 first_labelling [] = NotKnown
 first_labelling (e ∷ es) = elim e.guard [ stated label ↦ ByEdge | of_state ↦ ByState | at_letter k ↦ ByPlace ]

@@ -10,8 +10,8 @@ use Rattle.ps_hoa.specs.Conditions.{Condition, Conditions, constant, infinitely,
 use Rattle.ps_hoa.specs.Conditions.{more}
 use Rattle.ps_hoa.specs.Files.{GuardData, EdgeData, RowData, FileData, stated, of_state, at_letter}
 
--- The code of `Inf` of a set is a proposition, and that of `Fin` of a set is an alias. If the set is complemented, the
--- code is negated.
+-- In the code of an acceptance condition, a proposition stands for `Inf` of a set, and an alias for `Fin` of a set. A
+-- negation stands for the complement of a set.
 abbrev expression_of_set : Bool → Expression → Expression
 expression_of_set true e = expressions.not_of e
 expression_of_set false e = e

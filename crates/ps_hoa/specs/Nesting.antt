@@ -1,6 +1,7 @@
 -- The grammar of labels and acceptance conditions without a limit, together with the nesting depth of `!` and `(`. Each
 -- `!` and each `(` adds one to the depth up to the end of its operand, except for the parentheses of `Inf` and `Fin`.
--- Up to the depth `room`, the grammars of `Labels` and `Conditions` equal the grammar of this file.
+-- Up to the nesting depth `room`, the grammars of `Labels` and `Conditions` with the limit `room` equal the grammars of
+-- this file.
 --     IsLabel names deep text v, IsCondition deep text v      the text has the meaning v and the nesting depth `deep`
 --     Within room Nests      the nesting depth is at most `room`
 use Rattle.std.specs.Prelude.{ℕ, ◌≡◌, ◌≤◌, ◌⊎◌, suc, max, true, List, [], ◌∷◌, ◌++◌, Some}
@@ -22,8 +23,8 @@ pub record Grammar (V : Type 0) : Type 1 where
   -- the value that operands have together when a connective joins them
   pub together : Connective → List V → V
 
--- Each constructor gives one form of operand with its nesting depth, its tokens and its value. `More` is the further
--- operands of a row, each after its connective.
+-- Each constructor gives one form of operand with its nesting depth, its tokens and its value. The relation `More`
+-- describes the further operands of a row, each after its connective.
 mutual
   pub data IsOperand {V : Type 0} (g : Grammar V) : ℕ → List Sign → V → Type 0 where
     atom : (text : List Sign) (v : V) → g.IsAtom text v → IsOperand g 0 text v

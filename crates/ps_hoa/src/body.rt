@@ -137,7 +137,7 @@ fn end_of(token: Token, header: &Header, rows: &Rows) -> Result<(), HoaFault>
     }
 }
 
-/// Whether the last row has implicit labels, but not exactly one edge for each letter.
+/// Whether the row of the last state has implicit labels, but not exactly one edge for each letter.
 fn is_end_wrong(header: &Header, rows: &Rows) -> bool
     ensures { (result ≡ true) ↔ IsEndWrong (header_data header.now) (body_data rows.now) }
 {

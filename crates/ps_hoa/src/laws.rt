@@ -1,4 +1,4 @@
-//! Laws: an HOA text has exactly one answer, and every parsed file is sound.
+//! Laws: an HOA text has exactly one answer, its meaning or its first error, and every parsed file is sound.
 
 ghost use Rattle.std.specs.Prelude.{◌≡◌, ℕ, List, Result, Ok, Some, length, slice_get};
 ghost use Rattle.ps_label.specs.Expression.{Expression, IsOver, AreOrdered};
@@ -9,12 +9,13 @@ ghost use Rattle.ps_hoa.specs.Sound.{IsSoundFile, IsSoundEdge, IsSoundRow};
 ghost use Rattle.ps_hoa.specs.Texts.{ReadsFile};
 ghost use Rattle.ps_hoa.specs.declared.fault.HoaCause.{HoaCause};
 
-/// A text has at most one answer: its meaning, or its first error and the offset of that error.
+/// An HOA text has at most one answer: its meaning, or its first error and the offset of that error.
 pub fn one_answer()
     ensures { (text : List ℕ) (a b : Result FileData (Found HoaCause)) → ReadsFile text a → ReadsFile text b → a ≡ b }
 {}
 
-/// Every text has an answer. The law is about texts, not about calls: a call may also fail because it is out of memory.
+/// Every HOA text has an answer: its meaning, or its first error. The law is about texts, not about calls: a call may
+/// also fail because it is out of memory.
 pub fn some_answer()
     ensures { (text : List ℕ) → (answer : Result FileData (Found HoaCause)) × ReadsFile text answer }
 {}

@@ -37,7 +37,7 @@ use Rattle.ps_hoa.proofs.Grammar.SignLaws.{laws_alternating}
 abbrev pub lengthens_edge : Kind → Bool
 lengthens_edge = union is_and is_left_brace
 
--- where the number of a target, a set or a state is expected, no token but an `INT` has an error of its own
+-- where the number of a target, a set or a state is expected, the grammar adds errors only for an `INT`
 pub laws_target_number : (Bad : ℕ → HoaCause → Type 0) → Tight (one int_in (BadIn Bad)) is_int
 laws_target_number Bad = laws_value is_int Int [] _ refl (λ _. refl) (λ t f b. b.1)
 

@@ -80,7 +80,7 @@ odd_here b bs is = (
     not_comment : (o : Option ℕ) → comment_by o ≡ Found Odd 1 → ⊥
     not_comment o e = grind arith
 
--- a step that is chosen by a test is sound if both alternatives are sound
+-- if a test chooses between two steps of the scan, the chosen step is sound if both steps are sound
 cond_sound : (bytes : List ℕ) (t : Bool) (x y : Step) → (t ≡ true → Sound bytes x) → (t ≡ false → Sound bytes y) →
     Sound bytes (cond t x y)
 cond_sound bytes t x y h k = search rules

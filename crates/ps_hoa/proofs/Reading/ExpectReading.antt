@@ -41,7 +41,7 @@ pub sign_begins : {V : Type 0} (take : Sign → Option V) (Bad : Sign → HoaCau
 sign_begins take Bad s {v} proper e =
     subst (Enters (one take Bad)) (sym (next_there s proper)) (enters_one take Bad (next_of s).sign (inl (v, e)))
 
--- if the set's test rejects the kind of the next token, that token is not in the set
+-- if the test of a set of kinds rejects the kind of the next token, the token is not in the set
 pub avoids_kind : (test : Kind → Bool) (s : Stream Sign) → (test (next_of s).sign.kind ≡ true → ⊥) →
     Avoids (Of test) (there_of s)
 avoids_kind test s h t e k = h (ap (λ (u : Sign). test u.kind) (next_same s t e) ∙ k)
@@ -61,7 +61,7 @@ module _ {test : Kind → Bool} {kind : Kind} (tests : Tests test kind) where
   pub expect_elsewhere : (s : Stream Sign) → ((next_of s).sign.kind ≡ kind → ⊥) → Avoids (Of test) (there_of s)
   expect_elsewhere s differs = avoids_kind test s (λ h. differs (tests.is.1 (next_of s).sign.kind h))
 
--- moving past a token does not increase the number of remaining pieces
+-- moving past a token does not increase the number of remaining tokens
 pub behind_shrinks : (s new : Stream Sign) → new ≡ behind_next s → length new.pieces ≤ length s.pieces
 behind_shrinks s new e = search rules
 

@@ -42,7 +42,7 @@ pub record Row {V : Type 0} (sign : Kind → Bool) (kind : Kind) (operand : Part
   pub laws : Laws Odd operand First More ⊥
   pub apart : Apart More (Of sign)
 
--- if only one operand was parsed, the next token is the connective
+-- the invariant of the loop: some operands were parsed, and if there was only one, the next token is the connective
 pub record IsRow {V : Type 0} (sign : Kind → Bool) (operand : Part Sign V HoaCause) (old : Stream Sign) (vs : List V)
     (now : Stream Sign) : Type 0 where
   pub carries : Carries hoa_causes (operands sign operand) old (many (λ ws. further sign operand ws) vs) now

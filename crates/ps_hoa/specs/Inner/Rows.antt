@@ -9,6 +9,6 @@ use Rattle.ps_hoa.specs.declared.rows.Rows.{Rows}
 abbrev pub body_data : Rows → BodyData
 body_data r = record { rows = map row_data r.rows.items; edges = r.edges }
 
--- the last row has implicit labels, but not exactly one edge for each letter
+-- the last state has implicit labels, but not exactly one edge for each letter
 abbrev pub IsEndWrong : HeaderData → BodyData → Type 0
 IsEndWrong h body = (row : RowData) × (last_row body ≡ Some row) × IsWrongCount h row
