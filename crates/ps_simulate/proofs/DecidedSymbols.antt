@@ -67,7 +67,7 @@ module _ (names : List (List ℕ)) (controllable : List ℕ) (wanted : Bool) (sy
       (decide_both (decide_below (suc p) (length names))
       (decide_name (slice_index_or symbols k None) (slice_index_or names p [])))
 
-  -- for each proposition, it is decidable whether some symbol names it if it is of the wanted kind
+  -- for each proposition, it is decidable whether it is of another kind than the wanted one or some symbol names it
   decide_each : (p : ℕ) →
       Decided (is_among p controllable ≡ wanted → (k : ℕ) × IsSymbol names symbols k p)
   decide_each p = decide_implied (decide_same (is_among p controllable) wanted)

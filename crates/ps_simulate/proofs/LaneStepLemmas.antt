@@ -22,7 +22,7 @@ use Rattle.ps_simulate.proofs.StepLemmas.{rows_within, outputs_within, nexts_wit
 use Rattle.ps_simulate.proofs.StepLemmas.{IsValueTable-worked_out}
 use Rattle.ps_simulate.specs.NeededGates.{no_wire}
 
--- literals that represent renumbered wires have indices within the table
+-- the variables of renumbered literals are indices within the table of values
 literals_within : {size front : ℕ} {places : List ℕ} (literals : List ℕ) (wires : List Wire) →
     AreMoved size front places → map wire_in literals ≡ map (move_wire places) wires → All (λ w. w.place < size) wires →
     All (λ literal. literal / 2 < size) literals

@@ -66,7 +66,7 @@ module _ {c : CircuitData} (is : IsCircuit c) where
     pub gate_within : (k : ℕ) → k < length rows → gate_place k < length c.gates
     gate_within k lt = are.is_order.within k _ (slice_get-get_or are.order k 0 (omega (arith, length-rows)))
 
-    -- each gate has a row
+    -- each gate of a circuit has a row in the plan
     pub row_of_gate : (i : ℕ) → i < length c.gates → (k : ℕ) × (k < length rows) × (gate_place k ≡ i)
     row_of_gate i lt =
         let there = are.is_order.each i lt in grind (arith, length-rows, slice_get_within, get_or_from_slice_get)

@@ -5,7 +5,7 @@ use Rattle.ps_text.specs.declared.faults.Fault.{Fault}
 use Rattle.ps_simulate.specs.declared.fault.StimulusCause.{StimulusCause}
 use Rattle.ps_simulate.specs.declared.fault.StimulusCause.TheVariants.{Width, Stimulus}
 
--- either a cause with an offset, or out of memory
+-- why a stimulus was not parsed: a cause with an offset, or out of memory
 abbrev pub StimulusFault : Type 0
 StimulusFault = Fault StimulusCause
 

@@ -28,9 +28,9 @@ GoOnInLanes c latches (m ∷ ms) last =
     (next : List (List ℕ)) × (m.latches ≡ latches) × StepsInLanes c latches m.inputs m.outputs next ×
     GoOnInLanes c next ms last
 
--- For every list of steps, the steps of each lane form a run from the latch values of that lane. Every run of the
--- circuit from these latch values on the letters of the lane is this run: it has the same outputs, and the same latch
--- values before each step and at the end.
+-- For every list of steps in 256 lanes, the steps of each lane form a run of the circuit from the latch values of that
+-- lane. Every run of the circuit from a lane's latch values on the lane's letters is the run of the lane: outputs are
+-- the same, and so are latch values before each step and at the end.
 abbrev pub AreLanesPlain : CircuitData → Type 0
 AreLanesPlain c =
     (latches last : List (List ℕ)) (ms : List LaneMoment) → GoOnInLanes c latches ms last →

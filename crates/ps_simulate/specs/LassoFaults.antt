@@ -8,7 +8,7 @@ use Rattle.ps_simulate.specs.declared.role.Role.{Role}
 use Rattle.ps_simulate.specs.declared.lassos.LassoFault.{LassoFault}
 use Rattle.ps_simulate.specs.declared.lassos.LassoFault.TheVariants.{Width, EmptyLap, Symbols, OutOfMemory}
 
--- each letter has a bit for each input
+-- each letter of the stem and the lap has a bit for each input
 pub record AreWide (c : CircuitData) (stem lap : List (List Bool)) : Type 0 where
   pub stem_is : All (λ letter. length letter ≡ length c.inputs) stem
   pub lap_is : All (λ letter. length letter ≡ length c.inputs) lap

@@ -46,7 +46,7 @@ digits_of letter = map digit_of letter
 abbrev pub divider : List ℕ
 divider = 45 ∷ []
 
--- the lines of the letters, with or without a divider
+-- the lines that spell the letters of the stem and, with a divider, also the divider and the letters of the lap
 abbrev pub spelled : Bool → StimulusData → List (List ℕ)
 spelled false s = map digits_of s.stem
 spelled true s = map digits_of s.stem ++ divider ∷ map digits_of s.lap
@@ -112,7 +112,7 @@ ReadsStimulus text width split (Err found) = IsFirstError (IsErrorAt text width 
 abbrev pub IsStimulusAnswer : List ℕ → ℕ → Bool → Result StimulusData StimulusFault → Type 0
 IsStimulusAnswer text width split result = UnlessMemory (ReadsStimulus text width split) result
 
--- the answer to a text that has only a stem
+-- the answer to the text of a stimulus without a lap
 abbrev pub ReadsLetters : List ℕ → ℕ → Result (List (List Bool)) (Found StimulusCause) → Type 0
 ReadsLetters text width (Ok letters) = ReadsStimulus text width false (Ok (stem_of letters))
 ReadsLetters text width (Err found) = ReadsStimulus text width false (Err found)
@@ -125,8 +125,8 @@ HasOneAnswer text width split =
     (answer other : Result StimulusData (Found StimulusCause)) → ReadsStimulus text width split answer →
     ReadsStimulus text width split other → answer ≡ other
 
--- Each text has an answer. The definition is about texts, not about calls: a call may also fail because memory runs
--- out.
+-- Each text of a stimulus has an answer: its letters, or its first error. The definition is about texts, not about
+-- calls: a call may also fail because memory runs out.
 abbrev pub HasSomeAnswer : List ℕ → ℕ → Bool → Type 0
 HasSomeAnswer text width split =
     (answer : Result StimulusData (Found StimulusCause)) × ReadsStimulus text width split answer

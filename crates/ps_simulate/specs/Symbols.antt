@@ -26,8 +26,8 @@ pub record AreNamesOnce (names : List (List ℕ)) (controllable : List ℕ) (wan
   pub some : (k : ℕ) → k < length symbols → (p : ℕ) × IsSymbol names symbols k p × (is_among p controllable ≡ wanted)
   pub once : (j k p : ℕ) → IsSymbol names symbols j p → IsSymbol names symbols k p → j ≡ k
 
--- A controller reads the propositions that are not controllable, and sets the controllable ones. An environment does
--- the reverse.
+-- A controller reads the propositions that are not controllable, and sets the controllable ones. An environment reads
+-- the controllable propositions, and sets those that are not controllable.
 abbrev pub reads_controllable : Role → Bool
 reads_controllable Controller = false
 reads_controllable Environment = true

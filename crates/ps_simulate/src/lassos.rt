@@ -90,8 +90,8 @@ impl From<AllocError> for LassoFault {
 }
 
 /// Runs a circuit through a stem and then repeatedly through a lap, until a lap begins with the same latch values as an
-/// earlier lap. The result states whether the automaton accepts this run's trace, continued forever by repeating the
-/// letters from the earlier of these two laps up to the later. Letters have a bit for each input, in the circuit's
+/// earlier lap. The result states whether the automaton accepts the trace of this run, continued forever by repeating
+/// its letters since the earlier lap with the same latch values. Letters have a bit for each input, in the circuit's
 /// order.
 ///
 /// # Errors
@@ -233,8 +233,8 @@ impl<'a> Run<'a> {
     }
 }
 
-/// Adds a list of latch values to the lists that were seen, or returns its index if it was seen before. The lists are
-/// in a tree, so that every search is short. Fails if out of memory.
+/// Adds a list of latch values to the lists that were seen, or returns its index if it was seen before. The lists of
+/// latch values are in a search tree, so that every search is fast. Fails if out of memory.
 fn see(
     alloc: Global,
     seen: &mut BTreeMap<Vec<bool>, usize>,

@@ -28,8 +28,8 @@ pub(crate) struct Naming<'a> {
 }
 
 impl<'a> Naming<'a> {
-    /// The naming of a circuit with this role, or `None` if the circuit's symbols are not those of the role. Fails if
-    /// out of memory.
+    /// The naming of a circuit with this role, or `None` if the circuit's symbols are not the names of the role's
+    /// propositions. Fails if out of memory.
     pub fn new(
         alloc: Global,
         circuit: &Circuit,

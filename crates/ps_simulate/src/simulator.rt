@@ -125,7 +125,8 @@ fn work(rows: &[Row], values: &mut [bool])
     }
 }
 
-/// Fills the table for a step. The constant 0 is already in the table.
+/// Fills the table of values in a step: copies the inputs and the latches, and evaluates the gates. The constant 0 is
+/// already in the table.
 fn fill(rows: &[Row], inputs: &[bool], latches: &[bool], values: &mut [bool])
     requires within { All (IsRowInTable (length values.old)) rows.now }
     requires room { 1 + length inputs.now + length latches.now ≤ length values.old }

@@ -67,13 +67,13 @@ pub fn parse_stimulus(
     Ok(Stimulus { stem, lap })
 }
 
-/// The text of a stimulus has at most one answer.
+/// The text of a stimulus has at most one answer: its letters, or its first error.
 pub fn stimulus_text_has_one_answer()
     ensures { (text : List ℕ) (width : ℕ) (split : Bool) → HasOneAnswer text width split }
 {}
 
-/// The text of a stimulus has an answer. The law is about texts, not about calls: a call may also fail because it is
-/// out of memory.
+/// The text of a stimulus has an answer: its letters, or its first error. The law is about texts, not about calls: a
+/// call may also fail because it is out of memory.
 pub fn stimulus_text_has_some_answer()
     ensures { (text : List ℕ) (width : ℕ) (split : Bool) → HasSomeAnswer text width split }
 {}

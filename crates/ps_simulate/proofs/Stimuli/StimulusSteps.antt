@@ -78,7 +78,7 @@ module _ {text : List ℕ} {width : ℕ} {split in_lap : Bool} {start end : ℕ}
     start_here : start_of (lines_of text) (length (spelled in_lap s)) ≡ start
     start_here = search (rules, behind, take_at)
 
-    -- if the current line is no divider, its first error is the first error of the text
+    -- if the current line is not the required divider, its first error is the first error of the text
     pub IsFirstError-in_line : start < length text → end ≤ length text →
         ¬ Divides split (lines_of text) (length (spelled in_lap s)) → {cause : StimulusCause} {offset : ℕ} →
         IsFirstError (StandsInLine line start width) cause offset →
@@ -175,7 +175,7 @@ pub letters_of-push : (letters : List (Vec Bool Global)) (letter : Vec Bool Glob
     letters_of (letters ++ letter ∷ []) ≡ letters_of letters ++ letter.items ∷ []
 letters_of-push letters letter = map_push (λ (l : Vec Bool Global). l.items) letters letter
 
--- the first error in the current line is the answer to the text
+-- if the current line has a first error, this is the first error of the text
 pub IsStimulusAnswer-line : {text : List ℕ} {width : ℕ} {split in_lap : Bool} {start end : ℕ} {s : StimulusData} →
     HasRead text width split in_lap start s → {line : List ℕ}
     → lines_of (drop start text) ≡ line ∷ lines_of (drop (end + 1) text) → start + length line ≡ end →
