@@ -1,6 +1,6 @@
 -- For an automaton and a circuit with the inputs and outputs of its role, each stem and lap has a verdict. The circuit
--- reads laps until its latch values recur. When the letters between the two occurrences of these latches are repeated,
--- the automaton's states recur.
+-- reads laps until its latch values recur. When the letters between two occurrences of the same latch values are
+-- repeated, the automaton's states recur.
 use Rattle.std.proofs.Common.{◌≡◌, ◌∙◌, ℕ, zero, suc, ◌+◌, ◌-◌, ◌*◌, ◌^◌, ◌<◌, ◌≤◌, ◌⊎◌, ◌↔◌, inl, inr, Bool, List, []}
 use Rattle.std.proofs.Common.{◌∷◌, ◌++◌, length, get_or, take, drop, IsTrue, Some, refl, sym, ap, arith, length-drop}
 use Rattle.std.proofs.Common.{rules, ◌≢◌}

@@ -63,9 +63,9 @@ pub fn verdict_is_there()
     circuit_has_one_values();
 }
 
-/// The outputs of a circuit are in time if its player moves second, or if they depend only on the latches. Outputs that
-/// are in time at all latch values are in time at the latch values that traces reach, which is all that the laws about
-/// meetings require.
+/// The outputs of a circuit are called in time if its player moves second, or if they depend only on the latches.
+/// Outputs that are in time at all latch values are in time at the latch values that traces reach, which is all that
+/// the laws about meetings require.
 pub fn in_time_where_reached()
     ensures { (order : Order) (role : Role) (c : CircuitData) → IsInTime order role c →
         IsInTimeWhereReached order role c }
@@ -114,7 +114,7 @@ pub fn circuit_is_won()
         Encodes m c → LassosWon file m → m.player ≢ 0 → NoneAccepted file c }
 {}
 
-/// The circuit of a machine has the shape of the machine's player.
+/// The circuit of a machine has the inputs, the outputs and the order of moves of the machine's role (`HasShape`).
 pub fn circuit_has_shape()
     ensures { (order : Order) (role : Role) (file : FileData) (m : Behaviour) (c : CircuitData) → IsMachine m →
         IsMachineFor order role file m → Encodes m c → HasShape order role file c }
