@@ -10,7 +10,8 @@ ghost use Rattle.ps_automaton.specs.Inner.Views.{chain_data, link_data};
 use ps_hoa::Cond;
 use std::alloc::{AllocError, Global};
 
-/// A link of a chain: an acceptance set, and whether a part of a run is accepted if it meets this set.
+/// A link of a chain: an acceptance set, and whether a part of a run is accepted if it meets this set, but no earlier
+/// link's set.
 #[derive(Clone, Copy)]
 pub(crate) struct Link {
     /// The number of the set.
@@ -23,7 +24,7 @@ pub(crate) struct Link {
 /// link's set, the chain's base states whether the part is accepted.
 #[derive(Drop)]
 pub(crate) struct Chain {
-    /// The links, in order.
+    /// The links of the chain, in order.
     pub links: Vec<Link>,
     /// Whether a part of a run is accepted if it meets no link's set.
     pub base: bool,

@@ -28,7 +28,7 @@ use ps_diagram::{Node, Store};
 use ps_hoa::{Guard, HoaFile, Row};
 use std::alloc::{AllocError, Global};
 
-/// The diagrams of the states, followed by the diagram of the sink.
+/// The decision diagrams of the states, followed by the diagram of the sink.
 #[derive(Drop)]
 pub(crate) struct Draft {
     /// The store of the diagrams, and the list of steps whose indices are the leaves.
