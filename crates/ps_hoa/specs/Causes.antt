@@ -40,7 +40,7 @@ cause_number causes.Controllable = 19
 cause_number causes.Name = 20
 cause_number causes.SeveralAutomata = 22
 
--- the grammar defines this name, as the name of a header item or otherwise
+-- the grammar defines the name, as the name of a header item or otherwise
 abbrev pub is_spelled : List ℕ → Bool
 is_spelled name =
     bytes_eq name (codes "HOA:") || bytes_eq name (codes "State:") || is_some (item_named name)
@@ -49,7 +49,7 @@ is_spelled name =
 unfoldable pub is_unknown_capital : List ℕ → Bool
 is_unknown_capital name = if is_spelled name then false else begins_capital name
 
--- the cause with which every token of this kind is rejected, if the kind has a cause of its own
+-- the cause with which every token of the given kind is rejected, if the kind has a cause of its own
 abbrev pub own_cause : Kind → List ℕ → Option HoaCause
 own_cause kinds.OpenComment text = Some causes.Token
 own_cause kinds.Odd text = Some causes.Token

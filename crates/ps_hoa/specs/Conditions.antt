@@ -20,7 +20,7 @@ use Rattle.ps_hoa.specs.declared.fault.HoaCause.TheVariants as causes
 use Rattle.ps_hoa.specs.declared.tokens.Kind.{Kind}
 use Rattle.ps_hoa.specs.declared.tokens.Kind.TheVariants as kinds
 
--- the set with this number, or its complement
+-- the set with the given number, or its complement if the flag is true
 pub record SetData : Type 0 where
   pub number : ℕ
   pub complemented : Bool

@@ -142,7 +142,7 @@ string = one string_in NoBad
 
 -- ## The names of items
 
--- An item with an unknown name is skipped, unless the name begins with a capital letter.
+-- A header item with an unknown name is skipped, unless the name begins with a capital letter.
 abbrev pub item_or_other : Option Item → List ℕ → Option Item
 item_or_other (Some item) name = Some item
 item_or_other None name = if begins_capital name then None else Some items.Other

@@ -34,7 +34,7 @@ abbrev pub constant_in : Option Bool → Option Expression
 constant_in None = None
 constant_in (Some b) = Some (constant b)
 
--- the number of the alias with this name
+-- the number of the alias with the given name
 abbrev pub alias_number : List (List ℕ) → List ℕ → Option ℕ
 alias_number names text = position (λ name. bytes_eq name text) names
 

@@ -101,7 +101,7 @@ pub record InfixGrammar (V : Type 0) : Type 1 where
   -- the value that operands have together when a connective joins them
   pub together : Connective → List V → V
 
--- a token of this kind begins an operand that contains another operand
+-- a token of the given kind begins an operand that contains another operand
 abbrev pub holds : {V : Type 0} → Option (V → V) → Kind → Bool
 holds negated kinds.Not = is_some negated
 holds negated kind = is_left kind

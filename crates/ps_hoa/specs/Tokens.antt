@@ -83,7 +83,7 @@ HasForm Behind text = ⊥
 HasForm Finish text = ⊥
 HasForm kind text = (b : ℕ) × (text ≡ b ∷ []) × (class_of b ≡ SignOf kind)
 
--- the bytes that would make a token of this kind longer
+-- the bytes that would make a token of the given kind longer
 abbrev pub lengthens : Kind → ℕ → Bool
 lengthens Word b = is_name_byte b || nat_eq b 58
 lengthens AliasName b = is_name_byte b

@@ -23,9 +23,9 @@ pub enum Cond {
     Always,
     /// True of no run.
     Never,
-    /// The set with this number, or its complement if the flag is set, is visited infinitely often.
+    /// A set, given by its number, or its complement if the flag is true, is visited infinitely often.
     Inf(u32, bool),
-    /// The set with this number, or its complement if the flag is set, is visited finitely often.
+    /// A set, given by its number, or its complement if the flag is true, is visited only finitely often.
     Fin(u32, bool),
     /// All operands hold.
     All(Vec<Cond>),

@@ -19,11 +19,11 @@ use std::marker::Model;
 /// The letters at which an edge is taken (HOA v1, body: labels of edges and of states, implicit labels).
 #[derive(Debug, Drop)]
 pub enum Guard {
-    /// The letters at which this label is true.
+    /// The letters at which the edge's own label is true.
     Stated(Label),
     /// The letters at which the label of the edge's state is true.
     OfState,
-    /// Only this letter, in which proposition `i` is bit `i`. The letter is also the index of the edge in its row.
+    /// Only the given letter, in which proposition `i` is bit `i`. The letter is also the index of the edge in its row.
     Letter(u64),
 }
 

@@ -14,7 +14,7 @@ use crate::header::{Acceptance, Header};
 use crate::indices::Indices;
 use ps_label::Label;
 
-/// Every state is less than this number if the header has no `States:`.
+/// The limit on states: if the header has no `States:`, every state must be less than the limit.
 const STATE_LIMIT: u32 = 65_535;
 
 /// What is wrong with a header. If a header has several flaws, the flaw with the smallest number is returned.

@@ -6,7 +6,7 @@ ghost use Rattle.ps_hoa.specs.Header.{has_place, kept, slot_of};
 use std::alloc::{AllocError, Global};
 use std::marker::Model;
 
-/// This number and all greater numbers share one slot, since none of them is the number of a proposition.
+/// The slot that 64 and all greater numbers share, since none of them is the number of a proposition.
 const LAST_PLACE: u32 = 64;
 
 /// Numbers in order of appearance. Each number less than 64 is kept once, and of all other numbers only the first is

@@ -43,7 +43,7 @@ pub(crate) trait Infix {
     fn leaf(&self, tokens: &mut Tokens) -> Result<Self::Value, HoaFault>
         ensures { ReadsAs meaning (grammar self.now).leaf tokens.old result tokens.new };
 
-    /// Whether a token of this kind begins an operand that contains another operand.
+    /// Whether a token of the given kind begins an operand that contains another operand.
     fn holds(&self, kind: Kind) -> bool
         ensures { result ≡ holds_at (grammar self.now).negated kind };
 

@@ -62,7 +62,7 @@ const ITEMS: &[(&[u8], Item)] = &[
     (b"name:", Item::Name),
 ];
 
-/// The item with this name, if the parser knows the name.
+/// The header item with the given name, if the parser knows the name.
 pub(crate) fn item_named(name: &[u8]) -> Option<Item>
     ensures { result ≡ item_named name.now }
 {
@@ -75,8 +75,8 @@ pub(crate) fn item_named(name: &[u8]) -> Option<Item>
     None
 }
 
-/// The number of marks, one for each item that may occur only once. A mark records the occurrence of an item that may
-/// occur only once.
+/// The number of marks: one for each header item that may occur only once. A mark records the occurrence of an item
+/// that may occur only once.
 pub(crate) const ONCE_COUNT: usize = 4;
 
 /// The index of the mark of an item, if the item may occur only once.
@@ -93,7 +93,7 @@ fn once_of(item: Item) -> Option<usize>
     }
 }
 
-/// The index of the mark of the item with this name, if the item may occur only once.
+/// The index of the mark of the header item with the given name, if the item may occur only once.
 pub(crate) fn once_named(name: &[u8]) -> Option<usize>
     ensures value { result ≡ once_named name.now }
     ensures within { IfSome result (λ once. once < ONCE_COUNT) }
@@ -144,7 +144,7 @@ pub(crate) fn items<'a>(alloc: Global, tokens: &mut Tokens<'a>) -> Result<Header
     Ok(header)
 }
 
-/// The item that a token begins. An item with an unknown name is `Other`.
+/// The header item that a token begins. A header item with an unknown name is `Other`.
 fn item_at(token: Token) -> Option<Item>
     ensures { result ≡ item_value token.entry.kind token.entry.text.now }
 {
@@ -158,7 +158,7 @@ fn item_at(token: Token) -> Option<Item>
     }
 }
 
-/// Parses one more item.
+/// Parses one more header item.
 fn read_item<'a>(
     alloc: Global,
     tokens: &mut Tokens<'a>,
@@ -171,7 +171,7 @@ fn read_item<'a>(
     behind_name(alloc, tokens, item, header)
 }
 
-/// Reads the name of an item.
+/// Reads the name of a header item.
 fn item_name(tokens: &mut Tokens, header: &Header) -> Result<Item, HoaFault>
     ensures { ReadsAs (λ item. item) (parts.item_name (header_data header.now)) tokens.old result tokens.new }
 {
@@ -179,7 +179,7 @@ fn item_name(tokens: &mut Tokens, header: &Header) -> Result<Item, HoaFault>
     item_name_of(token, header)
 }
 
-/// The item that a token names. The name is rejected if the item is not allowed here.
+/// The header item that a token names. The name is rejected if the header item is not allowed here.
 fn item_name_of(token: Token, header: &Header) -> Result<Item, HoaFault>
     ensures { Takes (λ item. item) item_in (parts.IsBadItem (header_data header.now)) (piece_of token.entry) result }
 {

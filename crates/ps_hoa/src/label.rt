@@ -81,7 +81,7 @@ fn leaf_of(token: Token, scope: &Scope) -> Result<Label, HoaFault>
     }
 }
 
-/// Whether no proposition has this number. The result is false if the number of propositions is not known.
+/// Whether no proposition has the given number. The result is false if the number of propositions is not known.
 fn is_beyond(propositions: Option<usize>, number: u32) -> bool
     ensures { (result ≡ true) ↔ labels.IsBeyond propositions number }
 {

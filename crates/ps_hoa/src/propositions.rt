@@ -47,7 +47,7 @@ impl Propositions {
         self.names.as_slice()
     }
 
-    /// Whether a proposition has this name.
+    /// Whether a proposition has the given name.
     pub fn has(&self, name: &[u8]) -> bool
         ensures { result ≡ is_name_among name.now self.now }
     {

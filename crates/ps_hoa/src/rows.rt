@@ -26,7 +26,7 @@ impl Rows {
     ghost use Rattle.ps_hoa.specs.Body.{has_row, last_row, no_rows, with_row};
     ghost use Rattle.ps_hoa.specs.Inner.Rows.{body_data};
 
-    /// An empty list of rows.
+    /// An empty list of states' rows.
     pub(crate) fn new(alloc: Global) -> Self
         ensures { body_data result ≡ no_rows }
     {
@@ -52,7 +52,7 @@ impl Rows {
         self.places.contains_key(&state)
     }
 
-    /// The last row, if there is one.
+    /// The row that was added last, if there is one.
     pub(crate) fn last(&self) -> Option<&Row>
         ensures { option_map row_data (option_copied result) ≡ last_row (body_data self.now) }
     {

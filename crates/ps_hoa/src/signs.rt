@@ -46,7 +46,7 @@ pub(crate) fn is_kind(token: Token, kind: Kind) -> bool
     token.kind == kind
 }
 
-/// Whether a token is this name with `:` directly after it.
+/// Whether a token is the given name with `:` directly after it.
 pub(crate) fn is_name(token: Token, name: &[u8]) -> bool
     ensures { result ≡ is_some (name_value name.now token.entry.kind token.entry.text.now) }
 {

@@ -143,7 +143,7 @@ fn digits_at(bytes: &[u8]) -> usize
     count
 }
 
-/// Whether a name may contain this byte after its first byte.
+/// Whether a name may contain the given byte after its first byte.
 #[tactic(auto, unfolding(crate::specs::Bytes::class_of))]
 pub(crate) fn is_name_byte(byte: u8) -> bool
     ensures { result ≡ names byte }
@@ -463,7 +463,7 @@ impl<'a> Model for Tokens<'a> {
 
 impl<'a> Tokens<'a> {
     /// The tokens from an offset on. The offset should be after the version of the text. A later `HOA:` counts as the
-    /// second occurrence of this name, even if the offset is 0.
+    /// second occurrence of the name `HOA:`, even if the offset is 0.
     pub fn new(source: &'a [u8], from: usize) -> Self
         requires { from ≤ length source.now }
         ensures pieces { (pieces : List (Piece Sign)) → AreTokens from (drop from source.now) pieces →
@@ -509,7 +509,7 @@ impl<'a> Tokens<'a> {
         token
     }
 
-    /// Whether the next token is of this kind.
+    /// Whether the next token is of the given kind.
     pub(crate) fn is_at(&self, kind: Kind) -> bool
         ensures { (result ≡ true) ↔ ((next_of (stream_of self.now)).sign.kind ≡ kind) }
     {

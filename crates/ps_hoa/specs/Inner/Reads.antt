@@ -16,7 +16,7 @@ abbrev pub ReadsAs : {V X : Type 0} → (X → V) → Part Sign V HoaCause → S
     Type 0
 ReadsAs view part old result new = Meets found_of hoa_causes view part (stream_of old) result (stream_of new)
 
--- f is an error of this token, and no error of this token has a smaller number
+-- f is an error of the token, and no error of the token has a smaller number
 pub record IsWorst (Bad : Sign → HoaCause → Type 0) (sign : Sign) (f : HoaCause) : Type 0 where
   pub stands : Bad sign f
   pub least : (g : HoaCause) → Bad sign g → cause_number f ≤ cause_number g
