@@ -39,7 +39,7 @@ impl Cause for StimulusCause {
 }
 
 impl StimulusCause {
-    /// The fault with this cause at an offset.
+    /// The fault with the given cause at an offset.
     pub(crate) fn at(self, offset: usize) -> StimulusFault
         ensures { result ≡ Text self offset }
     {

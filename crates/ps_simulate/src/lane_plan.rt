@@ -28,7 +28,7 @@ pub struct LanePlan {
     pub size: usize,
     /// The number of values before those of the gates: the constant 0, the inputs and the latches.
     pub front: usize,
-    /// The operands of each gate, in the order of evaluation.
+    /// The two literals that each gate reads, in the order of evaluation.
     pub gates: Vec<Operands>,
     /// The literals of the outputs, whose variables are indices into the table of values.
     pub outputs: Vec<Literal>,

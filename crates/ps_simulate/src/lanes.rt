@@ -82,7 +82,7 @@ impl<'a> LaneSimulator<'a> {
     }
 }
 
-/// The resets of the latches, for each run.
+/// The reset values of the latches, the same for each of 256 runs.
 fn first_words(alloc: Global, circuit: &Circuit) -> Result<Vec<[u64; 4]>, AllocError>
     ensures { IfOk result (λ words. (lane : ℕ) → lane < 256 → lane_of words.items lane ≡ resets circuit.now) }
 {

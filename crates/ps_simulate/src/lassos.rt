@@ -90,13 +90,12 @@ impl From<AllocError> for LassoFault {
 }
 
 /// Runs a circuit through a stem and then repeatedly through a lap, until a lap begins with the same latch values as an
-/// earlier lap. The result states whether the automaton accepts the trace of this run, continued forever by repeating
-/// its letters since the earlier lap with the same latch values. Letters have a bit for each input, in the circuit's
-/// order.
+/// earlier lap. The result states whether the automaton accepts the run's trace, continued forever by repeating its
+/// letters since the earlier lap with the same latch values. Letters have a bit for each input, in the circuit's order.
 ///
 /// # Errors
 ///
-/// `Width`, `EmptyLap` or `Symbols`, whichever comes first in this order; or out of memory.
+/// `Width`, `EmptyLap` or `Symbols`, whichever of them comes first in this list; or out of memory.
 pub fn lasso(
     alloc: Global,
     circuit: &Circuit,

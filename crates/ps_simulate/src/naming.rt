@@ -28,7 +28,7 @@ pub(crate) struct Naming<'a> {
 }
 
 impl<'a> Naming<'a> {
-    /// The naming of a circuit with this role, or `None` if the circuit's symbols are not the names of the role's
+    /// The naming of a circuit with the given role, or `None` if the circuit's symbols are not the names of the role's
     /// propositions. Fails if out of memory.
     pub fn new(
         alloc: Global,

@@ -46,7 +46,7 @@ pub struct Plan {
 impl Plan {
     ghost use Rattle.ps_simulate.specs.Plans.{IsPlan};
 
-    /// The plan of a circuit. Fails if out of memory.
+    /// The plan of a circuit: what a simulator evaluates in each step. Fails if out of memory.
     pub fn new(alloc: Global, circuit: &Circuit) -> Result<Self, AllocError>
         ensures { IfOk result (IsPlan circuit.now) }
     {

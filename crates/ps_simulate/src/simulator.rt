@@ -81,7 +81,7 @@ impl<'a> Simulator<'a> {
     }
 }
 
-/// The resets of the latches. Fails if out of memory.
+/// The reset values of the latches. Fails if out of memory.
 fn first_latches(alloc: Global, circuit: &Circuit) -> Result<Vec<bool>, AllocError>
     ensures { IfOk result (λ bits. bits.items ≡ map (λ l. l.reset) circuit.now.latches) }
 {

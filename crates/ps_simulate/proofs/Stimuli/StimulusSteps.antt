@@ -58,7 +58,7 @@ module _ {text : List ℕ} {width : ℕ} {split in_lap : Bool} {start end : ℕ}
     end_is : end + 1 ≡ extent (spelled in_lap s ++ line ∷ [])
     end_is = search (rules, sum_by_push)
 
-    -- the invariant is kept when a line that spells a letter is read
+    -- the parser's invariant is kept when a line that spells a letter is read
     pub HasRead-letter : (letter : List Bool) → line ≡ digits_of letter → length line ≡ width →
         HasRead text width split in_lap (end + 1) (with_letter in_lap s letter)
     HasRead-letter letter is each = grind (
@@ -108,7 +108,7 @@ module _ {text : List ℕ} {width : ℕ} {split in_lap : Bool} {start end : ℕ}
                 let from = in_line_from l.line _ width other there l.in_line in
                 inl (grind (arith, bound, start_here)))
 
--- the invariant is kept when the divider is read
+-- the parser's invariant is kept when the divider is read
 pub HasRead-divider : {text : List ℕ} {width : ℕ} {split : Bool} {start end : ℕ} {s : StimulusData} →
     HasRead text width split false start s → {line : List ℕ}
     → lines_of (drop start text) ≡ line ∷ lines_of (drop (end + 1) text) → start + length line ≡ end → line ≡ divider →
@@ -164,7 +164,7 @@ IsFirstError-end {text} {width} {split} {start} {s} h past wanted = record {
 
 -- ## The values of the code
 
--- the invariant is kept when its lists of letters are replaced by equal lists
+-- the parser's invariant is kept when its lists of letters are replaced by equal lists
 pub HasRead-same : (text : List ℕ) (width : ℕ) (split in_lap in_lap' : Bool) (start : ℕ)
     (stem stem' lap lap' : List (List Bool)) → in_lap ≡ in_lap' → stem ≡ stem' → lap ≡ lap'
     → HasRead text width split in_lap start (record { stem = stem; lap = lap }) →
