@@ -74,7 +74,8 @@ link_decides : (met : ℕ → Bool) (accepts : Bool) (c : Condition) {link : Cha
     link_of accepts c ≡ Some link → joined accepts (holds met c) b ≡ cond (met link.colour) link.accepts b
 link_decides met accepts c b e = grind arith
 
--- a chain that begins with the links of some operands has the value of these operands joined with the rest of the chain
+-- a chain that begins with the links of some operands has the value of the disjunction or conjunction of these operands
+-- and the rest of the chain
 links_decide : (met : ℕ → Bool) (accepts : Bool) (cs : Conditions) (base : Bool) (rest links : List ChainLink) →
     links_of accepts cs ≡ Some links → chain_holds base (links ++ rest) met ≡ joined accepts (together met accepts cs)
     (chain_holds base rest met)

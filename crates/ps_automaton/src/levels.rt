@@ -7,7 +7,7 @@ use crate::numbers::Numbers;
 use crate::step::Step;
 use crate::targets::Target;
 
-/// Whatever the file, a call of `Automaton::build` may also run out of memory.
+/// A chain, and the table of the priorities that the chain gives to edges.
 #[derive(Drop)]
 pub(crate) struct Levels {
     /// The chain.
