@@ -91,7 +91,7 @@ read_on literals values table words k lane lt room here before =
       map-append bit (take k literals) (get_or literals k 0 ∷ []),
     )
 
--- in each lane, a list of the first latches' resets can be extended by the reset of one more latch
+-- a list with the words of the first k latches' resets can be extended, in each lane, by the reset of one more latch
 pub reset_on : (latches : List Latch) (words : List (List ℕ)) {more : List (List ℕ)} {m : ℕ} (k lane : ℕ) → lane < 256 →
     k < length latches → m ≡ all_or_none (get_or latches k no_latch).reset → more ≡ words ++ replicate 4 m ∷ [] →
     lane_of words lane ≡ map (λ (l : Latch). l.reset) (take k latches) →

@@ -65,7 +65,7 @@ pub record IsVerdictOf (file : FileData) (c : CircuitData) (stem lap : List (Lis
     pub lap_is : verdict.lap ≡ (j - i) * length lap
     pub accepted : IsTrue verdict.accepted ↔ IsAccepted file (take verdict.stem letters) (drop verdict.stem letters)
 
--- any two verdicts are equal
+-- any two verdicts of an automaton on a circuit, a stem and a lap are equal
 abbrev pub HasOneVerdict : FileData → CircuitData → List (List Bool) → List (List Bool) → Type 0
 HasOneVerdict file c stem lap = (verdict other : Verdict) → IsVerdictOf file c stem lap verdict →
     IsVerdictOf file c stem lap other → verdict ≡ other
