@@ -24,7 +24,7 @@ pub fn automaton_is_there()
 {}
 
 /// An HOA file is either admitted, or refused for exactly one fault other than running out of memory. Whatever the
-/// file, a call may also fail because memory runs out.
+/// file, a call of `Automaton::build` may also run out of memory.
 pub fn refusal_is_one()
     ensures some { (file : FileData) → IsAdmitted file ⊎ ((fault : AutomatonFault) × (fault ≢ OutOfMemory) ×
         IsRefused file fault) }
