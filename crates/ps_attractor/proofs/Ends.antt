@@ -1,4 +1,5 @@
--- The end of the walk: the vertices that are no longer free are the attractor.
+-- When the worklist of an attractor computation is processed, the vertices that have left the level `aim.free` are the
+-- attractor.
 use Rattle.std.proofs.Common.{◌≡◌, ◌≢◌, ℕ, ◌+◌, ◌-◌, ◌<◌, ◌≤◌, ◌⊎◌, inl, inr, Bool, IsTrue, length, get_or, drop, rules}
 use Rattle.std.proofs.Common.{sym, ◌∙◌, arith}
 use Rattle.std.proofs.lemmas.Bool.{cases_eq, cases_lt}
@@ -14,7 +15,7 @@ use Rattle.ps_attractor.proofs.PlaceIn.{place_in-le, place_in-at}
 use Rattle.ps_attractor.proofs.Reaching.{stands_now}
 use Rattle.ps_attractor.proofs.Least.{falls_least}
 
--- the walk has reached the end of the trail
+-- every entry of the worklist has been processed
 pub record Ended (game : ParityGame) (aim : Aim) (old new : TablesData) (subgame target set : ℕ → Bool) : Type 0 where
   pub is_game : IsGame game
   pub marks : aim.level ≢ aim.free
@@ -23,7 +24,7 @@ pub record Ended (game : ParityGame) (aim : Aim) (old new : TablesData) (subgame
   pub taken : IsSetOfPlaced aim new subgame set
   pub reached : Reaching game aim old new (From (length new.trail))
 
--- a vertex of the subgame was free or in the trail
+-- each vertex of the subgame was unattracted or in the worklist at the beginning
 was_there : {game : ParityGame} {aim : Aim} {old : TablesData} {subgame target : ℕ → Bool} (w : ℕ) →
     IsPosed game aim old subgame target → IsTrue (subgame w) → (level_of old w ≡ aim.free) ⊎ StandsFrom old aim.begin w
 was_there w posed inside = elim (posed.split w inside) [
@@ -31,7 +32,7 @@ was_there w posed inside = elim (posed.split w inside) [
   | inr there ↦ inr (posed.target_stands w there)
 ]
 
--- the rank of a vertex that is in the trail before an index is less than this index
+-- a vertex that occurs in the worklist before some index has a rank less than that index
 rank_before : (aim : Aim) (new : TablesData) (end w : ℕ) → end ≤ length new.trail → IsInTrailBefore aim new end w →
     aim.begin + rank_of aim new w < end
 rank_before aim new end w within stands =
@@ -39,7 +40,7 @@ rank_before aim new end w within stands =
     let there : aim.begin + (stands.place - aim.begin) ≡ stands.place = omega arith in
     grind (arith, place_in-le, length-drop, get_or-drop)
 
--- the rank of a vertex determines its index in the trail
+-- a vertex of the worklist is at index `aim.begin` plus its rank
 rank_at : (aim : Aim) {new : TablesData} {v : ℕ} → StandsFrom new aim.begin v →
     (aim.begin + rank_of aim new v < length new.trail) × (get_or new.trail (aim.begin + rank_of aim new v) 0 ≡ v)
 rank_at aim {new} {v} stands =
@@ -54,23 +55,23 @@ rank_at aim {new} {v} stands =
 
 module _ {game : ParityGame} {aim : Aim} {old new : TablesData} {subgame target set : ℕ → Bool}
     (ended : Ended game aim old new subgame target set) where
-  -- a vertex that is free now was free before
+  -- a vertex that is unattracted at the end was unattracted at the beginning
   was_free : (v : ℕ) → level_of new v ≡ aim.free → level_of old v ≡ aim.free
   was_free v is_free = search rules
 
   target_in : IsWithin target set
   target_in v there = search (rules, was_free)
 
-  -- each vertex of the set is in the trail
+  -- each vertex of the attractor is in the worklist
   in_trail : (v : ℕ) → IsTrue (set v) → StandsFrom new aim.begin v
   in_trail v inside = stands_now v ended.begins ended.reached.grown (ended.taken.placed v inside)
       (was_there v ended.posed (ended.taken.within v inside))
 
-  -- each vertex of the trail is in the set
+  -- each vertex of the worklist is in the attractor
   trail_in : {w : ℕ} → w < vertex_count game → StandsFrom new aim.begin w → IsTrue (set w)
   trail_in {w = w} is_vertex stands = search (rules, cases_lt, target_in)
 
-  -- a vertex of the player with an edge into the set is not free
+  -- a vertex of the player with an edge into the attractor is not left unattracted
   own_in : (v w : ℕ) → owner_of game v ≡ aim.player → HasEdge game v w → IsTrue (set w) → level_of new v ≢ aim.free
   own_in v w owns edge inside is_free =
       let stands = in_trail w inside in
@@ -79,7 +80,7 @@ module _ {game : ParityGame} {aim : Aim} {old new : TablesData} {subgame target 
         ended.reached.own v stands.place is_free owns stands.after stands.within (rw stands.is edge),
       )
 
-  -- a vertex of the other player that is free has a free successor
+  -- an unattracted vertex of the other player has an unattracted successor
   other_out : (v : ℕ) → owner_of game v ≢ aim.player → IsTrue (subgame v) → level_of new v ≡ aim.free →
       StaysOut game subgame set v
   other_out v others inside is_free =
@@ -117,7 +118,7 @@ module _ {game : ParityGame} {aim : Aim} {old new : TablesData} {subgame target 
     ]
   ]
 
-  -- a vertex of the set outside the target leads to earlier vertices of the trail
+  -- a vertex of the attractor outside the target leads to vertices that are earlier in the worklist
   leads_from : (v : ℕ) → IsTrue (set v) → ¬ IsTrue (target v) →
       (aim.begin + rank_of aim new v < length new.trail) × LeadsBack game aim old new (aim.begin + rank_of aim new v) v
   leads_from v inside outside =
@@ -132,7 +133,7 @@ module _ {game : ParityGame} {aim : Aim} {old new : TablesData} {subgame target 
         ],
       )
 
-  -- an edge from v to a vertex that precedes v in the trail leads to a smaller rank
+  -- an edge from v to a vertex that precedes v in the worklist leads to a smaller rank
   leads_down : (v w : ℕ) → aim.begin + rank_of aim new v < length new.trail → HasEdge game v w →
       IsInTrailBefore aim new (aim.begin + rank_of aim new v) w → LeadsDown game subgame set (rank_of aim new) v w
   leads_down v w within edge stands = grind (

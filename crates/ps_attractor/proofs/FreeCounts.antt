@@ -1,4 +1,4 @@
--- How examining one edge changes the number of free vertices and the trail.
+-- How examining one edge changes the number of unattracted vertices and the worklist.
 use Rattle.std.proofs.Common.{◌≡◌, ◌≢◌, ℕ, ◌+◌, ◌<◌, ◌≤◌, cond, eqb, List, [], ◌∷◌, ◌++◌, length, rules, get_or, arith}
 use Rattle.std.specs.Prelude.{slice_set}
 use Rattle.std.proofs.lemmas.Bool.{eq-eqb, ne_eqb}
@@ -9,13 +9,13 @@ use Rattle.ps_attractor.specs.declared.aim.Aim.{Aim}
 use Rattle.ps_attractor.specs.Tables.{TablesData, level_of}
 use Rattle.ps_attractor.specs.Steps.{Look, NotFree, Escapes, Own, Others, free_count}
 
--- the trail grows by as many entries as there are fewer free vertices, and its earlier entries are unchanged
+-- the worklist grows by one entry for each vertex that becomes attracted, and its earlier entries are unchanged
 pub record Keeps (aim : Aim) (old new : TablesData) : Type 0 where
   pub frees : free_count aim new + length new.trail ≡ free_count aim old + length old.trail
   pub longer : length old.trail ≤ length new.trail
   pub front : (j : ℕ) → j < length old.trail → get_or new.trail j 0 ≡ get_or old.trail j 0
 
--- 1 for the free level, and 0 for every other level
+-- 1 for the level `aim.free` of unattracted vertices, and 0 for every other level
 abbrev weight : ℕ → ℕ → ℕ
 weight free level = cond (eqb level free) 1 0
 

@@ -1,5 +1,4 @@
--- The levels and the trail with which the public function begins, and the result that is read from the tables at the
--- end.
+-- The levels and the worklist with which `attract` begins, and the result that it reads from its tables at the end.
 use Rattle.std.proofs.Common.{◌≡◌, ◌≢◌, ℕ, ◌+◌, ◌<◌, ◌≤◌, ◌⊎◌, inl, inr, List, [], ◌∷◌, ◌++◌, Bool, false, IsTrue}
 use Rattle.std.proofs.Common.{Option, None, IsSome, length, get_or, drop, refl, rules, sym, ◌∙◌, arith}
 use Rattle.std.specs.Prelude.{slice_set}
@@ -20,7 +19,7 @@ use Rattle.ps_attractor.specs.Results.{AreLaidOut, AreAttracted, IsAttractor, Is
 use Rattle.ps_attractor.specs.Results.{rank_at}
 use Rattle.ps_attractor.proofs.Placing.{stands_after, stands_longer}
 
--- the level of one more vertex is set, and the trail has exactly the vertices of the target up to this vertex
+-- after one more vertex gets its level, the worklist has exactly the target's vertices up to and including that vertex
 laid_more : {subgame target : List Bool} {n : ℕ} {old new : TablesData} → AreLaidOut subgame target n old →
     ((v : ℕ) → v ≢ n → level_of new v ≡ level_of old v) → (IsTrue (has target n) → level_of new n ≡ PLACED) →
     (has target n ≡ false → IsTrue (has subgame n) → level_of new n ≡ FREE) →
@@ -59,7 +58,8 @@ pub laid_kept : {subgame target : List Bool} {n : ℕ} {old : TablesData} (new :
     AreLaidOut subgame target n old → AreLaidOut subgame target (n + 1) new
 laid_kept new not_there trail kept free outside laid = search (rules, laid_more, false≢true, stands_longer)
 
--- the first index of each vertex is still correct after one more vertex at the front of the trail is handled
+-- the recorded first index of each vertex stays correct when the loop, which runs backwards, records one more entry of
+-- the worklist
 pub first_place_more : (trail places : List ℕ) (count k : ℕ) → k < length trail → length places ≡ count →
     get_or trail k 0 < count → ((v i : ℕ) → k + 1 ≤ i → i < length trail → get_or trail i 0 ≡ v →
     get_or places v 0 ≡ k + 1 + place_in (drop (k + 1) trail) v) → (v i : ℕ) → k ≤ i → i < length trail →
@@ -73,7 +73,7 @@ first_place_more trail places count k within size low so_far v i after inside is
 pub in_or_not : (region : List Bool) (v : ℕ) → IsTrue (has region v) ⊎ (has region v ≡ false)
 in_or_not region v = search rules
 
--- the tables belong to an attractor, and the region is read from them
+-- the tables hold a computed attractor, and the region is read from the tables
 record Answer (game : ParityGame) (player : ℕ) (subgame target : List Bool) (new : TablesData)
     (region : List Bool) : Type 0 where
   is_subgame : IsSubgame game (has subgame)
@@ -83,11 +83,11 @@ record Answer (game : ParityGame) (player : ℕ) (subgame target : List Bool) (n
 
 module _ (game : ParityGame) {subgame target : List Bool} {old : TablesData} (v : ℕ)
     (laid : AreLaidOut subgame target (vertex_count game) old) (is_vertex : v < vertex_count game) where
-  -- a vertex that is free at first is in the subgame
+  -- a vertex with the initial level `FREE` is in the subgame
   free_inside : level_of old v ≡ FREE → IsTrue (has subgame v)
   free_inside free = search (rules, in_or_not)
 
-  -- a vertex that is placed at first is in the target
+  -- a vertex in the initial worklist is in the target
   placed_target : level_of old v ≡ PLACED → IsTrue (has target v)
   placed_target placed = search (rules, in_or_not)
 
@@ -115,7 +115,7 @@ module _ {game : ParityGame} {player : ℕ} {subgame target : List Bool} {new : 
   region_vertex : (v : ℕ) → IsTrue (has region v) → v < vertex_count game
   region_vertex v inside = search (rules, cases_lt, false≢true)
 
-  -- each vertex of the region is in the trail and in the subgame
+  -- each vertex of the resulting region is in the worklist and in the subgame
   stands_inside : (v : ℕ) → IsTrue (has region v) → StandsFrom new 0 v × IsTrue (has subgame v)
   stands_inside v inside =
       let made = answer.made in
@@ -139,7 +139,7 @@ module _ {game : ParityGame} {player : ℕ} {subgame target : List Bool} {new : 
       (rank_of (aim_of player) new)
   region_attracted = answer.made.attracted (has region) taken
 
-  -- the ranks that are read from the tables decrease along the moves that are read from them
+  -- the ranks and the moves that are read from the tables agree: along each move, the rank decreases
   answer_falls : {moves : List (Option ℕ)} (rank : List ℕ) →
       AreMovesTo game new player target (vertex_count game) moves →
       ((v : ℕ) → StandsFrom new 0 v → get_or rank v 0 ≡ place_in new.trail v) →

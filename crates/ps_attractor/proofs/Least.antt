@@ -1,11 +1,11 @@
--- A set in which ranks decrease to the target is contained in every closed set.
+-- A set in which ranks decrease to the target is contained in every set that is closed under attraction to the target.
 use Rattle.std.proofs.Common.{◌≡◌, ℕ, zero, suc, ◌<◌, Bool, Option, IsSomeAnd, rules, IsTrue, refl, arith}
 use Rattle.std.proofs.lemmas.Bool.{cases_eq, false≢true}
 use Rattle.ps_game.specs.Games.{ParityGame}
 use Rattle.ps_game.specs.Subgames.{IsWithin}
 use Rattle.ps_game.specs.Attractors.{IsClosedUnderAttraction, LeadsDown, Falls, IsLeastClosed}
 
--- if a move exists and has a property, some vertex has this property
+-- if an optional move is present and satisfies a property, some vertex satisfies the property
 some_move : (P : ℕ → Type 0) (o : Option ℕ) → IsSomeAnd o P → (w : ℕ) × P w
 some_move P o h = search rules
 

@@ -1,4 +1,4 @@
--- One more vertex is placed: the trail grows by this vertex, and earlier facts about placed vertices remain true.
+-- One more vertex is attracted and appended to the worklist; facts about the vertices attracted before remain true.
 use Rattle.std.proofs.Common.{◌≡◌, ◌≢◌, ℕ, ◌+◌, ◌<◌, ◌≤◌, [], ◌∷◌, ◌++◌, length, get_or, refl, sym, ap, rules}
 use Rattle.std.proofs.Common.{◌∙◌, arith}
 use Rattle.std.proofs.lemmas.Bool.{cases_eq, cases_lt}
@@ -9,7 +9,7 @@ use Rattle.ps_attractor.specs.Tables.{TablesData, level_of}
 use Rattle.ps_attractor.specs.Aims.{StandsFrom, IsPlaced, IsGrown}
 use Rattle.ps_attractor.specs.Steps.{IsInTrailBefore, LeadsBack}
 
--- the vertex u is placed
+-- the vertex u gets its new level and is appended to the worklist
 pub record Places (aim : Aim) (mid new : TablesData) (u : ℕ) : Type 0 where
   pub was_free : level_of mid u ≡ aim.free
   pub level : level_of new u ≡ aim.level
@@ -17,11 +17,11 @@ pub record Places (aim : Aim) (mid new : TablesData) (u : ℕ) : Type 0 where
   pub moves : (v : ℕ) → v ≢ u → get_or new.moves v 0 ≡ get_or mid.moves v 0
   pub trail : new.trail ≡ mid.trail ++ u ∷ []
 
--- a vertex that is in the trail from index m on is in the trail from every smaller index on
+-- a vertex that is in the worklist at index m or later is also at index n or later, if n is at most m
 pub stands_after : {tables : TablesData} {m n v : ℕ} → StandsFrom tables m v → n ≤ m → StandsFrom tables n v
 stands_after stands earlier = search rules
 
--- a vertex of the trail is still in the trail when the trail is longer
+-- a vertex of the worklist is still in the worklist after the worklist grows
 pub stands_longer : {old new : TablesData} {m v : ℕ} → length old.trail ≤ length new.trail →
     ((j : ℕ) → j < length old.trail → get_or new.trail j 0 ≡ get_or old.trail j 0) → StandsFrom old m v →
     StandsFrom new m v
@@ -37,11 +37,11 @@ module _ {aim : Aim} {mid new : TablesData} {u : ℕ} (places : Places aim mid n
   pub trail_length : length new.trail ≡ length mid.trail + 1
   trail_length = ap length places.trail ∙ length_push mid.trail u
 
-  -- a vertex that is not free is different from the vertex that is placed
+  -- a vertex that was attracted before differs from the vertex that is attracted now
   pub not_it : (v : ℕ) → level_of mid v ≢ aim.free → v ≢ u
   not_it v not_free same = not_free (ap (λ x. level_of mid x) same ∙ places.was_free)
 
-  -- a vertex that is free afterwards is different from the vertex that is placed
+  -- a vertex that is still unattracted afterwards differs from the vertex that is attracted now
   pub still_free : (v : ℕ) → aim.level ≢ aim.free → level_of new v ≡ aim.free → v ≢ u
   still_free v marks is_free same = marks (sym places.level ∙ ap (λ x. level_of new x) (sym same) ∙ is_free)
 

@@ -1,4 +1,4 @@
--- The walk along the trail: its start, moving to the next index, and examining one edge.
+-- Processing the worklist: the beginning, the step to the next index, and the examination of one edge.
 use Rattle.std.proofs.Common.{◌≡◌, ◌≢◌, ℕ, ◌+◌, ◌<◌, ◌≤◌, ◌⊎◌, inl, inr, List, length, get_or, refl, sym, ap, rules}
 use Rattle.std.proofs.Common.{◌∙◌, arith}
 use Rattle.std.specs.Prelude.{slice_set}
@@ -14,13 +14,13 @@ use Rattle.ps_attractor.specs.Steps.{Reaching, From, FromSource, with_placed}
 use Rattle.ps_attractor.proofs.Placing.{Places, trail_before, trail_last, trail_length, not_it, still_free, grown_on}
 use Rattle.ps_attractor.proofs.Placing.{leads_back_on, stands_after, stands_longer}
 
--- a vertex that can go on along edges that satisfy P can go on along edges that satisfy Q, if P implies Q
+-- if P implies Q, `CanGoOn` for the unexamined edges given by P implies `CanGoOn` for those given by Q
 can_map : {game : ParityGame} {aim : Aim} {new : TablesData} {P Q : ℕ → ℕ → Type 0} {v : ℕ} →
     ((j : ℕ) → aim.begin ≤ j → j < length new.trail → HasEdge game v (get_or new.trail j 0) → P v j → Q v j) →
     CanGoOn game aim new P v → CanGoOn game aim new Q v
 can_map map can = search rules
 
--- the invariant for P implies the invariant for Q, if P implies Q for every edge of a free vertex
+-- the invariant `Reaching` for P implies the invariant for Q, if P implies Q for every edge of an unattracted vertex
 reaching_map : {game : ParityGame} {aim : Aim} {old new : TablesData} (P Q : ℕ → ℕ → Type 0) →
     ((v j : ℕ) → level_of new v ≡ aim.free → aim.begin ≤ j → j < length new.trail →
     HasEdge game v (get_or new.trail j 0) → P v j → Q v j) →
@@ -59,19 +59,19 @@ pub reaching_leave : {game : ParityGame} {aim : Aim} {old new : TablesData} (lis
 reaching_leave list k n all so_far =
     reaching_map (FromSource k list n) (From (k + 1)) (λ v j is_free after within edge pending. grind arith) so_far
 
--- examining the edge from the source with index n in the list of sources
+-- examining the edge from the predecessor at index n of a vertex's list of predecessors
 module _ {game : ParityGame} {aim : Aim} {old mid : TablesData} (list : List ℕ) (k n : ℕ) {u : ℕ}
     (at : get_or list n 0 ≡ u) (so_far : Reaching game aim old mid (FromSource k list n)) where
-  -- an edge of another vertex that was pending is still pending
+  -- an unexamined edge from another vertex stays unexamined
   pending_on : (v j : ℕ) → v ≢ u → FromSource k list n v j → FromSource k list (n + 1) v j
   pending_on v j differ pending = search (rules, cases_eq)
 
-  -- examining an edge of a vertex that is not free changes nothing
+  -- examining an edge from a vertex that is already attracted, or outside the subgame, changes nothing
   look_not_free : level_of mid u ≢ aim.free → Reaching game aim old mid (FromSource k list (n + 1))
   look_not_free not_free = reaching_map (FromSource k list n) (FromSource k list (n + 1)) (λ v j is_free after within
       edge. pending_on v j (λ same. not_free (ap (λ x. level_of mid x) (sym same) ∙ is_free))) so_far
 
-  -- examining an edge of the other player's vertex changes nothing if this vertex has a free successor
+  -- examining an edge from a vertex of the other player changes nothing if the vertex has an unattracted successor
   look_escapes : owner_of game u ≢ aim.player → HasFree game aim.free mid u →
       Reaching game aim old mid (FromSource k list (n + 1))
   look_escapes others has_free = record {
@@ -85,7 +85,8 @@ module _ {game : ParityGame} {aim : Aim} {old mid : TablesData} (list : List ℕ
     back = so_far.back;
   }
 
-  -- examining an edge may place the vertex, which then leads to earlier vertices of the trail
+  -- examining an edge may append the edge's origin to the worklist; the origin then leads to earlier vertices of the
+  -- worklist
   look_places : {new : TablesData} → aim.level ≢ aim.free → aim.begin ≤ length mid.trail → k < length mid.trail →
       Places aim mid new u → LeadsBack game aim old new (length mid.trail) u →
       Reaching game aim old new (FromSource k list (n + 1))
@@ -135,7 +136,7 @@ module _ {game : ParityGame} {aim : Aim} {old mid : TablesData} (list : List ℕ
         ];
       }
 
--- a vertex that was free or in the trail, and is not free now, is in the trail now
+-- a vertex that was unattracted or in the worklist before, and is not unattracted now, is in the worklist now
 pub stands_now : {aim : Aim} {old new : TablesData} (w : ℕ) → aim.begin ≤ length old.trail → IsGrown aim old new →
     level_of new w ≢ aim.free → (level_of old w ≡ aim.free) ⊎ StandsFrom old aim.begin w → StandsFrom new aim.begin w
 stands_now w begins grown not_free there = elim there [
@@ -146,7 +147,7 @@ stands_now w begins grown not_free there = elim there [
   | inr stands ↦ stands_longer grown.longer grown.front stands
 ]
 
--- the invariant still holds after one edge is examined, in every case
+-- the invariant of the worklist still holds after one edge is examined, in every case
 pub reaching_look : {game : ParityGame} {aim : Aim} {old mid : TablesData} (new : TablesData) (list : List ℕ)
     (k n u : ℕ) → aim.level ≢ aim.free → get_or list n 0 ≡ u → aim.begin ≤ length old.trail → aim.begin ≤ k →
     k < length mid.trail → u < length mid.level → u < length mid.moves → HasEdge game u (get_or mid.trail k 0) →

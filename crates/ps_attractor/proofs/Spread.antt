@@ -1,4 +1,4 @@
--- The sources of one vertex, one after another.
+-- The loop over the predecessors of one vertex.
 use Rattle.std.proofs.Common.{◌≡◌, ◌≢◌, ℕ, ◌+◌, ◌<◌, ◌≤◌, List, length, get_or, sym, ap, ◌∙◌, arith}
 use Rattle.std.proofs.lemmas.List.Elements.{Contains-get_or}
 use Rattle.ps_game.specs.Games.{ParityGame, HasEdge}
@@ -8,7 +8,7 @@ use Rattle.ps_attractor.specs.Tables.{TablesData, FitsGame}
 use Rattle.ps_attractor.specs.Steps.{Look, Reaching, From, FromSource}
 use Rattle.ps_attractor.proofs.Reaching.{reaching_enter, reaching_look}
 
--- an edge leads from each source to the vertex
+-- an edge leads from each listed predecessor to the vertex
 pub source_edge : {game : ParityGame} {sources : List (List ℕ)} (list : List ℕ) (w n source : ℕ) →
     IsSourcesOf game sources → list ≡ sources_of sources w → n < length list → get_or list n 0 ≡ source →
     HasEdge game source w

@@ -1,5 +1,5 @@
--- A truncated proof (`∥ .. ∥₁`) that lists are the sources of a game gives a proof of this, since it can be decided
--- whether a list contains a number.
+-- A truncated proof (`∥ .. ∥₁`) that lists are the predecessor lists of a game yields an untruncated proof, since it is
+-- decidable whether a list contains a number.
 use Rattle.std.proofs.Common.{◌==◌, ℕ, List}
 use Rattle.std.proofs.Math.Logic.{∥∥₁_elim, ∥∥₁_map}
 use Rattle.std.proofs.Props.{props}

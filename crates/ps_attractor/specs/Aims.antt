@@ -1,5 +1,5 @@
--- What an attractor computes from the tables, and its result: the attractor to the vertices of the trail from an index
--- on. A free vertex, which has the level `aim.free`, is in the subgame and not yet in the set.
+-- What an attractor computation starts from, and what it yields: the attractor to the vertices of the worklist from
+-- index `aim.begin` on. A vertex with the level `aim.free` is in the subgame and not yet attracted.
 use Rattle.std.specs.Prelude.{◌≡◌, ◌≢◌, ℕ, ◌<◌, ◌≤◌, ◌⊎◌, length, drop, Option, Bool, IsTrue, slice_index}
 use Rattle.ps_game.specs.Games.{ParityGame, vertex_count}
 use Rattle.ps_game.specs.Subgames.{IsWithin, LeadsInto, IsSubgame}
@@ -7,15 +7,15 @@ use Rattle.ps_game.specs.Attractors.{IsClosedUnderAttraction, Falls, IsLeastClos
 use Rattle.ps_attractor.specs.declared.aim.Aim.{Aim}
 use Rattle.ps_attractor.specs.Tables.{TablesData, level_of, place_in}
 
--- v is in the trail, at index `from` or later
+-- v is in the worklist, at index `from` or later
 pub record StandsFrom (tables : TablesData) (from v : ℕ) : Type 0 where
   pub place : ℕ
   pub after : from ≤ place
   pub within : place < length tables.trail
   pub is : slice_index tables.trail place ≡ v
 
--- the subgame consists of the free vertices and the target, and the trail has the vertices of the target from index
--- `aim.begin` on
+-- the subgame consists of the unattracted vertices and the target; the worklist has exactly the target's vertices from
+-- index `aim.begin` on
 pub record IsPosed (game : ParityGame) (aim : Aim) (tables : TablesData) (subgame target : ℕ → Bool) : Type 0 where
   pub is_subgame : IsSubgame game subgame
   pub split : (v : ℕ) → IsTrue (subgame v) → (level_of tables v ≡ aim.free) ⊎ IsTrue (target v)
@@ -25,7 +25,7 @@ pub record IsPosed (game : ParityGame) (aim : Aim) (tables : TablesData) (subgam
   pub target_stands : (v : ℕ) → IsTrue (target v) → StandsFrom tables aim.begin v
   pub only_target : (j : ℕ) → aim.begin ≤ j → j < length tables.trail → IsTrue (target (slice_index tables.trail j))
 
--- the set consists of the vertices of the subgame that are not free
+-- the set consists of the vertices of the subgame that do not have the level `aim.free`
 pub record IsSetOfPlaced (aim : Aim) (tables : TablesData) (subgame set : ℕ → Bool) : Type 0 where
   pub within : IsWithin set subgame
   pub placed : (v : ℕ) → IsTrue (set v) → level_of tables v ≢ aim.free
@@ -37,8 +37,8 @@ pub record StaysOut (game : ParityGame) (subgame set : ℕ → Bool) (v : ℕ) :
   pub leads : LeadsInto game subgame v to
   pub outside : ¬ IsTrue (set to)
 
--- the set is the attractor: it is closed, its ranks decrease along the moves of the table, and it is the least closed
--- set; the rest of the subgame is a subgame
+-- the set is the attractor: the least set closed under attraction, with ranks that decrease along the moves of the
+-- table; each vertex of the subgame outside the set has a successor outside
 pub record IsAttracted (game : ParityGame) (subgame : ℕ → Bool) (player : ℕ) (target set : ℕ → Bool)
     (table : ℕ → Option ℕ) (rank : ℕ → ℕ) : Type 0 where
   pub closed : IsClosedUnderAttraction game subgame player target set
@@ -51,19 +51,20 @@ pub record IsSameAt (old new : TablesData) (v : ℕ) : Type 0 where
   pub level : level_of new v ≡ level_of old v
   pub move : slice_index new.moves v ≡ slice_index old.moves v
 
--- v was free, now has the level `aim.level`, and was appended to the trail
+-- v had the level `aim.free`, now has the level `aim.level`, and was appended to the worklist
 pub record IsPlaced (aim : Aim) (old new : TablesData) (v : ℕ) : Type 0 where
   pub was_free : level_of old v ≡ aim.free
   pub level : level_of new v ≡ aim.level
   pub stands : StandsFrom new (length old.trail) v
 
--- each vertex is unchanged or was placed, and only placed vertices were appended to the trail
+-- each vertex is unchanged or was newly attracted, and exactly the newly attracted vertices were appended to the
+-- worklist
 pub record IsGrown (aim : Aim) (old new : TablesData) : Type 0 where
   pub longer : length old.trail ≤ length new.trail
   pub front : (j : ℕ) → j < length old.trail → slice_index new.trail j ≡ slice_index old.trail j
   pub each : (v : ℕ) → IsSameAt old new v ⊎ IsPlaced aim old new v
   pub behind : (j : ℕ) → length old.trail ≤ j → j < length new.trail → IsPlaced aim old new (slice_index new.trail j)
 
--- the index of v in the trail, counted from index `aim.begin`
+-- the index of v in the worklist, counted from index `aim.begin`
 abbrev pub rank_of : Aim → TablesData → ℕ → ℕ
 rank_of aim tables v = place_in (drop aim.begin tables.trail) v

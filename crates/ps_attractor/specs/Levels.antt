@@ -1,10 +1,10 @@
--- The representation of a level by a number up to a limit.
+-- How the level of a vertex is stored as a number that is at most the limit of an integer type.
 use Rattle.std.specs.Prelude.{◌≡◌, ℕ, ◌-◌, ◌^◌, ◌<◌, ◌⊎◌, ◌==◌, if◌then◌else◌}
 
--- the limit represents the largest `usize`, and every other number represents itself
+-- a stored number that equals the limit means the largest `usize`, and every other stored number means itself
 abbrev pub level_in : ℕ → ℕ → ℕ
 level_in limit number = if number == limit then 2 ^ 64 - 1 else number
 
--- the level can be represented
+-- the level is less than the limit or is the largest `usize`, so it can be stored
 abbrev pub IsLevel : ℕ → ℕ → Type 0
 IsLevel limit level = (level < limit) ⊎ (level ≡ 2 ^ 64 - 1)

@@ -1,4 +1,4 @@
--- From the tables to a region, moves and ranks: how the public result follows from the tables that the worklist leaves.
+-- How the region, the moves and the ranks of an attractor are read from the tables once the worklist is processed.
 use Rattle.std.specs.Prelude.{◌≡◌, ℕ, ◌<◌, ◌≤◌, List, length, Option, Some, None, IsSome, Bool, false, IsTrue}
 use Rattle.std.specs.Prelude.{slice_index}
 use Rattle.ps_game.specs.Games.{ParityGame, owner_of, vertex_count}
@@ -11,14 +11,14 @@ use Rattle.ps_attractor.specs.declared.attractor.Attracted.{Attracted}
 use Rattle.ps_attractor.specs.Tables.{TablesData, level_of, moves_of, place_in}
 use Rattle.ps_attractor.specs.Aims.{IsAttracted, IsGrown, IsSetOfPlaced, StandsFrom, rank_of}
 
--- the target is within the subgame, and both sets have a place for each vertex
+-- the target is contained in the subgame, and both sets are lists with one entry for each vertex
 pub record IsGoal (game : ParityGame) (subgame target : List Bool) : Type 0 where
   pub is_subgame : IsSubgame game (has subgame)
   pub target_within : IsWithin (has target) (has subgame)
   pub subgame_places : length subgame ≡ vertex_count game
   pub target_places : length target ≡ vertex_count game
 
--- each vertex less than n has its level, and the trail has exactly the vertices less than n that are in the target
+-- each vertex less than n has its initial level, and the worklist has exactly the target's vertices less than n
 pub record AreLaidOut (subgame target : List Bool) (n : ℕ) (tables : TablesData) : Type 0 where
   pub targets : (v : ℕ) → v < n → IsTrue (has target v) → level_of tables v ≡ PLACED
   pub frees : (v : ℕ) → v < n → has target v ≡ false → IsTrue (has subgame v) → level_of tables v ≡ FREE
@@ -28,11 +28,11 @@ pub record AreLaidOut (subgame target : List Bool) (n : ℕ) (tables : TablesDat
   pub only : (j : ℕ) → j < length tables.trail → IsTrue (has target (slice_index tables.trail j))
   pub before : (j : ℕ) → j < length tables.trail → slice_index tables.trail j < n
 
--- the player's target begins at the front of the trail
+-- the parameters of an attractor computation for the player, whose target begins at the front of the worklist
 abbrev pub aim_of : ℕ → Aim
 aim_of player = record { player = player; begin = 0; level = PLACED; free = FREE }
 
--- at first only the target was placed in the tables, and they were extended until they had the whole attractor
+-- the tables first had only the target in the worklist, and were then extended by the rest of the attractor
 pub record AreAttracted (game : ParityGame) (player : ℕ) (subgame target : List Bool) (tables : TablesData) : Type 0
   where
     pub old : TablesData
@@ -41,19 +41,19 @@ pub record AreAttracted (game : ParityGame) (player : ℕ) (subgame target : Lis
     pub attracted : (set : ℕ → Bool) → IsSetOfPlaced (aim_of player) tables (has subgame) set
         → IsAttracted game (has subgame) player (has target) set (moves_of tables) (rank_of (aim_of player) tables)
 
--- among the vertices less than n, the region has exactly the placed ones
+-- the region has exactly the vertices less than n with the level `PLACED`
 pub record IsRegionTo (tables : TablesData) (n : ℕ) (region : List Bool) : Type 0 where
   pub placed : (v : ℕ) → v < n → IsTrue (has region v) → level_of tables v ≡ PLACED
   pub all : (v : ℕ) → v < n → level_of tables v ≡ PLACED → IsTrue (has region v)
   pub later : (v : ℕ) → n ≤ v → has region v ≡ false
 
--- v belongs to the player, was placed, and is not in the target
+-- v belongs to the player, was attracted, and is not in the target
 pub record Moves (game : ParityGame) (tables : TablesData) (player : ℕ) (target : List Bool) (v : ℕ) : Type 0 where
   pub placed : level_of tables v ≡ PLACED
   pub owns : owner_of game v ≡ player
   pub outside : has target v ≡ false
 
--- among the vertices less than n, exactly those that satisfy `Moves` have a move, which is the move in the tables
+-- exactly the vertices less than n that satisfy `Moves` have a move, which is their move in the tables
 pub record AreMovesTo (game : ParityGame) (tables : TablesData) (player : ℕ) (target : List Bool) (n : ℕ)
     (moves : List (Option ℕ)) : Type 0 where
   pub given : (v : ℕ) → v < n → Moves game tables player target v → move_at moves v ≡ Some (slice_index tables.moves v)
@@ -64,7 +64,7 @@ pub record AreMovesTo (game : ParityGame) (tables : TablesData) (player : ℕ) (
 abbrev pub rank_at : List ℕ → ℕ → ℕ
 rank_at rank v = slice_index rank v
 
--- the region, the moves and the ranks are read from the tables
+-- the region, the moves and the ranks of the result are those that the attractor's tables record
 pub record IsReadOff (game : ParityGame) (tables : TablesData) (player : ℕ) (target : List Bool)
     (a : Attracted) : Type 0
   where
@@ -75,7 +75,7 @@ pub record IsReadOff (game : ParityGame) (tables : TablesData) (player : ℕ) (t
     pub moves : AreMovesTo game tables player target (vertex_count game) a.moves
     pub ranks : (v : ℕ) → StandsFrom tables 0 v → rank_at a.rank.items v ≡ place_in tables.trail v
 
--- the attractor, with its moves and ranks
+-- the result is the player's attractor to the target within the subgame, with its moves and ranks
 pub record IsAttractor (game : ParityGame) (player : ℕ) (subgame target : List Bool) (a : Attracted) : Type 0 where
   pub places : length a.region ≡ vertex_count game
   pub move_places : length a.moves ≡ vertex_count game

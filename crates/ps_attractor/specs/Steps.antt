@@ -1,4 +1,4 @@
--- The steps of the worklist, and the invariant of the walk along the trail. Only private contracts use these
+-- The steps of processing an attractor's worklist, and the invariant of this loop. Only private contracts use these
 -- definitions; the public contract of `Tables::attract` uses `IsGrown` and `IsAttracted`.
 use Rattle.std.specs.Prelude.{◌≡◌, ◌≢◌, ℕ, ◌<◌, ◌≤◌, ◌⊎◌, List, ◌∷◌, [], ◌++◌, length, slice_index, slice_set, ◌==◌}
 use Rattle.std.specs.Prelude.{count_by}
@@ -8,12 +8,12 @@ use Rattle.ps_attractor.specs.Levels.{IsLevel}
 use Rattle.ps_attractor.specs.Tables.{TablesData, FitsGame, level_of}
 use Rattle.ps_attractor.specs.Aims.{StandsFrom, IsGrown}
 
--- the tables fit the game, and the level of the aim can be represented in them
+-- the tables fit the game, and the level `aim.level` of attracted vertices can be stored in the tables
 pub record IsReady (game : ParityGame) (limit : ℕ) (aim : Aim) (tables : TablesData) : Type 0 where
   pub fits : FitsGame game tables
   pub fits_width : IsLevel limit aim.level
 
--- the tables after the vertex v is placed
+-- the tables after the vertex v gets the level `level` and is appended to the worklist
 abbrev pub with_placed : TablesData → ℕ → ℕ → TablesData
 with_placed tables v level =
     record { level = slice_set tables.level v level; moves = tables.moves; trail = tables.trail ++ v ∷ [] }
@@ -21,15 +21,15 @@ with_placed tables v level =
 abbrev pub with_move : TablesData → ℕ → ℕ → TablesData
 with_move tables v w = record { level = tables.level; moves = slice_set tables.moves v w; trail = tables.trail }
 
--- v has a free successor
+-- v has an unattracted successor, which has the level `free`
 pub record HasFree (game : ParityGame) (free : ℕ) (tables : TablesData) (v : ℕ) : Type 0 where
   pub to : ℕ
   pub edge : HasEdge game v to
   pub is_free : level_of tables to ≡ free
 
--- The result of examining an edge from v to a vertex w of the set. Nothing changes if v is not free, or if it belongs
--- to the other player and has a free successor. In every other case v is placed, with the move w if v belongs to the
--- player
+-- The result of examining an edge from v to an attracted vertex w. Nothing changes if v does not have the level
+-- `aim.free`, or if v belongs to the other player and has an unattracted successor. In every other case v is attracted,
+-- with the move w if v belongs to the player
 pub data Look (game : ParityGame) (aim : Aim) (old new : TablesData) (v w : ℕ) : Type 0 where
   NotFree : level_of old v ≢ aim.free → new ≡ old → Look game aim old new v w
   Escapes : owner_of game v ≢ aim.player → HasFree game aim.free old v → new ≡ old → Look game aim old new v w
@@ -39,13 +39,14 @@ pub data Look (game : ParityGame) (aim : Aim) (old new : TablesData) (v w : ℕ)
       ((x : ℕ) → HasEdge game v x → level_of old x ≢ aim.free) → new ≡ with_placed old v aim.level →
       Look game aim old new v w
 
--- v has a successor that is free, or that is in the trail from index `aim.begin` on
+-- v has a successor that is unattracted, or that is in the worklist at index `aim.begin` or later
 pub record HasOpenSuccessor (game : ParityGame) (aim : Aim) (tables : TablesData) (v : ℕ) : Type 0 where
   pub to : ℕ
   pub edge : HasEdge game v to
   pub there : (level_of tables to ≡ aim.free) ⊎ StandsFrom tables aim.begin to
 
--- w is in the trail, and P is true for v and the index of w, so the edge from v to w is still to be examined
+-- w is in the worklist, and P holds for v and the index of w, which means that the edge from v to w is still to be
+-- examined
 pub record IsUnexamined (aim : Aim) (tables : TablesData) (P : ℕ → ℕ → Type 0) (v w : ℕ) : Type 0 where
   pub place : ℕ
   pub after : aim.begin ≤ place
@@ -53,29 +54,29 @@ pub record IsUnexamined (aim : Aim) (tables : TablesData) (P : ℕ → ℕ → T
   pub is : slice_index tables.trail place ≡ w
   pub pending : P v place
 
--- v has a successor that is free, or to which the edge is still to be examined
+-- v has an unattracted successor, or a successor w such that the edge from v to w is still to be examined
 pub record CanGoOn (game : ParityGame) (aim : Aim) (tables : TablesData) (P : ℕ → ℕ → Type 0) (v : ℕ) : Type 0 where
   pub to : ℕ
   pub edge : HasEdge game v to
   pub there : (level_of tables to ≡ aim.free) ⊎ IsUnexamined aim tables P v to
 
--- v is in the trail, from index `aim.begin` on and before index `end`
+-- v is in the worklist, at index `aim.begin` or later and before index `end`
 pub record IsInTrailBefore (aim : Aim) (tables : TablesData) (end v : ℕ) : Type 0 where
   pub place : ℕ
   pub after : aim.begin ≤ place
   pub before : place < end
   pub is : slice_index tables.trail place ≡ v
 
--- the placed vertex v leads to earlier vertices of the trail: by its move if it belongs to the player, and otherwise by
--- each edge to a vertex that was free or in the trail
+-- the attracted vertex v leads to earlier vertices of the worklist: by its move if the player owns v, and otherwise by
+-- each edge to a vertex that was unattracted or in the worklist
 pub record LeadsBack (game : ParityGame) (aim : Aim) (old new : TablesData) (place v : ℕ) : Type 0 where
   pub own : owner_of game v ≡ aim.player → HasEdge game v (slice_index new.moves v) ×
       IsInTrailBefore aim new place (slice_index new.moves v)
   pub other : owner_of game v ≢ aim.player → (w : ℕ) → HasEdge game v w →
       (level_of old w ≡ aim.free) ⊎ StandsFrom old aim.begin w → IsInTrailBefore aim new place w
 
--- the invariant of the walk: P v j states that the edge from v to the vertex at index j of the trail may still have to
--- be examined
+-- the invariant of the loop over the worklist: P v j states that the edge from v to the vertex at index j of the
+-- worklist may still have to be examined
 pub record Reaching (game : ParityGame) (aim : Aim) (old new : TablesData) (P : ℕ → ℕ → Type 0) : Type 0 where
   pub grown : IsGrown aim old new
   pub own : (v j : ℕ) → level_of new v ≡ aim.free → owner_of game v ≡ aim.player → aim.begin ≤ j →
@@ -85,7 +86,7 @@ pub record Reaching (game : ParityGame) (aim : Aim) (old new : TablesData) (P : 
   pub back : (j : ℕ) → length old.trail ≤ j → j < length new.trail →
       LeadsBack game aim old new j (slice_index new.trail j)
 
--- all edges to the vertices at index k of the trail and later are still to be examined
+-- all edges to the vertices at index k of the worklist and later are still to be examined
 abbrev pub From : ℕ → ℕ → ℕ → Type 0
 From k v j = k ≤ j
 
@@ -95,11 +96,11 @@ pub record StandsAmong (list : List ℕ) (from v : ℕ) : Type 0 where
   pub within : number < length list
   pub is : slice_index list number ≡ v
 
--- all edges to the vertices after index k of the trail are still to be examined, and so are the edges to the vertex at
--- index k from its sources with index n and later
+-- the edges still to be examined lead to the vertices after index k of the worklist, or lead to the vertex at index k
+-- from its n-th predecessor or a later one
 abbrev pub FromSource : ℕ → List ℕ → ℕ → ℕ → ℕ → Type 0
 FromSource k sources n v j = (k < j) ⊎ ((j ≡ k) × StandsAmong sources n v)
 
--- the number of free vertices
+-- the number of unattracted vertices, which have the level `aim.free`
 abbrev pub free_count : Aim → TablesData → ℕ
 free_count aim tables = count_by (λ level. level == aim.free) tables.level

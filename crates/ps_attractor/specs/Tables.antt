@@ -1,5 +1,5 @@
--- The tables of an attractor: a level and a move for each vertex, and the trail, which is the list of the placed
--- vertices in order.
+-- The tables of an attractor computation: a level and a move for each vertex, and the trail, which is the worklist: the
+-- attracted vertices in order.
 use Rattle.std.specs.Prelude.{◌≡◌, ℕ, ◌+◌, ◌<◌, List, [], ◌∷◌, length, Option, Some, slice_index, if◌then◌else◌, ◌==◌}
 use Rattle.std.specs.List.{All}
 use Rattle.ps_game.specs.Games.{ParityGame, vertex_count}
@@ -9,7 +9,7 @@ pub record TablesData : Type 0 where
   pub moves : List ℕ
   pub trail : List ℕ
 
--- there is a level and a move for each vertex, and the trail has only vertices
+-- the tables have a level and a move for each vertex of the game, and every entry of the worklist is a vertex
 pub record FitsGame (game : ParityGame) (tables : TablesData) : Type 0 where
   pub levels : length tables.level ≡ vertex_count game
   pub choices : length tables.moves ≡ vertex_count game
@@ -18,7 +18,7 @@ pub record FitsGame (game : ParityGame) (tables : TablesData) : Type 0 where
 abbrev pub level_of : TablesData → ℕ → ℕ
 level_of tables v = slice_index tables.level v
 
--- the table of moves, which has a move at each vertex
+-- the moves of the tables as a function from vertices to optional moves, which is never None
 abbrev pub moves_of : TablesData → ℕ → Option ℕ
 moves_of tables v = Some (slice_index tables.moves v)
 

@@ -1,14 +1,15 @@
-//! The aim of an attractor: its player, its target, and the levels that it uses in the tables.
+//! The parameters of one attractor computation: the player, the target, and the levels that mark vertices.
 
-/// The player of an attractor, the start of its target in the trail, and the levels that mark vertices in the tables.
+/// The parameters of one attractor computation: the player, the index in the worklist at which the target begins, and
+/// the levels that mark attracted and unattracted vertices.
 #[derive(Clone, Copy)]
 pub struct Aim {
-    /// The player, 0 or 1.
+    /// The player who attracts, 0 or 1.
     pub player: u8,
-    /// The index of the trail at which the target begins.
+    /// The index of the worklist at which the target's vertices begin.
     pub begin: usize,
-    /// The level of a vertex after it is placed.
+    /// The level that a vertex gets when it is attracted.
     pub level: usize,
-    /// The level of the free vertices, which are in the subgame and not yet in the set.
+    /// The level of the vertices of the subgame that are not yet attracted.
     pub free: usize,
 }

@@ -1,4 +1,4 @@
-//! The attractor within a subgame, computed with tables of its own.
+//! The attractor within a subgame, computed with newly allocated tables.
 
 ghost use Rattle.std.specs.Prelude.{◌≡◌, ◌≢◌, ◌+◌, ◌<◌, ◌≤◌, ℕ, List, [], Bool, false, IfOk, OnOk, IsSome, IsTrue};
 ghost use Rattle.std.specs.Prelude.{length, slice_index};
@@ -22,10 +22,10 @@ use std::alloc::{AllocError, Global};
 /// The level of the vertices outside the subgame.
 const OUTSIDE: usize = 0;
 
-/// The level of the vertices in the set.
+/// The level of the target's vertices and of the attracted vertices.
 const PLACED: usize = 1;
 
-/// The level of the free vertices, which are in the subgame but not in the set.
+/// The level of the vertices of the subgame that are not yet attracted.
 const FREE: usize = 2;
 
 /// The vertices from which a player can force every play within a subgame to a target, with moves and ranks.
@@ -44,8 +44,8 @@ pub struct Attracted {
 /// each vertex of the player with an edge into the set, and each vertex of the other player with all edges within the
 /// subgame into the set.
 ///
-/// Fails if out of memory. With 2^63 - 2 vertices or more, or 2^64 edges or more, the call always fails as if out of
-/// memory.
+/// Fails if out of memory. For games with 2^63 - 2 vertices or more, or 2^64 edges or more, the call always returns the
+/// out-of-memory error.
 pub fn attract<A: Arena>(
     alloc: Global,
     arena: &A,
@@ -79,7 +79,7 @@ pub fn attract<A: Arena>(
     }
 }
 
-/// The attractor, computed with tables of the width `W`. Fails if out of memory.
+/// The attractor, computed with tables that store integers of the type `W`. Fails if out of memory.
 fn attract_in<A: Arena, W: Width>(
     alloc: Global,
     arena: &A,
@@ -96,7 +96,7 @@ fn attract_in<A: Arena, W: Width>(
     read_off(alloc, arena, &tables, player, target)
 }
 
-/// The region, the moves and the ranks that the tables record. Fails if out of memory.
+/// The region, the moves and the ranks of the attractor that the tables record. Fails if out of memory.
 fn read_off<A: Arena, W: Width>(
     alloc: Global,
     arena: &A,
@@ -118,7 +118,7 @@ fn read_off<A: Arena, W: Width>(
     })
 }
 
-/// Tables in which the target and all vertices attracted to it are placed. Fails if out of memory.
+/// Tables that record the player's attractor to the target within the subgame. Fails if out of memory.
 fn attracted_tables<A: Arena, W: Width>(
     alloc: Global,
     edges: &Adjacency<'_, A, W>,
@@ -141,7 +141,7 @@ fn attracted_tables<A: Arena, W: Width>(
     Ok(tables)
 }
 
-/// Tables in which exactly the vertices of the target are placed. Fails if out of memory.
+/// Initial tables, whose worklist has exactly the vertices of the target. Fails if out of memory.
 fn laid_out<W: Width>(
     alloc: Global,
     count: usize,
@@ -166,7 +166,7 @@ fn laid_out<W: Width>(
     Ok(tables)
 }
 
-/// The set of the vertices that were placed. Fails if out of memory.
+/// The set of the target's vertices and the attracted vertices. Fails if out of memory.
 fn placed_region<W: Width>(
     alloc: Global,
     tables: &Tables<W>,
@@ -185,7 +185,7 @@ fn placed_region<W: Width>(
     Ok(region)
 }
 
-/// The moves at the player's vertices that were placed and are not in the target. Fails if out of memory.
+/// The moves at the player's vertices that were attracted and are not in the target. Fails if out of memory.
 fn placed_moves<A: Arena, W: Width>(
     alloc: Global,
     arena: &A,
@@ -211,7 +211,7 @@ fn placed_moves<A: Arena, W: Width>(
     Ok(moves)
 }
 
-/// The first index of each vertex in the trail. Fails if out of memory.
+/// For each vertex, its first index in the worklist, which is its rank. Fails if out of memory.
 fn first_places<W: Width>(
     alloc: Global,
     tables: &Tables<W>,

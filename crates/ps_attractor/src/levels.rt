@@ -1,4 +1,4 @@
-//! Levels, stored at a given width.
+//! A list of levels, which mark the vertices of a game, stored as integers of the type `W`.
 
 ghost use Rattle.std.specs.Prelude.{◌≡◌, ◌<◌, ◌≤◌, IfOk, length, replicate, slice_index, slice_set};
 ghost use Rattle.ps_attractor.specs.Levels.{IsLevel};
@@ -7,8 +7,8 @@ use ps_game::{Numbers, Width};
 use std::alloc::{AllocError, Global};
 use std::marker::Model;
 
-/// A level for each vertex. The largest `usize` can be stored as a level at every width: it is represented by the
-/// largest number that fits.
+/// A level for each vertex. The level `usize::MAX` can be stored in every integer type `W`: the largest number of the
+/// type represents it.
 #[derive(Drop)]
 pub struct Levels<W: Width> {
     numbers: Numbers<W>,
@@ -24,7 +24,7 @@ impl<W: Width> Model for Levels<W> {
 }
 
 impl<W: Width> Levels<W> {
-    /// Levels in which each vertex has the given level. Fails if out of memory.
+    /// A list of levels in which each of `count` vertices has the given level. Fails if out of memory.
     pub fn filled(alloc: Global, level: usize, count: usize) -> Result<Levels<W>, AllocError>
         requires { IsLevel W.LIMIT level }
         ensures { IfOk result (λ levels. levels ≡ replicate count level) }

@@ -3,10 +3,11 @@
 //!
 //! The attractor is computed backwards from its target, along the edges into vertices already reached. A vertex of the
 //! player is reached as soon as one of its edges leads to a reached vertex. A vertex of the other player is reached as
-//! soon as it has no free successor. The search for a free successor continues where the previous one ended, so each
-//! edge is examined a bounded number of times. The time is proportional to the number of edges into reached vertices,
-//! plus the number of edges from those vertices of the other player that have an edge into a reached vertex. The memory
-//! is proportional to the numbers of vertices and edges.
+//! soon as none of its successors in the subgame is unreached. At a vertex of the other player, the search for an
+//! unreached successor continues where the previous search at that vertex ended, so each edge is examined a bounded
+//! number of times. The time is proportional to the number of edges into reached vertices, plus the number of edges
+//! from those vertices of the other player that have an edge into a reached vertex. The memory is proportional to the
+//! numbers of vertices and edges.
 //!
 //! | Call | What it gives |
 //! |---|---|
@@ -20,8 +21,8 @@
 //! | `Aim` | the player of an attractor, its target, and the levels that mark it in the tables |
 //! | `places_by_number` | the indices of a list of small numbers, sorted by these numbers with a counting sort |
 //!
-//! A level states whether a vertex is outside the subgame, free within it, or placed by the call that uses this level
-//! as its mark.
+//! The level of a vertex states whether the vertex is outside the subgame, or in the subgame and unattracted, or was
+//! attracted by the call that marks its vertices with this level.
 #![tactic(auto)]
 
 mod aim;

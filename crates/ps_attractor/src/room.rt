@@ -1,4 +1,4 @@
-//! The widths of numbers that suffice for the tables of a game.
+//! Whether an integer type is large enough for the tables of a game.
 
 ghost use Rattle.std.specs.Prelude.{◌↔◌, ◌≤◌, IsTrue};
 ghost use Rattle.ps_game.specs.Games.{vertex_count};
@@ -8,7 +8,8 @@ ghost use Rattle.ps_attractor.specs.Room.{HasRoom};
 use ps_game::{Arena, Width};
 use std::alloc::{AllocError, Global};
 
-/// Whether a width has room for the number of edges, and for the levels, which are two for each vertex and four more.
+/// Whether the integer type `W` can hold the number of edges of a game, and the number 2n + 4 of levels for a game with
+/// n vertices.
 pub fn has_room<A: Arena, W: Width>(arena: &A) -> bool
     ensures { IsTrue result ↔ HasRoom (A.game arena.now) W.LIMIT }
 {
@@ -16,8 +17,8 @@ pub fn has_room<A: Arena, W: Width>(arena: &A) -> bool
     limit >= 4 && arena.count() <= (limit - 4) / 2 && has_room_for_edges::<A, W>(arena)
 }
 
-/// The error if no width has room. The error results from a request for a table of `usize::MAX` numbers, which no
-/// memory can hold.
+/// The error for a game that is too large for every integer type. This error is that of a request for `usize::MAX`
+/// numbers, which no memory can hold.
 pub fn no_room(alloc: Global) -> AllocError {
     match Vec::<usize>::with_capacity(alloc, usize::MAX) {
         Err(refused) => refused,
@@ -25,7 +26,7 @@ pub fn no_room(alloc: Global) -> AllocError {
     }
 }
 
-/// Whether a width has room for the number of edges.
+/// Whether the integer type `W` can hold the number of edges of a game.
 fn has_room_for_edges<A: Arena, W: Width>(arena: &A) -> bool
     ensures { IsTrue result ↔ (edges_before (A.game arena.now) (vertex_count (A.game arena.now)) ≤ W.LIMIT) }
 {

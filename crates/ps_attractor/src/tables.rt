@@ -1,5 +1,6 @@
-//! Levels, moves and the trail. For each vertex of the other player, the tables also remember the successor that was
-//! last found free. The view of the tables omits the remembered successors, since no result depends on them.
+//! The tables of an attractor computation: levels, moves and the trail, which is the worklist. The tables also
+//! remember, for each vertex of the other player, which successor was last found unattracted. The view of the tables in
+//! contracts omits these remembered successors, since no result depends on them.
 
 ghost use Rattle.std.specs.Prelude.{◌≡◌, ◌<◌, ◌≤◌, [], IfOk, OnOk, OnErr, length, replicate, take, slice_index};
 ghost use Rattle.std.specs.Prelude.{slice_set};
@@ -11,8 +12,8 @@ use ps_game::{Numbers, Width};
 use std::alloc::{AllocError, Global};
 use std::marker::Model;
 
-/// A level and a move for each vertex, and the trail: the vertices that were placed, in order. Levels, moves and the
-/// trail are stored at a given width.
+/// A level and a move for each vertex, and the trail, which is the worklist: the attracted vertices in order. All are
+/// stored as integers of the type `W`.
 #[derive(Drop)]
 pub struct Tables<W: Width> {
     level: Levels<W>,
@@ -33,7 +34,8 @@ impl<W: Width> Model for Tables<W> {
 }
 
 impl<W: Width> Tables<W> {
-    /// Tables with all vertices at one level and no vertex placed. The trail has room for each vertex. Fails if out of
+    /// Tables in which all vertices have one given level and the worklist is empty. The worklist has the capacity for
+    /// all vertices. Fails if out of
     /// memory.
     pub fn new(alloc: Global, count: usize, level: usize) -> Result<Tables<W>, AllocError>
         requires room { count ≤ W.LIMIT }
@@ -62,7 +64,7 @@ impl<W: Width> Tables<W> {
         self.level.at(vertex)
     }
 
-    /// The move at a vertex.
+    /// The move that the tables record at a vertex.
     pub fn chosen(&self, vertex: usize) -> usize
         requires { vertex < length self.now.moves }
         ensures { result ≡ slice_index self.now.moves vertex }
@@ -70,14 +72,14 @@ impl<W: Width> Tables<W> {
         self.moves.at(vertex)
     }
 
-    /// The number of vertices in the trail.
+    /// The number of vertices in the worklist.
     pub fn placed(&self) -> usize
         ensures { result ≡ length self.now.trail }
     {
         self.trail.len()
     }
 
-    /// The vertex at an index of the trail.
+    /// The vertex at an index of the worklist.
     pub fn vertex_at(&self, place: usize) -> usize
         requires { place < length self.now.trail }
         ensures { result ≡ slice_index self.now.trail place }
@@ -105,7 +107,7 @@ impl<W: Width> Tables<W> {
         self.moves.set(vertex, successor);
     }
 
-    /// Appends a vertex to the trail and sets its level. Fails if out of memory; then nothing changes.
+    /// Appends a vertex to the worklist and sets the vertex's level. Fails if out of memory; then nothing changes.
     pub fn place(&mut self, vertex: usize, level: usize) -> Result<(), AllocError>
         requires vertex { vertex < length self.old.level }
         requires fits { IsLevel W.LIMIT level }
@@ -117,7 +119,7 @@ impl<W: Width> Tables<W> {
         Ok(())
     }
 
-    /// Keeps the first `placed` vertices of the trail and drops the rest.
+    /// Truncates the worklist to its first `placed` vertices.
     pub fn cut(&mut self, placed: usize)
         ensures trail { self.new.trail ≡ take placed self.old.trail }
         ensures level { self.new.level ≡ self.old.level }
@@ -126,7 +128,8 @@ impl<W: Width> Tables<W> {
         self.trail.truncate(placed);
     }
 
-    /// The index of the successor at which the last search from a vertex ended. An index that does not fit 32 bits is
+    /// The index of the successor at which the last search for an unattracted successor of a vertex ended. An index
+    /// that does not fit 32 bits is
     /// stored as the largest 32-bit number.
     pub(crate) fn watched(&self, vertex: usize) -> usize
         requires { vertex < length self.now.level }
@@ -134,7 +137,7 @@ impl<W: Width> Tables<W> {
         self.watch[vertex] as usize
     }
 
-    /// Remembers the index of the successor at which a search from a vertex ended.
+    /// Remembers the index of the successor at which a search for an unattracted successor of a vertex ended.
     pub(crate) fn watch(&mut self, vertex: usize, number: usize)
         requires { vertex < length self.old.level }
         ensures { self.new ≡ self.old }

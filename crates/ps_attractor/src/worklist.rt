@@ -1,4 +1,5 @@
-//! The computation of an attractor. The trail is the worklist, and each vertex that is reached is appended to it.
+//! The computation of an attractor. The trail of the tables is the worklist, to which each attracted vertex is
+//! appended.
 
 ghost use Rattle.std.specs.Prelude.{◌≡◌, ◌≢◌, ◌+◌, ◌<◌, ◌≤◌, ℕ, Bool, IfSome, IfNone, OnOk, OnErr, IsTrue, false};
 ghost use Rattle.std.specs.Prelude.{length, slice_index};
@@ -15,12 +16,12 @@ use ps_game::{Arena, Width};
 use std::alloc::AllocError;
 
 impl<W: Width> Tables<W> {
-    /// Extends the trail by the attractor of the target, whose vertices are in the trail from index `aim.begin` on. The
-    /// trail is walked to its end, and each free vertex from which the player can force every play to the target is
-    /// appended. The time is proportional to the number of edges into the walked vertices, plus the number of edges
-    /// from those vertices of the other player that have an edge into a walked vertex.
+    /// Appends to the worklist the vertices attracted to the target, which is the worklist from index `aim.begin` on.
+    /// The entries are processed in order, and their unattracted predecessors from which the player can force every
+    /// play to the target are appended. The time is proportional to the number of edges into the processed vertices,
+    /// plus the number of edges from those vertices of the other player that have an edge into a processed vertex.
     ///
-    /// Fails if out of memory; then vertices that were already placed stay placed.
+    /// Fails if out of memory; then the vertices that were already attracted stay in the worklist.
     pub fn attract<A: Arena>(
         &mut self,
         edges: &Adjacency<'_, A, W>,
@@ -45,7 +46,7 @@ impl<W: Width> Tables<W> {
         Ok(())
     }
 
-    /// Examines each edge into the vertex at an index of the trail. Fails if out of memory.
+    /// Examines each edge into the vertex at index `place` of the worklist. Fails if out of memory.
     fn spread<A: Arena>(
         &mut self,
         edges: &Adjacency<'_, A, W>,
@@ -71,7 +72,7 @@ impl<W: Width> Tables<W> {
         Ok(())
     }
 
-    /// Examines one edge into a vertex that was reached. Fails if out of memory.
+    /// Examines the edge from `source` to the attracted vertex `reached`. Fails if out of memory.
     fn look<A: Arena>(
         &mut self,
         edges: &Adjacency<'_, A, W>,
@@ -96,7 +97,7 @@ impl<W: Width> Tables<W> {
         self.place(source, aim.level)
     }
 
-    /// Whether a vertex has a free successor. The search starts where the previous search from this vertex ended.
+    /// Whether a vertex has an unattracted successor. The search starts where the previous search at this vertex ended.
     fn has_free<A: Arena>(
         &mut self,
         edges: &Adjacency<'_, A, W>,
@@ -125,7 +126,8 @@ impl<W: Width> Tables<W> {
         }
     }
 
-    /// The index of the first free successor of a vertex, among the indices from `from` up to, but not including, `to`.
+    /// The index of the first unattracted successor of a vertex, among the indices from `from` up to, but not
+    /// including, `to`.
     fn first_free<A: Arena>(
         &self,
         edges: &Adjacency<'_, A, W>,
