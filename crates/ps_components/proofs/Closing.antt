@@ -1,4 +1,4 @@
--- Closing the last segment preserves the invariant of the search.
+-- Turning the last segment of the search path into a finished component preserves the invariant of the search.
 use Rattle.std.proofs.Common.{◌≡◌, ◌≢◌, ℕ, ◌+◌, ◌-◌, ◌<◌, ◌≤◌, ◌⊎◌, inl, inr, List, [], ◌∷◌, ◌++◌, length, take, drop}
 use Rattle.std.proofs.Common.{refl, sym, ◌∙◌, arith, Some, slice_get, set, get_or, suc, zero, rules}
 use Rattle.std.proofs.Common.{length-set, add-zero}
@@ -20,7 +20,7 @@ length-close_all statuses [] k = refl
 length-close_all statuses (v ∷ vs) k = length-close_all (set statuses v (Closed k)) vs k
     ∙ length-set statuses v (Closed k)
 
--- each item of the list is closed, and all other items keep their statuses
+-- after `close_all`, each vertex of the list has the status `Closed k`, and all other vertices keep their statuses
 pub close_all_cases : (statuses : List Status) (vs : List ℕ) (k v : ℕ) →
     ((j : ℕ) × (slice_get vs j ≡ Some v) ×
     (v < length statuses → slice_get (close_all statuses vs k) v ≡ Some (Closed k)))
@@ -34,7 +34,7 @@ close_all_cases statuses (w ∷ vs) k v = elim (close_all_cases (set statuses w 
     apart : v ≢ w → ((j : ℕ) → slice_get vs j ≢ Some v) → (j : ℕ) → slice_get (w ∷ vs) j ≢ Some v
     apart ne out h3 h = grind arith
 
--- closing an item does not increase the bound on the remaining steps
+-- giving a vertex the status `Closed` does not increase the bound on the remaining steps of the search
 turns-close_one : (g : Digraph) (first : ℕ) (statuses : List Status) (v k : ℕ) →
     turns_from g first (set statuses v (Closed k)) ≤ turns_from g first statuses
 turns-close_one g first [] v k = omega arith
@@ -63,7 +63,7 @@ module _ {g : Digraph} {statuses : List Status} {active bounds : List ℕ} {pend
   abbrev order' : List ℕ
   order' = order ++ drop bound active
 
-  -- ---- bounds and indices of the path
+  -- ---- where segments begin, and indices on the search path
 
   bound_cases : (k b : ℕ) → slice_get bounds k ≡ Some b → (slice_get front k ≡ Some b) ⊎ (bound ≡ b)
   bound_cases k b h = slice_get-but_last bounds is_last k b h
@@ -91,7 +91,7 @@ module _ {g : Digraph} {statuses : List Status} {active bounds : List ℕ} {pend
 
   -- ---- statuses
 
-  -- each item of the segment is closed now, and all other items keep their statuses
+  -- each vertex of the last segment has the status `Closed` now, and all other vertices keep their statuses
   status_cases : (v : ℕ) →
       ((p : ℕ) × (bound ≤ p) × (slice_get active p ≡ Some v) × (slice_get statuses' v ≡ Some (Closed number)))
       ⊎ (((p : ℕ) → bound ≤ p → slice_get active p ≢ Some v) × (slice_get statuses' v ≡ slice_get statuses v))
@@ -100,7 +100,7 @@ module _ {g : Digraph} {statuses : List Status} {active bounds : List ℕ} {pend
   now_closed : (p v : ℕ) → bound ≤ p → slice_get active p ≡ Some v → slice_get statuses' v ≡ Some (Closed number)
   now_closed p v le h = grind (arith, status_cases v)
 
-  -- the status of an item that is not in the segment is unchanged
+  -- the status of a vertex outside the last segment is unchanged
   stays : (v : ℕ) (m : Status) → ((p : ℕ) → m ≡ Active p → p < bound) → slice_get statuses v ≡ Some m →
       slice_get statuses' v ≡ Some m
   stays v m out h = grind (arith, status_cases v, s.active_marked)
@@ -113,19 +113,19 @@ module _ {g : Digraph} {statuses : List Status} {active bounds : List ℕ} {pend
       ((k ≡ number) × ((p : ℕ) × (bound ≤ p) × (slice_get active p ≡ Some v)))
   closed_cases v k h = grind (arith, status_cases v)
 
-  -- no active item is closed, and each active item has only one index
+  -- no vertex on the search path has the status `Closed`, and each vertex on the search path is at only one index
   apart : (p v k : ℕ) → slice_get active p ≡ Some v → slice_get statuses v ≡ Some (Closed k) → ⊥
   apart p v k h c = cc (s.active_marked p v h)
 
   one_place : (p q v : ℕ) → slice_get active p ≡ Some v → slice_get active q ≡ Some v → p ≡ q
   one_place p q v hp hq = cc (s.active_marked p v hp, s.active_marked q v hq)
 
-  -- an entry of the new order is an entry of the old order or an item of the segment
+  -- an entry of the new list of finished vertices is an entry of the old list or a vertex of the last segment
   place_cases : (i v : ℕ) → slice_get order' i ≡ Some v → (slice_get order i ≡ Some v) ⊎
       ((j : ℕ) × (i ≡ number + j) × (slice_get active (bound + j) ≡ Some v))
   place_cases i v h = search (rules, slice_get-append_cases, from_segment)
 
-  -- ---- the fields of the invariant
+  -- ---- the fields of the search's invariant
 
   closed-active_marked : (p v : ℕ) → slice_get (take bound active) p ≡ Some v → slice_get statuses' v ≡ Some (Active p)
   closed-active_marked p v h = grind (arith, status_cases v, on_path p v h, s.active_marked p v, one_place)
@@ -147,7 +147,7 @@ module _ {g : Digraph} {statuses : List Status} {active bounds : List ℕ} {pend
     | inr le ↦ closed number (now_closed q w le (s.marked_active q w a))
   ]
 
-  -- each target of the segment is closed now, or was closed before
+  -- each vertex to which a link leads from the last segment has the status `Closed` now
   led_to : (p w : ℕ) → bound ≤ p → IsSettled statuses bounds p w →
       (m : ℕ) × (slice_get statuses' w ≡ Some (Closed m)) × (m ≤ number)
   led_to p w le (closed k c) = (k, closed_stays w k c, omega (arith, s.numbered w k c))

@@ -1,4 +1,4 @@
--- The codes of statuses, one at a time and in lists.
+-- How the statuses of vertices are encoded as numbers, one at a time and in lists.
 use Rattle.std.proofs.Common.{◌≡◌, ℕ, ◌+◌, ◌-◌, ◌<◌, ◌^◌, List, ◌∷◌, ◌++◌, length, map, replicate, take, refl, ap}
 use Rattle.std.proofs.Common.{zero, suc, arith, Result, OnOk, is_ok, if◌then◌else◌, set, rules}
 use Rattle.std.proofs.lemmas.List.{length-map, map-append, map-set, take-map}
@@ -23,12 +23,12 @@ pub map-replicate : {X Y : Type 0} (f : X → Y) (n : ℕ) (x : X) → map f (re
 map-replicate f zero x = refl
 map-replicate f (suc n) x = ap (λ ys. f x ∷ ys) (map-replicate f n x)
 
--- writing a code changes one status, at either width
+-- writing one code into a list of 4-byte or 8-byte codes changes one status
 pub status_set : (status_at : ℕ → Status) (items : List ℕ) {now : List Status} (item code : ℕ) {status : Status} →
     map status_at items ≡ now → status_at code ≡ status → map status_at (set items item code) ≡ set now item status
 status_set status_at items item code view is = cc (map-set status_at items item code)
 
--- resizing the codes resizes the list of statuses
+-- resizing the list of codes resizes the list of statuses that the codes represent
 pub resized : {A E : Type 0} (r : Result A E) (status_at : ℕ → Status) → status_at 0 ≡ Unseen → (old : List ℕ)
     {new : List ℕ} {now : List Status} (count : ℕ) {len : ℕ} → len ≡ length old →
     new ≡ (if is_ok r then take count old ++ replicate (count - len) 0 else old) → map status_at old ≡ now →

@@ -1,4 +1,4 @@
--- The result of the search when its path is empty.
+-- What the search for components has found when its search path is empty.
 use Rattle.std.proofs.Common.{◌≡◌, ◌∙◌, ℕ, ◌<◌, ◌⊎◌, inl, inr, List, length, map, refl, ap, arith, Some}
 use Rattle.std.proofs.Common.{get_or, slice_get}
 use Rattle.std.specs.Option.{option_map}
@@ -37,13 +37,13 @@ module _ {g : Digraph} {statuses : List Status} {active bounds : List ℕ} {pend
     once = s.once;
   }
 
-  -- if the path is empty, no item is active
+  -- if the search path is empty, no vertex has the status `Active`
   none_active : length bounds ≡ 0 → (p v : ℕ) → slice_get statuses v ≡ Some (Active p) → ⊥
   none_active none p v at =
       let start = s.bounds_start (omega (arith, slice_get_within active p v (s.marked_active p v at))) in
       omega (arith, none, slice_get_within bounds 0 0 start)
 
-  -- if the path is empty, every marked item is in the order
+  -- if the search path is empty, every seen vertex is in the list of finished vertices
   pub all_listed : length bounds ≡ 0 → AreListed statuses order
   all_listed none = grind (arith, slice_get_within, which)
     where
@@ -53,7 +53,7 @@ module _ {g : Digraph} {statuses : List Status} {active bounds : List ℕ} {pend
       which v (Active p) at = absurd (none_active none p v at)
       which v (Closed k) at = inr (s.listed v k at)
 
-  -- if the path is empty, every marked vertex has a component
+  -- if the search path is empty, every seen vertex has a component
   met : length bounds ≡ 0 → (v : ℕ) → v < g.count → (slice_get statuses v ≡ Some Unseen → ⊥) → (k : ℕ) × IsIn found v k
   met none v lt seen = which (get_or statuses v Unseen) (slice_get-get_or statuses v Unseen (omega (arith, s.marked)))
     where

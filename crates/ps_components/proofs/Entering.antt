@@ -1,4 +1,4 @@
--- Appending an item to the path preserves the invariant of the search.
+-- Appending a vertex to the search path preserves the invariant of the search.
 use Rattle.std.proofs.Common.{◌≡◌, ◌≢◌, ℕ, ◌+◌, ◌<◌, ◌≤◌, ◌⊎◌, inl, inr, List, [], ◌∷◌, ◌++◌, length, refl, sym, ap}
 use Rattle.std.proofs.Common.{◌∙◌, arith, Some, Option, slice_get, set, suc, zero, add-zero, rules}
 use Rattle.std.proofs.Common.{length-append, length-set}
@@ -13,7 +13,7 @@ use Rattle.ps_components.specs.Searching.{IsSoundSearch, IsSoundBut, wait_of, wa
 use Rattle.ps_components.proofs.Places.{slice_get-append_left, slice_get-append_cases, slice_get-append_right}
 use Rattle.ps_components.proofs.Places.{slice_get-push, slice_get-push_cases, slice_get-set_cases}
 
--- one slot adds at most one pending link
+-- a slot of a vertex adds at most one pending link
 wait_of-length : (n : ℕ) (side : Option ℕ) → length (wait_of n side) ≤ 1
 wait_of-length n side = search rules
 
@@ -29,7 +29,7 @@ waits-length : (g : Digraph) (p item n : ℕ) → length (waits g p item n) ≤ 
 waits-length g p item zero = omega arith
 waits-length g p item (suc n) = search (rules, wait_of-length, length-append, waits-length g p item n)
 
--- each pending link of an item is a link of the graph
+-- each link that is made pending for a vertex is a link of the graph
 waits-link : (g : Digraph) (p item n : ℕ) → item < g.count → n ≤ g.degree item → (i : ℕ) (e : Pending) →
     slice_get (waits g p item n) i ≡ Some e → (e.from ≡ p) × Link g item e.to
 waits-link g p item zero lt le i e h = cc
@@ -39,7 +39,7 @@ waits-link g p item (suc n) lt le i e h =
       | inr k ↦ search (rules, wait_of-only)
     ]
 
--- each slot with a target has a pending link
+-- for each nonempty slot of a vertex, the link to the slot's target is made pending
 waits-there : (g : Digraph) (p item n place w : ℕ) → place < n → g.target item place ≡ Some w →
     (i : ℕ) × (slice_get (waits g p item n) i ≡ Some (record { from = p; to = w }))
 waits-there g p item zero place w lt h = absurd (omega arith)
@@ -51,7 +51,7 @@ waits-there g p item (suc n) place w lt h = elim (cases_lt place n) [
   ))
 ]
 
--- how the bound on the remaining steps changes when one status changes
+-- how the bound on the remaining steps of the search changes when the status of one vertex changes
 turns_from-set : (g : Digraph) (first : ℕ) (statuses : List Status) (i : ℕ) (old new : Status) →
     slice_get statuses i ≡ Some old →
     turns_from g first (set statuses i new) + turns_of g (first + i) old ≡ turns_from g
@@ -103,7 +103,7 @@ module _ {g : Digraph} {statuses : List Status} {active bounds : List ℕ} {pend
   pub kept-entered : (v : ℕ) → slice_get statuses' v ≡ Some Unseen → slice_get statuses v ≡ Some Unseen
   kept-entered v h = grind (arith, status_cases v)
 
-  -- ---- the path and its bounds
+  -- ---- the search path, and where its segments begin
 
   path_cases : (p v : ℕ) → slice_get active' p ≡ Some v → ((slice_get active p ≡ Some v) × (p < place)) ⊎
       ((p ≡ place) × (item ≡ v))
@@ -144,12 +144,13 @@ module _ {g : Digraph} {statuses : List Status} {active bounds : List ℕ} {pend
     | inr kp ↦ grind (arith, path_cases q w hq, slice_get-push bounds place)
   ]
 
-  -- ---- the pending links
+  -- ---- the links that are still to be followed
 
   there_too : (i : ℕ) (e : Pending) → slice_get pending i ≡ Some e → slice_get (pending ++ but.skipped) i ≡ Some e
   there_too i e h = slice_get-append_left pending but.skipped i e h
 
-  -- a pending link was pending before, from an earlier index, or it is a link of the new item
+  -- a pending link was pending before and starts at an earlier index of the search path, or it is a link of the new
+  -- vertex
   entry_cases : (i : ℕ) (e : Pending) → slice_get pending' i ≡ Some e →
       ((slice_get pending i ≡ Some e) × (i < length pending) × (e.from < place))
       ⊎ ((length pending ≤ i) × (e.from ≡ place) × Link g item e.to)

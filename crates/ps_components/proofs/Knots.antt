@@ -1,4 +1,4 @@
--- A vertex leads back to itself if and only if it has a link into its own component.
+-- A vertex is on a cycle if and only if one of its links leads into the vertex's own component.
 use Rattle.std.proofs.Common.{◌≡◌, ℕ, ◌<◌, ◌≤◌, inl, inr, refl, arith, Some, slice_get, rules}
 use Rattle.std.proofs.lemmas.Option.{slice_get_within}
 use Rattle.std.proofs.lemmas.Bool.{cases_lt, cases_eq}
@@ -6,7 +6,7 @@ use Rattle.ps_components.specs.Graphs.{Digraph, Link, Way, last, next}
 use Rattle.ps_components.specs.ComponentLists.{ComponentsData, IsIn, AreComponents, AreAllMet}
 use Rattle.ps_components.specs.Orders.{IsOrder, IsFirstOnCycle, IsKnot}
 
--- a way does not lead to a later component
+-- a path along links never leads to a component with a greater number
 pub way_falls : {g : Digraph} {c : ComponentsData} → AreComponents g c → {i j k : ℕ} → Way (Link g) i j → IsIn c i k →
     (m : ℕ) × IsIn c j m × (m ≤ k)
 way_falls a {i} {j} {k} (last r) h = a.falls i k j h r
@@ -40,7 +40,7 @@ module _ {g : Digraph} {c : ComponentsData} (a : AreComponents g c) (met : AreAl
   pub no_cycle : ((i : ℕ) → i < g.count → IsKnot g c i → ⊥) → (i : ℕ) → Way (Link g) i i → ⊥
   no_cycle none i w = (let k = knot_of_cycle i w in none i k.link.from k)
 
-  -- of two entries of the order, the one whose component has the smaller number is first
+  -- of two vertices in the list of finished vertices, the one whose component has the smaller number comes first
   lower_first : (k l i j n m : ℕ) → slice_get c.order k ≡ Some i → slice_get c.order l ≡ Some j → IsIn c i n →
       IsIn c j m → m < n → l < k
   lower_first k l i j n m hk hl hi hj less = grind (arith, a.rises k l i j n m)

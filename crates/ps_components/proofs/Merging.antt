@@ -1,4 +1,4 @@
--- Merging the last segments of the path, or removing a pending link, preserves the invariant of the search.
+-- Merging the last segments of the search path, or removing a pending link, preserves the invariant of the search.
 use Rattle.std.proofs.Common.{◌≡◌, ℕ, ◌-◌, ◌≤◌, ◌⊎◌, inl, inr, List, length, take, arith, Some, slice_get}
 use Rattle.std.proofs.lemmas.Bool.{cases_lt}
 use Rattle.ps_components.specs.declared.statuses.Status.{Status}
@@ -12,7 +12,8 @@ use Rattle.ps_components.proofs.Ways.{across}
 
 module _ {g : Digraph} {statuses : List Status} {active bounds : List ℕ} {pending : List Pending} {order : List ℕ}
     (s : IsSoundSearch g statuses active bounds pending order) where
-  -- if the last segment has a link to w, it can be merged with all segments back to the segment of w
+  -- if the last segment of the search path has a link to a vertex w on the path, all segments from that of w on can be
+  -- merged
   pub sound-merged : {from place v w : ℕ} {fewer : List ℕ} → slice_get active from ≡ Some v → Link g v w →
       slice_get statuses w ≡ Some (Active place) → ((k b : ℕ) → slice_get bounds k ≡ Some b → b ≤ from) →
       IsCutAt bounds place fewer → IsSoundSearch g statuses active fewer pending order
@@ -47,7 +48,8 @@ module _ {g : Digraph} {statuses : List Status} {active bounds : List ℕ} {pend
       still p w (closed k c) = closed k c
       still p w (settled_active q a later) = settled_active q a (λ k b h. later k b (cut.part k b h))
 
-  -- a pending link with a settled target can be removed
+  -- a pending link can be removed if its target is settled: finished, or in the same or a later segment of the search
+  -- path
   pub sound-taken : {e : Pending} → slice_get pending (length pending - 1) ≡ Some e →
       IsSettled statuses bounds e.from e.to →
       IsSoundSearch g statuses active bounds (take (length pending - 1) pending) order

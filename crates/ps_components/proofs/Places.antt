@@ -5,19 +5,19 @@ use Rattle.std.proofs.lemmas.Option.{slice_get_within}
 use Rattle.std.proofs.lemmas.Bool.{cases_eq}
 use Rattle.std.proofs.lemmas.List.{length-take-le}
 
--- an entry keeps its index when a list is appended
+-- an entry of a list keeps its index when another list is appended
 pub slice_get-append_left : {X : Type 0} (xs ys : List X) (i : ℕ) (x : X) → slice_get xs i ≡ Some x →
     slice_get (xs ++ ys) i ≡ Some x
 slice_get-append_left [] ys i x h = cc
 slice_get-append_left (y ∷ xs) ys zero x h = h
 slice_get-append_left (y ∷ xs) ys (suc i) x h = slice_get-append_left xs ys i x h
 
--- the new entry is at the end
+-- an entry that is appended to a list is at the index that was the list's length
 pub slice_get-push : {X : Type 0} (xs : List X) (x : X) → slice_get (xs ++ x ∷ []) (length xs) ≡ Some x
 slice_get-push [] x = refl
 slice_get-push (y ∷ xs) x = slice_get-push xs x
 
--- an entry of a list with one more entry is an old one, or the new one at the end
+-- an entry of a list to which one entry was appended is an old entry, or the new one at the end
 pub slice_get-push_cases : {X : Type 0} (xs : List X) (y : X) (i : ℕ) (x : X) → slice_get (xs ++ y ∷ []) i ≡ Some x →
     (slice_get xs i ≡ Some x) ⊎ ((i ≡ length xs) × (y ≡ x))
 slice_get-push_cases [] y zero x h = inr (refl, cc)
@@ -38,7 +38,7 @@ slice_get-set_other (x ∷ xs) zero (suc j) y h = refl
 slice_get-set_other (x ∷ xs) (suc i) zero y h = refl
 slice_get-set_other (x ∷ xs) (suc i) (suc j) y h = slice_get-set_other xs i j y (λ e. h (ap suc e))
 
--- after a write, the new item is at its index, and all other entries are unchanged
+-- after a write to a list, the new item is at the written index, and the entries at other indices are unchanged
 pub slice_get-set_cases : {X : Type 0} (xs : List X) (i j : ℕ) (y : X) →
     ((j ≡ i) × (i < length xs → slice_get (set xs i y) j ≡ Some y)) ⊎
     ((j ≢ i) × (slice_get (set xs i y) j ≡ slice_get xs j))

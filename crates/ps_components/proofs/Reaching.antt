@@ -1,4 +1,4 @@
--- The search visits only the items with which it began and the items reachable from them.
+-- The search visits only the vertices on its initial search path and the vertices reachable from them.
 use Rattle.std.proofs.Common.{◌≡◌, ◌∙◌, ℕ, ◌⊎◌, drop, inl, inr, List, [], ◌∷◌, ◌++◌, length, refl, sym}
 use Rattle.std.proofs.Common.{arith, Some, slice_get, set}
 use Rattle.std.proofs.lemmas.Option.{slice_get_within}
@@ -13,24 +13,25 @@ use Rattle.ps_components.proofs.Knots.{way_falls}
 use Rattle.ps_components.proofs.Places.{slice_get-set_cases, slice_get-drop}
 use Rattle.ps_components.proofs.Closing.{close_all_cases}
 
--- an item that is now closed was on the path
+-- when the last segment is finished, only the statuses of vertices on the search path change
 pub reached-closed : (g : Digraph) (statuses : List Status) (active : List ℕ) (bound k : ℕ) →
     ChangesReached g active statuses (close_all statuses (drop bound active) k)
 reached-closed g statuses active bound k v = grind (arith, close_all_cases, slice_get-drop)
 
--- only the status of one item changed, and this item is reachable from the path
+-- appending a vertex to the search path changes only its status, and the vertex is reachable from the path
 pub reached-entered : {g : Digraph} (statuses : List Status) (active : List ℕ) {item : ℕ} (m : Status) →
     IsReached g active item → ChangesReached g active statuses (set statuses item m)
 reached-entered statuses active {item} m r v = grind (arith, slice_get-set_cases)
 
--- a vertex reachable from one root is reachable from the roots
+-- a vertex reachable from one of the roots is reachable from the list of roots
 pub reached-root : {g : Digraph} (roots : List ℕ) (k : ℕ) {root v : ℕ} → slice_get roots k ≡ Some root →
     IsReached g (root ∷ []) v → IsReached g roots v
 reached-root {g} roots k {root} {v} at r = grind arith
 
 module _ {g : Digraph} {statuses : List Status} {active bounds : List ℕ} {pending : List Pending} {order : List ℕ}
     (s : IsSoundSearch g statuses active bounds pending order) where
-  -- one more step of the search changes only the statuses of vertices reachable from the path
+  -- also after one more step of the search, only the statuses of vertices reachable from the initial search path have
+  -- changed
   pub reached-more : {statuses' : List Status} {active' bounds' : List ℕ} {pending' : List Pending}
       {order' : List ℕ} (statuses'' : List Status) → IsSoundSearch g statuses' active' bounds' pending' order' →
       ChangesReached g active statuses statuses' → ChangesReached g active' statuses' statuses'' →
@@ -43,7 +44,7 @@ module _ {g : Digraph} {statuses : List Status} {active bounds : List ℕ} {pend
   no_path : length bounds ≡ 0 → active ≡ []
   no_path none = nil_from_length active (grind (arith, s.bounds_start, slice_get_within bounds 0 0))
 
-  -- a search that begins at one item changes only the statuses of vertices reachable from this item
+  -- a search that begins at one vertex changes only the statuses of vertices reachable from this vertex
   pub reached-begun : length bounds ≡ 0 → (item : ℕ) (m : Status) (statuses' : List Status) →
       ChangesReached g (active ++ item ∷ []) (set statuses item m) statuses' →
       ChangesReached g (item ∷ []) statuses statuses'

@@ -1,4 +1,4 @@
--- A search that starts anew: the items in the order are marked as unseen.
+-- A new search that reuses the tables of an old one: each vertex that the old search finished gets the status `Unseen`.
 use Rattle.std.proofs.Common.{◌≡◌, ◌≢◌, ℕ, ◌+◌, ◌<◌, ◌≤◌, ◌⊎◌, List, length, arith, Some, slice_get, set, All}
 use Rattle.std.proofs.lemmas.List.{length-set}
 use Rattle.std.proofs.lemmas.Option.{slice_get_within, slice_get-get_or}
@@ -6,7 +6,7 @@ use Rattle.ps_components.specs.declared.statuses.Status.{Status}
 use Rattle.ps_components.specs.declared.statuses.Status.TheVariants.{Unseen}
 use Rattle.ps_components.proofs.Places.{slice_get-set_cases}
 
--- each marked item is in the order from index n on
+-- each vertex that is not `Unseen` is in the list of finished vertices at index n or later
 pub record AreListedFrom (statuses : List Status) (order : List ℕ) (n : ℕ) : Type 0 where
   pub within : (i v : ℕ) → slice_get order i ≡ Some v → v < length statuses
   pub listed : (v : ℕ) (m : Status) → slice_get statuses v ≡ Some m →

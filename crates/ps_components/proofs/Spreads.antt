@@ -1,4 +1,4 @@
--- The vertices reached in breadth-first order, and the trail back.
+-- A breadth-first search, and the path that it finds, read from its end back to its start.
 use Rattle.std.proofs.Common.{rules}
 use Rattle.std.proofs.Common.{◌≡◌, ◌∙◌, ℕ, ◌+◌, ◌-◌, ◌<◌, ◌≤◌, ◌⊎◌, inl, inr, List, [], ◌∷◌, ◌++◌, length, refl, sym}
 use Rattle.std.proofs.Common.{ap, arith, Bool, true, false, Some, slice_get, set, suc, zero, length-append, length-set}
@@ -44,7 +44,7 @@ module _ {g : Digraph} {seen : List Bool} {steps : List Step} {place : ℕ} (s :
   pub fewer-unseen : unseen seen' + length steps' ≡ unseen seen + length steps
   fewer-unseen = omega (arith, unseen-set seen to new, length-append steps (step ∷ []))
 
-  -- no earlier step has the new vertex
+  -- no earlier step of the breadth-first search reached the new vertex
   fresh : (i : ℕ) (t : Step) → slice_get steps i ≡ Some t → t.item ≡ to → ⊥
   fresh i t h e = cc (s.seen_steps i t h)
 
@@ -66,12 +66,12 @@ module _ {g : Digraph} {seen : List Bool} {steps : List Step} {place : ℕ} (s :
   }
 
 module _ {g : Digraph} {seen : List Bool} {steps : List Step} {place : ℕ} (s : IsSpread g seen steps place) where
-  -- once all links of a step were examined, the search proceeds to the next step
+  -- once all links of a step's vertex were examined, the breadth-first search proceeds to the next step
   pub next-spread : {r : Step} → slice_get steps place ≡ Some r →
       ((w : ℕ) → Link g r.item w → slice_get seen w ≡ Some true) → IsSpread g seen steps (place + 1)
   next-spread {r} at all = search (rules, cases_lt)
 
-  -- once all steps were examined, every vertex reachable from a seen vertex was seen
+  -- once the links of all reached vertices were examined, every vertex reachable from a seen vertex was seen
   pub way-seen : {v w : ℕ} → length steps ≤ place → slice_get seen v ≡ Some true → SameOrWay g v w →
       slice_get seen w ≡ Some true
   way-seen all h (inl e) = rw e at h
@@ -85,7 +85,7 @@ module _ {g : Digraph} {seen : List Bool} {steps : List Step} {place : ℕ} (s :
       along (last l) h = step-on l h
       along (next l y) h = along y (step-on l h)
 
-  -- the item of a step is a vertex of the graph
+  -- the number that a step of the breadth-first search reached is a vertex of the graph
   pub step-within : (i : ℕ) {r : Step} → slice_get steps i ≡ Some r → r.item < g.count
   step-within i {r} h = omega (arith, s.counted, slice_get_within seen r.item true (s.seen_steps i r h))
 
@@ -114,7 +114,7 @@ trail-more {g} {items} {end} {at} {to} t l new = record {
   once = search (rules, slice_get-push_cases);
 }
 
--- the vertices of a trail belong to steps from an index on, so the vertex of an earlier step is not among them
+-- if every vertex of a list was reached in a step from index `at` on, the vertex of an earlier step is not in the list
 pub trail-new : (steps : List Step) (items : List ℕ) {at place : ℕ} {r : Step} → AreApart steps →
     ((k v : ℕ) → slice_get items k ≡ Some v → (i : ℕ) × (s : Step) × (at ≤ i) × (slice_get steps i ≡ Some s) ×
     (s.item ≡ v)) → place < at → slice_get steps place ≡ Some r → (k : ℕ) → slice_get items k ≡ Some r.item → ⊥

@@ -1,4 +1,4 @@
--- Facts about the last bound and the last pending link of a search.
+-- Facts about the last segment and the last pending link of a search for components.
 use Rattle.std.proofs.Common.{◌≡◌, ℕ, ◌-◌, ◌<◌, ◌≤◌, inl, List, length, refl, arith, Some, slice_get}
 use Rattle.std.proofs.lemmas.Option.{slice_get_within}
 use Rattle.ps_components.specs.declared.statuses.Status.{Status}

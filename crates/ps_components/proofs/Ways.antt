@@ -1,4 +1,4 @@
--- Joining ways, and consequences of an order for ways.
+-- Joining paths, and what a topological order implies for paths.
 use Rattle.std.proofs.Common.{arith, ℕ, inl, inr}
 use Rattle.ps_components.specs.Graphs.{Digraph, Link, SameOrWay, Way, last, next}
 
@@ -13,12 +13,12 @@ Way-map f (next r w) = next (f _ _ r) (Way-map f w)
 pub SameOrWay-join : {g : Digraph} {u v w : ℕ} → SameOrWay g u v → SameOrWay g v w → SameOrWay g u w
 SameOrWay-join h y = grind (arith, Way-join)
 
--- a link, followed by a way or by nothing, is a way
+-- a link, alone or followed by a path, is a path of one or more links
 before : {g : Digraph} {u w b : ℕ} → Link g u w → SameOrWay g w b → Way (Link g) u b
 before l (inl f) = rw (← f) (last l)
 before l (inr y) = next l y
 
--- a way or nothing, then a link, and then a way or nothing are a way
+-- a link, with or without a path before it and a path after it, is a path of one or more links
 pub across : {g : Digraph} {a u w b : ℕ} → SameOrWay g a u → Link g u w → SameOrWay g w b → Way (Link g) a b
 across (inl e) l y = rw e (before l y)
 across (inr x) l y = Way-join x (before l y)

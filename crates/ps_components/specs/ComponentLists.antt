@@ -1,19 +1,20 @@
--- The components of a graph: two vertices are in the same component if each can reach the other.
+-- The strongly connected components of a graph: two vertices are in the same component if each can reach the other.
 use Rattle.std.specs.Prelude.{◌≡◌, ℕ, ◌<◌, ◌≤◌, ◌↔◌, List, length, slice_get, Option, Some}
 use Rattle.ps_components.specs.Graphs.{Digraph, Link, SameOrWay, IsReached}
 
--- for each vertex the number of its component, or None if the vertex was not visited; and the visited vertices in order
+-- for each vertex the number of its component, or None if the vertex was not visited; and the list of the visited
+-- vertices, component by component
 pub record ComponentsData : Type 0 where
   pub numbers : List (Option ℕ)
   pub order : List ℕ
 
--- the vertex v is in the component k
+-- the vertex v is in the component with the number k
 abbrev pub IsIn : ComponentsData → ℕ → ℕ → Type 0
 IsIn c v k = slice_get c.numbers v ≡ Some (Some k)
 
--- the visited vertices are in order, component by component, each once. The number of a component is the index at which
--- the component begins. A link of a visited vertex leads to a visited vertex, in the same component or an earlier one.
--- The vertices of a component can reach one another
+-- `order` lists the visited vertices, component by component, each once. The number of a component is the index in
+-- `order` at which the component begins. A link of a visited vertex leads to a visited vertex, in the same component or
+-- an earlier one. The vertices of a component can reach one another
 pub record AreComponents (g : Digraph) (c : ComponentsData) : Type 0 where
   pub counted : length c.numbers ≡ g.count
   pub falls : (v k w : ℕ) → IsIn c v k → Link g v w → (m : ℕ) × IsIn c w m × (m ≤ k)
@@ -27,7 +28,7 @@ pub record AreComponents (g : Digraph) (c : ComponentsData) : Type 0 where
       IsIn c w m → k ≤ m
   pub once : (i j v : ℕ) → slice_get c.order i ≡ Some v → slice_get c.order j ≡ Some v → i ≡ j
 
--- the visited vertices are the roots and the vertices reachable from them
+-- the vertices that have a component are exactly the roots and the vertices reachable from them
 abbrev pub AreMet : Digraph → List ℕ → ComponentsData → Type 0
 AreMet g roots c = (v : ℕ) → ((k : ℕ) × IsIn c v k) ↔ IsReached g roots v
 

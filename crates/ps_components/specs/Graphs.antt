@@ -1,13 +1,14 @@
--- Directed graphs of numbered vertices, and ways, which are paths along their links.
+-- Directed graphs of numbered vertices, and ways, which are paths along the links (edges) of a graph.
 use Rattle.std.specs.Prelude.{◌≡◌, ℕ, ◌<◌, ◌⊎◌, List, slice_get, Option, Some}
 
--- a graph with the vertices 0 .. count - 1; the vertex v has `degree v` slots, and each slot has a target or is empty
+-- a graph with the vertices 0 .. count - 1; the vertex v has `degree v` numbered slots, each of which holds the target
+-- of a link or is empty
 pub record Digraph : Type 0 where
   pub count : ℕ
   pub degree : ℕ → ℕ
   pub target : ℕ → ℕ → Option ℕ
 
--- a slot of v has the target w
+-- the graph has a link from v to w: some slot of v has the target w
 pub record Link (g : Digraph) (v w : ℕ) : Type 0 where
   pub from : v < g.count
   pub place : ℕ
@@ -18,7 +19,7 @@ pub record Link (g : Digraph) (v w : ℕ) : Type 0 where
 abbrev pub LinksStayWithin : Digraph → Type 0
 LinksStayWithin g = (v w : ℕ) → Link g v w → w < g.count
 
--- a way: a path of one or more steps of R, from one number to another
+-- a way: a path of one or more steps of the relation R, from one number to another
 pub data Way (R : ℕ → ℕ → Type 0) : ℕ → ℕ → Type 0 where
   last : {i j : ℕ} → R i j → Way R i j
   next : {i j k : ℕ} → R i j → Way R j k → Way R i k

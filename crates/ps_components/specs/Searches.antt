@@ -1,8 +1,10 @@
--- The search for components, as a state that its steps change.
---     IsSound g s      the lists of the search are sound
---     EndsAt, HasNext      the search is sound; where its last segment begins, and which link is followed next
---     IsIdle, IsFresh      the search is sound and its path is empty; for IsFresh, all items are also unseen
---     Visits, Runs, Advances, Enters, Merges, Takes      what the methods of the search do
+-- The search for strongly connected components, and what each of its methods does to its state.
+--     `IsSound`: the lists of the search satisfy its invariant.
+--     `EndsAt` and `HasNext`: the search is sound, its last segment begins at the given index, and the given link is
+--     followed next.
+--     `IsIdle` and `IsFresh`: the search is sound and its search path is empty; for `IsFresh`, no vertex was seen
+--     either.
+--     `Visits`, `Runs`, `Advances`, `Enters`, `Merges`, `Takes`: what the methods of the search do.
 use Rattle.std.specs.Prelude.{◌≡◌, ℕ, ◌-◌, ◌<◌, ◌≤◌, List, [], ◌∷◌, ◌++◌, length, slice_get, slice_set, Some, All}
 use Rattle.ps_components.specs.Graphs.{Digraph}
 use Rattle.ps_components.specs.Searching.{IsSoundSearch, IsSoundBut, IsSettled, KeepsStatuses, ChangesReached, HasMet}
@@ -14,7 +16,7 @@ use Rattle.ps_components.specs.declared.search.Search.{Search}
 abbrev pub IsSound : Digraph → Search → Type 0
 IsSound g s = IsSoundSearch g s.statuses s.active.items s.bounds.items s.pending.items s.order.items
 
--- the search would be sound if some more links, which all lead to `item`, were pending
+-- the search would satisfy its invariant if some further links, all with the target `item`, were pending
 abbrev pub IsSoundButFor : Digraph → ℕ → Search → Type 0
 IsSoundButFor g item s = IsSoundBut g item s.statuses s.active.items s.bounds.items s.pending.items s.order.items
 
@@ -22,7 +24,7 @@ IsSoundButFor g item s = IsSoundBut g item s.statuses s.active.items s.bounds.it
 abbrev pub turns_left : Digraph → Search → ℕ
 turns_left g s = turns g s.statuses s.bounds.items s.pending.items
 
--- the last segment of the path begins at `bound`
+-- the last segment of the search path begins at index `bound`
 pub record EndsAt (g : Digraph) (bound : ℕ) (s : Search) : Type 0 where
   pub sound : IsSound g s
   pub last : slice_get s.bounds.items (length s.bounds.items - 1) ≡ Some bound
@@ -32,29 +34,29 @@ pub record HasNext (g : Digraph) (pending : Pending) (s : Search) : Type 0 where
   pub sound : IsSound g s
   pub last : slice_get s.pending.items (length s.pending.items - 1) ≡ Some pending
 
--- the path is empty
+-- the search path is empty, so nothing is left to do
 pub record IsIdle (g : Digraph) (s : Search) : Type 0 where
   pub sound : IsSound g s
   pub ended : length s.bounds.items ≡ 0
 
--- the search is idle, and all items are unseen
+-- the search path is empty, and no vertex was seen
 pub record IsFresh (g : Digraph) (s : Search) : Type 0 where
   pub idle : IsIdle g s
   pub unseen : All (λ m. m ≡ Unseen) s.statuses
 
--- the visited items are exactly the roots and the items reachable from them
+-- the visited vertices are exactly the roots and the vertices reachable from them
 pub record HasVisited (g : Digraph) (roots : List ℕ) (s : Search) : Type 0 where
   pub idle : IsIdle g s
   pub met : HasMet g roots s.statuses
 
--- the item was visited, and only the statuses of items reachable from it changed
+-- the vertex `item` was visited, and only the statuses of vertices reachable from `item` changed
 pub record Visits (g : Digraph) (item : ℕ) (old new : Search) : Type 0 where
   pub idle : IsIdle g new
   pub kept : KeepsStatuses old.statuses new.statuses
   pub seen : ¬ (slice_get new.statuses item ≡ Some Unseen)
   pub reached : ChangesReached g (item ∷ []) old.statuses new.statuses
 
--- the path is empty again, and only the statuses of items reachable from the old path changed
+-- the search path is empty again, and only the statuses of vertices reachable from the old search path changed
 pub record Runs (g : Digraph) (old new : Search) : Type 0 where
   pub idle : IsIdle g new
   pub kept : KeepsStatuses old.statuses new.statuses
@@ -67,7 +69,7 @@ pub record Advances (g : Digraph) (old new : Search) : Type 0 where
   pub kept : KeepsStatuses old.statuses new.statuses
   pub reached : ChangesReached g old.active.items old.statuses new.statuses
 
--- the item was appended to the path
+-- the vertex `item` was appended to the search path
 pub record Enters (g : Digraph) (item : ℕ) (old new : Search) : Type 0 where
   pub sound : IsSound g new
   pub fewer : turns_left g new < turns_left g old
@@ -75,7 +77,8 @@ pub record Enters (g : Digraph) (item : ℕ) (old new : Search) : Type 0 where
   pub entered : new.statuses ≡ slice_set old.statuses item (Active (length old.active.items))
   pub path : new.active.items ≡ old.active.items ++ item ∷ []
 
--- segments were merged, so that the target of the pending link is settled
+-- segments of the search path were merged, so that the target of the pending link is finished, or is in the segment of
+-- the link's start or a later one
 pub record Merges (g : Digraph) (link : Pending) (old new : Search) : Type 0 where
   pub sound : IsSound g new
   pub settled : IsSettled new.statuses new.bounds.items link.from link.to
@@ -83,7 +86,7 @@ pub record Merges (g : Digraph) (link : Pending) (old new : Search) : Type 0 whe
   pub shorter : length new.bounds.items ≤ length old.bounds.items
   pub pending : new.pending.items ≡ old.pending.items
 
--- the last pending link was removed
+-- the last link of the list of pending links was removed
 pub record Takes (g : Digraph) (old new : Search) : Type 0 where
   pub sound : IsSound g new
   pub fewer : turns_left g new < turns_left g old

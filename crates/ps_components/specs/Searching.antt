@@ -1,4 +1,4 @@
--- The invariants of the search for components.
+-- The invariants of the search for strongly connected components.
 use Rattle.std.specs.Prelude.{◌≡◌, ℕ, ◌+◌, ◌<◌, ◌≤◌, ◌⊎◌, List, [], ◌∷◌, ◌++◌, length, slice_get, slice_set, Option}
 use Rattle.std.specs.Prelude.{Some, None, zero, suc}
 use Rattle.ps_components.specs.Graphs.{Digraph, Link, LinksStayWithin, SameOrWay, IsReached}
@@ -6,16 +6,17 @@ use Rattle.ps_components.specs.declared.statuses.Status.{Status}
 use Rattle.ps_components.specs.declared.statuses.Status.TheVariants.{Unseen, Active, Closed}
 use Rattle.ps_components.specs.declared.search.Pending.{Pending}
 
--- each bound that is at most p is also at most q
+-- each start of a segment that is at most p is also at most q, so index q is in the segment of index p or a later one
 abbrev pub NoLater : List ℕ → ℕ → ℕ → Type 0
 NoLater bounds p q = (k b : ℕ) → slice_get bounds k ≡ Some b → b ≤ p → b ≤ q
 
--- the target w of a link from index p of the path is closed, or it is on the path in the same segment or a later one
+-- the target w of a link from index p of the search path is finished, or is on the search path in the segment of p or a
+-- later one
 pub data IsSettled (statuses : List Status) (bounds : List ℕ) (p w : ℕ) : Type 0 where
   closed : (k : ℕ) → slice_get statuses w ≡ Some (Closed k) → IsSettled statuses bounds p w
   active : (q : ℕ) → slice_get statuses w ≡ Some (Active q) → NoLater bounds p q → IsSettled statuses bounds p w
 
--- the link from index p of the path to w is pending
+-- the link from index p of the search path to w is in the list of pending links
 pub record IsPending (pending : List Pending) (p w : ℕ) : Type 0 where
   pub at : ℕ
   pub step : Pending
@@ -23,9 +24,9 @@ pub record IsPending (pending : List Pending) (p w : ℕ) : Type 0 where
   pub from_is : step.from ≡ p
   pub to_is : step.to ≡ w
 
--- the path consists of segments, each of which begins at a bound. The items of a segment can reach one another and the
--- items of later segments. The closed items are in the order, and their links lead to items that were closed earlier or
--- in the same component
+-- the search path consists of segments, which begin at the indices in `bounds`. The vertices of a segment can reach one
+-- another and the vertices of later segments. The finished vertices are in the list `order`, and their links lead to
+-- vertices of earlier components or of the same component
 pub record IsSoundSearch (g : Digraph) (statuses : List Status) (active bounds : List ℕ) (pending : List Pending)
     (order : List ℕ) : Type 0 where
   pub within : LinksStayWithin g
@@ -57,7 +58,8 @@ pub record IsSoundSearch (g : Digraph) (statuses : List Status) (active bounds :
       slice_get statuses v ≡ Some (Closed k) → slice_get statuses w ≡ Some (Closed m) → k ≤ m
   pub once : (i j v : ℕ) → slice_get order i ≡ Some v → slice_get order j ≡ Some v → i ≡ j
 
--- the lists would satisfy the invariant if some more links, which all lead to `item`, were pending after the others
+-- the lists of the search would satisfy its invariant if some further links, all with the target `item`, were appended
+-- to the pending links
 pub record IsSoundBut (g : Digraph) (item : ℕ) (statuses : List Status) (active bounds : List ℕ)
     (pending : List Pending)
     (order : List ℕ) : Type 0 where
@@ -65,13 +67,13 @@ pub record IsSoundBut (g : Digraph) (item : ℕ) (statuses : List Status) (activ
   pub lead : (i : ℕ) (e : Pending) → slice_get skipped i ≡ Some e → e.to ≡ item
   pub sound : IsSoundSearch g statuses active bounds (pending ++ skipped) order
 
--- each marked item is in the order, and each item of the order has an entry in the list of statuses
+-- each vertex that is not `Unseen` is in the list `order`, and each entry of `order` has a status
 pub record AreListed (statuses : List Status) (order : List ℕ) : Type 0 where
   pub within : (i v : ℕ) → slice_get order i ≡ Some v → v < length statuses
   pub listed : (v : ℕ) (m : Status) → slice_get statuses v ≡ Some m →
       (m ≡ Unseen) ⊎ ((i : ℕ) × (slice_get order i ≡ Some v))
 
--- the roots were seen, and each closed item is a root or is reachable from a root
+-- each root was seen, and each finished vertex is a root or is reachable from a root
 pub record HasMet (g : Digraph) (roots : List ℕ) (statuses : List Status) : Type 0 where
   pub seen : (i v : ℕ) → slice_get roots i ≡ Some v → ¬ (slice_get statuses v ≡ Some Unseen)
   pub reached : (v k : ℕ) → slice_get statuses v ≡ Some (Closed k) → IsReached g roots v
@@ -80,28 +82,28 @@ pub record HasMet (g : Digraph) (roots : List ℕ) (statuses : List Status) : Ty
 abbrev pub ChangesReached : Digraph → List ℕ → List Status → List Status → Type 0
 ChangesReached g from old new = (v : ℕ) → (slice_get new v ≡ slice_get old v) ⊎ IsReached g from v
 
--- `fewer` has the bounds that are at most `place`, and no others
+-- `fewer` is the list `bounds` without the entries greater than `place`
 pub record IsCutAt (bounds : List ℕ) (place : ℕ) (fewer : List ℕ) : Type 0 where
   pub part : (k b : ℕ) → slice_get fewer k ≡ Some b → slice_get bounds k ≡ Some b
   pub kept : (k b : ℕ) → slice_get bounds k ≡ Some b → b ≤ place → slice_get fewer k ≡ Some b
   pub below : (k b : ℕ) → slice_get fewer k ≡ Some b → b ≤ place
   pub shorter : length fewer ≤ length bounds
 
--- the statuses that result when each item of the list is closed, in the component k
+-- the statuses that result when each vertex of the list gets the status `Closed k`
 abbrev pub close_all : List Status → List ℕ → ℕ → List Status
 close_all statuses [] k = statuses
 close_all statuses (v ∷ vs) k = close_all (slice_set statuses v (Closed k)) vs k
 
--- each marked item stays marked
+-- each vertex that is not `Unseen` does not become `Unseen`
 abbrev pub KeepsStatuses : List Status → List Status → Type 0
 KeepsStatuses old new = (v : ℕ) → slice_get new v ≡ Some Unseen → slice_get old v ≡ Some Unseen
 
--- the pending link for one slot of an item at index p of the path, if the slot has a target
+-- the pending link for one slot of the vertex at index p of the search path; none if the slot is empty
 abbrev pub wait_of : ℕ → Option ℕ → List Pending
 wait_of p None = []
 wait_of p (Some to) = record { from = p; to = to } ∷ []
 
--- the pending links for the first n slots of the item
+-- the pending links for the first n slots of the vertex `item`, which is at index p of the search path
 abbrev pub waits : Digraph → ℕ → ℕ → ℕ → List Pending
 waits g p item zero = []
 waits g p item (suc n) = waits g p item n ++ wait_of p (g.target item n)
@@ -119,7 +121,7 @@ turns_from g item (m ∷ ms) = turns_of g item m + turns_from g (suc item) ms
 abbrev pub turns : Digraph → List Status → List ℕ → List Pending → ℕ
 turns g statuses bounds pending = turns_from g 0 statuses + length bounds + length pending
 
--- the number of the component of a closed item
+-- the number of the component of a finished vertex, and None for every other status
 abbrev pub component_of : Status → Option ℕ
 component_of Unseen = None
 component_of (Active _) = None

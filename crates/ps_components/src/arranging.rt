@@ -1,4 +1,4 @@
-//! Orders of vertices in which each vertex follows all vertices to which it has a link.
+//! Topological orders of the vertices of a graph, in which each vertex follows all vertices to which it has a link.
 
 ghost use Rattle.std.specs.Prelude.{◌≡◌, ℕ, ◌<◌, ◌↔◌, IfOk, IfSome, IfNone, IsTrue};
 ghost use Rattle.ps_components.specs.ComponentLists.{AreComponents, AreAllMet};
@@ -13,11 +13,11 @@ use std::alloc::{AllocError, Global};
 pub enum Arrangement {
     /// The vertices, each after all vertices to which it has a link.
     Order(Vec<usize>),
-    /// The first vertex on a cycle, which is the first with a link into its own component.
+    /// The smallest vertex on a cycle, which is the smallest one with a link into its own strongly connected component.
     Cyclic(usize),
 }
 
-/// Arranges the vertices of a graph by their links. Fails if out of memory.
+/// Returns a topological order of the vertices of a graph, or the smallest vertex on a cycle. Fails if out of memory.
 pub fn arrange<G: Graph>(alloc: Global, graph: &G) -> Result<Arrangement, AllocError>
     ensures { IfOk result (IsArrangement (G.graph graph.now)) }
 {

@@ -1,4 +1,4 @@
-//! The components of a graph, and their numbers.
+//! The strongly connected components of a graph, and their numbers.
 
 ghost use Rattle.std.specs.Prelude.{◌≡◌, ◌<◌, [], length, slice_get, Some, IfOk, OnOk, OnErr, All};
 ghost use Rattle.ps_components.specs.ComponentLists.{AreComponents, AreMet, AreAllMet};
@@ -9,8 +9,9 @@ use crate::statuses::Status;
 use std::alloc::{AllocError, Global};
 use std::marker::Model;
 
-/// The components of the visited vertices of a graph. The number of a component is the index at which the component
-/// begins in the order. One `Components` can be used for several graphs in turn, and keeps its allocated memory.
+/// The strongly connected components of the visited vertices of a graph. The number of a component is the index at
+/// which it begins in the list that `order` returns. One `Components` can be used for several graphs, one after
+/// another, and keeps its allocated memory.
 #[derive(Drop)]
 pub struct Components {
     search: Search,
@@ -32,7 +33,7 @@ impl Model for Components {
 }
 
 impl Components {
-    /// The components of the empty graph, which has none.
+    /// A value without components, which are those of the empty graph.
     pub fn new(alloc: Global) -> Self
         ensures numbers { result.numbers ≡ [] }
         ensures order { result.order ≡ [] }
@@ -42,9 +43,9 @@ impl Components {
         }
     }
 
-    /// Replaces the components by those of the roots and of all vertices reachable from them. Forgetting the old
-    /// components takes time proportional to the number of their vertices. Fails if out of memory; then there are no
-    /// components.
+    /// Replaces the components by those of the given roots and of all vertices reachable from the roots in `graph`.
+    /// Forgetting the old components takes time proportional to the number of their vertices. Fails if out of memory;
+    /// then the value has no components.
     pub fn renew<G: Graph>(&mut self, graph: &G, roots: &[usize]) -> Result<(), AllocError>
         requires { All (λ v. v < (G.graph graph.now).count) roots.now }
         ensures components { OnOk result (AreComponents (G.graph graph.now) self.new) }
@@ -78,7 +79,7 @@ impl Components {
         &self.search.order
     }
 
-    /// The order of the visited vertices, without the numbers.
+    /// The visited vertices, component by component, as `order` lists them; the numbers of the components are dropped.
     pub fn into_order(self) -> Vec<usize>
         ensures { result.items ≡ self.order }
     {
@@ -86,7 +87,7 @@ impl Components {
     }
 }
 
-/// The components of all vertices. Fails if out of memory.
+/// The strongly connected components of all vertices of a graph. Fails if out of memory.
 pub fn components_of<G: Graph>(alloc: Global, graph: &G) -> Result<Components, AllocError>
     ensures components { IfOk result (AreComponents (G.graph graph.now)) }
     ensures met { IfOk result (AreAllMet (G.graph graph.now)) }
@@ -98,7 +99,8 @@ pub fn components_of<G: Graph>(alloc: Global, graph: &G) -> Result<Components, A
     Ok(Components { search })
 }
 
-/// The components of the roots and of all vertices reachable from them. Fails if out of memory.
+/// The strongly connected components of the given roots and of all vertices reachable from the roots. Fails if out of
+/// memory.
 pub fn components_from<G: Graph>(
     alloc: Global,
     graph: &G,

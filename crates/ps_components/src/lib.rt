@@ -1,9 +1,9 @@
-//! The strongly connected components of a directed graph of numbered vertices, ordered so that each link leads to the
-//! same or an earlier component, and trails through the graph.
+//! The strongly connected components of a directed graph, ordered so that each link (edge) leads to the same or an
+//! earlier component; and paths through the graph.
 //!
-//! The caller supplies the graph as an `impl Graph`. Gabow's algorithm finds the components along a single path, with a
-//! list of pending links instead of recursion, so no function calls itself. Time and memory are proportional to the
-//! numbers of vertices and links that are visited.
+//! The caller supplies the graph as an `impl Graph`. Gabow's path-based algorithm finds the components, with an
+//! explicit list of pending links instead of recursion. Time and memory are proportional to the numbers of vertices and
+//! links that are visited.
 //!
 //! | Call | What it gives |
 //! |---|---|
@@ -14,7 +14,8 @@
 //! | `arrange(graph)` | an order in which each vertex follows its targets, or the first vertex on a cycle |
 //! | `way_back(graph, start, end)` | a trail from the end of a way back to its start, or none if there is no way |
 //!
-//! Each vertex of a component can reach all others of the component. No clause states that a trail is a shortest one.
+//! Each vertex of a component can reach all others of the component. The path that `way_back` finds by breadth-first
+//! search is not promised to be a shortest one.
 #![tactic(auto)]
 
 mod arranging;

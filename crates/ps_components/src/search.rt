@@ -1,5 +1,5 @@
-//! The search for components along one path, by Gabow's algorithm. New items are appended to the path. If a link leads
-//! back into the path, the component of its target and all later components of the path are merged.
+//! The search for strongly connected components by Gabow's path-based algorithm. New vertices are appended to the
+//! search path. If a link leads back to a vertex on the path, the segments from that vertex's segment on are merged.
 
 ghost use Rattle.std.specs.Prelude.{◌≡◌, ℕ, ◌<◌, ◌≤◌, ◌++◌, ◌∷◌, [], ◌-◌, All, length, slice_get, slice_set, Some};
 ghost use Rattle.std.specs.Prelude.{OnOk, IfOk, ◌^◌};
@@ -13,28 +13,28 @@ use crate::graph::Graph;
 use crate::statuses::{Status, Statuses};
 use std::alloc::{AllocError, Global};
 
-/// A link that is still to be followed, from the item at index `from` of the path.
+/// A link that is still to be followed; it starts at the vertex at index `from` of the search path.
 #[derive(Clone, Copy)]
 pub struct Pending {
     from: usize,
     to: usize,
 }
 
-/// A path of components. Each component is a range of the active items, which begins at the component's entry in
-/// `bounds`; its items can reach one another.
+/// The state of Gabow's algorithm. `active` is the search path; each entry of `bounds` is the index at which a segment
+/// of the path begins. The vertices of a segment can reach one another.
 #[derive(Drop)]
 pub struct Search {
-    /// The state of each item.
+    /// The status of each vertex: unseen, on the search path, or finished.
     pub statuses: Statuses,
     active: Vec<usize>,
     bounds: Vec<usize>,
     pending: Vec<Pending>,
-    /// The finished items, component by component.
+    /// The finished vertices, component by component.
     pub order: Vec<usize>,
 }
 
 impl Search {
-    /// A search that has visited no vertex. Fails if out of memory.
+    /// A search of a graph that has visited no vertex yet. Fails if out of memory.
     pub fn new<G: Graph>(alloc: Global, graph: &G) -> Result<Self, AllocError>
         ensures { IfOk result (IsFresh (G.graph graph.now)) }
     {
@@ -70,7 +70,8 @@ impl Search {
         self.order.clear();
     }
 
-    /// Starts anew, and visits the roots and all vertices reachable from them. Fails if out of memory.
+    /// Starts a new search, which visits the given roots and all vertices reachable from the roots. Fails if out of
+    /// memory.
     pub fn again<G: Graph>(&mut self, graph: &G, roots: &[usize]) -> Result<(), AllocError>
         requires listed { AreListed self.old.statuses self.old.order.items }
         requires within { All (λ v. v < (G.graph graph.now).count) roots.now }
@@ -80,7 +81,8 @@ impl Search {
         self.visit_each(graph, roots)
     }
 
-    /// Resets the statuses of all marked items, which `order` lists, and prepares for a graph. Fails if out of memory.
+    /// Resets the statuses of all visited vertices, which `order` lists, and prepares the search for another graph.
+    /// Fails if out of memory.
     fn renew<G: Graph>(&mut self, graph: &G) -> Result<(), AllocError>
         requires { AreListed self.old.statuses self.old.order.items }
         ensures { OnOk result (IsFresh (G.graph graph.now) self.new) }
@@ -94,7 +96,7 @@ impl Search {
         Ok(())
     }
 
-    /// Visits the roots and all vertices reachable from them. Fails if out of memory.
+    /// Visits the given roots and all vertices reachable from the roots. Fails if out of memory.
     fn visit_each<G: Graph>(&mut self, graph: &G, roots: &[usize]) -> Result<(), AllocError>
         requires within { All (λ v. v < (G.graph graph.now).count) roots.now }
         requires fresh { IsFresh (G.graph graph.now) self.old }
@@ -106,7 +108,8 @@ impl Search {
         Ok(())
     }
 
-    /// Visits an item and all items reachable from it, unless the item was seen before. Fails if out of memory.
+    /// Visits a vertex and all vertices reachable from it, unless the vertex was visited before. Fails if out of
+    /// memory.
     pub fn visit<G: Graph>(&mut self, graph: &G, item: usize) -> Result<(), AllocError>
         requires within { item < (G.graph graph.now).count }
         requires idle { IsIdle (G.graph graph.now) self.old }
@@ -119,7 +122,7 @@ impl Search {
         Ok(())
     }
 
-    /// Visits all items reachable from the path. Fails if out of memory.
+    /// Visits all vertices reachable from the search path, until the path is empty. Fails if out of memory.
     fn run<G: Graph>(&mut self, graph: &G) -> Result<(), AllocError>
         requires { IsSound (G.graph graph.now) self.old }
         ensures { OnOk result (Runs (G.graph graph.now) self.old self.new) }
@@ -130,8 +133,8 @@ impl Search {
         Ok(())
     }
 
-    /// Follows the last pending link if it belongs to the last segment; otherwise makes a component of the last
-    /// segment. Fails if out of memory.
+    /// Follows the last pending link if it leaves the last segment of the search path; otherwise makes the last segment
+    /// a finished component. Fails if out of memory.
     fn step<G: Graph>(&mut self, graph: &G, bound: usize) -> Result<(), AllocError>
         requires { EndsAt (G.graph graph.now) bound self.old }
         ensures { OnOk result (Advances (G.graph graph.now) self.old self.new) }
@@ -153,7 +156,7 @@ impl Search {
         Ok(())
     }
 
-    /// Removes the last pending link, and appends its unseen target to the path. Fails if out of memory.
+    /// Removes the last pending link, and appends the link's unseen target to the search path. Fails if out of memory.
     fn follow<G: Graph>(&mut self, graph: &G, pending: Pending) -> Result<(), AllocError>
         requires next { HasNext (G.graph graph.now) pending self.old }
         requires within { pending.to < (G.graph graph.now).count }
@@ -166,7 +169,8 @@ impl Search {
         self.enter(graph, pending.to)
     }
 
-    /// Appends an unseen item, which all items of the path can reach, to the path. Fails if out of memory.
+    /// Appends an unseen vertex, which all vertices on the search path can reach, to the search path. Fails if out of
+    /// memory.
     fn enter<G: Graph>(&mut self, graph: &G, item: usize) -> Result<(), AllocError>
         requires within { item < (G.graph graph.now).count }
         requires unseen { slice_get self.old.statuses item ≡ Some Status.Unseen }
@@ -183,8 +187,8 @@ impl Search {
         Ok(())
     }
 
-    /// Merges the last segment, which has a link to the item at index `place`, with all segments back to the segment of
-    /// that item.
+    /// Merges all segments of the search path from the one with index `place` on; the last segment has a link to the
+    /// vertex at this index.
     fn merge<G: Graph>(&mut self, graph: &G, pending: Pending, place: usize)
         requires within { pending.to < length self.old.statuses }
         requires linked { (v : ℕ) × (slice_get self.old.active.items pending.from ≡ Some v) ×
@@ -197,7 +201,7 @@ impl Search {
         cut(&mut self.bounds, place);
     }
 
-    /// Removes the last pending link, whose target is settled.
+    /// Removes the last pending link, whose target is finished or in the last segment of the search path.
     fn take<G: Graph>(&mut self, graph: &G, pending: Pending)
         requires next { HasNext (G.graph graph.now) pending self.old }
         requires settled { IsSettled self.old.statuses self.old.bounds.items pending.from pending.to }
@@ -206,7 +210,8 @@ impl Search {
         self.pending.pop();
     }
 
-    /// Makes a component of the last segment of the path, which begins at the given bound. Fails if out of memory.
+    /// Makes the last segment of the search path, which begins at index `bound`, a finished component. Fails if out of
+    /// memory.
     fn close<G: Graph>(&mut self, graph: &G, bound: usize) -> Result<(), AllocError>
         requires ends { EndsAt (G.graph graph.now) bound self.old }
         requires done { (i : ℕ) (e : Pending) → slice_get self.old.pending.items i ≡ Some e → e.from < bound }
@@ -222,7 +227,8 @@ impl Search {
     }
 }
 
-/// Makes all links of an item pending. The item is at index `from` of the path. Fails if out of memory.
+/// Appends all links of a vertex, which is at index `from` of the search path, to the pending links. Fails if out of
+/// memory.
 fn wait<G: Graph>(
     pending: &mut Vec<Pending>,
     graph: &G,
@@ -241,7 +247,7 @@ fn wait<G: Graph>(
     Ok(())
 }
 
-/// Drops the bounds that are greater than an index.
+/// Drops all entries of the ascending list `bounds` that are greater than `place`.
 fn cut(bounds: &mut Vec<usize>, place: usize)
     requires rise { (i j b c : ℕ) → slice_get bounds.old.items i ≡ Some b → slice_get bounds.old.items j ≡ Some c →
         i < j → b < c }
@@ -255,7 +261,7 @@ fn cut(bounds: &mut Vec<usize>, place: usize)
     }
 }
 
-/// Resets the statuses of all marked items, which `items` lists, to unseen.
+/// Sets the statuses of all visited vertices, which `items` lists, to unseen.
 fn reset(statuses: &mut Statuses, items: &[usize])
     requires { AreListed statuses.old items.now }
     ensures { All (λ m. m ≡ Status.Unseen) statuses.new }
@@ -265,7 +271,7 @@ fn reset(statuses: &mut Statuses, items: &[usize])
     }
 }
 
-/// Marks the given items as closed: they belong to the component with the given number. Fails if out of memory.
+/// Marks the given vertices as finished: they form the component with the given number. Fails if out of memory.
 fn close_items(statuses: &mut Statuses, items: &[usize], number: usize) -> Result<(), AllocError>
     requires within { (k v : ℕ) → slice_get items.now k ≡ Some v → v < length statuses.old }
     requires number { number < 2 ^ 63 }

@@ -1,4 +1,4 @@
-//! The status of each item during a search.
+//! The status of each vertex during a search for components.
 
 ghost use Rattle.std.specs.Prelude.{◌≡◌, ◌+◌, ◌-◌, ◌<◌, ◌^◌, ◌++◌, [], length, replicate, slice_get, slice_set, take};
 ghost use Rattle.std.specs.Prelude.{Some, IfOk, OnOk, OnErr, map};
@@ -8,26 +8,27 @@ ghost use Rattle.ps_components.specs.Codes.{status_of, narrow_status_of};
 use std::alloc::{AllocError, Global};
 use std::marker::Model;
 
-/// The state of an item in the search.
+/// The status of a vertex in the search for components.
 #[derive(Clone, Copy)]
 pub enum Status {
     /// Not visited yet.
     Unseen,
-    /// On the path, at the given index.
+    /// The vertex is on the search path, at the given index.
     Active(usize),
-    /// Finished, with the number of its component.
+    /// The vertex is finished, and its component has the given number.
     Closed(usize),
 }
 
-/// The largest 8-byte code of a closed item.
+/// The largest 8-byte code that means a finished vertex.
 const LAST_CLOSED: usize = 1 << 63;
 
-/// The largest 4-byte code of a closed item.
+/// The largest 4-byte code that means a finished vertex.
 const LAST_NARROW: usize = 1 << 31;
 
-/// A status for each item, stored as a code. The code 0 means unseen. The next codes are numbers of components plus
-/// one, and the largest codes are indices on the path. A code takes 4 bytes until an index of 2^31 - 1 or a number of
-/// 2^31 has to be stored, and 8 bytes from then on. A call fails if out of memory; then nothing changes.
+/// A status for each vertex, stored as a number, its code. The code 0 means unseen. The code k + 1 means finished, in
+/// component k; larger codes mean an index on the search path. Codes take 4 bytes each until a path index of 2^31 - 1
+/// or more, or a component number of 2^31 or more, is stored; then 8 bytes. A call that fails for lack of memory
+/// changes nothing.
 #[derive(Drop)]
 pub struct Statuses {
     alloc: Global,
@@ -59,7 +60,7 @@ impl Statuses {
         }
     }
 
-    /// The statuses of `count` unseen items.
+    /// The statuses of `count` unseen vertices.
     pub fn unseen(alloc: Global, count: usize) -> Result<Self, AllocError>
         ensures { IfOk result (λ statuses. statuses ≡ replicate count Unseen) }
     {
@@ -72,7 +73,7 @@ impl Statuses {
         })
     }
 
-    /// The status of an item.
+    /// The status of a vertex.
     #[inline(always)]
     pub fn at(&self, item: usize) -> Status
         requires { item < length self.now }
@@ -85,7 +86,7 @@ impl Statuses {
         }
     }
 
-    /// Statuses an item as unseen.
+    /// Marks a vertex as unseen.
     #[inline(always)]
     pub fn clear_at(&mut self, item: usize)
         requires { item < length self.old }
@@ -98,7 +99,7 @@ impl Statuses {
         }
     }
 
-    /// Marks an item as active, at index `place` of the path.
+    /// Marks a vertex as active: it is at index `place` of the search path.
     pub fn put(&mut self, item: usize, place: usize) -> Result<(), AllocError>
         requires item { item < length self.old }
         requires place { place + 1 < 2 ^ 63 }
@@ -120,7 +121,7 @@ impl Statuses {
         Ok(())
     }
 
-    /// Marks an item as closed, in the component with the given number.
+    /// Marks a vertex as finished, in the component with the given number.
     pub fn close(&mut self, item: usize, number: usize) -> Result<(), AllocError>
         requires item { item < length self.old }
         requires number { number < 2 ^ 63 }
@@ -142,7 +143,7 @@ impl Statuses {
         Ok(())
     }
 
-    /// Keeps the statuses of the first `count` items. Additional items are unseen.
+    /// Resizes the list to `count` vertices: the first `count` statuses are kept, and added vertices are unseen.
     pub fn resize(&mut self, count: usize) -> Result<(), AllocError>
         ensures { OnOk result (self.new ≡ take count self.old ++ replicate (count - length self.old) Unseen) }
     {
@@ -162,7 +163,7 @@ impl Statuses {
     }
 }
 
-/// The statuses of the same items in 8-byte codes. Fails if out of memory.
+/// The same statuses, stored in 8-byte codes. Fails if out of memory.
 #[inline(never)]
 fn widened(alloc: Global, narrow: &[u32]) -> Result<Vec<usize>, AllocError>
     ensures { IfOk result (λ wide. map status_of wide.items ≡ map narrow_status_of narrow.now) }
@@ -174,7 +175,7 @@ fn widened(alloc: Global, narrow: &[u32]) -> Result<Vec<usize>, AllocError>
     Ok(wide)
 }
 
-/// The 8-byte code of the status that a 4-byte code represents.
+/// Converts a 4-byte code to the 8-byte code of the same status.
 fn wide_code(code: usize) -> usize
     requires { code < 2 ^ 32 }
     ensures { status_of result ≡ narrow_status_of code }

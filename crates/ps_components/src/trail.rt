@@ -1,4 +1,4 @@
-//! Trails from one vertex back to another, found by breadth-first search.
+//! Paths between two vertices, found by breadth-first search and listed from the end back to the start.
 
 ghost use Rattle.std.specs.Prelude.{◌≡◌, ℕ, ◌+◌, ◌<◌, ◌≤◌, length, slice_get, true, Some, OnOk, IfOk, IfSome, IfNone};
 ghost use Rattle.ps_components.specs.Graphs.{SameOrWay, Link};
@@ -9,22 +9,22 @@ ghost use Rattle.ps_components.specs.declared.trail.Step.{Step};
 use crate::graph::Graph;
 use std::alloc::{AllocError, Global};
 
-/// A vertex that was reached, and the index of the step from which it was reached.
+/// A step of a breadth-first search: a vertex that was reached, and the index of the step from which it was reached.
 #[derive(Clone, Copy)]
 pub struct Step {
     item: usize,
     from: usize,
 }
 
-/// The vertices reached so far, in the order in which they were reached.
+/// The state of a breadth-first search: the vertices reached so far, in the order in which they were reached.
 #[derive(Drop)]
 struct Spread {
     seen: Vec<bool>,
     steps: Vec<Step>,
 }
 
-/// A trail from `end` back to `start`, on which each vertex occurs once. `None` if `end` is not reachable from `start`.
-/// Fails if out of memory.
+/// A path from `start` to `end` without repeated vertices, listed backwards from `end` to `start`. `None` if `end` is
+/// not reachable from `start`. Fails if out of memory.
 pub fn way_back<G: Graph>(
     alloc: Global,
     graph: &G,
@@ -49,7 +49,7 @@ pub fn way_back<G: Graph>(
 }
 
 impl Spread {
-    /// A search that has only reached the vertex `start`. Fails if out of memory.
+    /// A breadth-first search that has reached only the vertex `start`. Fails if out of memory.
     fn new<G: Graph>(alloc: Global, graph: &G, start: usize) -> Result<Self, AllocError>
         requires { start < (G.graph graph.now).count }
         ensures spread { IfOk result (λ s. IsSpread (G.graph graph.now) s.seen.items s.steps.items 0) }
@@ -65,7 +65,7 @@ impl Spread {
         Ok(Spread { seen, steps })
     }
 
-    /// Records as reached each vertex to which the vertex of step `place` has a link. Fails if out of memory.
+    /// Records as reached each vertex to which a link leads from the vertex of step `place`. Fails if out of memory.
     fn reach_from<G: Graph>(&mut self, graph: &G, place: usize) -> Result<(), AllocError>
         requires place { place < length self.old.steps.items }
         requires spread { IsSpread (G.graph graph.now) self.old.seen.items self.old.steps.items place }
@@ -84,7 +84,8 @@ impl Spread {
         Ok(())
     }
 
-    /// Records a vertex as reached from step `place`, unless it was reached before. Fails if out of memory.
+    /// Records that the vertex `to` was reached from step `place`, unless it was reached before. Fails if out of
+    /// memory.
     fn reach<G: Graph>(&mut self, graph: &G, to: usize, place: usize) -> Result<(), AllocError>
         requires to { to < length self.old.seen.items }
         requires linked { (s : Step) × (slice_get self.old.steps.items place ≡ Some s) ×
@@ -108,7 +109,7 @@ impl Spread {
     }
 }
 
-/// The trail from the item of step `place` back to the item of the first step. Fails if out of memory.
+/// The path from the vertex of the first step to the vertex of step `place`, listed backwards. Fails if out of memory.
 fn trail_from<G: Graph>(
     alloc: Global,
     graph: &G,

@@ -1,19 +1,20 @@
--- The invariants of the search for a trail.
+-- The invariants of the breadth-first search for a path between two vertices.
 use Rattle.std.specs.Prelude.{◌≡◌, ℕ, ◌<◌, List, [], ◌∷◌, length, slice_get, Bool, true, false, Some, suc}
 use Rattle.ps_components.specs.Graphs.{Digraph, Link, LinksStayWithin}
 use Rattle.ps_components.specs.declared.trail.Step.{Step}
 
--- each step except the first is reached by a link from an earlier step
+-- the vertex of each step except the first was reached by a link from the vertex of an earlier step
 abbrev pub ComeBack : Digraph → List Step → Type 0
 ComeBack g steps = (i : ℕ) (s : Step) → 0 < i → slice_get steps i ≡ Some s →
     (t : Step) × (s.from < i) × (slice_get steps s.from ≡ Some t) × Link g t.item s.item
 
--- different steps have different vertices
+-- no vertex was reached by two steps of the breadth-first search
 abbrev pub AreApart : List Step → Type 0
 AreApart steps =
     (i j : ℕ) (s t : Step) → slice_get steps i ≡ Some s → slice_get steps j ≡ Some t → s.item ≡ t.item → i ≡ j
 
--- the vertices of the steps are those that were seen, and the targets of all steps before index `place` were seen
+-- the seen vertices are those of the steps, and every link from the vertex of a step before index `place` leads to a
+-- seen vertex
 pub record IsSpread (g : Digraph) (seen : List Bool) (steps : List Step) (place : ℕ) : Type 0 where
   pub within : LinksStayWithin g
   pub counted : length seen ≡ g.count
@@ -25,15 +26,15 @@ pub record IsSpread (g : Digraph) (seen : List Bool) (steps : List Step) (place 
   pub looked : (i w : ℕ) (s : Step) → i < place → slice_get steps i ≡ Some s → Link g s.item w →
       slice_get seen w ≡ Some true
 
--- the old steps are unchanged, and new steps follow them
+-- the old steps of the breadth-first search are the first of the new steps
 abbrev pub KeepsSteps : List Step → List Step → Type 0
 KeepsSteps old new = (i : ℕ) (s : Step) → slice_get old i ≡ Some s → slice_get new i ≡ Some s
 
--- each vertex that was seen stays seen
+-- each vertex that the breadth-first search saw before is still recorded as seen
 abbrev pub KeepsSeen : List Bool → List Bool → Type 0
 KeepsSeen old new = (v : ℕ) → slice_get old v ≡ Some true → slice_get new v ≡ Some true
 
--- the number of vertices that were not seen
+-- the number of vertices that the breadth-first search has not seen
 abbrev pub unseen : List Bool → ℕ
 unseen [] = 0
 unseen (true ∷ bs) = unseen bs
