@@ -1,5 +1,6 @@
--- From a vertex of a set that one player holds, each history table of the other player is beaten. A path that beats the
--- history table follows both tables, and the holder wins each of its loops.
+-- If one player holds a set by a table of moves, each history table (history-dependent strategy) of the other player
+-- loses from each vertex of the set. The proof builds a path that follows the table and the history table, so that the
+-- player who holds the set wins each loop of the path.
 use Rattle.std.proofs.Common.{◌≡◌, ℕ, zero, suc, ◌+◌, ◌-◌, ◌<◌, ◌≤◌, inl, inr, List, [], ◌∷◌, ◌++◌, Bool, length, rules}
 use Rattle.std.proofs.Common.{get_or, Option, Some, refl, sym, ◌∙◌, arith}
 use Rattle.std.specs.Prelude.{IsTrue, IsSomeAnd}
@@ -12,7 +13,8 @@ use Rattle.ps_game.specs.Strategies.{IsHistoryTable, GoesBy, AllHistoriesBeaten,
 use Rattle.ps_game.proofs.Paths.{IsPath-push, Follows-push, GoesBy-push}
 use Rattle.ps_game.proofs.Repeats.{HasLoop-IsPath}
 
--- a path of k + 1 vertices from v, on which the holder follows the table and the other player follows the history table
+-- a path of k + 1 vertices from v, on which the player who holds the set follows the table and the other player follows
+-- the history table
 record Meets (game : ParityGame) (player : ℕ) (table : ℕ → Option ℕ) (history : List ℕ → ℕ) (v k : ℕ) : Type 0 where
   path : List ℕ
   is_path : IsPath game path
@@ -29,7 +31,7 @@ players_differ player is_player same = omega arith
 
 module _ (game : ParityGame) (player : ℕ) (set : ℕ → Bool) (table : ℕ → Option ℕ) (is_game : IsGame game)
     (is_player : player < 2) (holds : Holds game (other_player player) set table) where
-  -- a path of k + 1 vertices can be extended by one vertex
+  -- a path of k + 1 vertices that follows the table and the history table can be extended by one vertex
   meets_more : (n : ℕ) (history : List ℕ → ℕ) → IsHistoryTable game player n history → (v k : ℕ) → IsTrue (set v) →
       k < n → Meets game player table history v k → Meets game player table history v (suc k)
   meets_more n history is_table v k inside more met =

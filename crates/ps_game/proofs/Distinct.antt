@@ -1,4 +1,4 @@
--- The distinct numbers of a list, collected with the help of stamps.
+-- Removing repeated numbers from a list, by marking each number that occurred with a stamp.
 use Rattle.std.proofs.Common.{rules, inl, inr, ◌≡◌, ◌≢◌, ℕ, ◌+◌, ◌<◌, ◌≤◌, List, [], ◌∷◌, ◌++◌, cond, Bool, not, ◌||◌}
 use Rattle.std.proofs.Common.{◌==◌, filter, length, take, get_or, set, refl, ap, ◌∙◌, sym, arith}
 use Rattle.std.proofs.Math.Nat.{le_refl}
@@ -16,19 +16,22 @@ use Rattle.ps_game.specs.Drafts.{distinct, vertex_without_repeats, without_repea
 filter-cond : (p : ℕ → Bool) (b : Bool) (xs ys : List ℕ) → filter p (cond b xs ys) ≡ cond b (filter p xs) (filter p ys)
 filter-cond p b xs ys = search rules
 
--- one more number is kept if it is neither the head of the list (as `e` states) nor in its tail (as `b` states)
+-- a number is appended to the distinct numbers of a list if it is neither the head of the list (`e` is false) nor in
+-- the tail (`b` is false)
 kept_or_not : (e b : Bool) (x y : ℕ) (ys : List ℕ) → y ∷ cond b ys (ys ++ cond (not e) (x ∷ []) []) ≡ cond (e || b)
     (y ∷ ys) ((y ∷ ys) ++ x ∷ [])
 kept_or_not e b x y ys = search (rules, append-nil)
 
--- a number that occurred before is dropped, and a new number is appended
+-- the distinct numbers of a list with one more number: the number is dropped if it occurred before, and otherwise
+-- appended
 pub distinct-push : (xs : List ℕ) (x : ℕ) → distinct (xs ++ x ∷ []) ≡ cond (list_any (λ y. y == x) xs) (distinct xs)
     (distinct xs ++ x ∷ [])
 distinct-push [] x = refl
 distinct-push (y ∷ ys) x = search (rules, filter-cond, filter-append, kept_or_not, distinct-push ys x)
 
--- The first `kept` numbers are the distinct numbers of the visited positions, in order of first occurrence. The numbers
--- at the other positions are unchanged. A number has the stamp if and only if it occurred at a visited position
+-- The positions before `place` were visited. The first `kept` numbers are the distinct numbers that occurred there, in
+-- order of first occurrence. The numbers from `place` on are unchanged. A number is marked with the stamp if and only
+-- if it occurred at a visited position
 pub record IsKept (before numbers seen : List ℕ) (stamp place kept : ℕ) : Type 0 where
   pub few : kept ≤ place
   pub front : take kept numbers ≡ distinct (take place before)
@@ -42,7 +45,7 @@ distinct-more : (before : List ℕ) (place : ℕ) → place < length before →
 distinct-more before place within =
     ap distinct (take_more before place 0 within) ∙ distinct-push (take place before) (get_or before place 0)
 
--- the number at position `place` gets the stamp, and the stamps of the other numbers are unchanged
+-- the number at position `place` is marked with the stamp, and the marks of all other numbers are unchanged
 marks_more : (before seen later : List ℕ) (stamp place number : ℕ) → place < length before →
     get_or before place 0 ≡ number → length later ≡ length seen → get_or later number 0 ≡ stamp →
     ((u : ℕ) → u ≢ number → get_or later u 0 ≡ get_or seen u 0) →
@@ -61,7 +64,7 @@ module _ {before numbers seen : List ℕ} {stamp place kept number : ℕ}
     same : get_or before place 0 ≡ number
     same = sym (so_far.back place (le_refl place)) ∙ is
 
-    -- a number that did not occur before is appended to the numbers kept so far
+    -- a number that did not occur at an earlier position is appended to the numbers kept so far
     pub keep : get_or seen number 0 ≢ stamp →
         IsKept before (set numbers kept number) (set seen number stamp) stamp (place + 1) (kept + 1)
     keep fresh =
@@ -77,7 +80,7 @@ module _ {before numbers seen : List ℕ} {stamp place kept number : ℕ}
           marks = search (rules, marks_more, same, get_or-set_at, get_or-set_other);
         }
 
-    -- a number that occurred before is dropped
+    -- a number that occurred at an earlier position is dropped
     pub leave : get_or seen number 0 ≡ stamp → IsKept before numbers seen stamp (place + 1) kept
     leave stood =
         let few : kept ≤ place = so_far.few in
@@ -91,15 +94,15 @@ module _ {before numbers seen : List ℕ} {stamp place kept number : ℕ}
           marks = search (rules, marks_more, same);
         }
 
--- the vertices less than `number` have no repeats, the other vertices are unchanged, and no stamp is greater than
--- `number`
+-- the vertices less than `number` have no repeated successors any more, the other vertices are unchanged, and no stamp
+-- in `seen` is greater than `number`
 pub record IsDropped (before vertices : ParityGame) (seen : List ℕ) (number : ℕ) : Type 0 where
   pub done : (v : ℕ) → v < number → get_or vertices v no_vertex ≡ vertex_without_repeats (get_or before v no_vertex)
   pub left : (v : ℕ) → number ≤ v → get_or vertices v no_vertex ≡ get_or before v no_vertex
   pub places : length seen ≡ length before
   pub stamps : All (λ stamp. stamp < number + 1) seen
 
--- once all vertices are visited, all repeats are dropped
+-- once all vertices are visited, all repeated successors are dropped
 pub all_dropped : {before vertices : ParityGame} {seen : List ℕ} {number : ℕ} → IsDropped before vertices seen number →
     length vertices ≡ length before → length before ≤ number → vertices ≡ without_repeats before
 all_dropped {before = before} {vertices = vertices} dropped same_length whole = ext_get_or no_vertex vertices

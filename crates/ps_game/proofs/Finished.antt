@@ -1,5 +1,5 @@
--- If each vertex of a draft has a successor and each successor is a vertex, the draft without repeated successors is a
--- game.
+-- If each vertex of an unfinished game (draft) has a successor and each successor is a vertex, the draft without
+-- repeated successors is a game.
 use Rattle.std.proofs.Common.{◌≡◌, ◌≢◌, ℕ, suc, true, ◌<◌, List, [], ◌∷◌, not, ◌==◌, filter, length, get_or, subst, ap}
 use Rattle.std.proofs.Common.{arith, rules}
 use Rattle.std.specs.List.{All, AllPairs, Contains}
@@ -29,7 +29,7 @@ some-distinct : (xs : List ℕ) → 0 < length xs → 0 < length (distinct xs)
 some-distinct [] some = some
 some-distinct (x ∷ xs) some = omega arith
 
--- removing the repeats from a draft removes the repeated successors of each vertex
+-- removing the repeats from an unfinished game removes the repeated successors of each vertex
 vertex_at : (draft : ParityGame) (v : ℕ) → get_or (without_repeats draft) v no_vertex ≡ vertex_without_repeats
     (get_or draft v no_vertex)
 vertex_at draft v = get_or-map vertex_without_repeats draft v no_vertex
@@ -47,7 +47,7 @@ pub successors_of-without_repeats : (draft : ParityGame) (v : ℕ) →
 unfolding successors_of
 successors_of-without_repeats draft v = ap (λ vertex. vertex.successors) (vertex_at draft v)
 
--- properties of each vertex of a draft
+-- what holds for each vertex of an unfinished game without repeated successors
 owner_below : (draft : ParityGame) → All (λ v. v.owner < 2) draft → (v : ℕ) → v < vertex_count draft →
     owner_of draft v < 2
 unfolding vertex_count owner_of

@@ -1,4 +1,4 @@
--- Games in four arrays: what can be read from arrays that represent a game, and a proof that they represent it.
+-- Games in four arrays: what can be read from arrays that represent a game, and when arrays represent a given game.
 use Rattle.std.proofs.Common.{◌≡◌, ℕ, ◌+◌, ◌-◌, ◌^◌, ◌<◌, ◌≤◌, List, [], ◌∷◌, ◌++◌, length, get_or, take, rules}
 use Rattle.std.proofs.Common.{drop, length-append, take-append-drop, append-nil, refl, sym, ap, ◌∙◌, arith}
 use Rattle.std.specs.List.{All, flat_map, slice_range}
@@ -17,12 +17,12 @@ use Rattle.ps_game.proofs.SubgameFacts.{edge_at}
 
 -- ---- consecutive pieces
 
--- a piece ends where the next piece begins
+-- in the concatenation of a sequence of lists, each list ends where the next list begins
 pub piece_ends : {X A : Type 0} (f : X → List A) (xs : List X) (i : ℕ) (d : X) → i < length xs →
     length (flat_map f (take (i + 1) xs)) ≡ length (flat_map f (take i xs)) + length (f (get_or xs i d))
 piece_ends f xs i d lt = rw (take_more xs i d lt, flat_map-append f, append-nil (f (get_or xs i d)), length-append)
 
--- a piece consists of the entries from its start up to the start of the next piece
+-- in the concatenation of a sequence of lists, each list is the range from its start up to the start of the next list
 piece_at : {X A : Type 0} (f : X → List A) (xs : List X) (i : ℕ) (d : X) → i < length xs →
     slice_range (flat_map f xs) (length (flat_map f (take i xs))) (length (flat_map f (take (i + 1) xs))) ≡
     f (get_or xs i d)
@@ -34,7 +34,7 @@ piece_at f xs i d lt =
     ∙ flat_map-append f (take i xs) (drop i xs) ∙ ap (λ ys. before ++ flat_map f ys) (drop_more xs i d lt) in
     grind (arith, piece_ends, drop_at, take_at)
 
--- the vertices before v have at most as many successors as all vertices together
+-- the list of the successors of the vertices before v is at most as long as that of all vertices
 pub front_within : (game : ParityGame) (v : ℕ) → length (all_successors (take v game)) ≤ length (all_successors game)
 front_within game v =
     let f : VertexData → List ℕ = λ d. d.successors in
@@ -58,9 +58,9 @@ All-successors P [] all = λ k d lt. absurd (omega arith)
 All-successors P (v ∷ game) all = All-append P v.successors (all_successors game) (all 0 v (omega arith))
     (All-successors P game (All-tail (λ v. All P v.successors) v game all))
 
--- ---- the content of the arrays
+-- ---- the content of the four arrays of a game
 
--- the arrays have the right entries for the vertex v
+-- the four arrays have the owner, the priority and the successors of the vertex v of the game
 pub record StandsAt (game : ParityGame) (offsets successors owners priorities : List ℕ) (v : ℕ) : Type 0 where
   pub owned : v < length owners
   pub ranked : v < length priorities
@@ -86,7 +86,7 @@ pub record IsPart (successors : List ℕ) (start end : ℕ) (part : List ℕ) : 
 
 module _ {game : ParityGame} {offsets successors owners priorities : List ℕ}
     (tell : TellGame game offsets successors owners priorities) where
-  -- there are as many owners as vertices
+  -- the array of owners has one entry for each vertex
   as_many : length owners ≡ length game
   as_many = ap length tell.owners_are ∙ length-map game (λ v. v.owner)
 
@@ -94,7 +94,7 @@ module _ {game : ParityGame} {offsets successors owners priorities : List ℕ}
   unfolding vertex_count
   owners_count is = as_many ∙ ap length is
 
-  -- arrays with the content of a game have the correct entries for each of its vertices
+  -- arrays that represent a game have the owner, the priority and the successors of each vertex of the game
   pub stands : {other : ParityGame} → game ≡ other → {v : ℕ} → v < vertex_count other →
       StandsAt other offsets successors owners priorities v
   unfolding vertex_count owner_of priority_of successors_of
@@ -105,7 +105,7 @@ module _ {game : ParityGame} {offsets successors owners priorities : List ℕ}
       let ends = piece_ends (λ (d : VertexData). d.successors) game v no_vertex less in
       grind (arith, front_within, piece_at, as_many, length-map, get_or-map)
 
-  -- the range of a vertex's successors, from the two offsets that the code reads
+  -- the successors of a vertex are the range between the two offsets that the code reads
   pub part_read : {other : ParityGame} → game ≡ other → {v start end : ℕ} → v < vertex_count other →
       start ≡ get_or offsets v start → end ≡ get_or offsets (v + 1) end →
       IsPart successors start end (successors_of other v)
@@ -133,12 +133,12 @@ module _ {game : ParityGame} {offsets successors owners priorities : List ℕ}
   pub edges_count : {other : ParityGame} → game ≡ other → length successors ≡ edge_count other
   edges_count is = search (rules, length-flat_map)
 
-  -- a limit that is at least the number of edges is at least each offset
+  -- if the limit is at least the number of edges, each entry of the array of offsets is at most the limit
   pub offsets_fit : {other : ParityGame} {limit : ℕ} → game ≡ other → FitsWithin other limit →
       All (λ n. n ≤ limit) offsets
   offsets_fit is fits k d lt = search (rules, get_or_default, front_within, edges_count)
 
-  -- a limit that is at least the number of vertices is at least each successor
+  -- if the limit is at least the number of vertices, each entry of the array of successors is at most the limit
   pub successors_fit : {other : ParityGame} {limit : ℕ} → game ≡ other → IsGame game → FitsWithin other limit →
       length owners < 2 ^ 64 → All (λ w. w ≤ limit) successors
   unfolding vertex_count successors_of

@@ -1,4 +1,4 @@
--- Lists of numbers that are processed eight at a time.
+-- Lists of 64-bit words that SIMD code processes eight at a time.
 use Rattle.std.proofs.Common.{◌≡◌, ℕ, zero, suc, ◌+◌, ◌-◌, ◌*◌, ◌^◌, ◌<◌, ◌≤◌, List, [], ◌∷◌, length, take, map, get_or}
 use Rattle.std.proofs.Common.{rules, refl, sym, ap, ap₂, ◌∙◌, inl, inr, arith}
 use Rattle.std.specs.Int.Bits.{bit_or, or_zero_l}
@@ -11,12 +11,13 @@ use Rattle.std.proofs.lemmas.Nat.{le_or_l, le_or_r}
 use Rattle.std.proofs.lemmas.Simd.{get_or-put_chunk_below, get_or-put_chunk_at, get_or-put_chunk_above, get_or-zip2}
 use Rattle.std.proofs.lemmas.Simd.{get_or-chunk, length-chunk, length-zip2}
 
--- the first n words are combined with other numbers, and the remaining words are unchanged
+-- each of the first n words was combined by f with the number that h gives for its index, and the remaining words are
+-- unchanged
 pub record AreCombined (f : ℕ → ℕ → ℕ) (h : ℕ → ℕ) (old words : List ℕ) (n : ℕ) : Type 0 where
   pub done : (k : ℕ) → k < n → get_or words k 0 ≡ f (get_or old k 0) (h k)
   pub rest : (k : ℕ) → n ≤ k → get_or words k 0 ≡ get_or old k 0
 
--- a group of words is combined with the lanes of a vector
+-- eight more words are combined with the eight lanes of a vector
 pub group_combined : {f : ℕ → ℕ → ℕ} {h : ℕ → ℕ} {old words : List ℕ} (lanes : List ℕ) (group : ℕ) →
     AreCombined f h old words (group * 8) → (group + 1) * 8 ≤ length words → length lanes ≡ 8 →
     ((j : ℕ) → j < 8 → get_or lanes j 0 ≡ h (group * 8 + j)) →
@@ -41,7 +42,7 @@ group_combined {f = f} {h = h} {old = old} {words = words} lanes group before ro
       rest = search (rules, get_or-put_chunk_above, before.rest);
     }
 
--- ---- a disjunction of lanes is 0 if and only if each lane is 0
+-- ---- the bitwise or of all lanes of a vector is 0 if and only if each lane is 0
 
 or_start : (xs : List ℕ) (a : ℕ) → fold_l bit_or a xs ≡ 0 → a ≡ 0
 or_start [] a e = e
@@ -57,7 +58,8 @@ or_of_clear [] a none clear = none
 or_of_clear (x ∷ xs) a none clear = or_of_clear xs (bit_or a x) (ap₂ bit_or none (clear 0 (omega arith)) ∙ or_zero_l 0)
     (λ k less. clear (suc k) (omega arith))
 
--- if a group and all words before it are 0, all words up to the end of the group are 0
+-- if the bitwise or of a group of eight words is 0, and all words before the group are 0, all words up to the group's
+-- end are 0
 pub group_clear : (words : List ℕ) (group : ℕ) → fold_l bit_or 0 (chunk (group * 8) 8 words) ≡ 0
     → ((k : ℕ) → k < group * 8 → get_or words k 0 ≡ 0) → (k : ℕ) → k < (group + 1) * 8 → get_or words k 0 ≡ 0
 group_clear words group none before k lt = elim (cases_lt k (group * 8)) [
@@ -71,7 +73,7 @@ group_clear words group none before k lt = elim (cases_lt k (group * 8)) [
       )
 ]
 
--- if no word has a bit set, the disjunction of a group of words is 0
+-- if all words are 0, the bitwise or of each group of eight words is 0
 pub clear_group : (words : List ℕ) (group groups : ℕ) → group < groups → groups * 8 ≤ length words
     → ((k : ℕ) → k < groups * 8 → get_or words k 0 ≡ 0) → fold_l bit_or 0 (chunk (group * 8) 8 words) ≡ 0
 clear_group words group groups lt room clear =
@@ -79,7 +81,7 @@ clear_group words group groups lt room clear =
     or_of_clear (chunk (group * 8) 8 words) 0 refl
     (λ j less. get_or-chunk (group * 8) 8 words j 0 (omega arith) ∙ clear (group * 8 + j) (omega arith))
 
--- ---- sums over lanes
+-- ---- sums over the lanes of a vector
 
 summed : (f g : ℕ → ℕ) → ((x : ℕ) → g (f x) ≡ f x) → (xs : List ℕ) (a : ℕ) →
     fold_l (λ s x. s + x) a (map g (map f xs)) ≡ fold (λ s x. s + f x) a xs
@@ -87,7 +89,8 @@ summed f g same [] a = refl
 summed f g same (x ∷ xs) a =
     ap (λ n. fold_l (λ s x. s + x) (a + n) (map g (map f xs))) (same x) ∙ summed f g same xs (a + f x)
 
--- the sum over the words before a group, plus the sum over the lanes of the group; the cast g changes no lane
+-- the sum of f over the words up to the end of a group of eight, as the sum before the group plus the sum over the
+-- group's lanes; the cast g changes no summand
 pub group_summed : (f g : ℕ → ℕ) (words : List ℕ) (group count : ℕ) → ((x : ℕ) → g (f x) ≡ f x) →
     count ≡ sum_by f (take (group * 8) words)
     → count + fold_l (λ s x. s + x) 0 (map g (map f (chunk (group * 8) 8 words))) ≡ sum_by f
@@ -97,7 +100,7 @@ group_summed f g words group count same before =
     let here = chunk (group * 8) 8 words in
     grind (arith, summed f g same here 0, sum_by-append f front here, take-add (group * 8) 8 words)
 
--- the sum up to the end of a group fits 64 bits if the sum over all words does
+-- the sum over the words up to the end of a group fits in 64 bits if the sum over all words does
 pub group_fits : (f g : ℕ → ℕ) (words : List ℕ) (group count : ℕ) → ((x : ℕ) → g (f x) ≡ f x) →
     count ≡ sum_by f (take (group * 8) words)
     → sum_by f words < 2 ^ 64 → count + fold_l (λ s x. s + x) 0 (map g (map f (chunk (group * 8) 8 words))) < 2 ^ 64

@@ -1,5 +1,5 @@
--- A finite-memory strategy is also a history table, so it does not win from a vertex where all history tables are
--- beaten.
+-- A finite-memory strategy is a special history table (history-dependent strategy), so it does not win from a vertex
+-- from which all history tables lose.
 use Rattle.std.proofs.Common.{◌≡◌, ℕ, suc, ◌+◌, ◌-◌, ◌*◌, ◌<◌, List, [], ◌∷◌, length, get_or, take, fold, map}
 use Rattle.std.proofs.Common.{sym, ◌∙◌, arith, rules}
 use Rattle.std.specs.List.{All, range_with_len}
@@ -15,7 +15,7 @@ use Rattle.ps_game.proofs.Repeats.{repeats}
 
 module _ (game : ParityGame) (player : ℕ) (strategy : FiniteMemory) (is_strategy : IsFiniteMemory game player strategy)
   where
-    -- the memory state after visiting some vertices is less than the size
+    -- the memory state of a strategy after any vertices is less than the number of memory states
     after_below : (memory : ℕ) (met : List ℕ) → memory < strategy.size → All (λ v. v < vertex_count game) met →
         fold strategy.update memory met < strategy.size
     after_below memory [] below all = below
@@ -28,7 +28,7 @@ module _ (game : ParityGame) (player : ℕ) (strategy : FiniteMemory) (is_strate
         after_below strategy.first (take k path) is_strategy.first_below
         (All-take IsVertex k path (λ i d within. search (rules, get_or_default, is_path.vertices)))
 
-    -- the move of the strategy after a history
+    -- the move of a finite-memory strategy after a history, which is a list of visited vertices
     history_of : List ℕ → ℕ
     history_of path = strategy.choice (memory_at strategy path (length path - 1)) (last_vertex path)
 
@@ -37,7 +37,7 @@ module _ (game : ParityGame) (player : ℕ) (strategy : FiniteMemory) (is_strate
     history_is_table n path is_path short owns = is_strategy.moves _ _ (memory_below path is_path (length path - 1))
         (is_path.vertices (length path - 1) (omega (arith, is_path.begins))) owns
 
-    -- at each position k of a path, the history table gives the move of the strategy
+    -- at each position k of a path, the history table made from a finite-memory strategy gives the move of the strategy
     history_at : (path : List ℕ) (k : ℕ) → k < length path → history_of (take (k + 1) path) ≡ strategy.choice
         (memory_at strategy path k) (get_or path k 0)
     unfolding history_of
@@ -50,7 +50,8 @@ module _ (game : ParityGame) (player : ℕ) (strategy : FiniteMemory) (is_strate
     code_at : List ℕ → ℕ → ℕ
     code_at path k = get_or path k 0 * strategy.size + memory_at strategy path k
 
-    -- a long path returns to a vertex with the same memory state
+    -- a path with more vertices than there are pairs of a vertex and a memory state visits some vertex twice with the
+    -- same memory state
     same_again : (path : List ℕ) → IsPath game path → strategy.size * vertex_count game < length path →
         (i : ℕ) × (j : ℕ) × IsLoop path i j × (memory_at strategy path i ≡ memory_at strategy path j)
     unfolding code_at

@@ -1,4 +1,4 @@
--- If there are at least as many names as vertices, `with_none` adds nothing.
+-- If a list has at least `count` names, `with_none count` does not change it.
 use Rattle.std.proofs.Common.{◌≡◌, ℕ, ◌-◌, ◌≤◌, List, Option, length, arith}
 use Rattle.std.proofs.lemmas.List.{append-nil}
 use Rattle.ps_game.specs.Names.{with_none}

@@ -1,4 +1,5 @@
--- A set that is held within the subgame of all vertices is held on paths.
+-- A player who holds a set within the subgame of all vertices (`HoldsWithin`) also holds the set in terms of paths and
+-- their loops (`Holds`).
 use Rattle.std.proofs.Common.{◌≡◌, ℕ, zero, suc, ◌+◌, ◌-◌, ◌<◌, ◌≤◌, List, length, get_or, Bool, IsTrue, rules, Option}
 use Rattle.std.proofs.Common.{IsSomeAnd, sym, ap, ◌∙◌, arith}
 use Rattle.std.proofs.lemmas.Bool.{cases_eq}
@@ -21,7 +22,7 @@ loop_priority_top game path i j rises within =
 some_more : (P Q : ℕ → Type 0) (o : Option ℕ) → ((w : ℕ) → P w → Q w) → IsSomeAnd o P → IsSomeAnd o Q
 some_more P Q o h k = search rules
 
--- a loop of a path that stays in the set is a round
+-- a loop of a path that stays in the set is a cycle in the sense of `IsRound`
 loop_round : (game : ParityGame) (player : ℕ) (set : ℕ → Bool) (table : ℕ → Option ℕ) (path : List ℕ) (i j : ℕ) →
     IsPath game path → ((k : ℕ) → k < length path → IsTrue (set (get_or path k 0))) → Follows game player table path →
     IsLoop path i j → IsRound game player set table (from_place path i) (j - i)

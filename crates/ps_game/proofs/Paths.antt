@@ -8,8 +8,8 @@ use Rattle.ps_game.specs.Games.{ParityGame, vertex_count, owner_of, HasEdge}
 use Rattle.ps_game.specs.Plays.{IsPath, Follows}
 use Rattle.ps_game.specs.Strategies.{GoesBy, last_vertex}
 
--- a relation between consecutive elements of a list also holds in a list with one more element, if it holds at the last
--- step
+-- a relation between consecutive elements of a list still holds after one element is appended, if it relates the old
+-- last element to the new one
 pub along-push : (R : ℕ → ℕ → ℕ → Type 0) (path : List ℕ) (w : ℕ) → 0 < length path →
     ((k : ℕ) → k + 1 < length path → R k (get_or path k 0) (get_or path (k + 1) 0)) →
     R (length path - 1) (last_vertex path) w → (k : ℕ) → k + 1 < length (path ++ w ∷ []) →
@@ -28,14 +28,14 @@ IsPath-push game path w is_path edge is_vertex =
       edges = along-push (λ k. HasEdge game) path w is_path.begins is_path.edges edge;
     }
 
--- a path that follows a table still does after one more step by the table
+-- a path that follows a table of moves still follows the table after one more step by it
 pub Follows-push : (game : ParityGame) (player : ℕ) (table : ℕ → Option ℕ) (path : List ℕ) (w : ℕ) → 0 < length path →
     Follows game player table path → (owner_of game (last_vertex path) ≡ player → table (last_vertex path) ≡ Some w) →
     Follows game player table (path ++ w ∷ [])
 Follows-push game player table path w some follows last =
     along-push (λ k u x. owner_of game u ≡ player → table u ≡ Some x) path w some follows last
 
--- a path that follows a history table still does after one more step by the history table
+-- a path that follows a history table still follows the history table after one more step by it
 pub GoesBy-push : (game : ParityGame) (player : ℕ) (table : List ℕ → ℕ) (path : List ℕ) (w : ℕ) → 0 < length path →
     GoesBy game player table path → (owner_of game (last_vertex path) ≡ player → table path ≡ w) →
     GoesBy game player table (path ++ w ∷ [])

@@ -1,5 +1,5 @@
--- The priorities of a game by parity: the priorities of the vertices visited so far, and the sorted list of all of
--- them.
+-- The priorities of one parity that a game has: first those of the vertices that the loop has visited, then the sorted
+-- list of all.
 use Rattle.std.proofs.Common.{◌≡◌, ℕ, ◌+◌, ◌%◌, ◌<◌, ◌≤◌, List, [], ◌∷◌, ◌++◌, below_more, eqb, refl, arith, rules}
 use Rattle.std.specs.Ordering.{nat_cmp}
 use Rattle.std.specs.List.{All, Contains, dedup}
@@ -12,7 +12,7 @@ use Rattle.std.proofs.lemmas.Map.Keys.{IsStrictlyIncreasing-dedup}
 use Rattle.ps_game.specs.Games.{ParityGame, vertex_count, priority_of}
 use Rattle.ps_game.specs.Ranking.{HasPriority, ListsPriorities}
 
--- the list has the priorities of one parity of the vertices less than n
+-- the list has exactly those priorities of the vertices less than n that have the given parity
 pub record ListsBelow (game : ParityGame) (parity n : ℕ) (list : List ℕ) : Type 0 where
   pub complete : (v : ℕ) → v < n → priority_of game v % 2 ≡ parity → Contains list (priority_of game v)
   pub right_parity : All (λ p. p % 2 ≡ parity) list

@@ -1,5 +1,4 @@
--- A game has an ascending list of its priorities of one parity: those numbers below a bound that are priorities of
--- vertices.
+-- The priorities of one parity that a game has can be listed in ascending order, by testing each number below a bound.
 use Rattle.std.proofs.Common.{◌≡◌, ℕ, ◌+◌, ◌%◌, ◌<◌, ◌∙◌, List, length, get_or, map, sym, ap, eqb, arith, Bool, true}
 use Rattle.std.proofs.Common.{filter, ◌&&◌}
 use Rattle.std.specs.Prelude.{◌==◌}
@@ -16,7 +15,7 @@ use Rattle.ps_game.specs.Plays.{greatest}
 use Rattle.ps_game.specs.Ranking.{ListsPriorities}
 use Rattle.ps_game.proofs.LoopPriorities.{le-greatest}
 
--- a game has a list of its priorities of one parity
+-- for each game and parity, an ascending list of the game's priorities of this parity exists
 pub priorities_there : (game : ParityGame) (parity : ℕ) → (list : List ℕ) × ListsPriorities game parity list
 priorities_there game parity = (
   filter test all,

@@ -38,7 +38,7 @@ pub edge_at : (game : ParityGame) (v k : ℕ) → v < vertex_count game → k < 
     HasEdge game v (get_or (successors_of game v) k 0)
 edge_at game v k is_vertex within = (is_vertex, Contains-get_or (successors_of game v) k 0 within)
 
--- the end of each edge has an index in the list of successors
+-- if an edge leads from v to w, w has an index in the list of successors of v
 pub number_of_edge : (game : ParityGame) (v w : ℕ) → HasEdge game v w →
     (k : ℕ) × (k < length (successors_of game v)) × (get_or (successors_of game v) k 0 ≡ w)
 number_of_edge game v w edge = search (rules, get_or_default)

@@ -1,4 +1,4 @@
--- The result of the search for an unknown successor.
+-- The search of an unfinished game for an unknown successor, which is a number that is not a vertex.
 use Rattle.std.proofs.Common.{inl, inr, ◌≤◌, ◌≡◌, ℕ, zero, suc, ◌<◌, List, [], ◌∷◌, find, Option, None, rules}
 use Rattle.std.proofs.Common.{Some, nat_le, cond, arith}
 use Rattle.std.specs.List.{All}
@@ -7,21 +7,21 @@ use Rattle.std.proofs.lemmas.Bool.Decides.{nat_tests}
 use Rattle.ps_game.specs.Games.{ParityGame}
 use Rattle.ps_game.specs.Drafts.{IsFirstUnknown, NoneUnknown}
 
--- if the search finds no number, the head is less than n, and the search finds none in the tail
+-- if a list has no number that is at least n, its head is less than n, and its tail has no such number either
 parts : (n x : ℕ) (found : Option ℕ) → cond (nat_le n x) (Some x) found ≡ None → (x < n) × (found ≡ None)
 parts n x found none = grind (arith, nat_tests)
 
--- if the head is less than n, the search finds its number in the tail
+-- if the head of a list is less than n, the first number that is at least n is found in the tail
 behind : (n x w : ℕ) (found : Option ℕ) → cond (nat_le n x) (Some x) found ≡ Some w → x < n → found ≡ Some w
 behind n x w found is small = grind (arith, nat_tests)
 
--- if no number is found, all numbers of the list are less than n
+-- if the search for a number that is at least n fails, all numbers of the list are less than n
 pub all_from_find : (n : ℕ) (xs : List ℕ) → find (λ w. nat_le n w) xs ≡ None → All (λ w. w < n) xs
 all_from_find n [] none k d within = absurd (omega arith)
 all_from_find n (x ∷ xs) none zero d within = (parts n x _ none).0
 all_from_find n (x ∷ xs) none (suc k) d within = all_from_find n xs (parts n x _ none).1 k d (omega arith)
 
--- if a number is found, not all numbers of the list are less than n
+-- if the search for a number that is at least n succeeds, not all numbers of the list are less than n
 none_found : (n w : ℕ) (xs : List ℕ) → find (λ w. nat_le n w) xs ≡ Some w → All (λ w. w < n) xs → ⊥
 none_found n w [] found small = cc
 none_found n w (x ∷ xs) found small =
@@ -33,7 +33,8 @@ not_before {v = v} {u = u} first second = elim (cases_lt u v) [
   | inr more ↦ more
 ]
 
--- the smallest vertex with an unknown successor is unique, and so is its first unknown successor
+-- the smallest vertex with an unknown successor (a number that is not a vertex) is unique, and so is its first unknown
+-- successor
 pub first_unknown_once : {draft : ParityGame} {v w u x : ℕ} → IsFirstUnknown draft v w → IsFirstUnknown draft u x →
     (v ≡ u) × (w ≡ x)
 first_unknown_once {v = v} {w = w} {u = u} {x = x} first second = search (rules, not_before)

@@ -1,4 +1,5 @@
--- Vertices in arrays: adding a vertex, replacing ids by indices, and vertices without repeated successors.
+-- Lists of vertices in four arrays: adding a vertex, replacing ids by indices, and vertices without repeated
+-- successors.
 use Rattle.std.proofs.Common.{◌≡◌, ◌≢◌, ℕ, suc, ◌+◌, ◌^◌, ◌<◌, ◌≤◌, Bool, not, List, [], ◌∷◌, ◌++◌, rules, map, filter}
 use Rattle.std.proofs.Common.{length, get_or, take, refl, ap, ap₂, ◌∙◌, arith, length-append, take-append-drop}
 use Rattle.std.specs.Prelude.{◌==◌}
@@ -34,7 +35,7 @@ priority_there v = v.priority
 abbrev all_successors-length : ParityGame → ℕ
 all_successors-length game = length (all_successors game)
 
--- the arrays have well-formed vertices, and they represent the game
+-- the arrays represent the given list of vertices, each with an owner 0 or 1
 pub record StandFor (game : ParityGame) (offsets successors owners priorities : List ℕ) : Type 0 where
   pub are : AreVertices offsets successors owners priorities
   pub is : game_in offsets successors owners priorities ≡ game
@@ -57,7 +58,7 @@ module _ {game : ParityGame} {offsets successors owners priorities : List ℕ}
     map-append,
   )
 
-  -- the front of the arrays has the content of the first vertices
+  -- the first k vertices are represented by the front parts of the arrays
   pub tell_front : {k : ℕ} → k ≤ length game →
       TellGame (take k game) (take (k + 1) offsets) (take (get_or offsets k 0) successors) (take k owners)
       (take k priorities)
@@ -76,7 +77,7 @@ module _ {game : ParityGame} {offsets successors owners priorities : List ℕ}
         take-map,
       )
 
-  -- arrays that have the content of a game represent the game
+  -- arrays with the offsets, successors, owners and priorities of a game represent the game, if each owner is 0 or 1
   pub stand_for : All (λ v. v.owner < 2) game → StandFor game offsets successors owners priorities
   stand_for players = search (rules, game_is)
 
@@ -87,7 +88,7 @@ all_successors-placed : (ids : List ℕ) (game : ParityGame) →
 all_successors-placed ids [] = refl
 all_successors-placed ids (v ∷ game) = search (rules, map-append, all_successors-placed ids game)
 
--- the owners and the priorities are unchanged
+-- replacing ids by indices changes neither the owners nor the priorities
 kept-placed : (f : VertexData → ℕ) (ids : List ℕ) → ((v : VertexData) → f (with_places ids v) ≡ f v) →
     (game : ParityGame) → map f (map (with_places ids) game) ≡ map f game
 kept-placed f ids same [] = refl

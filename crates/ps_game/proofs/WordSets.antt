@@ -29,17 +29,17 @@ has-inside : (places : ℕ) (words : List ℕ) (v : ℕ) → v < places → has 
 unfolding members
 has-inside places words v lt = get_or-map-range_with_len (bit_in words) 0 places v v false lt (omega arith)
 
--- a list of truth values represents the same set as the words if it agrees with each bit
+-- a list of truth values is the set that the words represent, if each value agrees with the vertex's bit
 members_are : (places : ℕ) (words : List ℕ) (region : List Bool) → length region ≡ places →
     ((v : ℕ) → v < places → get_or region v false ≡ bit_in words v) → members places words ≡ region
 unfolding members
 members_are places words region long each = sym (fill_by_all (bit_in words) region places false long each)
 
--- there is no bit past the last word
+-- a bit with an index past the last word counts as not set
 bit_past : (words : List ℕ) (v : ℕ) → length words ≤ v / 64 → bit_in words v ≡ false
 bit_past words v past = rw (get_or_past words (v / 64) 0 past, bit_at-zero (v % 64))
 
--- the words represent the set, and are packed (`ArePacked`)
+-- the words represent the set, and no further words and no further bits are used (`ArePacked`)
 pub record AreWords (places : ℕ) (words : List ℕ) (region : List Bool) : Type 0 where
   pub packed : ArePacked places words
   pub are : members places words ≡ region
@@ -64,12 +64,13 @@ full_words places words few enough no_more all none_past = record {
       (λ v lt. get_or-replicate places v true false lt ∙ sym (all v lt));
 }
 
--- the last word has all bits set if `places` is a multiple of 64
+-- if `places` is a multiple of 64, words with all bits set represent the set of all vertices
 pub full_whole : (places n : ℕ) → places < 2 ^ 64 → places % 64 ≡ 0 → n ≡ places / 64 →
     AreWords places (replicate n (2 ^ 64 - 1)) (replicate places true)
 full_whole places n few none is = search (rules, length-replicate, full_words, ones_bit, bit_past)
 
--- otherwise the last word has only the bits of the remaining vertices
+-- if `places` is not a multiple of 64, the last word of the set of all vertices has only the bits of the remaining
+-- vertices
 pub full_part : (places n : ℕ) → places < 2 ^ 64 → 0 < places % 64 → n ≡ places / 64 + 1 →
     AreWords places (set (replicate n (2 ^ 64 - 1)) (places / 64) ((2 ^ 64 - 1) / 2 ^ (64 - places % 64)))
     (replicate places true)
@@ -96,7 +97,7 @@ record IsChanged (before after : List ℕ) (v : ℕ) (b : Bool) : Type 0 where
   here : bit_in after v ≡ b
   elsewhere : (u : ℕ) → u ≢ v → bit_in after u ≡ bit_in before u
 
--- one bit of one word is changed
+-- changing one bit of one word changes whether one vertex is in the set
 one_word : (words : List ℕ) (v w : ℕ) (b : Bool) → v / 64 < length words → (bit_at w (v % 64) == 1) ≡ b →
     ((i : ℕ) → i < 64 → i ≢ v % 64 → bit_at w i ≡ bit_at (get_or words (v / 64) 0) i) →
     IsChanged words (set words (v / 64) w) v b
@@ -104,18 +105,18 @@ one_word words v w b within is others = search (rules, get_or-set_at, cases_eq, 
 
 module _ {places : ℕ} {words : List ℕ} {region : List Bool} (packed : ArePacked places words)
     (is : members places words ≡ region) where
-  -- the set as a list has an entry for each of the `places` vertices
+  -- the list of truth values that stands for the set has `places` entries
   pub places_are : length region ≡ places
   places_are = ap length (sym is) ∙ length-members places words
 
-  -- no bit past the last vertex is set, so the set agrees with the bits at every number
+  -- no bit past the last vertex is set, so every number is in the set if and only if its bit is set
   has-bit : (v : ℕ) → has region v ≡ bit_in words v
   has-bit v = search (rules, cases_lt, has-inside, get_or_past, places_are)
 
   word_there : {v : ℕ} → v < length region → v / 64 < length words
   word_there lt = omega (arith, places_are, packed.enough)
 
-  -- a shift and a mask read one bit
+  -- a shift and a mask read whether a vertex is in the set
   pub bit_read : {v w : ℕ} → v < length region → w ≡ get_or words (v / 64) w →
       (bit_and (w / 2 ^ (v % 64)) 1 == 1) ≡ has region v
   bit_read {v = v} {w = w} lt read = search (rules, shr_and_one, get_or_default_zero, word_there, has-bit)
@@ -148,7 +149,7 @@ module _ {places : ℕ} {words : List ℕ} {region : List Bool} (packed : ArePac
         get_or_default_zero words (v / 64) w (word_there lt),
       )))
 
--- ---- the bits of two sets
+-- ---- the bits of the union and the difference of two sets
 
 either : (x y : ℕ) → x < 2 → y < 2 → (max x y == 1) ≡ ((x == 1) || (y == 1))
 either x y h k = search rules
@@ -156,7 +157,7 @@ either x y h k = search rules
 first_only : (x y : ℕ) → x < 2 → y < 2 → (min x (1 - y) == 1) ≡ ((x == 1) && not (y == 1))
 first_only x y h k = search rules
 
--- `new` represents the set that a rule forms, vertex by vertex, from two sets
+-- `new` represents the set that a Boolean operation (`rule`) forms from two sets, vertex by vertex
 pub record IsMade (places : ℕ) (new : List ℕ) (region other : List Bool) (rule : Bool → Bool → Bool) : Type 0 where
   pub packed : ArePacked places new
   pub as_many : length (members places new) ≡ length region
@@ -165,11 +166,11 @@ pub record IsMade (places : ℕ) (new : List ℕ) (region other : List Bool) (ru
 module _ {places others_places : ℕ} {words others : List ℕ} {region other : List Bool} (packed : ArePacked places words)
     (is : members places words ≡ region) (other_packed : ArePacked others_places others)
     (other_is : members others_places others ≡ other) (same : length other ≡ length region) where
-  -- sets with equally many places have equally many words
+  -- sets of vertices less than the same bound `places` have equally many words
   pub same_words : length others ≡ length words
   same_words = omega (arith, places_are packed is, places_are other_packed other_is)
 
-  -- `old` and `lent` are the words of the two sets
+  -- `old` and `lent` are the words of the two sets that are combined
   module _ {old lent new : List ℕ} (from : old ≡ words) (also : lent ≡ others) (long : length new ≡ length old) where
     made : (rule : Bool → Bool → Bool) → rule false false ≡ false →
         ((v : ℕ) → bit_in new v ≡ rule (bit_in old v) (bit_in lent v)) → IsMade places new region other rule
@@ -220,7 +221,7 @@ none_counted p n (suc m) none = sum_by-cons (λ v. cond (p v) 1 0) n (range_with
 bit_again : (x : ℕ) → x < 2 → cond (x == 1) 1 0 ≡ x
 bit_again x h = search rules
 
--- the number of vertices in one word is the number of its bits that are set
+-- the number of vertices that one word represents is the number of its bits that are set
 word_counted : (words : List ℕ) (k : ℕ) → get_or words k 0 < 2 ^ 64 →
     count_by (bit_in words) (range_with_len (k * 64) 64) ≡ count_ones (get_or words k 0)
 word_counted words k fits =
@@ -237,7 +238,7 @@ word_counted words k fits =
       bit_again (bit_at (get_or words k 0) i) (bit_at-lt (get_or words k 0) i),
     )))
 
--- the number of vertices in the first k words is the number of their bits that are set
+-- the number of vertices that the first k words represent is the number of bits that are set in these words
 words_counted : (words : List ℕ) → ((k : ℕ) → get_or words k 0 < 2 ^ 64) → (k : ℕ) → k ≤ length words
     → count_by (bit_in words) (range_with_len 0 (k * 64)) ≡ sum_by count_ones (take k words)
 words_counted words fits zero le = refl
@@ -274,7 +275,7 @@ module _ {places : ℕ} {words lent : List ℕ} {region : List Bool} (packed : A
   pub count_fits : sum_by count_ones lent < 2 ^ 64
   count_fits = search (rules, count_is, count_by-le-length, places_are)
 
-  -- all words are 0 if and only if the set is empty
+  -- all words of a set are 0 if and only if the set is empty
   pub clear_has_none : ((k : ℕ) → get_or lent k 0 ≡ 0) → (v : ℕ) → has region v ≡ false
   clear_has_none clear v = has-bit packed is v ∙ rw (← from, clear (v / 64), bit_at-zero (v % 64))
 

@@ -20,8 +20,8 @@ pub record LeadsDown (game : ParityGame) (subgame set : ℕ → Bool) (rank : �
   pub inside : IsTrue (set w)
   pub falls : rank w < rank v
 
--- at each vertex of the set outside the target, the rank decreases within the set: along the player's move in the
--- table, and along each edge of the other player within the subgame
+-- outside the target, the player's move in the table and each edge of the other player within the subgame lead from the
+-- set to a vertex of the set with a smaller rank
 pub record Falls (game : ParityGame) (subgame : ℕ → Bool) (player : ℕ) (target set : ℕ → Bool) (table : ℕ → Option ℕ)
     (rank : ℕ → ℕ) : Type 0 where
   pub own : (v : ℕ) → IsTrue (set v) → ¬ IsTrue (target v) → owner_of game v ≡ player →
@@ -29,7 +29,7 @@ pub record Falls (game : ParityGame) (subgame : ℕ → Bool) (player : ℕ) (ta
   pub other : (v w : ℕ) → IsTrue (set v) → ¬ IsTrue (target v) → owner_of game v ≢ player → LeadsInto game subgame v w →
       LeadsDown game subgame set rank v w
 
--- the set is contained in every closed set
+-- the set is contained in every set that is closed under attraction to the target
 abbrev pub IsLeastClosed : ParityGame → (ℕ → Bool) → ℕ → (ℕ → Bool) → (ℕ → Bool) → Type 0
 IsLeastClosed game subgame player target set =
     (closed : ℕ → Bool) → IsClosedUnderAttraction game subgame player target closed → IsWithin set closed

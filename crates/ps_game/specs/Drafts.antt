@@ -1,4 +1,5 @@
--- A draft of a game: vertices whose successors may be missing, unknown or repeated.
+-- A draft of a game is an unfinished game, whose vertices may have no successors, repeated ones, or numbers of vertices
+-- that don't exist.
 use Rattle.std.specs.Prelude.{◌≡◌, ◌≢◌, ℕ, ◌<◌, ◌++◌, ◌∷◌, List, [], length, map, find, filter, not, ◌==◌, nat_le, Some}
 use Rattle.std.specs.Prelude.{slice_set}
 use Rattle.ps_game.specs.Games.{VertexData, ParityGame, vertex_count, owner_of, priority_of, successors_of}
@@ -23,32 +24,32 @@ abbrev pub distinct : List ℕ → List ℕ
 distinct [] = []
 distinct (x ∷ xs) = x ∷ filter (λ y. not (x == y)) (distinct xs)
 
--- the vertex with each successor once, at its first occurrence
+-- the vertex without repeated successors; each successor keeps the place of its first occurrence
 abbrev pub vertex_without_repeats : VertexData → VertexData
 vertex_without_repeats v = record v { successors = distinct v.successors }
 
 abbrev pub without_repeats : ParityGame → ParityGame
 without_repeats draft = map vertex_without_repeats draft
 
--- each vertex has a successor
+-- each vertex of the draft has a successor
 abbrev pub NoneBare : ParityGame → Type 0
 NoneBare draft = (v : ℕ) → v < vertex_count draft → 0 < length (successors_of draft v)
 
--- v is the smallest vertex without an edge
+-- v is the smallest vertex of the draft that no edge leaves
 pub record IsFirstBare (draft : ParityGame) (v : ℕ) : Type 0 where
   pub is_vertex : v < vertex_count draft
   pub bare : successors_of draft v ≡ []
   pub before : (u : ℕ) → u < v → 0 < length (successors_of draft u)
 
--- each vertex has a successor, v is the smallest vertex with an unknown successor (a number that is not a vertex), and
--- w is its first unknown successor
+-- each vertex of the draft has a successor, v is the smallest vertex with an unknown successor (a number that is not a
+-- vertex), and w is the first unknown successor of v
 pub record IsFirstUnknown (draft : ParityGame) (v w : ℕ) : Type 0 where
   pub none_bare : NoneBare draft
   pub is_vertex : v < vertex_count draft
   pub unknown : find (λ successor. nat_le (vertex_count draft) successor) (successors_of draft v) ≡ Some w
   pub before : (u : ℕ) → u < v → All (λ x. x < vertex_count draft) (successors_of draft u)
 
--- each successor is a vertex
+-- each successor in the draft is a vertex
 abbrev pub NoneUnknown : ParityGame → Type 0
 NoneUnknown draft = (v : ℕ) → v < vertex_count draft → All (λ w. w < vertex_count draft) (successors_of draft v)
 
@@ -56,6 +57,6 @@ NoneUnknown draft = (v : ℕ) → v < vertex_count draft → All (λ w. w < vert
 abbrev pub HaveNoRepeats : ParityGame → Type 0
 HaveNoRepeats draft = All (λ v. AllPairs (λ x y. x ≢ y) v.successors) draft
 
--- each successor, which is an id, is replaced by its index
+-- the vertex in which each successor, given as an id, is replaced by the index of the id in the list `ids`
 abbrev pub with_places : List ℕ → VertexData → VertexData
 with_places ids v = record v { successors = map (place_of ids) v.successors }

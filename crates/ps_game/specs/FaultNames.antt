@@ -1,4 +1,4 @@
--- The numbers and names of the faults of a draft that is not a game.
+-- The numbers and names of the faults for which an unfinished game is rejected.
 use Rattle.std.specs.Prelude.{ℕ, List, codes}
 use Rattle.ps_game.specs.declared.faults.GameFault.{GameFault}
 use Rattle.ps_game.specs.declared.faults.GameFault.TheVariants.{NoSuccessor, UnknownSuccessor, OutOfMemory}

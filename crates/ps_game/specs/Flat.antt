@@ -1,5 +1,6 @@
 -- A game in four arrays: the owner of each vertex, the priority of each vertex, the successors of all vertices in one
--- list, and the offsets. The offsets state where the successors of each vertex begin, with one more offset at the end.
+-- list, and the offsets. The offsets state where the successors of each vertex begin; one more offset states where the
+-- last successors end.
 use Rattle.std.specs.Prelude.{◌≡◌, ℕ, ◌+◌, ◌-◌, ◌^◌, ◌<◌, ◌≤◌, min, List, length, map, take, slice_index, slice_range}
 use Rattle.std.specs.List.{All, flat_map, range_with_len, sum_by}
 use Rattle.ps_game.specs.Games.{VertexData, ParityGame, IsGame, vertex_count}
@@ -8,7 +9,7 @@ use Rattle.ps_game.specs.Games.{VertexData, ParityGame, IsGame, vertex_count}
 abbrev pub successors_in : List ℕ → List ℕ → ℕ → List ℕ
 successors_in offsets successors v = slice_range successors (slice_index offsets v) (slice_index offsets (v + 1))
 
--- the vertex v, as the arrays represent it
+-- the vertex v of the game that the four arrays represent
 abbrev pub vertex_in : List ℕ → List ℕ → List ℕ → List ℕ → ℕ → VertexData
 vertex_in offsets successors owners priorities v =
     record {
@@ -17,7 +18,7 @@ vertex_in offsets successors owners priorities v =
       successors = successors_in offsets successors v;
     }
 
--- the game that the arrays represent
+-- the game that the four arrays represent
 unfoldable pub game_in : List ℕ → List ℕ → List ℕ → List ℕ → ParityGame
 game_in offsets successors owners priorities =
     map (vertex_in offsets successors owners priorities) (range_with_len 0 (length owners))
@@ -26,8 +27,8 @@ game_in offsets successors owners priorities =
 abbrev pub edge_count : ParityGame → ℕ
 edge_count game = sum_by (λ v. length v.successors) game
 
--- the numbers of vertices and of edges, each capped at 2 ^ 64 - 1, are within the limit; so a limit of 2 ^ 64 - 1 is no
--- restriction
+-- the numbers of vertices and of edges, each capped at 2 ^ 64 - 1, are at most the limit; a limit of 2 ^ 64 - 1
+-- restricts nothing
 pub record FitsWithin (game : ParityGame) (limit : ℕ) : Type 0 where
   pub vertices : min (vertex_count game) (2 ^ 64 - 1) ≤ limit
   pub edges : min (edge_count game) (2 ^ 64 - 1) ≤ limit
@@ -36,12 +37,13 @@ pub record FitsWithin (game : ParityGame) (limit : ℕ) : Type 0 where
 abbrev pub all_successors : ParityGame → List ℕ
 all_successors game = flat_map (λ v. v.successors) game
 
--- the entry at v is the number of successors of all vertices before v; the last entry is the number of all successors
+-- the entry at index v is the total number of successors of the vertices less than v; the last entry is the total for
+-- all vertices
 pub record AreOffsets (game : ParityGame) (offsets : List ℕ) : Type 0 where
   pub offset_each : length offsets ≡ length game + 1
   pub in_front : (v : ℕ) → v ≤ length game → slice_index offsets v ≡ length (all_successors (take v game))
 
--- the arrays represent the game
+-- the four arrays represent the given game
 pub record TellGame (game : ParityGame) (offsets successors owners priorities : List ℕ) : Type 0 where
   pub offsets_are : AreOffsets game offsets
   pub successors_are : successors ≡ all_successors game

@@ -12,7 +12,7 @@ pub record VertexData : Type 0 where
 abbrev pub ParityGame : Type 0
 ParityGame = List VertexData
 
--- the default vertex for an index past the end of the list
+-- the default for the vertex at an index past the end of a game's list of vertices
 abbrev pub no_vertex : VertexData
 no_vertex = record { owner = 0; priority = 0; successors = [] }
 
@@ -28,7 +28,7 @@ priority_of game v = (slice_index_or game v no_vertex).priority
 unfoldable pub successors_of : ParityGame → ℕ → List ℕ
 successors_of game v = (slice_index_or game v no_vertex).successors
 
--- an edge leads from v to w
+-- v is a vertex of the game, and an edge leads from v to w
 abbrev pub HasEdge : ParityGame → ℕ → ℕ → Type 0
 HasEdge game v w = (v < vertex_count game) × Contains (successors_of game v) w
 

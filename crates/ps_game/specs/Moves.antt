@@ -3,7 +3,7 @@ use Rattle.std.specs.Prelude.{ℕ, List, Option, Some, None, Bool, length, map, 
 use Rattle.std.specs.List.{range_with_len}
 use Rattle.ps_game.specs.Regions.{has}
 
--- the move at a vertex, if it has one
+-- the move that the two lists give at the vertex v, or None
 abbrev pub move_in : List Bool → List ℕ → ℕ → Option ℕ
 move_in chosen moves v = if has chosen v then Some (slice_index moves v) else None
 

@@ -17,7 +17,7 @@ parity_of-number : (parity : Parity) → parity_of (number_of parity) ≡ parity
 parity_of-number Even = refl
 parity_of-number Odd = refl
 
--- a player is determined by its number
+-- turning a player into its number and back gives the same player
 pub player_of-number : (player : Inside) → (record { wins = parity_of (number_of player.wins) }) ≡ player
 player_of-number player = ap (λ (parity : Parity). let is : Inside = record { wins = parity } in is)
     (parity_of-number player.wins)

@@ -10,7 +10,7 @@ pub record IsPath (game : ParityGame) (path : List ℕ) : Type 0 where
   pub vertices : (k : ℕ) → k < length path → slice_index path k < vertex_count game
   pub edges : (k : ℕ) → k + 1 < length path → HasEdge game (slice_index path k) (slice_index path (k + 1))
 
--- two positions i < j of the path have the same vertex
+-- a loop of the path: the same vertex is at two positions i < j
 pub record IsLoop (path : List ℕ) (i j : ℕ) : Type 0 where
   pub rises : i < j
   pub within : j < length path
@@ -21,7 +21,7 @@ abbrev pub greatest : List ℕ → ℕ
 greatest [] = 0
 greatest (x ∷ xs) = max x (greatest xs)
 
--- the greatest priority at the positions i to j - 1 of the path
+-- the priority of a loop: the greatest priority at the positions i to j - 1 of the path
 unfoldable pub loop_priority : ParityGame → List ℕ → ℕ → ℕ → ℕ
 loop_priority game path i j = greatest (map (priority_of game) (slice_range path i j))
 
@@ -40,7 +40,7 @@ Follows game player table path =
     (k : ℕ) → k + 1 < length path → owner_of game (slice_index path k) ≡ player →
     table (slice_index path k) ≡ Some (slice_index path (k + 1))
 
--- at each vertex of the set that the player owns, the table gives a successor; each path that begins in the set and
+-- at each of the player's vertices in the set, the table gives a successor; each path that begins in the set and
 -- follows the table stays in the set
 pub record KeepsTo (game : ParityGame) (player : ℕ) (set : ℕ → Bool) (table : ℕ → Option ℕ) : Type 0 where
   pub moves : (v : ℕ) → v < vertex_count game → IsTrue (set v) → owner_of game v ≡ player →
@@ -48,8 +48,8 @@ pub record KeepsTo (game : ParityGame) (player : ℕ) (set : ℕ → Bool) (tabl
   pub stays : (path : List ℕ) → IsPath game path → IsTrue (set (slice_index path 0)) → Follows game player table path →
       (k : ℕ) → k < length path → IsTrue (set (slice_index path k))
 
--- the player stays in the set by the table, and wins each loop of each path that begins in the set and follows the
--- table
+-- the player holds the set by the table: each path that begins in the set and follows the table stays in the set, and
+-- the player wins each loop of the path
 pub record Holds (game : ParityGame) (player : ℕ) (set : ℕ → Bool) (table : ℕ → Option ℕ) : Type 0 where
   pub keeps : KeepsTo game player set table
   pub wins : (path : List ℕ) (i j : ℕ) → IsPath game path → IsTrue (set (slice_index path 0)) →

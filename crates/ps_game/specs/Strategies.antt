@@ -1,17 +1,17 @@
--- Strategies with memory: finite-memory strategies, and tables over whole histories.
+-- Strategies with memory: finite-memory strategies, and history tables, which choose a move by the whole path so far.
 use Rattle.std.specs.Prelude.{◌≡◌, ℕ, ◌+◌, ◌-◌, ◌<◌, ◌≤◌, List, length, fold, take, slice_index}
 use Rattle.ps_game.specs.Games.{ParityGame, vertex_count, owner_of, HasEdge}
 use Rattle.ps_game.specs.Plays.{IsPath, IsLoop, WinsLoop, other_player}
 
--- the number of memory states, the first memory state, and for each memory state and vertex the next memory state and
--- the vertex to move to
+-- a finite-memory strategy: the number of memory states, the first memory state, and for each memory state and vertex
+-- the next memory state and the vertex to move to
 pub record FiniteMemory : Type 0 where
   pub size : ℕ
   pub first : ℕ
   pub update : ℕ → ℕ → ℕ
   pub choice : ℕ → ℕ → ℕ
 
--- memory states are numbers less than the size, and at each vertex of the player the choice is a successor
+-- all memory states are less than `size`, and at each vertex of the player the strategy chooses a successor
 pub record IsFiniteMemory (game : ParityGame) (player : ℕ) (strategy : FiniteMemory) : Type 0 where
   pub first_below : strategy.first < strategy.size
   pub update_below : (memory v : ℕ) → memory < strategy.size → v < vertex_count game →
@@ -23,7 +23,7 @@ pub record IsFiniteMemory (game : ParityGame) (player : ℕ) (strategy : FiniteM
 abbrev pub memory_at : FiniteMemory → List ℕ → ℕ → ℕ
 memory_at strategy path k = fold strategy.update strategy.first (take k path)
 
--- each move of the player is the choice in the current memory state
+-- each move of the player on the path is the strategy's choice in the current memory state
 abbrev pub Agrees : ParityGame → ℕ → FiniteMemory → List ℕ → Type 0
 Agrees game player strategy path =
     (k : ℕ) → k + 1 < length path → owner_of game (slice_index path k) ≡ player →
@@ -45,20 +45,21 @@ WinsByNoMemory game player v =
 abbrev pub last_vertex : List ℕ → ℕ
 last_vertex path = slice_index path (length path - 1)
 
--- for each path of at most n vertices that ends at a vertex of the player, the table gives a successor of this last
--- vertex
+-- a history table: for each path of at most n vertices that ends at a vertex of the player, it gives a successor of the
+-- path's last vertex
 abbrev pub IsHistoryTable : ParityGame → ℕ → ℕ → (List ℕ → ℕ) → Type 0
 IsHistoryTable game player n table =
     (path : List ℕ) → IsPath game path → length path ≤ n → owner_of game (last_vertex path) ≡ player →
     HasEdge game (last_vertex path) (table path)
 
--- each move of the player is the entry of the table for the path so far
+-- each move of the player on the path is what the history table gives for the path up to that point
 abbrev pub GoesBy : ParityGame → ℕ → (List ℕ → ℕ) → List ℕ → Type 0
 GoesBy game player table path =
     (k : ℕ) → k + 1 < length path → owner_of game (slice_index path k) ≡ player →
     table (take (k + 1) path) ≡ slice_index path (k + 1)
 
--- a path of n + 1 vertices from v follows the table, and the player loses each loop of this path
+-- a history table is beaten: some path of n + 1 vertices from v follows the table, and the player loses each loop of
+-- the path
 pub record IsBeaten (game : ParityGame) (player n : ℕ) (table : List ℕ → ℕ) (v : ℕ) : Type 0 where
   pub path : List ℕ
   pub is_path : IsPath game path
@@ -67,12 +68,12 @@ pub record IsBeaten (game : ParityGame) (player n : ℕ) (table : List ℕ → �
   pub goes_by : GoesBy game player table path
   pub loses : (i j : ℕ) → IsLoop path i j → WinsLoop game (other_player player) path i j
 
--- a path visits a vertex twice
+-- the path visits some vertex twice
 abbrev pub HasLoop : List ℕ → Type 0
 HasLoop path = (i : ℕ) × (j : ℕ) × IsLoop path i j
 
--- each history table of the player is beaten from v; if n is at least the number of vertices, the path that beats it
--- has a loop
+-- from v, each history table of the player for paths of up to n vertices loses on some path; if n is at least the
+-- number of vertices, this path has a loop
 abbrev pub AllHistoriesBeaten : ParityGame → ℕ → ℕ → Type 0
 AllHistoriesBeaten game player v =
     (n : ℕ) (table : List ℕ → ℕ) → IsHistoryTable game player n table →

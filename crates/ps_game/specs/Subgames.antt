@@ -7,17 +7,17 @@ use Rattle.ps_game.specs.Games.{ParityGame, vertex_count, owner_of, priority_of,
 abbrev pub IsWithin : (ℕ → Bool) → (ℕ → Bool) → Type 0
 IsWithin small large = (v : ℕ) → IsTrue (small v) → IsTrue (large v)
 
--- an edge leads from v to w, and w is in the set
+-- an edge leads from v to w, which is in the set
 pub record LeadsInto (game : ParityGame) (set : ℕ → Bool) (v w : ℕ) : Type 0 where
   pub edge : HasEdge game v w
   pub inside : IsTrue (set w)
 
--- each vertex of the set is a vertex of the game and has a successor in the set
+-- a subgame is a set of vertices of the game, each of which has a successor in the set
 pub record IsSubgame (game : ParityGame) (set : ℕ → Bool) : Type 0 where
   pub vertices : (v : ℕ) → IsTrue (set v) → v < vertex_count game
   pub goes_on : (v : ℕ) → IsTrue (set v) → (w : ℕ) × LeadsInto game set v w
 
--- a round: a cycle of k > 0 steps through the set, in which the player moves by the table
+-- a round: a cycle of k > 0 edges through the set, on which the player moves by the table
 pub record IsRound (game : ParityGame) (player : ℕ) (set : ℕ → Bool) (table : ℕ → Option ℕ) (walk : ℕ → ℕ)
     (k : ℕ) : Type 0 where
   pub some : 0 < k
@@ -32,8 +32,8 @@ pub record IsTop (game : ParityGame) (walk : ℕ → ℕ) (k top : ℕ) : Type 0
   pub stands : (t : ℕ) × (t < k) × (priority_of game (walk t) ≡ top)
 
 -- The set is within the subgame. At each of the player's vertices of the set, the table gives a successor in the set.
--- The other player's edges within the subgame do not leave the set. The player wins each round in the set that follows
--- the table
+-- The other player's edges within the subgame do not leave the set. The player wins each cycle in the set on which the
+-- player moves by the table
 pub record HoldsWithin (game : ParityGame) (subgame : ℕ → Bool) (player : ℕ) (set : ℕ → Bool)
     (table : ℕ → Option ℕ) : Type 0 where
   pub within : IsWithin set subgame

@@ -1,14 +1,14 @@
-//! The interface that every form of a game offers, so that solvers and checkers are written once for all forms.
+//! The interface for reading a game, whatever its data structure, so that each solver and checker is written only once.
 
 ghost use Rattle.std.specs.Prelude.{◌≡◌, ◌<◌, length, slice_index};
 ghost use Rattle.ps_game.specs.Games.{ParityGame, IsGame, vertex_count, owner_of, priority_of, successors_of};
 
-/// A parity game that can be read, however it is stored. No call allocates memory.
+/// A parity game that can be read, whatever its data structure. No method of this trait allocates memory.
 pub trait Arena {
-    /// The game that the value represents.
+    /// In clauses, the parity game that the value represents.
     ghost game: { Self → ParityGame };
 
-    /// The number of vertices. They are numbered from 0.
+    /// The number of vertices. Vertices are numbered from 0.
     fn count(&self) -> usize
         ensures vertices { result ≡ vertex_count (game self.now) }
         ensures well_formed { IsGame (game self.now) };

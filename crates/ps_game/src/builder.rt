@@ -15,7 +15,8 @@ use smallvec::SmallVec;
 use std::alloc::{AllocError, Global};
 use std::marker::Model;
 
-/// A vertex of a draft. Up to four successors are stored inside the value, and most vertices have no more.
+/// A vertex of an unfinished game. Up to four successors are stored inside the value without a heap allocation, and
+/// most vertices have no more.
 #[derive(Drop)]
 pub(crate) struct Vertex {
     owner: u8,
@@ -29,8 +30,8 @@ impl Model for Vertex {
     ghost view = { λ v. record { owner = v.owner; priority = v.priority; successors = v.successors.items } };
 }
 
-/// Builds a game, vertex by vertex and edge by edge, in any order. A call fails if out of memory; then the draft is
-/// unchanged.
+/// Builds a game, vertex by vertex and edge by edge, in any order. A call fails if out of memory; then the unfinished
+/// game is unchanged.
 #[derive(Drop)]
 pub struct GameBuilder {
     alloc: Global,
@@ -47,7 +48,7 @@ impl Model for GameBuilder {
 
 #[tactic(auto, unfolding(crate::specs::Games::vertex_count, crate::specs::Games::owner_of, crate::specs::Games::priority_of, crate::specs::Games::successors_of))]
 impl GameBuilder {
-    /// A draft without vertices.
+    /// An unfinished game without vertices.
     pub fn new(alloc: Global) -> Self
         ensures { result ≡ [] }
     {
@@ -85,13 +86,13 @@ impl GameBuilder {
         Ok(())
     }
 
-    /// The game of the draft. A repeated successor counts once, at its first occurrence.
+    /// Finishes the game. A repeated successor counts once, at its first occurrence.
     ///
     /// # Errors
     ///
-    /// [`GameFault::NoSuccessor`] at the smallest vertex without an edge. If every vertex has an edge,
-    /// [`GameFault::UnknownSuccessor`] at the smallest vertex with a successor that was not added, with its first
-    /// unknown successor. Otherwise [`GameFault::OutOfMemory`].
+    /// [`GameFault::NoSuccessor`] with the smallest vertex that no edge leaves. If an edge leaves every vertex,
+    /// [`GameFault::UnknownSuccessor`] with the smallest vertex that has an edge to a vertex that was not added, and
+    /// with the target of its first such edge. Otherwise [`GameFault::OutOfMemory`].
     pub fn finish(self) -> Result<Game, GameFault>
         ensures game { IfOk result (λ game. game ≡ without_repeats self) }
         ensures no_successor { (v : ℕ) → (result ≡ Err (GameFault.NoSuccessor v)) ↔ IsFirstBare self v }
@@ -112,8 +113,8 @@ impl GameBuilder {
     }
 }
 
-/// The game of a draft, without repeated successors. In the draft, each vertex has a successor and each successor is a
-/// vertex.
+/// The game with the given vertices, without repeated successors. Each vertex must have a successor, and each successor
+/// must be a vertex.
 pub(crate) fn distinct_game(alloc: Global, mut vertices: Vec<Vertex>) -> Result<Game, AllocError>
     requires owners { All (λ v. v.owner < 2) vertices.items }
     requires bare { NoneBare vertices.items }
@@ -137,7 +138,7 @@ fn game_of(alloc: Global, vertices: &[Vertex]) -> Result<Game, AllocError>
     Ok(arrays.as_game())
 }
 
-/// A vertex with its own list of successors.
+/// A vertex with a newly allocated list of the given successors.
 pub(crate) fn listed_vertex(
     alloc: Global,
     owner: u8,
@@ -161,7 +162,7 @@ pub(crate) fn listed_vertex(
     })
 }
 
-/// The smallest vertex without an edge.
+/// The smallest vertex that no edge leaves.
 #[tactic(auto, unfolding(crate::specs::Games::vertex_count, crate::specs::Games::successors_of))]
 fn first_bare(vertices: &[Vertex]) -> Option<usize>
     ensures some { IfSome result (IsFirstBare vertices.now) }
@@ -175,7 +176,8 @@ fn first_bare(vertices: &[Vertex]) -> Option<usize>
     None
 }
 
-/// The smallest vertex with an unknown successor (a number that is not a vertex), and its first unknown successor.
+/// The smallest vertex with an unknown successor (a number that is not a vertex), and the first unknown successor of
+/// that vertex.
 #[tactic(auto, unfolding(crate::specs::Games::vertex_count, crate::specs::Games::successors_of))]
 fn first_unknown(vertices: &[Vertex]) -> Option<(usize, usize)>
     requires { NoneBare vertices.now }
@@ -201,8 +203,8 @@ fn unknown_successor(vertex: &Vertex, count: usize) -> Option<usize>
         .find(|successor| count <= *successor)
 }
 
-/// Drops all repeated successors, in time proportional to the numbers of vertices and edges. `seen` has an entry for
-/// each vertex: the stamp of the last vertex that has an edge to it. The stamp of a vertex is its number plus one.
+/// Drops all repeated successors, in time proportional to the numbers of vertices and edges. For each vertex, `seen`
+/// has the stamp of the last processed vertex with an edge to it, or 0. The stamp of a vertex is its number plus one.
 #[tactic(auto, unfolding(crate::specs::Games::vertex_count, crate::specs::Games::successors_of))]
 fn drop_repeats(vertices: &mut [Vertex], seen: &mut [usize])
     requires known { NoneUnknown vertices.old }
@@ -215,7 +217,7 @@ fn drop_repeats(vertices: &mut [Vertex], seen: &mut [usize])
     }
 }
 
-/// Drops the repeated successors of a vertex, whose stamp is not yet in `seen`.
+/// Drops the repeated successors of a vertex. No entry of `seen` is the vertex's stamp yet.
 fn drop_repeats_at(vertex: &mut Vertex, seen: &mut [usize], stamp: usize)
     requires known { All (λ successor. successor < length seen.old) vertex.old.successors }
     requires fresh { All (λ earlier. earlier < stamp) seen.old }

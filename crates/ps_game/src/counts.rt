@@ -1,11 +1,11 @@
-//! Measures of a solver's work.
+//! How much work a solver did.
 
-/// Measures of a solver's work: the maximal depth of nested calls, not counting calls on subgames without vertices, and
-/// the number of raises of a progress measure.
+/// How much work a solver did: the maximal depth of nested calls, not counting calls on empty subgames, and how often a
+/// progress measure was raised.
 #[derive(Clone, Copy, Debug, Default, PartialEq, Eq, Drop)]
 pub struct Counts {
-    /// The maximal depth of nested calls.
+    /// The maximal depth of nested calls of the recursive algorithm.
     pub depth: u64,
-    /// The number of times that a count was raised.
+    /// How often an entry of the progress measure was raised.
     pub raises: u128,
 }

@@ -1,25 +1,25 @@
-//! The reasons why a draft is not a game.
+//! The reasons why an unfinished game is rejected.
 
 ghost use Rattle.std.specs.Prelude.{◌≡◌};
 
 use thiserror::Error;
 
-/// The reason why a draft is not a game.
+/// The reason why an unfinished game is rejected.
 #[derive(Clone, Copy, Debug, PartialEq, Eq, Error)]
 pub enum GameFault {
     /// The smallest vertex without an edge.
     #[error("vertex {vertex} has no successor")]
     NoSuccessor {
-        /// The number of the vertex, from 0.
+        /// The number of the vertex at fault, from 0.
         vertex: usize,
     },
 
     /// The smallest vertex with an unknown successor (a number that is not a vertex), and its first unknown successor.
     #[error("vertex {vertex} has the unknown successor {successor}")]
     UnknownSuccessor {
-        /// The number of the vertex, from 0.
+        /// The number of the vertex at fault, from 0.
         vertex: usize,
-        /// The target of the edge, which is not less than the number of vertices.
+        /// The target of the edge at fault, which is not less than the number of vertices.
         successor: usize,
     },
 

@@ -14,8 +14,8 @@ use std::alloc::{AllocError, Global};
 use std::marker::Model;
 
 /// A parity game in four arrays: the owners, the priorities, the successors of all vertices in one list, and the offset
-/// of each vertex's successors. With numbers of 4 bytes, a vertex takes 13 bytes and an edge takes 4, so the game takes
-/// less memory than a `Game` and is faster to read.
+/// of each vertex's successors. If `W` is `u32`, each vertex takes 13 bytes and each edge takes 4. The game then takes
+/// less memory than a `Game`, and is faster to read.
 #[derive(Drop)]
 pub struct FlatGame<W: Width> {
     pub(crate) offsets: Numbers<W>,
@@ -36,8 +36,8 @@ impl<W: Width> Model for FlatGame<W> {
 }
 
 impl<W: Width> FlatGame<W> {
-    /// The game, stored with numbers of width `W`. Takes time proportional to the numbers of vertices and edges. Fails
-    /// if out of memory.
+    /// Copies a game into flat arrays of integers of the type `W`. Takes time proportional to the numbers of vertices
+    /// and edges. Fails if out of memory.
     pub fn of(alloc: Global, game: &Game) -> Result<FlatGame<W>, AllocError>
         requires { FitsWithin game.now W.LIMIT }
         ensures { IfOk result (λ flat. flat ≡ game.now) }
@@ -52,7 +52,7 @@ impl<W: Width> FlatGame<W> {
         self.successors.len()
     }
 
-    /// The game, stored with numbers of width `V`. Fails if out of memory.
+    /// Converts flat arrays to the same game in integers of the type `V`. Fails if out of memory.
     fn in_width<V: Width>(&self, alloc: Global) -> Result<FlatGame<V>, AllocError>
         requires { FitsWithin self.now V.LIMIT }
         ensures { IfOk result (λ flat. flat ≡ self.now) }

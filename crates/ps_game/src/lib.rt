@@ -1,9 +1,9 @@
 //! Parity games: their definition, storage and construction, and laws about plays and strategies.
 //!
 //! In clauses, a game is a `ParityGame`, the list of its vertices, which are numbered from 0. Player 0 wins a loop
-//! whose greatest priority is even, and player 1 wins a loop whose greatest priority is odd. Sets of vertices and
-//! tables of moves are lists with an entry for each vertex. A call that takes a set or a table *requires* that it has
-//! one entry for each vertex of the game.
+//! whose greatest priority is even, and player 1 wins a loop whose greatest priority is odd. In clauses, sets of
+//! vertices and tables of moves are lists with an entry for each vertex. A call that takes a set or a table *requires*
+//! that it has one entry for each vertex of the game.
 //!
 //! | Call | What it gives |
 //! |---|---|
@@ -24,7 +24,8 @@
 //! | `priorities_of` | the priorities of one parity that a game has, in ascending order |
 //! | `GameFault::number`, `name` | the number and name of a fault in psyn's list of faults |
 //!
-//! `Counts` records how much work a solver did. Each law is the contract of a function with an empty body:
+//! `Counts` records how much work a solver did. Each law is a theorem, stated as the contract of a function with an
+//! empty body:
 //!
 //! | Law | What it states |
 //! |---|---|

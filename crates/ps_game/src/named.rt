@@ -1,4 +1,4 @@
-//! Games whose vertices have ids and names, for texts and certificates.
+//! Games whose vertices have ids and names, as game texts and certificates need them.
 
 ghost use Rattle.std.specs.Prelude.{◌≡◌, ◌≢◌, ◌<◌, ◌≤◌, length, map, vec_len, slice_index, slice_index_or, None};
 ghost use Rattle.std.specs.List.{All, AllPairs};
@@ -9,8 +9,8 @@ ghost use Rattle.ps_game.specs.Names.{name_bytes, with_none};
 use crate::games::Game;
 use std::marker::Model;
 
-/// A game with an id and an optional name for each vertex. A name does not contain `"`. Names are stored up to the last
-/// vertex that has one.
+/// A game with an id and an optional name for each vertex. A name does not contain `"`. No entry is stored for the
+/// vertices after the last one that has a name.
 #[derive(Drop)]
 pub struct NamedGame {
     game: Game,
@@ -36,7 +36,7 @@ impl Model for NamedGame {
 }
 
 impl NamedGame {
-    /// Gives ids and names to the vertices of a game, in their order.
+    /// Gives ids and optional names to the vertices of a game, in the order of the vertices.
     pub fn new(game: Game, ids: Vec<u64>, names: Vec<Option<Vec<u8>>>) -> Self
         requires id_each { vec_len ids ≡ vertex_count game }
         requires name_each { vec_len names ≡ vertex_count game }
@@ -49,7 +49,7 @@ impl NamedGame {
         NamedGame::with_first_names(game, ids, names)
     }
 
-    /// Gives ids to the vertices of a game, in their order, and names to the first vertices, but to no others.
+    /// Gives ids to the vertices of a game, in their order, and names to the first vertices only.
     pub fn with_first_names(game: Game, ids: Vec<u64>, names: Vec<Option<Vec<u8>>>) -> Self
         requires id_each { vec_len ids ≡ vertex_count game }
         requires names_of_vertices { vec_len names ≤ vertex_count game }

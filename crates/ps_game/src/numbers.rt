@@ -8,7 +8,7 @@ use crate::widths::Width;
 use std::alloc::{AllocError, Global};
 use std::marker::Model;
 
-/// A list of numbers that are stored at a given width.
+/// A list of numbers that are stored as integers of the type `W`.
 #[derive(Drop)]
 pub struct Numbers<W: Width> {
     items: Vec<W>,
@@ -32,7 +32,7 @@ impl<W: Width> Numbers<W> {
         Ok(Numbers { items })
     }
 
-    /// An empty list with room for `count` numbers. Fails if out of memory.
+    /// An empty list with the capacity for `count` numbers. Fails if out of memory.
     pub fn with_capacity(alloc: Global, count: usize) -> Result<Numbers<W>, AllocError>
         ensures { IfOk result (λ numbers. numbers ≡ []) }
     {
@@ -40,14 +40,14 @@ impl<W: Width> Numbers<W> {
         Ok(Numbers { items })
     }
 
-    /// The list of the given stored numbers.
+    /// The list that consists of the given stored integers.
     pub(crate) fn of(items: Vec<W>) -> Numbers<W>
         ensures { result ≡ map W.value items.items }
     {
         Numbers { items }
     }
 
-    /// A list of the same numbers, stored at the width `V`. Fails if out of memory.
+    /// A list of the same numbers, stored as integers of the type `V`. Fails if out of memory.
     pub(crate) fn in_width<V: Width>(&self, alloc: Global) -> Result<Numbers<V>, AllocError>
         requires { All (λ number. number ≤ V.LIMIT) self.now }
         ensures { IfOk result (λ numbers. numbers ≡ self.now) }
@@ -74,7 +74,7 @@ impl<W: Width> Numbers<W> {
         self.items[place].number()
     }
 
-    /// The stored numbers from index `start` up to, but not including, index `end`.
+    /// The stored integers from index `start` up to, but not including, index `end`.
     pub fn part(&self, start: usize, end: usize) -> &[W]
         requires order { start ≤ end }
         requires within { end ≤ length self.now }
@@ -102,7 +102,7 @@ impl<W: Width> Numbers<W> {
         Ok(())
     }
 
-    /// Keeps the first `count` numbers and drops the rest.
+    /// Truncates the list to its first `count` numbers.
     pub fn truncate(&mut self, count: usize)
         ensures { self.new ≡ take count self.old }
     {

@@ -9,11 +9,11 @@ use crate::words::{count_set, is_clear, subtract, unite};
 use std::alloc::{AllocError, Global};
 use std::marker::Model;
 
-/// The number of vertices in a word.
+/// The number of vertices that one 64-bit word represents.
 const WORD: usize = 64;
 
-/// A set of vertices, which are numbers less than `places`. Vertex 64·w + b is bit b of word w; all bits of larger
-/// numbers are 0.
+/// A set of vertices, which are numbers less than `places`. Bit b of word w is set if vertex 64·w + b is in the set;
+/// all bits of numbers from `places` on are 0.
 #[derive(Drop)]
 pub struct Region {
     places: usize,
@@ -52,7 +52,7 @@ impl Region {
         Ok(Region { places, words })
     }
 
-    /// The number of vertices that the set can hold.
+    /// The size of the universe: the set can contain the vertices less than this number.
     pub fn places(&self) -> usize
         ensures { result ≡ length self.now }
     {

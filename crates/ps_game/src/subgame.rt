@@ -36,7 +36,7 @@ impl Subgame {
         Ok(Subgame { region })
     }
 
-    /// The subgame of a region, if each vertex of the region has a successor in the region.
+    /// The given region as a subgame, if each vertex of the region has a successor in the region.
     pub fn find<A: Arena>(arena: &A, region: Region) -> Option<Subgame>
         requires { length region ≡ vertex_count (A.game arena.now) }
         ensures subgame { IsSome result ↔ IsSubgame (A.game arena.now) (has region) }
@@ -50,7 +50,8 @@ impl Subgame {
         Some(Subgame { region })
     }
 
-    /// The subgame of a region in which each vertex is known to have a successor.
+    /// The given region as a subgame; the caller guarantees that each vertex of the region has a successor in the
+    /// region.
     pub fn known<A: Arena>(arena: &A, region: Region) -> Subgame
         requires places { length region ≡ vertex_count (A.game arena.now) }
         requires subgame { IsSubgame (A.game arena.now) (has region) }

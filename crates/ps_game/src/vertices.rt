@@ -1,4 +1,4 @@
-//! Vertices in arrays, as a parser of games builds them.
+//! A growing list of vertices in arrays, which a parser of game texts builds.
 
 ghost use Rattle.std.specs.Prelude.{◌≡◌, ◌≢◌, ◌==◌, ◌<◌, ◌≤◌, ◌+◌, ◌++◌, ◌∷◌, [], IfOk, OnOk, OnErr, Contains, length};
 ghost use Rattle.std.specs.Prelude.{map, take, vec_len, vec_capacity};
@@ -17,7 +17,7 @@ use ps_ids::Ids;
 use std::alloc::{AllocError, Global};
 use std::marker::Model;
 
-/// Vertices in order, whose successors may be any numbers. The vertices are stored in four arrays, which take 17 bytes
+/// A list of vertices whose successors may be any numbers. The vertices are stored in four arrays, which take 17 bytes
 /// for each vertex and 8 bytes for each successor.
 #[derive(Drop)]
 pub struct Vertices {
@@ -83,7 +83,7 @@ impl Vertices {
         Ok(())
     }
 
-    /// Keeps the first `count` vertices and drops the rest.
+    /// Truncates the list to its first `count` vertices.
     pub fn truncate(&mut self, count: usize)
         ensures { self.new ≡ take count self.old }
     {
@@ -112,7 +112,8 @@ impl Vertices {
         places_in(&mut self.successors, ids);
     }
 
-    /// The game with these vertices. A repeated successor counts once, at its first occurrence. Fails if out of memory.
+    /// The game with the vertices of the list. A repeated successor counts once, at its first occurrence. Fails if out
+    /// of memory.
     pub fn into_game(self, alloc: Global) -> Result<Game, AllocError>
         requires bare { NoneBare self }
         requires known { NoneUnknown self }
@@ -158,8 +159,8 @@ impl Vertices {
         own
     }
 
-    /// True only if no vertex has a successor twice. The test is quick: false does not mean that a successor is
-    /// repeated.
+    /// A quick test for repeated successors. If the result is true, no vertex has a successor twice; if the result is
+    /// false, nothing is known.
     fn are_distinct(&self) -> bool
         ensures { OnTrue result (HaveNoRepeats self.now) }
     {
@@ -171,7 +172,7 @@ impl Vertices {
         true
     }
 
-    /// The vertices, each with its own list of successors. Fails if out of memory.
+    /// The vertices as a list of values that have a list of successors each. Fails if out of memory.
     fn listed(&self, alloc: Global) -> Result<Vec<Vertex>, AllocError>
         ensures { IfOk result (λ vertices. vertices.items ≡ self.now) }
     {
@@ -189,7 +190,7 @@ impl Vertices {
     }
 }
 
-/// Reserves room for one more vertex with the given number of successors.
+/// Reserves memory for one more vertex with the given number of successors.
 fn make_room(
     offsets: &mut Vec<usize>,
     owners: &mut Vec<u8>,
@@ -212,7 +213,7 @@ fn make_room(
     successors.reserve(degree)
 }
 
-/// Appends numbers to a list that has room for them.
+/// Appends numbers to a list whose capacity suffices for all of them.
 fn put_all(numbers: &mut Vec<usize>, more: &[usize])
     requires { vec_len numbers.old + length more.now ≤ vec_capacity numbers.old }
     ensures { numbers.new.items ≡ numbers.old.items ++ more.now }
@@ -229,7 +230,7 @@ fn are_ids(ids: &Ids, list: &[usize]) -> bool
     list.iter().all(|id| ids.has(*id as u64))
 }
 
-/// Replaces each id by its index.
+/// Replaces each id in `numbers` by the id's index.
 fn places_in(numbers: &mut [usize], ids: &Ids)
     requires { All (λ id. Contains ids.now id) numbers.old }
     ensures { numbers.new ≡ map (place_of ids.now) numbers.old }
@@ -243,8 +244,8 @@ fn places_in(numbers: &mut [usize], ids: &Ids)
 /// The largest length of a list whose numbers are compared pairwise.
 const FEW: usize = 8;
 
-/// True only if no number occurs twice in a list. A short list is compared pairwise; a longer list must be strictly
-/// ascending.
+/// A quick test for repeated numbers: if the result is true, no number occurs twice in the list. The numbers of a short
+/// list are compared pairwise; a longer list passes only if it is strictly ascending.
 fn are_different(numbers: &[usize]) -> bool
     ensures { OnTrue result (AllPairs (λ x y. x ≢ y) numbers.now) }
 {

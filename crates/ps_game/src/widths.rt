@@ -1,10 +1,10 @@
-//! The types of the numbers in large tables, which are `u32` and `usize`.
+//! The integer types in which the numbers of large tables are stored: `u32` and `usize`.
 
 ghost use Rattle.std.specs.Prelude.{◌≡◌, ◌^◌, ◌-◌, ◌≤◌, ℕ};
 
-/// A type of the numbers in large tables. With a smaller type, less memory is read.
+/// An integer type in which the numbers of large tables are stored. With a smaller type, tables take less memory.
 pub trait Width: Copy {
-    /// The number that a value represents.
+    /// In clauses, the number that a value of the type represents.
     ghost value: { Self → ℕ };
 
     /// The largest number that fits the type.
@@ -13,7 +13,7 @@ pub trait Width: Copy {
     /// The largest number that fits the type.
     const LIMIT: usize;
 
-    /// The value of this type that represents a number.
+    /// Converts a number, which must fit, to a value of this type.
     fn of(number: usize) -> Self
         requires { number ≤ LIMIT }
         ensures { value result ≡ number };

@@ -1,4 +1,4 @@
-//! Operations on words of 64 bits, which process eight words at a time.
+//! Bit operations on lists of 64-bit words, which process eight words at a time by SIMD.
 
 ghost use Rattle.std.specs.Prelude.{◌≡◌, ◌↔◌, ℕ, ◌*◌, ◌/◌, ◌<◌, ◌≤◌, ◌^◌, IsTrue, length, slice_index, take, drop};
 ghost use Rattle.std.specs.Prelude.{bit_and, bit_or, count_ones};
@@ -10,7 +10,7 @@ use std::simd::prelude::*;
 /// The number of 64-bit words processed at a time.
 const LANES: usize = 8;
 
-/// Sets each bit that is set in the other words.
+/// Sets each bit of `words` that is set in `others`.
 pub(crate) fn unite(words: &mut [u64], others: &[u64])
     requires { length others.now ≡ length words.old }
     ensures { (k : ℕ) → slice_index words.new k ≡ bit_or (slice_index words.old k) (slice_index others.now k) }
@@ -47,7 +47,7 @@ fn unite_rest(words: &mut [u64], others: &[u64], start: usize)
     }
 }
 
-/// Clears each bit that is set in the other words.
+/// Clears each bit of `words` that is set in `others`.
 pub(crate) fn subtract(words: &mut [u64], others: &[u64])
     requires { length others.now ≡ length words.old }
     ensures in_range { (k : ℕ) → slice_index others.now k < 2 ^ 64 }
@@ -86,7 +86,7 @@ fn subtract_rest(words: &mut [u64], others: &[u64], start: usize)
     }
 }
 
-/// The number of bits that are set.
+/// The number of bits that are set in a list of words.
 pub(crate) fn count_set(words: &[u64]) -> usize
     requires { sum_by count_ones words.now < 2 ^ 64 }
     ensures in_range { (k : ℕ) → slice_index words.now k < 2 ^ 64 }
@@ -123,7 +123,7 @@ fn count_rest(words: &[u64], start: usize) -> usize
     count
 }
 
-/// Whether no bit is set.
+/// Whether all bits of a list of words are 0.
 pub(crate) fn is_clear(words: &[u64]) -> bool
     ensures in_range { (k : ℕ) → slice_index words.now k < 2 ^ 64 }
     ensures clear { IsTrue result ↔ ((k : ℕ) → slice_index words.now k ≡ 0) }

@@ -5,7 +5,7 @@ use Rattle.ps_game.proofs.WordSets.{IsMade, same_words, difference_made}
 use Rattle.ps_game.proofs.regions.Region.difference_with.Goals as goal
 use Rattle.ps_game.proofs.regions.Region.difference_with.Goals.{After-subtract}
 
--- the new words, in place of the old words, represent the difference
+-- the words that `subtract` computes represent the difference of the two sets
 made : (c : After-subtract) →
     IsMade c.self.inside.places (with_items c.self.inside.words c.subtract.new.words).items c.args.self.now
     c.args.other.now (λ a b. a && not b)

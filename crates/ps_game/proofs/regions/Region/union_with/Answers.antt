@@ -6,7 +6,7 @@ use Rattle.ps_game.proofs.WordSets.{IsMade, same_words, union_made}
 use Rattle.ps_game.proofs.regions.Region.union_with.Goals as goal
 use Rattle.ps_game.proofs.regions.Region.union_with.Goals.{After-unite}
 
--- the new words, in place of the old words, represent the union
+-- the words that `unite` computes represent the union of the two sets
 made : (c : After-unite) →
     IsMade c.self.inside.places (with_items c.self.inside.words c.unite.new.words).items c.args.self.now
     c.args.other.now (λ a b. a || b)
