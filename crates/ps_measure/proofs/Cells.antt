@@ -1,4 +1,5 @@
--- Chains of cells that hold counts: how one more cell changes them, and the rows that they store.
+-- Linked lists (chains) of cells that hold the counts of vertices: how one more cell changes them, and which rows of
+-- counts they store.
 use Rattle.std.proofs.Common.{◌≡◌, ◌≢◌, ℕ, zero, suc, ◌+◌, ◌-◌, ◌<◌, ◌≤◌, ◌==◌, ◌∙◌, ◌++◌, ◌∷◌, [], List, length, map}
 use Rattle.std.proofs.Common.{max, get_or, inl, inr, refl, sym, ap, add-one, arith, Option, Some, cond}
 use Rattle.std.proofs.Common.{replicate, rules}
@@ -36,7 +37,8 @@ next_falls cells h i o k = search rules
 
 module _ (cells : List CountCell)
     (falls : (i : ℕ) (cell : CountCell) → slice_get cells i ≡ Some cell → cell.next ≤ i) where
-  -- two limits on the number of cells give the same count, if neither is less than the number of the first cell
+  -- `count_from` does not depend on its limit on the number of cells, if the limit is at least the number of the
+  -- chain's first cell
   pub any_fuel : (f g n k : ℕ) → n ≤ f → n ≤ g → count_from cells f n k ≡ count_from cells g n k
   any_fuel f g zero k a b = from_none cells f k ∙ sym (from_none cells g k)
   any_fuel zero g (suc i) k a b = absurd (omega arith)
@@ -54,7 +56,7 @@ module _ (cells : List CountCell)
       count_from cells (suc i) (suc i) k ≡ max (count_here (Some cell) k) (count_from cells cell.next cell.next k)
   from_number i k cell at = search (rules, from_cell, any_fuel)
 
-  -- one more cell does not change the counts of the existing chains
+  -- appending a cell to the list of cells does not change the counts of the existing chains
   pub from_longer : (cell : CountCell) (f n k : ℕ) → n ≤ length cells →
       count_from (cells ++ cell ∷ []) f n k ≡ count_from cells f n k
   from_longer cell f zero k within = from_none (cells ++ cell ∷ []) f k ∙ sym (from_none cells f k)
@@ -65,7 +67,7 @@ module _ (cells : List CountCell)
       let less = falls i old at in
       search (rules, from_cell, slice_get-append_left, from_longer cell f old.next k (omega (arith, less, within)))
 
-  -- the count of the chain that begins with the new cell
+  -- the count at index k of the chain that begins with the newly appended cell
   pub from_new : (cell : CountCell) (k : ℕ) → cell.next ≤ length cells →
       count_from (cells ++ cell ∷ []) (suc (length cells)) (suc (length cells)) k
       ≡ max (count_here (Some cell) k) (count_from cells cell.next cell.next k)
@@ -96,7 +98,7 @@ module _ {width : ℕ} {cells : List CountCell} {n : ℕ} (chained : AreChained 
   here_and_behind : (k : ℕ) → count_from cells n n k ≡ max (count_here (Some cell_here) k) (behind k)
   here_and_behind k = grind (arith, from_number cells chained.falls (n - 1) k cell_here there)
 
-  -- raising a row by one cell leaves only the cells after it to be added
+  -- after the count of one cell of a chain is added to a row, only the cells after this one remain to be added
   pub row_step : (row new : List ℕ) →
       slice_index new cell_here.place ≡ max (slice_index row cell_here.place) cell_here.count →
       ((k : ℕ) → k ≢ cell_here.place → slice_index new k ≡ slice_index row k) → (k : ℕ) →

@@ -1,4 +1,4 @@
--- The links of the graphs, and the remaining edges.
+-- The links of the graphs on which counts are computed, and the remaining edges of the game for which they stand.
 use Rattle.std.proofs.Common.{rules, ◌≡◌, ℕ, ◌+◌, ◌<◌, ◌≤◌, ◌∙◌, length, inl, inr, refl, sym, ap}
 use Rattle.std.proofs.Common.{arith, Option, Some, Bool, true, false, cond, nat_le, not, ◌&&◌, ◌||◌}
 use Rattle.std.specs.Prelude.{slice_index, ◌==◌}
@@ -14,11 +14,11 @@ use Rattle.ps_measure.specs.Inner.Remaining.{RemainingData, is_move, remaining_g
 use Rattle.ps_measure.specs.Inner.Remaining.{LowData, low_graph, low_weight}
 use Rattle.ps_measure.specs.Sums.{counted}
 
--- an edge that remains within the region, for the game, player and moves of a graph
+-- an edge remains within the region, when the player moves by the table; all are given by the value r
 abbrev pub Remains : RemainingData → ℕ → ℕ → Type 0
 Remains r = RemainsWithin r.game r.player (has r.region) (move_at r.strategy)
 
--- a successor is a vertex
+-- each successor of a vertex of a game is a vertex
 pub successor_within : (game : ParityGame) (v k : ℕ) → IsGame game → v < vertex_count game →
     k < length (successors_of game v) → slice_index (successors_of game v) k < vertex_count game
 successor_within game v k is_game below within = is_game.within v (slice_index (successors_of game v) k) (
@@ -32,13 +32,14 @@ is_move-some o w h = search (rules, eqb-true)
 some-is_move : (o : Option ℕ) (w : ℕ) → o ≡ Some w → is_move o w ≡ true
 some-is_move o w e = rw e (eq-eqb w w refl)
 
--- if k is less than a number that is n if b is true and 0 otherwise, then b is true, and k is less than n
+-- if k is less than `cond b n 0`, b is true and k is less than n
 pub below_places : (b : Bool) (k n : ℕ) → k < cond b n 0 → (b ≡ true) × (k < n)
 below_places b k n below = search rules
 
 -- ## Remaining edges, by a test
 
--- both ends are in the set; and if the player owns the source, the edge is the player's move
+-- a test for remaining edges: both ends are in the set, and if the player owns the source, the edge is the player's
+-- move
 abbrev pub may_stay : ParityGame → ℕ → (ℕ → Bool) → (ℕ → Option ℕ) → ℕ → ℕ → Bool
 may_stay game player set table v w = set v && set w && (not (owner_of game v == player) || is_move (table v) w)
 
@@ -49,17 +50,17 @@ module _ {game : ParityGame} {player : ℕ} {set : ℕ → Bool} {table : ℕ �
   pub so_stays : RemainsWithin game player set table v w → may_stay game player set table v w ≡ true
   so_stays remains = search (rules, and_from, cases_eq, or_right, some-is_move, or_left, not_from_false, ne_eqb)
 
--- each link is a remaining edge
+-- each link of `remaining_graph` is an edge that remains within the region
 pub link_remains : (r : RemainingData) {v w : ℕ} → Link (remaining_graph r) v w → Remains r v w
 link_remains r {v} {w} link = search (rules, cond_some, below_places, stays_so, get_or_default)
 
--- each remaining edge is a link
+-- each edge that remains within the region is a link of `remaining_graph`
 pub remains_link : (r : RemainingData) {v w : ℕ} → Remains r v w → Link (remaining_graph r) v w
 remains_link r {v} {w} remains = search (rules, get_or_default, so_stays)
 
 -- ## Links of low vertices
 
--- a link of the low graph is a link between vertices whose priorities are at most the given priority
+-- each link of `low_graph` is a link of the stored graph between vertices whose priorities are at most `low.priority`
 pub low_link : (low : LowData) {w v : ℕ} → Link (low_graph low) w v → Link (star_graph low.star) w v ×
     (slice_index low.levels w ≤ low.priority) × (slice_index low.levels v ≤ low.priority)
 low_link low {w} {v} link = search (rules, below_places, cond_some, leb-true)
@@ -70,7 +71,7 @@ link_low low {w} {v} link from to = search (rules, le-leb)
 
 -- ## Roots
 
--- none of the first k targets of a vertex is low
+-- each of the first k links of v leads to a vertex whose priority is greater than `low.priority`
 pub record NoneLow (g : Digraph) (low : LowData) (v k : ℕ) : Type 0 where
   pub none : (w : ℕ) (link : Link g v w) → link.place < k → low.priority < slice_index low.levels w
 
@@ -87,7 +88,7 @@ pub high_target : (low : LowData) {to w : ℕ} → Some to ≡ Some w →
     nat_le (slice_index low.levels to) low.priority ≡ false → low.priority < slice_index low.levels w
 high_target low {to} {w} same high = search (rules, leb-false)
 
--- an edge between low vertices, reversed, is a link of the low graph
+-- a link of g between vertices whose priorities are at most `low.priority`, reversed, is a link of `low_graph`
 pub leads_low : {g : Digraph} (low : LowData) {v : ℕ} (k : ℕ) {w : ℕ} → IsReverse g (star_graph low.star) →
     v < g.count → k < g.degree v → g.target v k ≡ Some w → slice_index low.levels v ≤ low.priority →
     nat_le (slice_index low.levels w) low.priority ≡ true → Link (low_graph low) w v
@@ -101,7 +102,7 @@ leads_nowhere {low = low} {v} {w = w} reverse all none link =
     let there = reverse.back v w parts.0 in
     omega (arith, none.none w there (omega (arith, there.at, all)), parts.1)
 
--- a vertex of weight 1 is in the region and has the priority
+-- if a vertex has the weight 1, it is in the region and has the priority
 heavy_parts : (a b : Bool) → counted (a && b) ≡ 1 → (a ≡ true) × (b ≡ true)
 heavy_parts a b e = search rules
 

@@ -1,4 +1,5 @@
--- Either there are least counts for all priorities, stored as rows, or there is a lost cycle.
+-- Either least counts exist for all priorities by which the player loses, stored as rows, or the player loses some
+-- cycle.
 use Rattle.std.proofs.Common.{◌≡◌, ℕ, zero, suc, ◌%◌, ◌<◌, ◌≤◌, ◌⊎◌, List, [], ◌∷◌, length, map, get_or, inl, inr}
 use Rattle.std.proofs.Common.{arith, Option, Some, Bool, rules}
 use Rattle.std.specs.Prelude.{slice_get}
@@ -23,7 +24,7 @@ module _ (game : ParityGame) (player : ℕ) (set : ℕ → Bool) (table : ℕ �
   then_more first rest zero = first
   then_more first rest (suc k) = rest k
 
-  -- least counts for each of the given priorities
+  -- counts that are the least ones for each of the given priorities
   record Columns (priorities : List ℕ) : Type 0 where
     count : ℕ → ℕ → ℕ
     are_least : (k : ℕ) → k < length priorities → AreLeastFor game player set table (get_or priorities k 0) (count k)

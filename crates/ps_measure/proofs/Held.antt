@@ -1,4 +1,4 @@
--- A player who holds a region by a table loses no cycle in it.
+-- A player who holds a region by a table loses no cycle of edges that remain within the region.
 use Rattle.std.proofs.Common.{◌≡◌, ℕ, ◌+◌, ◌<◌, ◌∙◌, List, [], ◌∷◌, ◌++◌, length, map, inl, inr, refl}
 use Rattle.std.proofs.Common.{sym, arith, Option, Bool, rules}
 use Rattle.std.specs.Prelude.{slice_index, IsTrue}
@@ -12,7 +12,7 @@ use Rattle.ps_measure.specs.Ranks.{IsLostCycle, IsRefusal, IsOutOfMemory}
 
 module _ {game : ParityGame} {player : ℕ} {set : ℕ → Bool} {table : ℕ → Option ℕ} {cycle : List ℕ}
     (lost : IsLostCycle game player set table cycle) where
-  -- the cycle, with its first vertex repeated at the end
+  -- the cycle as a path, with its first vertex repeated at the end
   abbrev round : List ℕ
   round = cycle ++ slice_index cycle 0 ∷ []
 

@@ -1,5 +1,5 @@
--- The least counts of the graph of low vertices are the least counts of the game. A way back to the source of a link is
--- a cycle of the game.
+-- The least counts of the reversed graph of the vertices up to a priority are the least counts of the game for this
+-- priority. A link of this graph and a path back to the link's source form a cycle of the game.
 use Rattle.std.proofs.Common.{◌≡◌, ◌≢◌, ℕ, zero, suc, ◌+◌, ◌-◌, ◌%◌, ◌<◌, ◌≤◌, ◌∙◌, List, [], ◌∷◌, length, map, get_or}
 use Rattle.std.proofs.Common.{inl, inr, refl, ap, arith, Bool, true, false, cond, nat_le, rules}
 use Rattle.std.specs.Prelude.{slice_index, IsTrue}
@@ -30,14 +30,14 @@ greatest-least [] k within = absurd (omega arith)
 greatest-least (x ∷ xs) zero within = omega arith
 greatest-least (x ∷ xs) (suc k) within = omega (arith, greatest-least xs k (omega arith))
 
--- a number of a list is its greatest number if no number of the list is greater
+-- if no number of a list is greater than its entry at index k, this entry is the list's greatest number
 greatest_at : (xs : List ℕ) (k p : ℕ) → k < length xs → get_or xs k 0 ≡ p →
     ((j : ℕ) → j < length xs → get_or xs j 0 ≤ p) → greatest xs ≡ p
 greatest_at xs k p within is each = omega (arith, is, greatest-bound xs p each, greatest-least xs k within)
 
 module _ (r : RemainingData) (low : LowData) (is_game : IsGame r.game) (levels : AreLevels r.game low.levels)
     (reverse : IsReverse (remaining_graph r) (star_graph low.star)) (regions : low.region ≡ r.region) where
-  -- a link is a reversed remaining edge between vertices whose priorities are at most the given one
+  -- each link of `low_graph` is a reversed remaining edge between vertices whose priorities are at most `low.priority`
   remains_low : (w v : ℕ) → Link (low_graph low) w v → Remains r v w × (priority_of r.game w ≤ low.priority) ×
       (priority_of r.game v ≤ low.priority)
   remains_low w v link =
@@ -55,7 +55,7 @@ module _ (r : RemainingData) (low : LowData) (is_game : IsGame r.game) (levels :
   light_none : (v : ℕ) → v < vertex_count r.game → priority_of r.game v ≢ low.priority → low_weight low v ≡ 0
   light_none v below apart = search (rules, ne_eqb)
 
-  -- numbers that keep the rule of counts are counts of the graph of links
+  -- numbers that keep the rule of counts on the remaining edges satisfy `AreCounts` on the links of `low_graph`
   from_rule : (other : ℕ → ℕ) → KeepRuleWithin r.game r.player (has r.region) (move_at r.strategy) low.priority other →
       AreCounts (low_graph low) (low_weight low) other
   from_rule other keep w v link =
@@ -74,7 +74,7 @@ module _ (r : RemainingData) (low : LowData) (is_game : IsGame r.game) (levels :
     );
   }
 
-  -- if the ends of all links pass a test, the counts of vertices that fail the test are 0
+  -- if both ends of each link pass a test, the least counts of the vertices that fail the test are 0
   zero_where : (test : ℕ → Bool) (d : ℕ → ℕ) → AreLeast (low_graph low) (low_weight low) d →
       ((w v : ℕ) → Link (low_graph low) w v → (test w ≡ true) × (test v ≡ true)) → (v : ℕ) → test v ≡ false → d v ≡ 0
   zero_where test d least ends v fails =
@@ -106,7 +106,7 @@ module _ (r : RemainingData) (low : LowData) (is_game : IsGame r.game) (levels :
       false_unless true not_so = absurd (not_so refl)
       false_unless false not_so = refl
 
-  -- the vertices of a way back to the source of a link
+  -- properties of the cycle that a link and a path back to the link's source form
   module _ {cycle : List ℕ} (way : IsLowCycle low cycle) where
     some : 0 < length cycle
     some = slice_get_within cycle 0 way.from way.trail.first

@@ -1,5 +1,5 @@
--- The links are processed from the last vertex of the order to the first, so that each value is final before it is
--- used.
+-- The pass that raises the values of components along the links: it goes from the last vertex in the list of finished
+-- vertices to the first, so that each value is final before it is used.
 use Rattle.std.proofs.Common.{rules, ◌≡◌, ℕ, ◌+◌, ◌<◌, ◌≤◌, ◌∙◌, List, length, inl, inr, ap, arith, refl}
 use Rattle.std.proofs.Common.{Option, None, Some}
 use Rattle.std.specs.Prelude.{slice_get, slice_index, slice_set}
@@ -24,7 +24,8 @@ pub raised_before : (c : ComponentsData) {old new : List ℕ} (roots : List ℕ)
     AreRaised c old roots → AreRaised c new roots
 raised_before c roots grown raised i v k at is = omega (arith, raised i v k at is, grown.grows k)
 
--- the values still respect a link after values below the component of its source have grown
+-- the values still respect a link after the values of components with smaller numbers than the source's component have
+-- grown
 pub passed_on : {weight : ℕ → ℕ} {c : ComponentsData} {old new : List ℕ} {w v k : ℕ} → IsIn c w k → {place : ℕ} →
     place ≤ k → GrowsBelow old new place → IsPassed weight c old w v → IsPassed weight c new w v
 passed_on is later grown (inside n from to light) = inside n from to light
@@ -39,8 +40,8 @@ module _ {g : Digraph} {weight : ℕ → ℕ} {c : ComponentsData} {values : Lis
   pub number_within : m < length values
   number_within = omega (arith, components.below v m to, column.each)
 
-  -- a component may get a larger value, if that value is a lower bound for all counts and at most the sum of the
-  -- weights from that component on
+  -- the column stays correct if a component gets the value x, which is a lower bound for its vertices' counts and at
+  -- most the total weight of this component and later ones
   set_column : (x : ℕ) → ((d : ℕ → ℕ) → AreCounts g weight d → x ≤ d v) → x ≤ weights_from c weight m g.count →
       IsColumn g weight c (slice_set values m x)
   set_column x least bounded = record {
@@ -53,12 +54,12 @@ module _ {g : Digraph} {weight : ℕ → ℕ} {c : ComponentsData} {values : Lis
     bounded = search (rules, written, number_within);
   }
 
-  -- raising the value of a root's component to 1 keeps the column correct
+  -- raising the value of a root's component to 1 keeps the values of all components correct
   pub root_column : {w : ℕ} → Link g w v → weight v ≡ 1 → IsColumn g weight c (slice_set values m 1)
   root_column {w} link heavy = set_column 1 (λ d counts. omega (arith, counts w v link))
       (omega (arith, weights_from-least weight components v to))
 
-  -- the value of a later component, plus the weight of the vertex
+  -- the component of v may get the value of a later component that has a link to v, plus the weight of v
   module _ {k : ℕ} (falls : m < k) where
     sum_bounded : slice_index values k + weight v ≤ weights_from c weight m g.count
     sum_bounded = omega (arith, column.bounded k, weights_from-more weight components v to falls)
@@ -80,7 +81,7 @@ module _ {g : Digraph} {weight : ℕ → ℕ} {c : ComponentsData} {values : Lis
 
 -- ## The order
 
--- the values respect the links from one more vertex of the order
+-- the values also respect the links that leave the next processed vertex
 pub passed_from_here : {g : Digraph} (weight : ℕ → ℕ) {c : ComponentsData} {old new : List ℕ} (place : ℕ) {w k : ℕ} →
     AreComponents g c → slice_get c.order place ≡ Some w → IsIn c w k → GrowsBelow old new k →
     ArePassedFrom g weight c old (place + 1) → ((v : ℕ) → Link g w v → IsPassed weight c new w v) →
@@ -96,7 +97,7 @@ passed_from_here weight place {w} {k} components at is grown before here j w' v 
 
 -- ## The end
 
--- the values of all vertices are the least counts
+-- if the values respect all links, they are the least counts of the vertices
 module _ {g : Digraph} {weight : ℕ → ℕ} {c : ComponentsData} {values roots : List ℕ}
     (light : (v : ℕ) → weight v ≤ 1) (components : AreComponents g c) (root : AreRoots g weight roots)
     (met : AreMet g roots c) (column : IsColumn g weight c values) (raised : AreRaised c values roots)
@@ -104,7 +105,7 @@ module _ {g : Digraph} {weight : ℕ → ℕ} {c : ComponentsData} {values roots
   value_in : (v k : ℕ) → IsIn c v k → value_of c values v ≡ slice_index values k
   value_in v k is = ap (value_at values) is
 
-  -- if the source of a link was not reached, its target has weight 0 or is a root
+  -- the weight of a link's target is at most the target's value, even if the search did not reach the link's source
   from_unmet : (w v : ℕ) → Link g w v → weight v ≤ value_of c values v
   from_unmet w v link = elim (cases_eq (weight v) 1) [
     | inl heavy ↦

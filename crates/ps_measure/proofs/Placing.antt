@@ -1,4 +1,4 @@
--- The counts for one priority, written into a table one after another.
+-- Writing the counts for one priority into the table of counts, one vertex after another.
 use Rattle.std.proofs.Common.{◌≡◌, ◌≢◌, ℕ, zero, suc, ◌+◌, ◌<◌, ◌≤◌, ◌∙◌, List, length, max, inl, inr, nat_lt}
 use Rattle.std.proofs.Common.{ap, arith, Some, rules}
 use Rattle.std.specs.Prelude.{slice_get}
@@ -22,7 +22,7 @@ one_more f g (suc n) u below none one others = elim (cases_eq u n) [
   | inr apart ↦ grind (arith, one_more f g n u (omega (arith, below, apart)) none one others)
 ]
 
--- the counts of the first `i` vertices of an order were written
+-- the counts of the first `i` vertices in the list `order` were written into the table
 pub record ArePut (order : List ℕ) (counts : ℕ → ℕ) (old now : List (List ℕ)) (place i raised : ℕ) : Type 0 where
   pub each : length now ≡ length old
   pub wide : (v : ℕ) → width_of now v ≡ width_of old v
@@ -39,15 +39,15 @@ put_none {old = old} {place} none = search (rules, raised_none)
 module _ {order : List ℕ} {counts : ℕ → ℕ} {old now : List (List ℕ)} {place i raised u : ℕ}
     (so_far : ArePut order counts old now place i raised) (at : slice_get order i ≡ Some u)
     (once : (j v : ℕ) → slice_get order j ≡ Some v → slice_get order i ≡ Some v → j ≡ i) where
-  -- the vertex occurs only once in the order, so its count was not written yet
+  -- the vertex occurs only once in the list of reached vertices, so its count was not written before
   fresh : count_of now u place ≡ 0
   fresh = so_far.rest u (λ j less there. (let e : j ≡ i = once j u there at in omega (arith, e, less)))
 
-  -- the count is 0, so it need not be written
+  -- a count that is 0 need not be written, since the table has zeros
   pub put_skip : counts u ≡ 0 → ArePut order counts old now place (i + 1) raised
   put_skip none = search (rules, cases_eq, fresh)
 
-  -- the count is written
+  -- a count that is not 0 is written into the table
   pub put_one : {new : List (List ℕ)} → u < length old → 0 < counts u → HasPut now new u place (counts u) →
       ArePut order counts old new place (i + 1) (raised + 1)
   put_one {new} below some put = record {
@@ -76,7 +76,7 @@ module _ {g : Digraph} {c : ComponentsData} (components : AreComponents g c) whe
   pub item_within : (i v : ℕ) → slice_get c.order i ≡ Some v → v < length c.numbers
   item_within i v at = (let number = components.ordered i v at in slice_get_within c.numbers v (Some number.0) number.1)
 
-  -- a vertex that is not in the order has the value 0
+  -- a vertex that the search did not reach has the value 0
   no_value : (values : List ℕ) (v : ℕ) → ((j : ℕ) → slice_get c.order j ≡ Some v → ⊥) → value_of c values v ≡ 0
   no_value values v nowhere = search rules
 

@@ -1,6 +1,6 @@
--- For each priority there are least counts, or there is a lost cycle. Counts begin at 0, and are raised along the edges
--- that remain for the player until no edge breaks the rule. Each count is the length of a chain of vertices of the
--- priority. If a vertex occurs twice in a chain, the player loses a cycle.
+-- For each priority, least counts exist, or the player loses a cycle. The proof raises counts from 0 along the
+-- remaining edges until no edge breaks the rule. Each count is the length of a chain of vertices of the priority, each
+-- of which leads to the next one. If a vertex occurs twice in a chain, the player loses a cycle.
 use Rattle.std.proofs.Common.{◌≡◌, ℕ, zero, suc, ◌+◌, ◌-◌, ◌*◌, ◌%◌, ◌<◌, ◌≤◌, ◌⊎◌, ◌∙◌, List, [], ◌∷◌, ◌++◌, length}
 use Rattle.std.proofs.Common.{map, max, get_or, inl, inr, refl, sym, ap, arith, add-one, Option, Bool, true}
 use Rattle.std.proofs.Common.{cond, not, nat_le, nat_eq, ◌&&◌, rules}
@@ -22,7 +22,7 @@ use Rattle.ps_measure.proofs.Summing.{sum_below-bound, sum_below-more}
 
 -- ## Numbers below a bound
 
--- one function is greater than another somewhere, or nowhere
+-- g is greater than f at some number less than n, or at none of them
 above_or_not : (f g : ℕ → ℕ) (n : ℕ) → ((v : ℕ) × (v < n) × (f v < g v)) ⊎ ((v : ℕ) → v < n → g v ≤ f v)
 above_or_not f g zero = inr (λ v below. absurd (omega (arith, below)))
 above_or_not f g (suc n) = grind (arith, cases_lt (f n) (g n), cases_eq, above_or_not f g n)
@@ -38,7 +38,7 @@ Distinct (u ∷ us) = (Contains us u → ⊥) × Distinct us
 fewer : (b c : Bool) → counted (b && c) ≤ counted b
 fewer b c = search rules
 
--- distinct numbers below n that pass a test are no more than all numbers below n that pass it
+-- a list of distinct numbers less than n that pass a test is at most as long as the count of all such numbers
 fits : (h : ℕ → Bool) (n : ℕ) (us : List ℕ) → Distinct us → ((u : ℕ) → Contains us u → (h u ≡ true) × (u < n)) →
     length us ≤ count_below h n
 fits h n [] d each = omega arith
@@ -146,7 +146,7 @@ module _ (game : ParityGame) (player : ℕ) (set : ℕ → Bool) (table : ℕ �
     | inl d ↦ inl (fits heavy (vertex_count game) us d (λ u at. chain_heavy v us c at.0 u at.1 at.2))
   ]
 
-  -- an edge leads from each vertex of a run to the next vertex
+  -- in a run, a remaining edge leads from each vertex to the next one
   run_edges : (v : ℕ) (ws : List ℕ) (u k : ℕ) → IsRun v ws u → suc k < length (v ∷ ws) →
       Goes (get_or (v ∷ ws) k 0) (get_or (v ∷ ws) (suc k) 0)
   run_edges v [] u k r within = absurd (omega (arith, within))
@@ -191,16 +191,16 @@ module _ (game : ParityGame) (player : ℕ) (set : ℕ → Bool) (table : ℕ �
 
   -- ## Counts
 
-  -- the smallest count that one edge allows, given the count of its target
+  -- the smallest count that the edge from v to w allows v, given the count of w
   abbrev wish : (ℕ → ℕ) → ℕ → ℕ → ℕ
   wish d v w = cond (goes v w) (d w + weight v) 0
 
-  -- the smallest count that the edges to the given successors allow
+  -- the smallest count that the edges from v to the given successors allow v
   best : (ℕ → ℕ) → ℕ → List ℕ → ℕ
   best d v [] = 0
   best d v (w ∷ ws) = max (wish d v w) (best d v ws)
 
-  -- the smallest counts that runs of up to k edges allow
+  -- the smallest counts that paths of up to k remaining edges allow
   counts : ℕ → ℕ → ℕ
   counts zero v = 0
   counts (suc k) v = best (counts k) v (successors_of game v)
@@ -229,7 +229,7 @@ module _ (game : ParityGame) (player : ℕ) (set : ℕ → Bool) (table : ℕ �
   unfolding counts best successors_of vertex_count
   past k v h = search (rules, best, counts, get_or_past)
 
-  -- a count is 0, or is the smallest that some edge allows
+  -- each count is 0, or is the smallest count that some remaining edge allows
   asked_by : (k v : ℕ) → (counts (suc k) v ≡ 0) ⊎ ((w : ℕ) × Goes v w × (counts (suc k) v ≡ counts k w + weight v))
   unfolding counts
   asked_by k v = elim (cases_lt 0 (counts (suc k) v)) [
@@ -268,7 +268,7 @@ module _ (game : ParityGame) (player : ℕ) (set : ℕ → Bool) (table : ℕ �
     | inr none ↦ search (rules, cases_lt, past)
   ]
 
-  -- no count has to be raised any more
+  -- after k rounds, no count has to be raised any more
   record IsSettled (k : ℕ) : Type 0 where
     bounded : (v : ℕ) → counts k v ≤ count_with game set p
     settled : (v : ℕ) → v < vertex_count game → counts (suc k) v ≤ counts k v
@@ -300,7 +300,7 @@ module _ (game : ParityGame) (player : ℕ) (set : ℕ → Bool) (table : ℕ �
     | inr (inr more) ↦ settle fuel (suc k) (omega (arith, enough, more.1))
   ]
 
-  -- every count that keeps the rule is at least the count that `counts` gives
+  -- at each vertex, counts that keep the rule are at least the counts that `counts` gives
   least : (other : ℕ → ℕ) → KeepRuleWithin game player set table p other → (k v : ℕ) → counts k v ≤ other v
   unfolding counts weight
   least other keep zero v = omega arith

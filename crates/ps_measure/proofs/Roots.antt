@@ -1,4 +1,4 @@
--- The roots for a priority, searched for among the vertices that have it.
+-- The search for the roots of a priority, which are the vertices of this priority to which a link of `low_graph` leads.
 use Rattle.std.proofs.Common.{◌≡◌, ℕ, ◌+◌, ◌<◌, ◌≤◌, ◌∙◌, List, [], ◌∷◌, ◌++◌, length, inl, inr, sym, ap, arith, rules}
 use Rattle.std.proofs.Common.{Some}
 use Rattle.std.specs.Prelude.{slice_index, slice_get}
@@ -10,11 +10,11 @@ use Rattle.ps_measure.specs.Inner.Groups.{IsGroup}
 use Rattle.ps_measure.specs.Inner.Remaining.{StarData, star_graph, LowData, low_graph, low_weight}
 use Rattle.ps_measure.proofs.Edges.{heavy_inside, heavy_level}
 
--- the target of the link with a given index at a vertex
+-- the target of link k of the vertex v in a stored graph
 abbrev pub member : StarData → ℕ → ℕ → ℕ
 member star v k = slice_index star.targets (slice_index star.starts v + k)
 
--- the roots that are among the first n members
+-- the list has exactly the roots that are among the first n candidates
 pub record RootsAmong (low : LowData) (members : ℕ → ℕ) (roots : List ℕ) (n : ℕ) : Type 0 where
   pub sound : (i v : ℕ) → slice_get roots i ≡ Some v → (w : ℕ) × Link (low_graph low) w v × (low_weight low v ≡ 1)
   pub complete : (w k : ℕ) → k < n → Link (low_graph low) w (members k) → low_weight low (members k) ≡ 1 →
@@ -43,7 +43,7 @@ roots_skip {low} {members} {n = n} {v} is none so_far = record {
   ];
 }
 
--- each root is a member of the group
+-- all roots are found if all vertices of the priority's group are tried
 pub roots_all : {low : LowData} {members : StarData} {place : ℕ} {roots : List ℕ} {n : ℕ} →
     (star_graph members).degree place ≤ n → ((w v : ℕ) → Link (low_graph low) w v → v < low.star.count) →
     IsGroup members place low → RootsAmong low (member members place) roots n →
@@ -56,7 +56,7 @@ roots_all {low} {members} {place} {roots} all within group so_far = record {
       rw is (so_far.complete w found.place (omega (arith, found.at, all)) (rw is at link) (rw is at heavy)));
 }
 
--- each root is a vertex
+-- all roots are found if all vertices of the graph are tried
 pub roots_everywhere : {low : LowData} {roots : List ℕ} {n : ℕ} → low.star.count ≤ n →
     ((w v : ℕ) → Link (low_graph low) w v → v < low.star.count) → RootsAmong low (λ k. k) roots n →
     AreRoots (low_graph low) (low_weight low) roots
@@ -65,7 +65,7 @@ roots_everywhere all within so_far = record {
   complete = λ w v link. so_far.complete w v (omega (arith, within w v link, all)) link;
 }
 
--- the links from the index of a group lead to vertices
+-- the members of a priority's group are vertices of the graph
 pub member_within : {low : LowData} {members : StarData} {place : ℕ} (k : ℕ) {v : ℕ} → IsGroup members place low →
     k < (star_graph members).degree place → (star_graph members).target place k ≡ Some v → v < low.star.count
 member_within k {v} group below is = search (rules, group.within, group.at)

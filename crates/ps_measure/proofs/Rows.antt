@@ -1,4 +1,4 @@
--- Rows of counts: how the counts for one more priority are added, and how many counts are not 0.
+-- The rows of counts: how the counts for one more priority are added, and how many counts are not 0.
 use Rattle.std.proofs.Common.{◌≡◌, ℕ, ◌+◌, ◌*◌, ◌<◌, ◌≤◌, ◌∙◌, List, length, inl, inr, refl, sym, arith, Bool, true}
 use Rattle.std.proofs.Common.{false, nat_lt, Option, rules}
 use Rattle.std.specs.Prelude.{slice_index}
@@ -50,7 +50,7 @@ module _ {game : ParityGame} {player : ℕ} {set : ℕ → Bool} {table : ℕ �
 
   -- ## The columns so far
 
-  -- counts that equal least counts are least counts
+  -- counts that equal the least counts at each vertex are the least counts
   pub least_same : {p : ℕ} {counts other : ℕ → ℕ} → ((v : ℕ) → other v ≡ counts v) →
       AreLeastFor game player set table p counts → AreLeastFor game player set table p other
   least_same same least = record {
@@ -61,7 +61,7 @@ module _ {game : ParityGame} {player : ℕ} {set : ℕ → Bool} {table : ℕ �
     bounded = λ v. omega (arith, least.bounded v, same v);
   }
 
-  -- the rows are right for one more priority, if the counts for it were added to them
+  -- if the least counts for one more priority are added to correct rows, the rows are correct for this priority too
   pub ranked_more : {priorities : List ℕ} {old new : List Row} {place raises raised : ℕ} {counts : ℕ → ℕ} →
       AreLeastFor game player set table (slice_index priorities place) counts → HasColumn old new place counts →
       raised ≡ raised_below counts (vertex_count game) → AreRanked game player set table priorities old place raises →

@@ -1,4 +1,4 @@
--- The steps of the pass over all links, on plain data.
+-- The steps of the pass that raises the values of components along all links, stated for lists of numbers.
 use Rattle.std.proofs.Common.{◌≡◌, ℕ, ◌+◌, ◌-◌, ◌*◌, ◌<◌, ◌≤◌, ◌∙◌, List, length, get_or, inl, inr, sym, ap, rules}
 use Rattle.std.proofs.Common.{arith, refl, Option, None, Some, eqb, unwrap_or}
 use Rattle.std.specs.Prelude.{slice_get, slice_index, slice_set}
@@ -20,7 +20,7 @@ use Rattle.ps_measure.proofs.Writing.{written}
 use Rattle.ps_measure.proofs.Passing.{number_within, raise_column, raise_fits, passed_by_raise, passed_on}
 use Rattle.ps_measure.proofs.Passing.{passed_from_here, root_column, raised_before, least_counts}
 
--- a value before index `number` is raised
+-- raising one value before index `number` satisfies `GrowsBelow`
 pub grows_set : {values : List ℕ} {before number y value : ℕ} → before < number → y ≡ get_or values before y →
     y < value → GrowsBelow values (slice_set values before value) number
 grows_set {values} {before} {number} {y} {value} below at more = grind (arith, common_steps)
@@ -47,7 +47,7 @@ module _ (low : LowData) {c : ComponentsData} {values : List ℕ} {from number t
   pub step_lost : number ≤ before → OnTrue (eqb weight 1) (IsLost (low_graph low) (low_weight low) c from to)
   step_lost more = search (rules, OnTrue_from, same_component, eqb-true)
 
-  -- the target is in an earlier component
+  -- the case of a link whose target is in an earlier component than its source
   module _ {value : ℕ} (read : value ≡ get_or values number value) (less : before < number) where
     is_sum : value + weight ≡ slice_index values number + low_weight low to
     is_sum = search (rules, number_within, get_or_read)
@@ -138,7 +138,7 @@ root_step low {roots} {c} {values} {i} {number} components are within is column 
         1 ≤ slice_index (slice_set values number 1) k
     more j v k below at in_k = search (rules, written, number_within, cases_eq, get_or_from_slice_get)
 
--- each root has a component
+-- each root of the search was reached, so it has a component
 pub root_met : {g : Digraph} (roots : List ℕ) (c : ComponentsData) {i : ℕ} {o : Option ℕ} → AreMet g roots c →
     i < length roots → slice_get c.numbers (get_or roots i 0) ≡ Some o → ((n : ℕ) → o ≡ Some n → ⊥) → ⊥
 root_met roots c {i} met within is none =

@@ -8,7 +8,7 @@ pub sum_below-le : (f g : ℕ → ℕ) (n : ℕ) → ((v : ℕ) → v < n → f 
 sum_below-le f g zero each = omega arith
 sum_below-le f g (suc n) each = omega (arith, sum_below-le f g n (λ v below. grind arith), each n (omega arith))
 
--- if one term is less by at least x, the sum is less by at least x
+-- if no term of f exceeds that of g, and one term is less by at least x, the sum of f is less by at least x
 pub sum_below-more : (f g : ℕ → ℕ) (n u x : ℕ) → u < n → ((v : ℕ) → v < n → f v ≤ g v) → f u + x ≤ g u →
     sum_below f n + x ≤ sum_below g n
 sum_below-more f g zero u x below each more = absurd (omega arith)
@@ -34,7 +34,7 @@ pub sum_below-zero : (f : ℕ → ℕ) (n : ℕ) → ((v : ℕ) → f v ≡ 0) �
 sum_below-zero f zero each = refl
 sum_below-zero f (suc n) each = omega (arith, sum_below-zero f n each, each n)
 
--- a sum with one more term
+-- a sum with one more term is the old sum plus this term
 pub sum_below-next : (f : ℕ → ℕ) (n : ℕ) → sum_below f (n + 1) ≡ sum_below f n + f n
 sum_below-next f n = ap (sum_below f) (add-one n)
 

@@ -1,4 +1,4 @@
--- The table of counts after one more priority, and after all priorities.
+-- The table of counts after the counts for one more priority were written, and after all priorities.
 use Rattle.std.proofs.Common.{◌≡◌, ℕ, ◌+◌, ◌<◌, ◌≤◌, List, length, arith, Bool, Option, rules}
 use Rattle.std.specs.Prelude.{slice_index}
 use Rattle.ps_game.specs.Games.{ParityGame, IsGame, vertex_count}
@@ -14,7 +14,7 @@ use Rattle.ps_measure.specs.Ranks.{AreRanks, IsRefusal, total_of, raised_of, mos
 use Rattle.ps_measure.proofs.Least.{least_for, lost_cycle}
 use Rattle.ps_measure.proofs.Rows.{Row, ranked_more, raised-le-total, raised-le-most}
 
--- the graph for the priority at an index of the list
+-- the graph, region and priority (`LowData`) for computing the counts of the priority at an index of the list
 pub record IsAtPlace (r : RemainingData) (low : LowData) (priorities : List ℕ) (place : ℕ) : Type 0 where
   pub is_game : IsGame r.game
   pub levels : AreLevels r.game low.levels
@@ -46,7 +46,8 @@ module _ {r : RemainingData} {low : LowData} {priorities : List ℕ} {place : �
   refused (BadCycle cycle) listed way = lost_cycle r low at.is_game at.levels at.reverse at.regions way (grind arith)
   refused OutOfMemory listed way = tt
 
--- the whole table has the least counts, and the number of raises is within its bounds
+-- once all priorities are handled, the table has the least counts, and the number of raises is within its promised
+-- bounds
 pub whole : {game : ParityGame} {player : ℕ} {set : ℕ → Bool} {table : ℕ → Option ℕ} {priorities : List ℕ}
     {rows : List Row} {raises : ℕ} → ListsPriorities game (other_player player) priorities →
     AreRanked game player set table priorities rows (length priorities) raises

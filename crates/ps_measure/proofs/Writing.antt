@@ -4,7 +4,7 @@ use Rattle.std.specs.Prelude.{slice_index, slice_set}
 use Rattle.std.proofs.lemmas.Bool.{cases_eq, cases_lt}
 use Rattle.std.proofs.lemmas.List.{get_or-set_same, get_or-set_other, get_or-replicate, get_or_past, length-replicate}
 
--- the new number is at its index, and the numbers at all other indices are unchanged
+-- after a write, the new number is at the written index, and the numbers at all other indices are unchanged
 pub written : (xs : List ℕ) (i x j : ℕ) → i < length xs → ((j ≡ i) × (slice_index (slice_set xs i x) j ≡ x)) ⊎
     ((j ≢ i) × (slice_index (slice_set xs i x) j ≡ slice_index xs j))
 written xs i x j within = search (rules, cases_eq, get_or-set_same, get_or-set_other)

@@ -1,4 +1,5 @@
--- The least counts of a player's region for the priorities that oppose the player, and cycles that the player loses.
+-- The least counts (a progress measure) of a player's region for the priorities by which the player loses, and cycles
+-- that the player loses.
 use Rattle.std.specs.Prelude.{◌≡◌, ℕ, ◌+◌, ◌-◌, ◌*◌, ◌%◌, ◌<◌, ◌≤◌, ◌&&◌, ◌==◌, List, length, map, Option, None, Some}
 use Rattle.std.specs.Prelude.{Bool, IsTrue, nat_lt, slice_get, slice_index}
 use Rattle.ps_game.specs.Games.{ParityGame, vertex_count, priority_of}
@@ -12,9 +13,9 @@ use Rattle.ps_measure.specs.Sums.{sum_below, count_below}
 abbrev pub count_with : ParityGame → (ℕ → Bool) → ℕ → ℕ
 count_with game set p = count_below (λ v. (priority_of game v == p) && set v) (vertex_count game)
 
--- Counts for one priority that keep the rule on each edge that remains within the set, and are the least counts that
--- do. The counts are 0 at vertices outside the set and at vertices of greater priority. Each count is at most the
--- number of vertices of the priority in the set.
+-- The counts for the priority p keep the rule of counts on each edge that remains within the set, and are the least
+-- counts that do. The counts are 0 at vertices outside the set and at vertices of greater priority. Each count is at
+-- most the number of vertices of priority p in the set.
 pub record AreLeastFor (game : ParityGame) (player : ℕ) (set : ℕ → Bool) (table : ℕ → Option ℕ) (p : ℕ)
     (count : ℕ → ℕ) : Type 0 where
   pub keep : KeepRuleWithin game player set table p count
@@ -44,7 +45,8 @@ pub record AreRows (rows : List (List ℕ)) (count width : ℕ) : Type 0 where
   pub each : length rows ≡ count
   pub wide : (v : ℕ) → v < count → width_of rows v ≡ width
 
--- the opposing priorities of the game in ascending order, and for each vertex a row with one count for each of them
+-- `priorities` lists the priorities of the game by which the player loses, ascending; the row of each vertex has the
+-- least count for each of them
 pub record AreRanks (game : ParityGame) (player : ℕ) (set : ℕ → Bool) (table : ℕ → Option ℕ) (priorities : List ℕ)
     (rows : List (List ℕ)) : Type 0 where
   pub listed : ListsPriorities game (other_player player) priorities
@@ -52,23 +54,23 @@ pub record AreRanks (game : ParityGame) (player : ℕ) (set : ℕ → Bool) (tab
   pub columns : (k : ℕ) → k < length priorities → AreLeastFor game player set table (slice_index priorities k)
       (λ v. count_of rows v k)
 
--- the sum of all counts
+-- the sum of all counts in the rows
 abbrev pub total_of : List (List ℕ) → ℕ → ℕ → ℕ
 total_of rows count width = sum_below (λ k. sum_below (λ v. count_of rows v k) count) width
 
--- the number of nonzero counts
+-- the number of nonzero counts in the rows
 abbrev pub raised_of : List (List ℕ) → ℕ → ℕ → ℕ
 raised_of rows count width = sum_below (λ k. count_below (λ v. nat_lt 0 (count_of rows v k)) count) width
 
--- the sum, over the priorities, of the number of vertices of the set times the number of vertices of the set with that
--- priority
+-- an upper bound on the number of raises: the sum, over the priorities, of the size of the set times the number of its
+-- vertices with that priority
 abbrev pub most_raises : ParityGame → (ℕ → Bool) → List ℕ → ℕ
 most_raises game set priorities =
     sum_below (λ k. count_below set (vertex_count game) * count_with game set (slice_index priorities k))
     (length priorities)
 
--- A cycle of edges that remain within the set: an edge leads from each vertex to the next, and from the last to the
--- first. The greatest priority on the cycle has the parity of the other player.
+-- A cycle that the player loses, of edges that remain within the set: an edge leads from each vertex to the next, and
+-- from the last to the first. The greatest priority on the cycle has the parity of the other player.
 pub record IsLostCycle (game : ParityGame) (player : ℕ) (set : ℕ → Bool) (table : ℕ → Option ℕ)
     (cycle : List ℕ) : Type 0 where
   pub some : 0 < length cycle

@@ -1,5 +1,5 @@
--- Rows of counts that are stored as chains of cells. The number of a vertex's first cell determines the counts of the
--- vertex. Cell i has the number i + 1, and the number 0 ends a chain.
+-- Rows of counts, each of which is stored as a chain (linked list) of cells. The number of the first cell of a vertex's
+-- chain determines the counts of the vertex. Cell i has the number i + 1, and the number 0 ends a chain.
 use Rattle.std.specs.Prelude.{◌≡◌, ℕ, zero, suc, ◌<◌, ◌≤◌, ◌==◌, List, length, map, max, Option, None, Some}
 use Rattle.std.specs.Prelude.{if◌then◌else◌, slice_get, slice_index}
 use Rattle.std.specs.List.{range_with_len}
@@ -25,16 +25,17 @@ count_from cells (suc fuel) (suc i) k =
 abbrev pub row_from : ℕ → List CountCell → ℕ → List ℕ
 row_from width cells head = map (count_from cells head head) (range_with_len 0 width)
 
--- one row for each chain
+-- the rows of counts that the chains with the given first cells store
 unfoldable pub rows_in : ℕ → List ℕ → List CountCell → List (List ℕ)
 rows_in width heads cells = map (row_from width cells) heads
 
--- each cell names an earlier cell, or none, as its next cell, and its index is less than the width of the rows
+-- the cell that follows a cell in a chain is earlier in the list of cells, and each cell's `place`, an index into a
+-- row, is less than the width of the rows
 pub record AreChained (width : ℕ) (cells : List CountCell) : Type 0 where
   pub falls : (i : ℕ) (cell : CountCell) → slice_get cells i ≡ Some cell → cell.next ≤ i
   pub places : (i : ℕ) (cell : CountCell) → slice_get cells i ≡ Some cell → cell.place < width
 
--- each chain is empty or begins with a cell of the list
+-- each vertex's chain is empty or begins with a cell of the list
 pub record AreHeaded (width : ℕ) (heads : List ℕ) (cells : List CountCell) : Type 0 where
   pub chained : AreChained width cells
   pub first : (v : ℕ) → slice_index heads v ≤ length cells
@@ -44,14 +45,14 @@ pub record AreZero (rows : List (List ℕ)) (count width : ℕ) : Type 0 where
   pub shape : AreRows rows count width
   pub none : (v k : ℕ) → count_of rows v k ≡ 0
 
--- a count of a vertex was raised to a given value, if it was less
+-- one count of one vertex was raised to the given value, if it was less, and no other count changed
 pub record HasPut (old new : List (List ℕ)) (vertex place count : ℕ) : Type 0 where
   pub each : length new ≡ length old
   pub wide : (v : ℕ) → width_of new v ≡ width_of old v
   pub here : count_of new vertex place ≡ max count (count_of old vertex place)
   pub others : (v k : ℕ) → (v ≡ vertex → k ≡ place → ⊥) → count_of new v k ≡ count_of old v k
 
--- the counts of all vertices at one index were replaced
+-- in all rows, the count at index `place` was replaced, and no other count changed
 pub record HasColumn (old new : List (List ℕ)) (place : ℕ) (counts : ℕ → ℕ) : Type 0 where
   pub each : length new ≡ length old
   pub wide : (v : ℕ) → width_of new v ≡ width_of old v

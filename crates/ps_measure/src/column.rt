@@ -1,4 +1,4 @@
-//! The least counts for one priority, computed by the strong components of the reversed remaining edges.
+//! The least counts for one priority, computed from the strongly connected components of the reversed remaining edges.
 
 ghost use Rattle.std.specs.Prelude.{◌≡◌, ℕ, ◌<◌, length, nat_lt, IfOk, OnOk, IfNone, IfSome};
 ghost use Rattle.std.specs.Bool.{OnFalse, OnTrue};
@@ -17,8 +17,8 @@ use crate::table::CountTable;
 use ps_components::{Components, Graph};
 use std::alloc::{AllocError, Global};
 
-/// A count for each component of the vertices that a search reached. One column is used for all priorities, one after
-/// another.
+/// The counts for one priority: a value for each strongly connected component that a search found. The same `Column` is
+/// reused for one priority after another.
 #[derive(Drop)]
 pub(crate) struct Column {
     components: Components,
@@ -34,8 +34,8 @@ impl Column {
         }
     }
 
-    /// Computes the least counts for the priority of `low`. If no counts keep the rule, returns a link to a vertex of
-    /// this priority, if the link's start is reachable from the vertex.
+    /// Computes the least counts for the priority of `low`. If no counts keep the rule, returns a link that leads to a
+    /// vertex of this priority and lies on a cycle.
     pub(crate) fn work_out(
         &mut self,
         low: &Low,
@@ -52,8 +52,8 @@ impl Column {
         Ok(self.settle(low))
     }
 
-    /// Computes the components of the vertices that the roots reach. The value is 1 for the components of roots, and 0
-    /// for the others.
+    /// Computes the components of the vertices reachable from the roots. The initial value is 1 for the components of
+    /// roots, and 0 for all others.
     fn begin(&mut self, low: &Low, roots: &[usize]) -> Result<(), AllocError>
         requires { AreRoots (low_graph low.now) (low_weight low.now) roots.now }
         ensures counting { OnOk result (IsCounting (low_graph low.now) (low_weight low.now) self.new.components
@@ -73,7 +73,7 @@ impl Column {
         Ok(())
     }
 
-    /// The count of a vertex.
+    /// The count that was computed for a vertex.
     pub(crate) fn count(&self, vertex: usize) -> u64
         requires { vertex < length self.now.components.numbers }
         ensures { result ≡ value_of self.now.components self.now.values.items vertex }
@@ -84,8 +84,8 @@ impl Column {
         }
     }
 
-    /// Writes the nonzero counts of the vertices into a table, at the index of the priority. Returns the number of
-    /// nonzero counts.
+    /// Writes the nonzero counts of the vertices into the table's rows, at index `place`. Returns the number of nonzero
+    /// counts.
     pub(crate) fn put_into(&self, place: usize, table: &mut CountTable) -> Result<u64, AllocError>
         requires components { (g : Digraph) × AreComponents g self.now.components }
         requires each { length table.old ≡ length self.now.components.numbers }
@@ -107,8 +107,8 @@ impl Column {
         Ok(raised)
     }
 
-    /// Raises the value of the target's component as a link requires. Returns true if the link stays within a component
-    /// and leads to a vertex of the priority of `low`.
+    /// Raises the value of the component of `to` as far as the link from `from` to `to` requires. Returns true if the
+    /// link stays within a component and leads to a vertex of the priority of `low`.
     fn pass(&mut self, low: &Low, from: usize, number: usize, to: usize) -> bool
         requires turn { IsTurn (low_graph low.now) (low_weight low.now) self.old.components self.old.values.items
             from number }
@@ -133,8 +133,8 @@ impl Column {
         }
     }
 
-    /// Raises values as the links of a vertex require. Stops at a link that belongs to a lost cycle, and returns the
-    /// link's target.
+    /// Raises the values of components as far as the links of the vertex `from` require. Stops at a link that lies on a
+    /// cycle that the player loses, and returns the link's target.
     fn pass_all(&mut self, low: &Low, from: usize, number: usize) -> Option<usize>
         requires turn { IsTurn (low_graph low.now) (low_weight low.now) self.old.components self.old.values.items
             from number }
@@ -154,8 +154,8 @@ impl Column {
         None
     }
 
-    /// Raises values as all links require, from the last vertex in the order to the first. Stops at a link that belongs
-    /// to a lost cycle, and returns that link.
+    /// Raises the values of components as far as all links require, from the last finished vertex to the first. Stops
+    /// at a link that lies on a cycle that the player loses, and returns that link.
     fn settle(&mut self, low: &Low) -> Option<(usize, usize)>
         requires { IsCounting (low_graph low.now) (low_weight low.now) self.old.components self.old.values.items }
         ensures raised { IsRaised (low_graph low.now) (low_weight low.now) self.old.components self.new.components

@@ -1,4 +1,5 @@
-//! The cells of chains of counts. Each cell takes 12 bytes as long as all numbers are small.
+//! A list of the cells of linked lists (chains) that store counts. Each cell takes 12 bytes as long as all numbers in
+//! the list fit in 4 bytes.
 
 ghost use Rattle.std.specs.Prelude.{◌≡◌, ◌<◌, ◌∷◌, [], ◌++◌, IfOk, OnOk, OnErr, length, slice_index_or};
 ghost use Rattle.ps_measure.specs.Inner.Cells.{no_count};
@@ -16,7 +17,8 @@ pub struct NarrowCount {
     next: u32,
 }
 
-/// A list of cells. Each cell takes 12 bytes as long as all numbers fit in 4 bytes, and 24 bytes from then on.
+/// A list of cells that store counts. Each cell takes 12 bytes as long as all numbers fit in 4 bytes, and 24 bytes from
+/// then on.
 #[derive(Debug, Drop)]
 pub struct CountCells {
     alloc: Global,
@@ -76,8 +78,8 @@ impl CountCells {
         }
     }
 
-    /// Appends a cell. If a number of the cell does not fit in 4 bytes, every cell takes 24 bytes from then on. If out
-    /// of memory, nothing changes.
+    /// Appends a cell. If one of its numbers does not fit in 4 bytes, every cell takes 24 bytes from
+    /// then on. If out of memory, nothing changes.
     #[inline(always)]
     pub fn push(&mut self, cell: CountCell) -> Result<(), AllocError>
         ensures ok { OnOk result (self.new ≡ self.old ++ cell ∷ []) }
@@ -102,7 +104,7 @@ impl CountCells {
         Ok(())
     }
 
-    /// The cells of the list, in 24 bytes each.
+    /// A copy of the list's cells, with 24 bytes for each.
     #[inline(never)]
     fn widened(&self) -> Result<Vec<CountCell>, AllocError>
         ensures { IfOk result (λ wide. wide.items ≡ self.now) }

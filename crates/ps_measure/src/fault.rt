@@ -1,4 +1,4 @@
-//! Why a region has no counts.
+//! The reasons why no counts exist for a region.
 
 ghost use Rattle.std.specs.Prelude.{◌≡◌};
 ghost use Rattle.ps_measure.specs.declared.fault.MeasureFault.TheVariants.{OutOfMemory};
@@ -7,7 +7,7 @@ use ps_game::GameFault;
 use std::alloc::{AllocError, AllocFailed};
 use thiserror::Error;
 
-/// Why there are no counts for a region.
+/// The reason why no counts were computed for a region.
 #[derive(Debug, Drop, Error)]
 pub enum MeasureFault {
     /// The player loses a cycle of remaining edges within the region.

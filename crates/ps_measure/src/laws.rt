@@ -1,11 +1,11 @@
-//! A law about the definitions.
+//! A law (theorem) about least counts and lost cycles.
 
 ghost use Rattle.std.specs.Prelude.{ℕ, ◌<◌, ◌⊎◌, Bool, List, Option};
 ghost use Rattle.ps_game.specs.Games.{ParityGame};
 ghost use Rattle.ps_game.specs.Plays.{Holds};
 ghost use Rattle.ps_measure.specs.Ranks.{AreRanks, IsLostCycle};
 
-/// For a player's region and moves there are least counts, or a cycle that the player loses. If the player holds the
+/// For any region and moves of a player, least counts exist, or the player loses a cycle. If the player holds the
 /// region by these moves, least counts exist.
 pub fn counts_are_there()
     ensures either { (game : ParityGame) (player : ℕ) (set : ℕ → Bool) (table : ℕ → Option ℕ) →

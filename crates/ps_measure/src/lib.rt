@@ -1,16 +1,16 @@
-//! The least counts of a player's region, or a cycle that the player loses.
+//! The least counts (a progress measure) of a player's region, or a cycle that the player loses.
 //!
 //! [`ranks`] considers the edges that remain inside a region when its player moves according to a table. For each
-//! priority that opposes the player, [`ranks`] returns the least counts that keep the rule of counts. The result also
-//! states how often a count was raised. If the player loses a cycle of such edges, no counts keep the rule, and
-//! [`ranks`] returns such a cycle.
+//! priority by which the player loses, [`ranks`] returns the least counts that keep the rule of counts, `KeepsRule`.
+//! The result also states how often a count was raised. If the player loses a cycle of the remaining edges, no counts
+//! keep the rule, and [`ranks`] returns such a cycle.
 //!
-//! The counts for one priority are a progress measure (Jurdzinski) for that priority, but the least counts are not
-//! computed by lifting them step by step. If there are many priorities, vertices are first grouped by priority. For
-//! each priority, one search follows the edges backwards from the vertices of that priority. One pass over the strong
-//! components, in the order in which the search finds them, then gives each vertex its count. For each priority, the
-//! search and the pass take time proportional to the number of vertices and edges. Memory is taken by the nonzero
-//! counts and by the reversed edges.
+//! The counts for one priority are a progress measure (Jurdzinski) for that priority, but they are not computed by
+//! lifting them step by step. If there are many priorities, vertices are first grouped by priority. For each priority,
+//! one search follows the edges backwards from the vertices of that priority. One pass over the strongly connected
+//! components, from the last one that the search finishes to the first, then gives each vertex its count. For each
+//! priority, the search and the pass take time at most proportional to the number of vertices and edges. The memory is
+//! proportional to the numbers of vertices, edges and nonzero counts.
 //!
 //! | Call | What it gives |
 //! |---|---|

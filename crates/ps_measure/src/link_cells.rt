@@ -1,4 +1,5 @@
-//! The cells of chains of links. Each cell takes 8 bytes as long as all numbers are small.
+//! A list of the cells of linked lists (chains) that store the links of a graph. Each cell takes 8 bytes as long as all
+//! numbers in the list fit in 4 bytes.
 
 ghost use Rattle.std.specs.Prelude.{◌≡◌, ◌<◌, ◌∷◌, [], ◌++◌, IfOk, OnOk, length, slice_index_or};
 ghost use Rattle.ps_measure.specs.Inner.Cells.{no_link};
@@ -74,7 +75,8 @@ impl LinkCells {
         }
     }
 
-    /// Appends a cell. If a number of the cell does not fit in 4 bytes, every cell takes 16 bytes from then on.
+    /// Appends a cell. If one of its numbers does not fit in 4 bytes, every cell takes 16 bytes from
+    /// then on.
     #[inline(always)]
     pub(crate) fn push(&mut self, cell: Cell) -> Result<(), AllocError>
         ensures { OnOk result (self.new ≡ self.old ++ cell ∷ []) }
@@ -97,7 +99,7 @@ impl LinkCells {
         Ok(())
     }
 
-    /// The cells of the list, in 16 bytes each.
+    /// A copy of the list's cells, with 16 bytes for each.
     #[inline(never)]
     fn widened(&self) -> Result<Vec<Cell>, AllocError>
         ensures { IfOk result (λ wide. wide.items ≡ self.now) }

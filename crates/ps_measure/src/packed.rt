@@ -10,8 +10,8 @@ use std::marker::Model;
 /// The greatest number that fits in 4 bytes.
 pub(crate) const NARROW: usize = 4_294_967_295;
 
-/// A list of numbers. Each number takes 4 bytes as long as all of them fit in 4 bytes, and 8 bytes from then on. Calls
-/// that append or write a number fail if out of memory.
+/// A list of numbers. Each number takes 4 bytes as long as all of them fit in 4 bytes, and 8 bytes from then on. A call
+/// that appends or writes a number fails if out of memory.
 #[derive(Debug, Drop)]
 pub(crate) struct Packed {
     alloc: Global,
@@ -41,7 +41,7 @@ impl Packed {
         }
     }
 
-    /// An empty list, with room for `count` numbers that fit in 4 bytes.
+    /// An empty list with the capacity for `count` numbers that fit in 4 bytes.
     pub(crate) fn with_capacity(alloc: Global, count: usize) -> Result<Self, AllocError>
         ensures { IfOk result (λ list. list ≡ []) }
     {
@@ -91,7 +91,8 @@ impl Packed {
         }
     }
 
-    /// Appends a number. If the number does not fit in 4 bytes, every number takes 8 bytes from then on.
+    /// Appends a number. If it does not fit in 4 bytes, every number of the list takes 8 bytes from
+    /// then on.
     #[inline(always)]
     pub(crate) fn push(&mut self, number: usize) -> Result<(), AllocError>
         ensures { OnOk result (self.new ≡ self.old ++ number ∷ []) }
@@ -134,7 +135,7 @@ impl Packed {
         Ok(())
     }
 
-    /// The numbers of the list, in 8 bytes each.
+    /// A copy of the list's numbers, with 8 bytes for each.
     #[inline(never)]
     fn widened(&self) -> Result<Vec<usize>, AllocError>
         ensures { IfOk result (λ wide. wide.items ≡ self.now) }

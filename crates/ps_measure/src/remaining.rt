@@ -1,4 +1,4 @@
-//! A graph of the edges that remain within a region.
+//! The graph of the edges that remain within a region when a player moves by a table.
 
 ghost use Rattle.std.specs.Prelude.{◌≡◌, ◌<◌};
 ghost use Rattle.ps_game.specs.Games.{vertex_count};
@@ -38,7 +38,7 @@ impl<'a, A: Arena> Model for Remaining<'a, A> {
 }
 
 impl<'a, A: Arena> Remaining<'a, A> {
-    /// Whether an edge from one vertex to another would remain within the region.
+    /// Whether an edge from one given vertex to another, if the game has it, remains within the region.
     fn keeps(&self, from: usize, to: usize) -> bool
         requires from { from < vertex_count self.now.game }
         requires to { to < vertex_count self.now.game }

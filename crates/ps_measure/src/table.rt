@@ -9,8 +9,8 @@ use crate::packed::Packed;
 use std::alloc::{AllocError, Global};
 use std::marker::Model;
 
-/// A count of a vertex, the index of its priority, and the number of the next cell of the same vertex. Cells are
-/// numbered from 1; 0 means none.
+/// A cell of a linked list: a count of a vertex, the index of the count's priority, and the number of the next cell of
+/// the same vertex. Cells are numbered from 1; 0 means none.
 #[derive(Clone, Copy, Debug)]
 pub struct CountCell {
     pub(crate) place: usize,
@@ -18,8 +18,8 @@ pub struct CountCell {
     pub(crate) next: usize,
 }
 
-/// A row of counts for each vertex. Only nonzero counts take memory: the counts of a vertex are a chain of cells, given
-/// by the number of its first cell.
+/// A row of counts for each vertex. Only nonzero counts take memory: the counts of a vertex are stored in a chain
+/// (linked list) of cells, given by the number of the chain's first cell.
 #[derive(Debug, Drop)]
 pub struct CountTable {
     width: usize,
@@ -57,7 +57,7 @@ impl CountTable {
         self.heads.len()
     }
 
-    /// Raises a count of a vertex to a given value, if the count is less.
+    /// Raises one count of a vertex to a given value, unless the count is at least as large.
     pub(crate) fn put(&mut self, vertex: usize, place: usize, count: u64) -> Result<(), AllocError>
         requires vertex { vertex < length self.old }
         requires place { place < width_of self.old vertex }
@@ -80,7 +80,7 @@ impl CountTable {
     }
 }
 
-/// Raises the counts of a row to the counts of a chain, if they are less.
+/// Raises the counts of a row to those that a chain of cells stores, where these are larger.
 fn raise_by(cells: &CountCells, head: usize, row: &mut Vec<u64>)
     requires chained { AreChained (length row.old.items) cells.now }
     requires head { head ≤ length cells.now }
@@ -98,7 +98,7 @@ fn raise_by(cells: &CountCells, head: usize, row: &mut Vec<u64>)
     }
 }
 
-/// The priorities that oppose a player, and the counts of each vertex for them.
+/// The priorities of a game by which a player loses, and the counts of each vertex for these priorities.
 #[derive(Debug, Drop)]
 pub struct Ranks {
     /// The priorities of the game by which the player loses, in ascending order.

@@ -1,4 +1,4 @@
--- Cells of chains whose numbers are stored in fewer bytes.
+-- What cells mean whose numbers are stored in 4 bytes each.
 use Rattle.ps_measure.specs.declared.back.Cell.{Cell}
 use Rattle.ps_measure.specs.declared.table.CountCell.{CountCell}
 use Rattle.ps_measure.specs.declared.link_cells.NarrowLink.{NarrowLink}

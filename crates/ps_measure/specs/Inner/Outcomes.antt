@@ -2,7 +2,7 @@
 use Rattle.std.specs.Prelude.{◌≡◌, ℕ}
 use Rattle.ps_components.specs.Graphs.{Digraph, Link, SameOrWay}
 
--- a link to a vertex of weight 1, from which the start of the link is reachable
+-- a link that leads to a vertex of weight 1 and lies on a cycle: the link's source is reachable from its target
 pub record IsClosing (g : Digraph) (weight : ℕ → ℕ) (from to : ℕ) : Type 0 where
   pub link : Link g from to
   pub heavy : weight to ≡ 1

@@ -1,5 +1,5 @@
--- The graph of the edges that remain within a region, and its reversed links between vertices whose priorities do not
--- exceed a given one.
+-- The graph of the edges that remain within a region, and the graph of those edges, reversed, whose ends have
+-- priorities of at most a given one.
 use Rattle.std.specs.Prelude.{◌≡◌, ℕ, ◌+◌, ◌-◌, ◌<◌, ◌≤◌, List, length, Option, None, Some, Bool, not, ◌&&◌, ◌||◌, ◌==◌}
 use Rattle.std.specs.Prelude.{nat_le, false, if◌then◌else◌, slice_index}
 use Rattle.ps_components.specs.Graphs.{Digraph, Link}
@@ -7,29 +7,29 @@ use Rattle.ps_game.specs.Games.{ParityGame, vertex_count, owner_of, successors_o
 use Rattle.ps_game.specs.Regions.{has, move_at}
 use Rattle.ps_measure.specs.Sums.{counted}
 
--- a game, a player, and the player's region and moves
+-- a game, a player, and a region and a table of moves for the player
 pub record RemainingData : Type 0 where
   pub game : ParityGame
   pub player : ℕ
   pub region : List Bool
   pub strategy : List (Option ℕ)
 
--- the region and the strategy have one item for each vertex
+-- the region and the strategy have one entry for each vertex of the game
 pub record IsRemaining (r : RemainingData) : Type 0 where
   pub region_fits : length r.region ≡ vertex_count r.game
   pub strategy_fits : length r.strategy ≡ vertex_count r.game
 
--- whether a move leads to vertex w
+-- whether an optional move is present and leads to the vertex w
 abbrev pub is_move : Option ℕ → ℕ → Bool
 is_move None w = false
 is_move (Some move) w = move == w
 
--- an edge from v to w would remain, with both ends in the region
+-- whether an edge from v to w, if the game has it, remains within the region
 abbrev pub may_remain : RemainingData → ℕ → ℕ → Bool
 may_remain r v w =
     has r.region v && has r.region w && (not (owner_of r.game v == r.player) || is_move (move_at r.strategy v) w)
 
--- the edges that remain within the region
+-- the graph whose links are the edges that remain within the region when the player moves by the table
 abbrev pub remaining_graph : RemainingData → Digraph
 remaining_graph r = record {
   count = vertex_count r.game;
@@ -37,8 +37,8 @@ remaining_graph r = record {
   target = λ v k. let w = slice_index (successors_of r.game v) k in if may_remain r v w then Some w else None;
 }
 
--- The targets of the links of all vertices, one vertex after another; and the index at which the targets of each vertex
--- begin. One more index states where the last targets end.
+-- A graph in two arrays: the targets of the links of all vertices, one vertex after another; and the index at which the
+-- targets of each vertex begin. One more index states where the last targets end.
 pub record StarData : Type 0 where
   pub count : ℕ
   pub starts : List ℕ
@@ -65,20 +65,20 @@ pub record IsReverse (g r : Digraph) : Type 0 where
   pub there : (v w : ℕ) → Link g v w → Link r w v
   pub back : (v w : ℕ) → Link r w v → Link g v w
 
--- a stored graph, a region of its vertices, the level of each vertex (which is its priority), and the priority whose
--- counts are computed
+-- what the counts for one priority are computed from: a stored graph, a region, the level of each vertex, which is its
+-- priority, and the priority
 pub record LowData : Type 0 where
   pub star : StarData
   pub region : List Bool
   pub levels : List ℕ
   pub priority : ℕ
 
--- the region and the levels have one item for each vertex
+-- the region and the list of levels have one entry for each vertex of the graph
 pub record IsLow (low : LowData) : Type 0 where
   pub region_fits : length low.region ≡ low.star.count
   pub levels_fit : length low.levels ≡ low.star.count
 
--- the links between vertices whose levels are at most the priority
+-- the stored graph without the links at whose source or target the level is greater than the priority
 abbrev pub low_graph : LowData → Digraph
 low_graph low = record {
   count = low.star.count;

@@ -8,7 +8,7 @@ use Rattle.ps_measure.proofs.Rows.{ranked_fits, filled_bound}
 use Rattle.ps_measure.proofs.Whole.{IsAtPlace, is_at_place, column_done, refused}
 use Rattle.ps_measure.proofs.measuring.raise_each.Goals as goal
 
--- the graph for one priority, from the parts of the value of `remaining`
+-- the graph, region and priority (`LowData`) for one priority, in terms of the value of `remaining`
 at_place : {game : ParityGame} {player : ℕ} {region : List Bool} {strategy : List (Option ℕ)} {r : RemainingData} →
     record { game = game; player = player; region = region; strategy = strategy } ≡ r → (star : StarData)
     {levels : List ℕ} (priorities : List ℕ) (place : ℕ) → IsGame game → AreLevels r.game levels →

@@ -13,7 +13,7 @@ at-next-requires c = search (rules, rows_each)
 pub set-requires : goal.set-requires
 set-requires c = search (rules, rows_each)
 
--- the table with the new cell
+-- the table of counts after the new cell is put at the front of the vertex's chain
 module _ {width : ℕ} {heads : List ℕ} {cells : List CountCell} {rows : List (List ℕ)} {vertex place next number : ℕ}
     {new_cells : List CountCell} (count : ℕ) (view_is : rows_in width heads cells ≡ rows)
     (headed : AreHeaded width heads cells) (vertex_in : vertex < length rows)
