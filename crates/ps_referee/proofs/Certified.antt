@@ -1,5 +1,5 @@
--- Two regions that the players hold, and that partition the vertices of the game, make a valid certificate. If the
--- counts of both regions are the least, the certificate has the least counts.
+-- If player 0 holds one region and player 1 holds the rest of the vertices, a valid certificate can be made from the
+-- regions, moves and counts. If the counts of both regions are the least ones, so are the certificate's.
 use Rattle.std.proofs.Common.{◌≡◌, ◌≢◌, ◌⊎◌, inl, inr, ℕ, ◌<◌, ◌≤◌, List, [], ◌∷◌, length, get_or}
 use Rattle.std.proofs.Common.{Option, Some, None, IfSome, IsSomeAnd, Bool, true, false, IsTrue, refl, sym, subst}
 use Rattle.std.proofs.Common.{◌∙◌, rules, arith, ap, not}
@@ -45,7 +45,7 @@ some_within v is_game (Some w) is = is_game.within v w is
 module _ {game : ParityGame} (is_game : IsGame game) {player : ℕ} {set : ℕ → Bool} {table : ℕ → Option ℕ}
     {priorities : List ℕ} {rows : List (List ℕ)} {c : CertificateData} (holds : Holds game player set table)
     (ranks : AreRanks game player set table priorities rows) where
-  -- the certificate and the table have the same remaining edges
+  -- an edge that remains according to the certificate also remains for the player's table of moves
   remains_for : {v w : ℕ} → IsSide game player set table priorities rows c v → Remains game c v w →
       RemainsFor game player table v w
   remains_for s r = search rules
@@ -68,8 +68,8 @@ module _ {game : ParityGame} (is_game : IsGame game) {player : ℕ} {set : ℕ �
       let keep = (ranks.columns k within).keep v w (grind (arith, remains_for)) in
       grind arith
 
-  -- in a valid certificate with the same winners and moves, the counts keep the rule on the remaining edges of the
-  -- table
+  -- in any valid certificate with the same winners and moves, the counts keep the rule of counts on the edges that
+  -- remain for the player's table of moves
   others_keep : (d : CertificateData) → IsValid game d → DiffersInCounts game c d → opposing d player ≡ priorities →
       ((u : ℕ) → u < vertex_count game → IsTrue (set u) → IsSide game player set table priorities rows c u) → (k : ℕ) →
       k < length priorities →
@@ -91,11 +91,11 @@ module _ {game : ParityGame} (is_game : IsGame game) {player : ℕ} {set : ℕ �
       let at : opposing_at c v k ≡ get_or priorities k 0 = grind arith in
       s.count k ∙ (ranks.columns k (rw s.long at inside)).above v (subst (λ p. p < priority_of game v) at below)
 
--- the certificate made from two lists of priorities and a list of entries
+-- the certificate with the given lists of odd and even priorities and the given list of entries, one for each vertex
 abbrev pub made_of : List ℕ → List ℕ → List EntryData → CertificateData
 made_of odd even entries = record { odd = odd; even = even; entries = entries }
 
--- everything that is known about both players' parts of the game
+-- what is known about the regions, moves and counts of both players before the certificate is made
 record AreBoth (game : ParityGame) (region lost : ℕ → Bool) (first second : ℕ → Option ℕ) (odd even : List ℕ)
     (odd_rows even_rows : List (List ℕ)) (entries : List EntryData) : Type 0 where
   is_game : IsGame game

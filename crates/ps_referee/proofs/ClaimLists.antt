@@ -1,4 +1,4 @@
--- The claims about the vertices, appended one after another.
+-- The list of what a solution claims about each vertex, built by appending one vertex's claim after another.
 use Rattle.std.proofs.Common.{◌≡◌, ◌∙◌, ℕ, ◌+◌, List, [], ◌∷◌, ◌++◌, Option, Bool, refl, sym, ap, arith}
 use Rattle.std.proofs.lemmas.List.FromFn.{map-range_with_len_more}
 use Rattle.ps_game.specs.Games.{ParityGame, vertex_count}

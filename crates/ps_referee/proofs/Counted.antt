@@ -1,4 +1,4 @@
--- A player who keeps to a set holds it, if the set has least counts.
+-- A player who stays in a set by a table of moves also wins there, if least counts exist for the set and the table.
 use Rattle.std.proofs.Common.{◌≡◌, ℕ, ◌+◌, ◌%◌, ◌<◌, ◌≤◌, ◌∙◌, List, length, get_or, inl, inr, sym, ap, arith, rules}
 use Rattle.std.proofs.Common.{Option, Bool}
 use Rattle.std.specs.Prelude.{IsTrue}
@@ -14,7 +14,7 @@ use Rattle.ps_certificate.proofs.Holding.{falls_in_the_end}
 module _ {game : ParityGame} {player : ℕ} {set : ℕ → Bool} {table : ℕ → Option ℕ} {priorities : List ℕ}
     {rows : List (List ℕ)} (is_player : player < 2) (keeps : KeepsTo game player set table)
     (ranks : AreRanks game player set table priorities rows) where
-  -- a path that follows the table, with a loop
+  -- consider a path that begins in the set and follows the table, and a loop of the path
   module _ {path : List ℕ} {i j : ℕ} (is_path : IsPath game path) (begins : IsTrue (set (get_or path 0 0)))
       (follows : Follows game player table path) (loop : IsLoop path i j) where
     step : (k : ℕ) → k < j → RemainsWithin game player set table (get_or path k 0) (get_or path (k + 1) 0)
@@ -27,7 +27,7 @@ module _ {game : ParityGame} {player : ℕ} {set : ℕ → Bool} {table : ℕ �
       };
     }
 
-    -- no vertex of the loop, including its end, has a greater priority
+    -- no vertex of the loop, including its last one, has a greater priority than the loop
     bounded : (k : ℕ) → i ≤ k → k ≤ j → priority_of game (get_or path k 0) ≤ loop_priority game path i j
     bounded k after before = elim (cases_eq k j) [
       | inl last ↦ search (rules, le-loop_priority)

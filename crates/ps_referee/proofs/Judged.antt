@@ -1,4 +1,4 @@
--- What judging a solution establishes.
+-- What the steps of judging a claimed solution of a game establish.
 use Rattle.std.proofs.Common.{◌≡◌, ◌⊎◌, inl, inr, ℕ, zero, suc, ◌<◌, List, Option, Bool, refl, sym, subst, arith}
 use Rattle.std.proofs.Common.{rules, not, Result, Ok, Err, IsErrAnd}
 use Rattle.std.specs.Result.{IfErr}
@@ -36,7 +36,7 @@ module _ (game : ParityGame) (won : List Bool) (first second : List (Option ℕ)
       (winner_of (claimed game won first second) v ≡ 1)
   winners v below = grind (arith, cases_Bool (has won v), winner_is game won first second v below)
 
-  -- a solution that holds is closed
+  -- a correct solution is closed: no move is wrong, and no remaining edge leads to a vertex with the other winner
   pub solution_closed : IsGame game → IsSolution game won first second → IsClosed game (claimed game won first second)
   solution_closed is_game s = record {
     moves = λ v below. elim (winners v below) [
@@ -49,7 +49,7 @@ module _ (game : ParityGame) (won : List Bool) (first second : List (Option ℕ)
     ];
   }
 
-  -- a claim has no counts, so a closed claim has no flaw
+  -- a claimed solution, written as a certificate, has no counts, so it has no flaw if it is closed
   pub closed_flawless : IsClosed game (claimed game won first second) → (flaw : Flaw) →
       IsFirstFlaw game (claimed game won first second) flaw → ⊥
   unfolding claimed opposing
@@ -59,12 +59,12 @@ module _ (game : ParityGame) (won : List Bool) (first second : List (Option ℕ)
 
   -- ## Rejected solutions
 
-  -- a solution with a flaw has no lost cycle
+  -- a solution with a flaw does not satisfy `IsCycleOf`, which requires a solution without flaws
   pub flaw_without_cycle : (flaw : Flaw) (player : ℕ) (cycle : List ℕ) →
       IsFirstFlaw game (claimed game won first second) flaw → ¬ IsCycleOf game won first second player cycle
   flaw_without_cycle flaw player cycle first_flaw lost = closed_flawless lost.closed flaw first_flaw
 
-  -- a solution that holds has no flaw and no lost cycle
+  -- a correct solution has no flaw, and no player loses a cycle among the vertices that the player is claimed to win
   pub no_flaw : (flaw : Flaw) → IsGame game → IsSolution game won first second →
       ¬ IsFirstFlaw game (claimed game won first second) flaw
   no_flaw flaw is_game s first_flaw = closed_flawless (solution_closed is_game s) flaw first_flaw
@@ -75,7 +75,7 @@ module _ (game : ParityGame) (won : List Bool) (first second : List (Option ℕ)
   no_cycle (suc zero) cycle s lost = not_held lost.lost lost.is_player s.second_holds
   no_cycle (suc (suc n)) cycle s lost = absurd (omega (arith, lost.is_player))
 
-  -- the only fault of a solution that holds is out of memory
+  -- for a correct solution, the only possible fault is out of memory
   solution_judged : IsGame game → IsSolution game won first second → (fault : JudgeFault) →
       IsRefusal game won first second fault → IsOutOfMemory fault
   solution_judged is_game s (Unclosed flaw) refused = no_flaw flaw is_game s refused
@@ -139,7 +139,7 @@ pub only_memory : {X : Type 0} {r : Result X JudgeFault} {fault : JudgeFault} �
     IfErr r IsOutOfMemory → IsOutOfMemory fault
 only_memory is h = subst (λ r. IfErr r IsOutOfMemory) is h
 
--- a fault that a `?` passes on
+-- if a fault that the operator `?` returns satisfies P, the result's fault satisfies P
 pub if_err : {X : Type 0} (r : Result X JudgeFault) (fault : JudgeFault) (P : JudgeFault → Type 0) →
     IsErrAnd r (λ y. y ≡ fault) → P fault → IfErr r P
 if_err (Ok x) fault P passed h = tt

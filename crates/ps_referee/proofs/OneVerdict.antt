@@ -1,4 +1,5 @@
--- A solution has at most one certificate, and all its lost cycles are lost by the same player.
+-- A solution has at most one certificate with least counts; if it has no flaw but is wrong, only one of the players can
+-- be reported to lose a cycle.
 use Rattle.std.proofs.Common.{◌≡◌, ◌∙◌, ℕ, zero, suc, ◌<◌, List, length, Option, Bool, refl}
 use Rattle.std.proofs.Common.{sym, ap, arith}
 use Rattle.std.specs.Prelude.{slice_index_or}

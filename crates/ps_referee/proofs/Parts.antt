@@ -1,4 +1,4 @@
--- The part of the game that a certificate gives to one player.
+-- The set of vertices that a certificate states one player wins, and the player's moves there.
 use Rattle.std.proofs.Common.{◌≡◌, ◌≢◌, ◌∙◌, ℕ, zero, suc, ◌+◌, ◌<◌, List, [], ◌∷◌, get_or, Option, Some, None, Bool}
 use Rattle.std.proofs.Common.{subst, arith, rules, length, sym}
 use Rattle.std.specs.Prelude.{IsTrue, IsSomeAnd}
@@ -27,7 +27,7 @@ pub two_follows : (game : ParityGame) (player : ℕ) (table : ℕ → Option ℕ
     (owner_of game v ≡ player → table v ≡ Some w) → Follows game player table (v ∷ w ∷ [])
 two_follows game player table v w h = search rules
 
--- a certificate gives a player the vertices of a set, with the moves of a table
+-- the certificate states that the player wins exactly the vertices of the set, by the moves of the table
 pub record IsPart (game : ParityGame) (c : CertificateData) (player : ℕ) (set : ℕ → Bool) (table : ℕ → Option ℕ) :
     Type 0 where
   pub inside : (v : ℕ) → v < vertex_count game → winner_of c v ≡ player → IsTrue (set v)
@@ -46,7 +46,7 @@ module _ {game : ParityGame} {c : CertificateData} {player : ℕ} {set : ℕ →
   stays closed path is_path begins follows (suc k) within =
       grind (arith, remains, stays closed path is_path begins follows k (omega arith))
 
-  -- if the certificate is closed, the player keeps to the set
+  -- if the certificate has no wrong moves or edges (`IsClosed`), the player stays in the set by the table
   pub keeps : IsClosed game c → KeepsTo game player set table
   keeps closed = record {
     moves = λ v below inside own.
@@ -63,7 +63,8 @@ module _ (game : ParityGame) (won : List Bool) (first second : List (Option ℕ)
   part (suc zero) is_player = search (rules, cases_Bool, winner_is, choice_is)
   part (suc (suc n)) is_player = absurd (omega arith)
 
--- if a player keeps to the set, the player's moves there are right, and no edge that remains leaves the set
+-- if a player stays in the set by the table, the certificate's moves for the player are right, and no remaining edge
+-- leaves the set
 module _ {game : ParityGame} {c : CertificateData} {player : ℕ} {set : ℕ → Bool} {table : ℕ → Option ℕ}
     (is_game : IsGame game) (p : IsPart game c player set table) (keeps : KeepsTo game player set table) where
   pub right_move : (v : ℕ) → v < vertex_count game → winner_of c v ≡ player → HasRightMove game c v
@@ -75,7 +76,7 @@ module _ {game : ParityGame} {c : CertificateData} {player : ℕ} {set : ℕ →
       (p.inside v r.edge.0 wins) (two_follows game player table v w (λ own. grind arith)) 1 (omega arith) in
       p.winner w (is_game.within v w r.edge) inside ∙ sym wins
 
--- two sets that have the same vertices of the game
+-- consider two sets that have the same vertices of the game
 module _ {game : ParityGame} {player : ℕ} {set other : ℕ → Bool} {table : ℕ → Option ℕ}
     (same : (v : ℕ) → v < vertex_count game → set v ≡ other v) where
   pub keeps_same : KeepsTo game player set table → KeepsTo game player other table

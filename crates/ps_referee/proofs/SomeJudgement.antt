@@ -1,4 +1,4 @@
--- Each solution is judged: it holds and has a certificate, or it has a first flaw, or a player loses a cycle.
+-- Each claimed solution is correct and has a certificate, or has a first flaw, or a player loses a cycle.
 use Rattle.std.proofs.Common.{◌≡◌, ◌⊎◌, inl, inr, ℕ, ◌<◌, List, map, Option, Bool, not, refl, arith, rules}
 use Rattle.std.specs.List.{range_with_len}
 use Rattle.std.proofs.lemmas.List.FromFn.{get_or-map-range_with_len}
@@ -11,7 +11,7 @@ use Rattle.ps_referee.specs.Solutions.{IsCertificateOf, IsCycleOf, IsSolution, c
 use Rattle.ps_referee.proofs.Judged.{first_holds, judged}
 use Rattle.ps_referee.proofs.Parts.{lost_same}
 
--- laws that the lemmas below take as arguments
+-- the statements of two laws, which the lemmas take as arguments
 abbrev pub ClosedOrFlawed : Type 0
 ClosedOrFlawed = (game : ParityGame) (certificate : CertificateData) → IsClosed game certificate ⊎
     (¬ IsClosed game certificate × ((flaw : Flaw) × IsFirstFlaw game certificate flaw))
@@ -29,7 +29,7 @@ module _ (flaws : ClosedOrFlawed) (counts : RanksOrCycle) (game : ParityGame) (i
       ⊎ ((flaw : Flaw) × IsFirstFlaw game (claimed game won first second) flaw)
       ⊎ ((player : ℕ) × (cycle : List ℕ) × IsCycleOf game won first second player cycle)
 
-  -- the vertices that player 1 wins
+  -- the vertices that player 1 is claimed to win
   abbrev lost : List Bool
   lost = map (λ v. not (has won v)) (range_with_len 0 (vertex_count game))
 

@@ -1,4 +1,4 @@
--- The numbers and names of the faults for which a solution is rejected.
+-- The numbers and names of the faults for which a claimed solution of a game is rejected.
 use Rattle.std.specs.Prelude.{ℕ, List, codes}
 use Rattle.ps_certificate.specs.Faults.{flaw_number, flaw_name}
 use Rattle.ps_game.specs.FaultNames as game

@@ -1,13 +1,13 @@
--- Solutions of a game: the vertices that player 0 wins, and a table of moves for each player. Player 1 wins all other
--- vertices.
---     won_by won player      the vertices that a player wins
---     moves_by first second player      a player's table
---     claimed game won first second      the claim, as a certificate without priorities and counts
---     AreSizedFor game won first second      the three lists have an entry for each vertex
---     IsSolution game won first second      each player holds the vertices that it wins by its table
---     IsCycleOf game won first second player cycle      the solution is closed, but the player loses this cycle
---     IsRefusal game won first second fault      the fault states what is wrong with the solution
---     IsCertificateOf game won first second c      the certificate of a solution that holds
+-- Claimed solutions of a game: the vertices that player 0 wins, and a table of moves for each player. Player 1 wins all
+-- other vertices.
+--     `won_by`: the vertices that a player is claimed to win.
+--     `moves_by`: the table of moves of a player.
+--     `claimed`: the claimed solution as a certificate without priorities and counts.
+--     `AreSizedFor`: the region and both tables of moves have an entry for each vertex.
+--     `IsSolution`: by its table, each player holds the vertices that it is claimed to win, so the solution is correct.
+--     `IsCycleOf`: the solution is closed, but the player loses the given cycle.
+--     `IsRefusal`: the fault states what is wrong with the solution.
+--     `IsCertificateOf`: the certificate of a correct solution.
 use Rattle.std.specs.Prelude.{◌≡◌, ℕ, ◌<◌, ◌==◌, if◌then◌else◌, List, [], length, map, Option, None, Bool, not}
 use Rattle.std.specs.List.{range_with_len}
 use Rattle.ps_game.specs.Games.{ParityGame, vertex_count, owner_of}
@@ -25,7 +25,7 @@ won_by won player v = if player == 0 then has won v else not (has won v)
 abbrev pub moves_by : List (Option ℕ) → List (Option ℕ) → ℕ → ℕ → Option ℕ
 moves_by first second player v = if player == 0 then move_at first v else move_at second v
 
--- who wins a vertex
+-- the player who is claimed to win a vertex
 abbrev pub winner_by : List Bool → ℕ → ℕ
 winner_by won v = if has won v then 0 else 1
 
@@ -34,7 +34,7 @@ abbrev pub choice_by : ParityGame → List Bool → List (Option ℕ) → List (
 choice_by game won first second v =
     if owner_of game v == winner_by won v then moves_by first second (winner_by won v) v else None
 
--- the claim about a vertex, with the given counts
+-- the certificate's entry for a vertex: its claimed winner, the winner's move, and the given counts
 abbrev pub claim_with : ParityGame → List Bool → List (Option ℕ) → List (Option ℕ) → ℕ → List ℕ → EntryData
 claim_with game won first second v counts =
     record { winner = winner_by won v; choice = choice_by game won first second v; counts = counts }
@@ -56,8 +56,9 @@ pub record IsSolution (game : ParityGame) (won : List Bool) (first second : List
   pub first_holds : Holds game 0 (has won) (move_at first)
   pub second_holds : Holds game 1 (λ v. not (has won v)) (move_at second)
 
--- No move is wrong, and each remaining edge leads to a vertex with the same winner, but the player loses a cycle of
--- such edges. If player 1 loses the cycle, player 0 holds the vertices that player 0 is claimed to win.
+-- No move of the solution is wrong, and each remaining edge leads to a vertex with the same winner, but the player
+-- loses a cycle of remaining edges. If player 1 loses the cycle, player 0 holds the vertices that player 0 is claimed
+-- to win.
 pub record IsCycleOf (game : ParityGame) (won : List Bool) (first second : List (Option ℕ)) (player : ℕ)
     (cycle : List ℕ) : Type 0 where
   pub closed : IsClosed game (claimed game won first second)
@@ -65,8 +66,8 @@ pub record IsCycleOf (game : ParityGame) (won : List Bool) (first second : List 
   pub lost : IsLostCycle game player (won_by won player) (moves_by first second player) cycle
   pub first_holds : player ≡ 1 → Holds game 0 (has won) (move_at first)
 
--- what a fault guarantees: the flaw is the first flaw of the claim, or the cycle is lost; out of memory guarantees
--- nothing
+-- what a fault guarantees: a reported flaw is the claimed solution's first flaw, and a reported cycle is lost by the
+-- player; out of memory guarantees nothing
 abbrev pub IsRefusal : ParityGame → List Bool → List (Option ℕ) → List (Option ℕ) → JudgeFault → Type 0
 IsRefusal game won first second (Unclosed flaw) = IsFirstFlaw game (claimed game won first second) flaw
 IsRefusal game won first second (BadCycle player cycle) = IsCycleOf game won first second player cycle.items

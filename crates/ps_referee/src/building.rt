@@ -1,4 +1,4 @@
-//! Claimed solutions, and their certificates: without counts, and with the counts of both players.
+//! Claimed solutions of a game, written as certificates: without counts, and with the counts of both players.
 
 ghost use Rattle.std.specs.Prelude.{◌≡◌, ◌<◌, length, [], Some, IfOk, OnOk, ◌++◌, ◌∷◌};
 ghost use Rattle.ps_game.specs.Games.{vertex_count};
@@ -15,7 +15,7 @@ use std::alloc::{AllocError, Global};
 pub(crate) struct Solution<'a, A: Arena> {
     /// The game.
     pub(crate) arena: &'a A,
-    /// The vertices that player 0 wins.
+    /// The vertices that player 0 is claimed to win.
     pub(crate) won: &'a Region,
     /// The moves of player 0.
     pub(crate) first: &'a Strategy,
@@ -24,7 +24,7 @@ pub(crate) struct Solution<'a, A: Arena> {
     ghost sized: { AreSizedFor (A.game arena.now) won.now first.now second.now },
 }
 
-/// The claim about a game, as a certificate without priorities and counts.
+/// A claimed solution, written as a certificate without priorities and counts.
 pub(crate) fn claim_of<A: Arena>(
     alloc: Global,
     solution: &Solution<'_, A>,
@@ -43,7 +43,8 @@ pub(crate) fn claim_of<A: Arena>(
     })
 }
 
-/// The claim about each vertex, with the counts that the winner has for that vertex.
+/// The certificate's entry for each vertex: its claimed winner, the winner's move, and the vertex's counts in the
+/// winner's table.
 pub(crate) fn entries_of<A: Arena>(
     alloc: Global,
     solution: &Solution<'_, A>,
@@ -66,8 +67,8 @@ pub(crate) fn entries_of<A: Arena>(
     Ok(entries)
 }
 
-/// Replaces the contents of a list by the counts of a vertex, which are in the first table if player 0 wins the vertex,
-/// and otherwise in the second table.
+/// Replaces the contents of `row` by the counts of a vertex, from the first table if player 0 is claimed to win the
+/// vertex, and otherwise from the second.
 fn winner_row(
     vertex: usize,
     won: &Region,
@@ -87,7 +88,7 @@ fn winner_row(
     }
 }
 
-/// The claim about a vertex, with the given counts.
+/// The certificate's entry for a vertex: its claimed winner, the winner's move, and the given counts.
 fn claim_at<'a, A: Arena>(solution: &Solution<'_, A>, vertex: usize, counts: &'a [u64]) -> Entry<'a>
     requires { vertex < vertex_count (A.game solution.now.arena.now) }
     ensures { result ≡ claim_with (A.game solution.now.arena.now) solution.now.won.now solution.now.first.now

@@ -1,4 +1,4 @@
-//! Why a solution is rejected.
+//! The reasons why a claimed solution is rejected.
 
 ghost use Rattle.std.specs.Prelude.{◌≡◌};
 ghost use Rattle.ps_referee.specs.declared.fault.JudgeFault.TheVariants.{OutOfMemory};
@@ -8,7 +8,7 @@ use ps_game::GameFault;
 use std::alloc::AllocError;
 use thiserror::Error;
 
-/// Why a solution is rejected. Vertices are given by their indices, from 0.
+/// The reason why a claimed solution is rejected. Vertices are given by their indices, from 0.
 #[derive(Debug, Drop, Error)]
 pub enum JudgeFault {
     /// A move is wrong, or a remaining edge leads to a vertex that the other player wins.

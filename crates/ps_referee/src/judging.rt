@@ -1,4 +1,4 @@
-//! The call that judges a solution, and the call for a solution that is known to hold.
+//! The call that judges a claimed solution, and the call that makes the certificate of a solution known to be correct.
 
 ghost use Rattle.std.specs.Prelude.{◌≡◌, ℕ, ◌<◌, length, not, IfOk, IfErr, OnOk};
 ghost use Rattle.ps_game.specs.Games.{vertex_count};
@@ -22,9 +22,9 @@ use std::alloc::{AllocError, Global};
 ///
 /// # Errors
 ///
-/// A solution that does not hold is rejected. The error is [`JudgeFault::Unclosed`] with the first flaw of the
-/// solution's moves and edges, as [`ps_certificate::closed`] reports it; or [`JudgeFault::BadCycle`] if there is no
-/// such flaw. If the solution holds, the only error is out of memory.
+/// A wrong solution is rejected. The error is [`JudgeFault::Unclosed`] with the first flaw of the solution's moves and
+/// edges, as [`ps_certificate::closed`] reports it; or [`JudgeFault::BadCycle`] if the solution has no flaw, but a
+/// player loses a cycle. If the solution is correct, the only possible error is out of memory.
 pub fn judge<A: Arena>(
     alloc: Global,
     arena: &A,
@@ -34,7 +34,8 @@ pub fn judge<A: Arena>(
 ) -> Result<Certificate, JudgeFault>
     requires sized { AreSizedFor (A.game arena.now) won.now first.now second.now }
 
-    // Ok exactly if each player holds the vertices that the player is claimed to win, unless out of memory.
+    // Unless out of memory, the result is Ok exactly if each player holds the vertices that the player is claimed to
+    // win.
     ensures solution { OnOk result (IsSolution (A.game arena.now) won.now first.now second.now) }
     ensures judged { IsSolution (A.game arena.now) won.now first.now second.now → IfErr result IsOutOfMemory }
 
@@ -54,8 +55,8 @@ pub fn judge<A: Arena>(
     counting(alloc, &solution)
 }
 
-/// The certificate of a solution. The solution is known to hold, and is not judged. The certificate has the solution's
-/// winners and moves, and the least counts. Fails only if out of memory.
+/// The certificate of a solution that is known to be correct; the solution is not checked. The certificate has the
+/// solution's winners and moves, and the least counts. Fails only if out of memory.
 pub fn certificate_of_solution<A: Arena>(
     alloc: Global,
     arena: &A,
@@ -104,8 +105,7 @@ fn closing<A: Arena>(alloc: Global, solution: &Solution<'_, A>) -> Result<(), Ju
     }
 }
 
-/// The certificate of a solution whose remaining edges all lead to vertices with the same winner, or a cycle that a
-/// player loses.
+/// The certificate of a solution that `closing` accepts, or a cycle that a player loses.
 fn counting<A: Arena>(alloc: Global, solution: &Solution<'_, A>) -> Result<Certificate, JudgeFault>
     requires { IsClosed (A.game solution.now.arena.now)
         (claimed (A.game solution.now.arena.now) solution.now.won.now solution.now.first.now solution.now.second.now) }
@@ -139,7 +139,8 @@ fn others(alloc: Global, region: &Region) -> Result<Region, AllocError>
     Ok(others)
 }
 
-/// The least counts for the vertices that a player wins, or a cycle among them that the player loses.
+/// The least counts for the vertices that a player is claimed to win, or a cycle of such vertices that the player
+/// loses.
 fn counts_of<A: Arena>(
     alloc: Global,
     arena: &A,

@@ -1,4 +1,5 @@
-//! Laws: there is a verdict on a solution, and it is unique, except for the cycle that it reports.
+//! Laws (theorems): each claimed solution has a verdict, which is unique, except that one of several lost cycles may be
+//! reported.
 
 ghost use Rattle.std.specs.Prelude.{◌≡◌, ◌⊎◌, ℕ, List, Option, Bool};
 ghost use Rattle.ps_game.specs.Games.{ParityGame, IsGame};
@@ -6,14 +7,15 @@ ghost use Rattle.ps_certificate.specs.Certificates.{CertificateData, IsFirstFlaw
 ghost use Rattle.ps_certificate.specs.declared.flaw.Flaw.{Flaw};
 ghost use Rattle.ps_referee.specs.Solutions.{claimed, IsSolution, IsCycleOf, IsCertificateOf};
 
-/// A solution has at most one certificate.
+/// A solution has at most one certificate with least counts.
 pub fn one_certificate()
     ensures { (game : ParityGame) (won : List Bool) (first second : List (Option ℕ)) (one other : CertificateData) →
         IsCertificateOf game won first second one → IsCertificateOf game won first second other → one ≡ other }
 {}
 
-/// A solution never has both a flaw and a lost cycle, and all its lost cycles are lost by the same player. A solution
-/// that holds has neither a flaw nor a lost cycle. The first flaw is unique (`ps_certificate::first_flaw_is_one`).
+/// A solution never has both a flaw and a cycle in the sense of `IsCycleOf`, and all such cycles are lost by the same
+/// player. A correct solution has neither a flaw nor such a cycle. The first flaw of a solution is unique
+/// (`ps_certificate::first_flaw_is_one`).
 pub fn one_verdict()
     ensures apart { (game : ParityGame) (won : List Bool) (first second : List (Option ℕ)) (flaw : Flaw) (player : ℕ)
         (cycle : List ℕ) → IsFirstFlaw game (claimed game won first second) flaw →
@@ -27,7 +29,7 @@ pub fn one_verdict()
         (cycle : List ℕ) → IsSolution game won first second → ¬ IsCycleOf game won first second player cycle }
 {}
 
-/// A solution of a game holds and has a certificate, or it has a first flaw, or a player loses a cycle.
+/// A claimed solution is correct and has a certificate, or has a first flaw, or a player loses a cycle.
 pub fn solution_is_judged()
     ensures { (game : ParityGame) (won : List Bool) (first second : List (Option ℕ)) → IsGame game →
         (IsSolution game won first second ×

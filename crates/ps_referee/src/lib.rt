@@ -1,10 +1,10 @@
-//! Whether a solution of a game holds, no matter where the solution comes from.
+//! Checks whether a claimed solution of a parity game is correct, no matter where the solution comes from.
 //!
-//! A solution states which vertices player 0 wins, and by which moves the players win; player 1 wins all other
-//! vertices. [`judge`] returns the certificate of the solution, which has the least counts. If the solution does not
-//! hold, [`judge`] returns the reason. The reason is the first flaw, which is a wrong move or a remaining edge to a
-//! vertex with the other winner. If there is no flaw, the reason is a cycle that is lost by the player who is claimed
-//! to win its vertices.
+//! A solution claims which vertices player 0 wins, and by which moves each player wins; player 1 is claimed to win all
+//! other vertices. If the solution is correct, [`judge`] returns its certificate, with the least counts. If the
+//! solution is wrong, [`judge`] returns the reason. The reason is the first flaw, which is a wrong move or a remaining
+//! edge to a vertex with the other winner. If there is no flaw, the reason is a cycle that is lost by the player who is
+//! claimed to win the cycle's vertices.
 //!
 //! | Call | What it gives |
 //! |---|---|
@@ -15,10 +15,10 @@
 //! | `one_verdict` | a law: a solution never has both a flaw and a lost cycle; if it holds, it has neither |
 //! | `solution_is_judged` | a law: a solution holds and has a certificate, or has a flaw, or a lost cycle |
 //!
-//! Moves may be any numbers. Only the moves of the winners at their own vertices are checked. A cycle that player 1
-//! loses is reported only if player 0 holds the vertices that player 0 is claimed to win.
+//! The moves of a solution may be any numbers. Only the moves of the winners at their own vertices are checked. A cycle
+//! that player 1 loses is reported only if player 0 holds the vertices that player 0 is claimed to win.
 //!
-//! Both calls take as long as `ps_measure::ranks` for both players, and call no solver.
+//! Each of the two calls takes about as long as `ps_measure::ranks` for both players, and calls no solver.
 #![tactic(auto)]
 
 mod building;

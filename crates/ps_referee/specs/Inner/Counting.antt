@@ -1,11 +1,12 @@
--- Why computing the counts of one player fails.
+-- Why the computation of the counts of one player fails.
 use Rattle.std.specs.Prelude.{◌≡◌, ℕ, Option, Bool}
 use Rattle.ps_game.specs.Games.{ParityGame}
 use Rattle.ps_measure.specs.Ranks.{IsLostCycle}
 use Rattle.ps_referee.specs.declared.fault.JudgeFault.{JudgeFault}
 use Rattle.ps_referee.specs.declared.fault.JudgeFault.TheVariants.{Unclosed, BadCycle, OutOfMemory}
 
--- what a fault guarantees: the player loses the cycle, which lies within the set; out of memory guarantees nothing
+-- what a fault guarantees: a reported cycle lies within the set and the player loses it; out of memory guarantees
+-- nothing
 abbrev pub IsLostIn : ParityGame → ℕ → (ℕ → Bool) → (ℕ → Option ℕ) → JudgeFault → Type 0
 IsLostIn game player set table (Unclosed flaw) = ⊥
 IsLostIn game player set table (BadCycle loser cycle) =

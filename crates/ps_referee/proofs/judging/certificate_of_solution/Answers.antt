@@ -1,4 +1,4 @@
--- A solution that holds is closed, and its only fault is out of memory.
+-- A correct solution is closed, and the only fault that judging it can return is out of memory.
 use Rattle.ps_referee.proofs.Judged.{solution_closed, judged_err, only_memory}
 use Rattle.ps_referee.proofs.judging.certificate_of_solution.Goals as goal
 
