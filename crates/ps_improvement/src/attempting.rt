@@ -1,4 +1,4 @@
-//! The call that attempts to solve a game.
+//! The call that attempts to solve a game within a given amount of work.
 
 ghost use Rattle.std.specs.Prelude.{IfOk, length};
 ghost use Rattle.ps_game.specs.Games.{vertex_count};
@@ -13,34 +13,36 @@ use ps_attractor::has_room;
 use ps_game::{Arena, Region, Strategy};
 use std::alloc::{AllocError, Global};
 
-/// The number of cells that may be stored for any game.
+/// The number of cells (entries of rows) that may be stored whatever the game and the fuel are.
 const ROOM: u64 = 1 << 18;
 
-/// The amount of fuel, in cells, that allows one more cell to be stored.
+/// How many units of fuel allow one further cell to be stored.
 const FUEL_EACH: u64 = 256;
 
-/// The greatest number of further cells that may be stored for each vertex and each edge.
+/// However much fuel there is, at most this many further cells are stored for each vertex and each edge.
 const ROOM_EACH: u64 = 64;
 
-/// The result of an attempt.
+/// The result of an attempt to solve a game by strategy improvement.
 #[derive(Drop)]
 pub enum Attempted {
-    /// No move improves any more. The result is not guaranteed: the players may or may not win as stated.
+    /// The improvement ended, since no move can be improved any more. The result is not proved: the caller must check
+    /// that the players win as stated.
     Found {
-        /// The vertices that player 0 may win.
+        /// The vertices that player 0 presumably wins.
         won: Region,
-        /// The moves by which player 0 may win the vertices in `won`.
+        /// The moves by which player 0 presumably wins the vertices in `won`.
         first: Strategy,
-        /// The moves by which player 1 may win the vertices outside `won`.
+        /// The moves by which player 1 presumably wins the vertices outside `won`.
         second: Strategy,
     },
-    /// The fuel, or the number of cells that it allows, was used up before a result was reached.
+    /// The fuel, or the number of stored cells that the fuel allows, was used up before a result was reached.
     OutOfFuel,
-    /// No room was left for a row. More fuel would not help.
+    /// The greatest number of stored cells that any fuel allows did not suffice, or the game is too large. More fuel
+    /// would not help.
     OutOfRoom,
 }
 
-/// Computes which vertices player 0 may win, and by which moves. Fails if out of memory.
+/// Computes which vertices player 0 presumably wins, and moves for both players. Fails if out of memory.
 pub fn attempt<A: Arena>(alloc: Global, arena: &A, fuel: u64) -> Result<Attempted, AllocError>
     ensures { IfOk result (IsAttemptFor (vertex_count (A.game arena.now))) }
 {
@@ -65,7 +67,7 @@ pub fn attempt<A: Arena>(alloc: Global, arena: &A, fuel: u64) -> Result<Attempte
     }
 }
 
-/// The greatest number of further cells that may be stored for the vertices and edges of a game.
+/// The greatest number of further cells that may be stored for a game, however much fuel there is.
 fn most_room<A: Arena>(arena: &A) -> u64 {
     let mut room: u64 = 0;
     for vertex in 0..arena.count() {
@@ -75,7 +77,8 @@ fn most_room<A: Arena>(arena: &A) -> u64 {
     room
 }
 
-/// The result of a plan: player 0 wins the vertices from which plays never stop. Fails if out of memory.
+/// The result that follows from the final moves: player 0 is said to win the vertices from which plays never stop.
+/// Fails if out of memory.
 fn answer_of<A: Arena>(alloc: Global, plan: Plan<'_, A>) -> Result<Attempted, AllocError>
     ensures { IfOk result (IsAttemptFor (length plan.entry.rows.items)) }
 {

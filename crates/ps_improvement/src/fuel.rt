@@ -1,13 +1,13 @@
-//! The limits on the work.
+//! The limits on the time and the memory of an attempt.
 
-/// How many cells may still be read or written, and how many more cells may be stored at one time.
+/// How many cells (entries of rows) may still be read or written, and how many more may be stored at the same time.
 #[derive(Drop)]
 pub struct Fuel {
-    /// The number of cells that may still be read or written.
+    /// The number of cells of rows that may still be read or written.
     pub left: u64,
     /// The number of cells that may be stored in addition to those that are stored now.
     pub room: u64,
-    /// Whether there was not enough room for some row.
+    /// Whether the limit on stored cells was too small for some row.
     pub is_full: bool,
 }
 
@@ -17,8 +17,8 @@ impl Fuel {
         self.left = self.left.saturating_sub(cells as u64).saturating_sub(1);
     }
 
-    /// Records that a row of `cells` cells is stored in place of a row of `instead` cells. If there is no room for the
-    /// row, all fuel is spent.
+    /// Records that a row of `cells` cells is stored in place of a row of `instead` cells. If the new row exceeds the
+    /// limit on stored cells, all fuel is spent.
     pub fn hold(&mut self, cells: usize, instead: usize) {
         let room = self.room.saturating_add(instead as u64);
         if room < cells as u64 {

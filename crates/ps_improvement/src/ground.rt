@@ -1,4 +1,4 @@
-//! The game with its edges reversed, and its components.
+//! A game, its reversed edges, and its strongly connected components.
 
 ghost use Rattle.std.specs.Prelude.{◌≡◌, ◌<◌, ℕ, All, IfOk, length};
 ghost use Rattle.ps_attractor.specs.Room.{HasRoom};
@@ -34,7 +34,7 @@ impl<'a, A: Arena> Graph for Edges<'a, A> {
     }
 }
 
-/// A game, with the edges that lead to each vertex, and the component of each vertex.
+/// A game, with the predecessors of each vertex, and the strongly connected component of each vertex.
 #[derive(Drop)]
 pub struct Ground<'a, A: Arena> {
     /// The game.
@@ -48,7 +48,7 @@ pub struct Ground<'a, A: Arena> {
 }
 
 impl<'a, A: Arena> Ground<'a, A> {
-    /// Computes the reversed edges and the components of a game. Fails if out of memory.
+    /// Computes the reversed edges and the strongly connected components of a game. Fails if out of memory.
     pub fn of(alloc: Global, arena: &'a A) -> Result<Ground<'a, A>, AllocError>
         requires { HasRoom (A.game arena.now) usize.MAX }
         ensures { IfOk result (λ ground. A.game ground.arena.now ≡ A.game arena.now) }
@@ -60,14 +60,14 @@ impl<'a, A: Arena> Ground<'a, A> {
         })
     }
 
-    /// The vertices, component by component. Components that no edge leaves come first.
+    /// The vertices, component by component. Each component follows all other components to which its edges lead.
     pub fn order(&self) -> &[usize]
         ensures { All (λ v. v < vertex_count (A.game self.now.arena.now)) result.now }
     {
         self.components.order()
     }
 
-    /// Whether two vertices are in the same component.
+    /// Whether two vertices are in the same strongly connected component.
     pub fn is_one_part(&self, vertex: usize, other: usize) -> bool
         requires vertex { vertex < vertex_count (A.game self.now.arena.now) }
         requires other { other < vertex_count (A.game self.now.arena.now) }
@@ -75,7 +75,7 @@ impl<'a, A: Arena> Ground<'a, A> {
         self.components.number(vertex) == self.components.number(other)
     }
 
-    /// The vertices with an edge to a vertex.
+    /// The predecessors of a vertex.
     pub fn sources(&self, vertex: usize) -> &[usize]
         requires { vertex < vertex_count (A.game self.now.arena.now) }
         ensures { All (λ v. v < vertex_count (A.game self.now.arena.now)) result.now }

@@ -1,4 +1,4 @@
-//! The present choices of the players, and the values that follow from them.
+//! The present choices of the players in strategy improvement, and the values of vertices that follow from them.
 
 ghost use Rattle.std.specs.Prelude.{◌≡◌, ◌<◌, ℕ, IfOk, IfSome, length};
 ghost use Rattle.std.specs.Option.{ForSome};
@@ -11,7 +11,7 @@ use ps_game::{Arena, Region, Strategy};
 use std::alloc::{AllocError, Global};
 use std::cmp::Ordering;
 
-/// The moves of player 0, the vertices of player 1 that are open, and the value of each vertex of a game.
+/// The moves of player 0, the vertices of player 1 that plays may enter, and the value of each vertex of a game.
 #[derive(Drop)]
 pub struct Plan<'a, A: Arena> {
     alloc: Global,
@@ -19,9 +19,9 @@ pub struct Plan<'a, A: Arena> {
     pub arena: &'a A,
     /// The moves of player 0. At a vertex without a move, player 0 stops.
     pub first: Strategy,
-    /// The vertices of player 1 that are open, so that plays may enter them.
+    /// The vertices of player 1 that plays may enter; before all others of player 1, plays stop.
     pub opened: Region,
-    /// The row of each vertex; none if the value of the vertex is endless.
+    /// The row of priorities that a play from each vertex meets before it stops, or `None` if the play never stops.
     pub rows: Vec<Option<Row>>,
     ghost sized: { length rows.items ≡ vertex_count (A.game arena.now) },
     ghost moves: { length first ≡ length rows.items },
@@ -30,7 +30,8 @@ pub struct Plan<'a, A: Arena> {
 }
 
 impl<'a, A: Arena> Plan<'a, A> {
-    /// A plan in which player 0 stops at every vertex, and no vertex of player 1 is open. Fails if out of memory.
+    /// A plan in which player 0 stops at each of its vertices, and no play enters a vertex of player 1. Fails if out of
+    /// memory.
     pub fn new(alloc: Global, arena: &'a A) -> Result<Plan<'a, A>, AllocError>
         ensures { IfOk result (λ plan. length plan.rows.items ≡ vertex_count (A.game arena.now)) }
     {
@@ -44,14 +45,14 @@ impl<'a, A: Arena> Plan<'a, A> {
         })
     }
 
-    /// Whether plays stop before they enter a vertex.
+    /// Whether a vertex is closed, so that plays stop before they enter it.
     pub fn is_closed(&self, vertex: usize) -> bool
         requires { vertex < length self.now.rows.items }
     {
         self.arena.owner(vertex) == 1 && !self.opened.contains(vertex)
     }
 
-    /// The value of a vertex.
+    /// The value of the play from a vertex.
     pub fn value(&self, vertex: usize) -> Value<'_>
         requires { vertex < length self.now.rows.items }
     {
@@ -61,7 +62,7 @@ impl<'a, A: Arena> Plan<'a, A> {
         }
     }
 
-    /// The value of a move to a vertex, or of stopping if no vertex is given.
+    /// The value of moving to a vertex, or of stopping if no vertex is given or the vertex is closed.
     fn seen(&self, to: Option<usize>) -> Value<'_>
         requires { IfSome to (λ vertex. vertex < length self.now.rows.items) }
     {
@@ -86,8 +87,8 @@ impl<'a, A: Arena> Plan<'a, A> {
         Ok(true)
     }
 
-    /// The new row of a vertex, which follows from the choice of the vertex's owner, if the new row is worth less than
-    /// the present value. Fails if out of memory.
+    /// The row of a vertex that follows from the choice of the vertex's owner, if this row is worth less than the
+    /// vertex's present value. Fails if out of memory.
     fn lower_row(&self, vertex: usize, fuel: &mut Fuel) -> Result<Option<Row>, AllocError>
         requires { vertex < length self.now.rows.items }
     {
@@ -108,7 +109,7 @@ impl<'a, A: Arena> Plan<'a, A> {
         Ok(Some(row))
     }
 
-    /// A least valuable successor of a vertex.
+    /// The first of the successors of a vertex that are worth least to player 0.
     #[tactic(auto, using(crate::proofs::Within::successor_within))]
     pub fn least(&self, vertex: usize, fuel: &mut Fuel) -> usize
         requires { vertex < length self.now.rows.items }
@@ -126,7 +127,8 @@ impl<'a, A: Arena> Plan<'a, A> {
         least
     }
 
-    /// The most valuable successor of a vertex, or `None` if no successor is worth more than the present move.
+    /// The first of the successors of a vertex that are worth most to player 0, or `None` if no successor is worth more
+    /// than the present move.
     #[tactic(auto, using(crate::proofs::Within::successor_within))]
     pub fn better(&self, vertex: usize, fuel: &mut Fuel) -> Option<usize>
         requires { vertex < length self.now.rows.items }
@@ -147,7 +149,7 @@ impl<'a, A: Arena> Plan<'a, A> {
     }
 }
 
-/// The endless values of `count` vertices.
+/// A list in which each of `count` vertices has the value of an endless play.
 fn endless(alloc: Global, count: usize) -> Result<Vec<Option<Row>>, AllocError>
     ensures { IfOk result (λ rows. length rows.items ≡ count) }
 {

@@ -1,10 +1,10 @@
-//! The values of plays.
+//! The values of plays in strategy improvement, and how they compare.
 
 use crate::fuel::Fuel;
 use std::alloc::{AllocError, Global};
 use std::cmp::Ordering;
 
-/// A priority, and how often a play meets it.
+/// An entry of a row: a priority, and how often a play meets the priority.
 #[derive(Clone, Copy, PartialEq, Eq)]
 pub struct Cell {
     /// The priority.
@@ -14,7 +14,7 @@ pub struct Cell {
 }
 
 /// The priorities that a play meets before it stops, in descending order, each with the number of times that the play
-/// meets it. No count is 0.
+/// meets it. No count in a row is 0.
 pub type Row = Vec<Cell>;
 
 /// The value of a play for player 0.
@@ -22,12 +22,12 @@ pub type Row = Vec<Cell>;
 pub enum Value<'a> {
     /// The play never stops; an endless play is worth most.
     Endless,
-    /// The play stops after meeting the priorities of a row.
+    /// The play stops after it has met the priorities in the given row.
     Stops(&'a [Cell]),
 }
 
 impl Value<'_> {
-    /// The number of cells of the row.
+    /// The number of cells (entries) of the value's row; 0 for an endless play.
     pub fn cells(self) -> usize {
         match self {
             Value::Endless => 0,
@@ -35,7 +35,7 @@ impl Value<'_> {
         }
     }
 
-    /// Compares two values. The greater value is worth more.
+    /// Compares two values. The greater value is worth more to player 0.
     pub fn order(self, other: Value<'_>, fuel: &mut Fuel) -> Ordering {
         match (self, other) {
             (Value::Endless, Value::Endless) => Ordering::Equal,
@@ -46,7 +46,7 @@ impl Value<'_> {
     }
 }
 
-/// Compares two rows. The first cell in which the rows differ decides.
+/// Compares two rows. The first cell (entry) in which the two rows differ decides.
 fn order_of_rows(row: &[Cell], other: &[Cell], fuel: &mut Fuel) -> Ordering {
     let same = row
         .iter()
@@ -62,7 +62,7 @@ fn order_of_rows(row: &[Cell], other: &[Cell], fuel: &mut Fuel) -> Ordering {
     }
 }
 
-/// Compares two cells. The greater priority decides; if the priorities are equal, the counts decide.
+/// Compares two cells. The cell with the greater priority decides; if the priorities are equal, the counts decide.
 fn order_of_cells(cell: Cell, beside: Cell) -> Ordering {
     match cell.priority.cmp(&beside.priority) {
         Ordering::Greater => worth_of(cell.priority),
@@ -72,7 +72,7 @@ fn order_of_cells(cell: Cell, beside: Cell) -> Ordering {
     }
 }
 
-/// Whether a play is worth more (`Greater`) or less (`Less`) if it meets a priority once more.
+/// Whether a play that meets a priority once more is then worth more (`Greater`) or less (`Less`) to player 0.
 fn worth_of(priority: u64) -> Ordering {
     if priority % 2 == 0 {
         Ordering::Greater
@@ -81,7 +81,7 @@ fn worth_of(priority: u64) -> Ordering {
     }
 }
 
-/// A row with one more occurrence of a priority, in three parts: the cells of greater priorities, the cell of that
+/// A row with one more occurrence of a priority, as three lists: the cells of greater priorities, the cell of that
 /// priority, and the cells of smaller priorities.
 #[derive(Drop)]
 pub struct Raised<'a> {
@@ -108,7 +108,7 @@ impl<'a> Raised<'a> {
         }
     }
 
-    /// Whether the raised row is worth less than a value.
+    /// Whether the row with one more occurrence of its priority is worth less to player 0 than a value.
     pub fn is_below(&self, value: Value<'_>, fuel: &mut Fuel) -> bool {
         match value {
             Value::Endless => true,
@@ -116,7 +116,7 @@ impl<'a> Raised<'a> {
         }
     }
 
-    /// Compares the raised row with another row.
+    /// Compares the row with one more occurrence of its priority with another row.
     fn order(&self, other: &[Cell], fuel: &mut Fuel) -> Ordering {
         let (begin, back) = other.split_at(self.front.len().min(other.len()));
         let fronts = order_of_rows(self.front, begin, fuel);

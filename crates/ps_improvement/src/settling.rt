@@ -1,4 +1,4 @@
-//! The improvement of a plan, component by component.
+//! The improvement of the players' choices, one strongly connected component after another.
 
 ghost use Rattle.std.specs.Prelude.{◌≡◌, ◌<◌, ◌≤◌, All, IfOk, length};
 ghost use Rattle.ps_game.specs.Games.{vertex_count};
@@ -12,7 +12,8 @@ use ps_game::Arena;
 use std::alloc::{AllocError, Global};
 use std::cmp::Ordering;
 
-/// A plan for a game, the component that is being settled, and its vertices whose values may decrease.
+/// The present choices of the players (the plan), the component that is being solved, and those of its vertices whose
+/// values may decrease.
 #[derive(Drop)]
 pub struct Settling<'a, A: Arena> {
     ground: &'a Ground<'a, A>,
@@ -26,7 +27,7 @@ pub struct Settling<'a, A: Arena> {
 }
 
 impl<'a, A: Arena> Settling<'a, A> {
-    /// A plan in which nothing is settled. Fails if out of memory.
+    /// The initial state, in which no component is solved. Fails if out of memory.
     pub fn new(alloc: Global, ground: &'a Ground<'a, A>) -> Result<Settling<'a, A>, AllocError>
         ensures { IfOk result (λ settling. A.game settling.ground.now.arena.now ≡ A.game ground.now.arena.now) }
     {
@@ -38,8 +39,8 @@ impl<'a, A: Arena> Settling<'a, A> {
         })
     }
 
-    /// Improves the plan until nothing improves in any component. Components that no edge leaves come first. Returns
-    /// whether the fuel sufficed. Fails if out of memory.
+    /// Improves the players' choices in one component after another, until nothing improves. Each component follows
+    /// those to which its edges lead. Returns whether the fuel sufficed. Fails if out of memory.
     pub fn settle_all(&mut self, fuel: &mut Fuel) -> Result<bool, AllocError>
         ensures { self.new.ground ≡ self.old.ground }
     {
@@ -55,8 +56,8 @@ impl<'a, A: Arena> Settling<'a, A> {
         Ok(true)
     }
 
-    /// Improves the plan until nothing improves in the component. Returns whether the fuel sufficed. Fails if out of
-    /// memory.
+    /// Improves the players' choices in the current component until nothing improves. Returns whether the fuel
+    /// sufficed. Fails if out of memory.
     fn settle(&mut self, fuel: &mut Fuel) -> Result<bool, AllocError>
         ensures { self.new.ground ≡ self.old.ground }
     {
@@ -74,8 +75,8 @@ impl<'a, A: Arena> Settling<'a, A> {
         Ok(false)
     }
 
-    /// Computes the values of the vertices of the component, given the choices of the players. All values are endless
-    /// at first, and are lowered until none changes or the fuel is spent. Fails if out of memory.
+    /// Computes the values of the vertices of the current component, given the present choices of the players. All
+    /// values are endless at first, and are lowered until none changes or the fuel is spent. Fails if out of memory.
     fn evaluate(&mut self, fuel: &mut Fuel) -> Result<(), AllocError>
         ensures { self.new.ground ≡ self.old.ground }
     {
@@ -94,8 +95,8 @@ impl<'a, A: Arena> Settling<'a, A> {
         Ok(())
     }
 
-    /// Sets the values of the vertices of the component to endless, and adds the vertices to the queue. Fails if out of
-    /// memory.
+    /// Gives each vertex of the current component the value of an endless play, and adds it to the queue. Fails if out
+    /// of memory.
     fn forget_all(&mut self, fuel: &mut Fuel) -> Result<(), AllocError>
         ensures { self.new.ground ≡ self.old.ground }
     {
@@ -126,8 +127,8 @@ impl<'a, A: Arena> Settling<'a, A> {
         Ok(())
     }
 
-    /// Lets player 0 move from each of its vertices to a successor that is worth most. All choices use the present
-    /// values. Returns whether a move improved.
+    /// At each vertex of player 0 in the current component, changes the move to a successor that is worth most, if it
+    /// is worth more than the present move. All comparisons use the present values. Returns whether a move changed.
     fn go_on(&mut self, fuel: &mut Fuel) -> bool
         ensures { self.new.ground ≡ self.old.ground }
     {
@@ -145,7 +146,8 @@ impl<'a, A: Arena> Settling<'a, A> {
         improved
     }
 
-    /// Opens the vertices of player 1 that are worth more than stopping. Returns whether there are any.
+    /// Lets plays enter those closed vertices of player 1 in the current component that are worth more than stopping.
+    /// Returns whether there are any.
     fn open_up(&mut self, fuel: &mut Fuel) -> bool
         ensures { self.new.ground ≡ self.old.ground }
     {
@@ -163,7 +165,7 @@ impl<'a, A: Arena> Settling<'a, A> {
     }
 }
 
-/// The number of vertices at the front of a list that are in the same component.
+/// The number of vertices at the front of a list that are in the component of the list's first vertex.
 fn length_of_part<A: Arena>(ground: &Ground<'_, A>, rest: &[usize]) -> usize
     requires { All (λ v. v < vertex_count (A.game ground.now.arena.now)) rest.now }
     ensures { result ≤ length rest.now }

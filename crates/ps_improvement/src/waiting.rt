@@ -1,4 +1,4 @@
-//! A queue of pending vertices.
+//! A queue of vertices that are still to be processed.
 
 ghost use Rattle.std.specs.Prelude.{◌≡◌, ◌<◌, All, IfOk, IfSome, length};
 
@@ -6,7 +6,7 @@ use ps_game::Region;
 use std::alloc::{AllocError, Global};
 use std::collections::VecDeque;
 
-/// A queue of pending vertices, in which each vertex occurs at most once.
+/// A queue of vertices that are still to be processed, in which each vertex occurs at most once.
 #[derive(Drop)]
 pub struct Waiting {
     queue: VecDeque<usize>,
