@@ -1,5 +1,5 @@
-//! Tests of solvers that may give no result: when their budget or fuel suffices, and whether a result agrees with that
-//! of the sure solver.
+//! Tests of the solvers that may give no result, within a budget or fuel: when the budget or the fuel suffices, and
+//! whether a result agrees with that of the exact solver `regions`.
 
 use ps_game::{Counts, Game, Region, Strategy};
 use ps_improvement::{Attempted, attempt};
@@ -8,11 +8,12 @@ use ps_zielonka::{regions, regions_within};
 use std::alloc::{AllocError, Global};
 use std::test::Fail;
 
-/// Player 0 wins 0 and 1 by moving from 0 to 1. Player 1 wins 2 and 3 by moving from 3 to 2. Vertex 4 is player 1's and
-/// leads to 1 and 2.
+/// Player 0 wins the vertices 0 and 1 by moving from 0 to 1. Player 1 wins the vertices 2 and 3 by moving from 3 to 2.
+/// Vertex 4 belongs to player 1 and leads to 1 and 2.
 const BOTH: &[u8] = b"0 1 0 0,1; 1 2 1 0; 2 3 0 3; 3 0 1 2,0; 4 5 1 1,2;";
 
-/// Two rungs of a ladder; and a loop that player 1 wins, which is a component of its own.
+/// A game of ten vertices in several strongly connected components; and vertex 10, whose only edge leads to itself, and
+/// which player 1 wins.
 const RUNGS: &[u8] =
     b"0 1 1 1; 1 1 0 0,7; 2 4 1 1,3; 3 3 0 4; 4 5 0 6,3; 5 0 0 6; 6 0 1 5; 7 7 0 6,8; 8 6 1 9,3;
     9 8 1 8; 10 1 1 10;";
@@ -30,7 +31,7 @@ fn are_same(one: &Region, other: &Region) -> bool {
     true
 }
 
-/// Whether a result has the region of the sure solver.
+/// Whether a result has the same winning region as that of the exact solver `regions`.
 fn is_right(
     alloc: Global,
     game: &Game,
@@ -67,7 +68,8 @@ fn attempts_end_with_their_fuel(rt: HostRuntime) -> Result<(), Fail> {
 }
 
 /// A path of 1,000 vertices of player 0. The last vertex leads to itself and has the priority 1. Each other vertex has
-/// an even priority that is greater than that of the next vertex. The rows of the 1,000 vertices have 500,000 cells.
+/// an even priority that is greater than that of the next vertex. The rows of the 1,000 vertices, which state how often
+/// a play meets each priority, would have about 500,000 cells.
 #[test]
 fn attempts_end_where_there_is_no_room(rt: HostRuntime) -> Result<(), Fail> {
     let mut text = String::new(rt.alloc());

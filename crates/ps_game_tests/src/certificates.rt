@@ -1,4 +1,4 @@
-//! Certificates are read and written if there is enough memory, and are checked against a game in each form.
+//! Tests that read and write certificates, and check certificates against a game in each data structure for games.
 
 use ps_certificate::{Certificate, Flaw, check, closed, fits, read, write, write_compact};
 use ps_game::{Arena, FlatGame, Game, NamedGame, fits_narrow};
@@ -7,22 +7,22 @@ use std::alloc::{AllocError, Global};
 /// Two vertices of player 1, with the ids 7 and 9 and the priorities 0 and 1.
 const GAME: &[u8] = b"7 0 1 9; 9 1 1 9;";
 
-/// A certificate of that game.
+/// A text of a certificate of the game `GAME`.
 const TEXT: &[u8] = b"psyncert 1\nvertices 2\nodd 1\neven 0\n7 1 9 0\n9 1 - 12\n";
 
-/// The certificate `TEXT` as a compact text.
+/// The certificate of the text `TEXT`, written as a compact text.
 const COMPACT: &[u8] = b"psyncert 2\nvertices 2\nodd 1\neven 0\n7 1 9\n9 1 - 0:12\n";
 
-/// The expected property of a certificate that is read.
+/// The expected property of a certificate that a test reads.
 #[derive(Clone, Copy)]
 enum Wanted<'a> {
-    /// The certificate is written as this text.
+    /// Writing the certificate gives this text.
     Text(&'a [u8]),
-    /// The certificate is written as this compact text.
+    /// Writing the certificate compactly gives this text.
     CompactText(&'a [u8]),
-    /// The certificate is closed, and this is its first flaw.
+    /// The call `closed` accepts the certificate, and this is the first flaw that `check` finds.
     Flaw(Flaw),
-    /// The certificate is closed, and this is its first flaw, for the game in flat arrays.
+    /// As `Flaw`, with the game stored in flat arrays.
     FlawInArrays(Flaw),
 }
 
@@ -41,7 +41,7 @@ impl Wanted<'_> {
     }
 }
 
-/// Whether there was enough memory for a text, and it is the wanted text.
+/// Whether a text was written, and it is the wanted text.
 fn is_text(text: Result<Vec<u8>, AllocError>, wanted: &[u8]) -> bool {
     match text {
         Ok(text) => text.as_slice() == wanted,
@@ -49,14 +49,14 @@ fn is_text(text: Result<Vec<u8>, AllocError>, wanted: &[u8]) -> bool {
     }
 }
 
-/// Whether a certificate fits a game, is closed, and has the given first flaw.
+/// Whether a certificate has an entry for each vertex of a game, `closed` accepts it, and it has the given first flaw.
 fn has_flaw<A: Arena>(arena: &A, certificate: &Certificate, flaw: Flaw) -> bool {
     fits(arena, certificate)
         && closed(arena, certificate).is_ok()
         && check(arena, certificate) == Err(flaw)
 }
 
-/// Whether a certificate fits a game in flat arrays, is closed, and has the given first flaw.
+/// As `has_flaw`, with the game stored in flat arrays.
 fn has_flaw_in_arrays(alloc: Global, game: &Game, certificate: &Certificate, flaw: Flaw) -> bool {
     if !fits_narrow(game) {
         return false;
@@ -67,7 +67,7 @@ fn has_flaw_in_arrays(alloc: Global, game: &Game, certificate: &Certificate, fla
     }
 }
 
-/// Whether a certificate of a game has the expected property; both are given by their texts.
+/// Whether a certificate has the expected property, for a game and a certificate that are given by their texts.
 fn is_read(alloc: Global, game: &[u8], certificate: &[u8], wanted: Wanted) -> bool {
     let Ok(game) = ps_pgsolver::read(alloc, game) else {
         return false;

@@ -1,12 +1,13 @@
-//! The components, orders and trails of small graphs. The expected results were computed by hand.
+//! Tests of the strongly connected components, topological orders and paths of small graphs. The expected results were
+//! computed by hand.
 
 ghost use Rattle.std.specs.Prelude.{◌≡◌, ℕ, ◌+◌, ◌*◌, ◌/◌, ◌<◌, nat_lt, length, slice_index, Some, None, if◌then◌else◌};
 
 use ps_components::{Arrangement, Graph, arrange, components_from, components_of, way_back};
 use std::alloc::Global;
 
-/// Two entries for each vertex: each is a target of the vertex, or a number that is not a vertex, which means no
-/// target.
+/// A graph as a list with two entries for each vertex. An entry is a vertex to which the vertex has a link; an entry
+/// that is not a vertex means no link.
 #[derive(Drop)]
 struct Table<'a> {
     targets: &'a [usize],
@@ -39,10 +40,11 @@ impl Graph for Table<'_> {
     }
 }
 
-/// 0 leads to 1 and 2; 1 leads to 0; 2 leads to itself and to 3; 4 leads to 0 and 3.
+/// A graph of five vertices: 0 leads to 1 and 2; 1 leads to 0; 2 leads to itself and to 3; 3 leads nowhere; 4 leads to
+/// 0 and 3.
 const TARGETS: [usize; 10] = [1, 2, 0, 9, 2, 3, 9, 9, 0, 3];
 
-/// The numbers of the components of all vertices, if there is enough memory.
+/// The number of each vertex's component in the graph `TARGETS`, or `None` if out of memory.
 fn numbers_of_all(alloc: Global) -> Option<[Option<usize>; 5]> {
     let found = components_of(alloc, &Table { targets: &TARGETS }).ok()?;
     Some([
@@ -54,8 +56,8 @@ fn numbers_of_all(alloc: Global) -> Option<[Option<usize>; 5]> {
     ])
 }
 
-/// The numbers of the components of the vertices 0 and 2, if only the roots and the vertices reachable from them have
-/// components.
+/// The numbers of the components of the vertices 0 and 2 in the graph `TARGETS`, when components are computed only from
+/// the roots 3 and 2.
 fn numbers_from_roots(alloc: Global) -> Option<[Option<usize>; 2]> {
     let found = components_from(alloc, &Table { targets: &TARGETS }, &[3, 2, 3]).ok()?;
     Some([found.number(0), found.number(2)])
@@ -68,7 +70,7 @@ fn numbers_of_components(rt: HostRuntime) {
     assert_eq!(rt; numbers_from_roots(rt.alloc()), Some([None, Some(1)]));
 }
 
-/// Whether `arrange` gives an order of a graph's vertices, and it is the wanted one.
+/// Whether `arrange` gives a topological order of a graph's vertices, and it is the wanted one.
 fn is_order(alloc: Global, targets: &[usize], wanted: &[usize]) -> bool {
     match arrange(alloc, &Table { targets }) {
         Ok(Arrangement::Order(order)) => order.as_slice() == wanted,
@@ -76,7 +78,7 @@ fn is_order(alloc: Global, targets: &[usize], wanted: &[usize]) -> bool {
     }
 }
 
-/// The first vertex that lies on a cycle, if there is one.
+/// The smallest vertex that lies on a cycle according to `arrange`, if there is one.
 fn knot(alloc: Global, targets: &[usize]) -> Option<usize> {
     match arrange(alloc, &Table { targets }) {
         Ok(Arrangement::Cyclic(vertex)) => Some(vertex),
@@ -84,7 +86,7 @@ fn knot(alloc: Global, targets: &[usize]) -> Option<usize> {
     }
 }
 
-/// Whether `way_back` gives the wanted trail between two vertices, or None if no trail is wanted.
+/// Whether `way_back` gives the wanted path between two vertices, or `None` if no path is wanted.
 fn is_way_back(alloc: Global, start: usize, end: usize, wanted: Option<&[usize]>) -> bool {
     let graph = Table { targets: &TARGETS };
     if start >= graph.count() {

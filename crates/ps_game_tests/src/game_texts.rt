@@ -1,10 +1,10 @@
-//! Texts of games are read and written if there is enough memory, and faults have messages.
+//! Tests that read and write texts of games, and tests of the messages of faults.
 
 use ps_game::Arena;
 use ps_pgsolver::{PgCause, PgFault, read, write};
 use std::alloc::Global;
 
-/// The text that is written for the game of a given text, if there is enough memory.
+/// Reads the game of a text and writes it again; gives the written text, if reading and writing succeed.
 fn written(alloc: Global, text: &[u8]) -> Option<Vec<u8>> {
     let game = read(alloc, text).ok()?;
     if game.game().count() > 0 {

@@ -1,4 +1,4 @@
-//! Games from a builder, and the same games in flat arrays.
+//! Tests of games made by a builder, and of the same games in flat arrays.
 
 ghost use Rattle.std.specs.Prelude.{◌≡◌, ◌<◌, OnOk};
 ghost use Rattle.ps_game.specs.Drafts.{with_edge, with_vertex};
@@ -40,7 +40,7 @@ fn reads_as<A: Arena>(arena: &A, rows: &[Row]) -> bool {
     true
 }
 
-/// Whether there was enough memory for flat arrays, and their methods return the given vertices.
+/// Whether flat arrays were made without an error, and their methods return the given vertices.
 fn flat_reads_as<W: Width>(flat: Result<FlatGame<W>, AllocError>, rows: &[Row]) -> bool {
     match flat {
         Ok(flat) => reads_as(&flat, rows),
@@ -56,8 +56,8 @@ fn all_read_as(alloc: Global, game: &Game, rows: &[Row]) -> bool {
         && flat_reads_as(FlatGame::<usize>::of(alloc, game), rows)
 }
 
-/// Adds one more vertex. If an allocation fails, which `rt try --test --fail-alloc N` causes, the call is repeated once
-/// on the same builder.
+/// Adds one more vertex to a game builder. If an allocation fails, which `rt try --test --fail-alloc N` causes, the
+/// call is repeated once on the same builder.
 #[tactic(auto, unfolding(ps_game::specs::Games::vertex_count))]
 fn vertex(builder: &mut GameBuilder, owner: u8, priority: u64) -> Result<usize, AllocError>
     requires { owner < 2 }
@@ -69,7 +69,7 @@ fn vertex(builder: &mut GameBuilder, owner: u8, priority: u64) -> Result<usize, 
     }
 }
 
-/// Adds one more edge. If an allocation fails, the call is repeated once on the same builder.
+/// Adds one more edge to a game builder. If an allocation fails, the call is repeated once on the same builder.
 fn edge(builder: &mut GameBuilder, from: usize, successor: usize) -> Result<(), AllocError>
     requires { from < vertex_count builder.old }
     ensures { OnOk result (builder.new ≡ with_edge builder.old from successor) }
@@ -80,7 +80,7 @@ fn edge(builder: &mut GameBuilder, from: usize, successor: usize) -> Result<(), 
     }
 }
 
-/// Three vertices, of which vertex 0 leads twice to vertex 1.
+/// A game of three vertices, in which two edges lead from vertex 0 to vertex 1.
 #[tactic(auto, unfolding(ps_game::specs::Games::vertex_count))]
 fn three_vertices(alloc: Global) -> Result<GameBuilder, AllocError> {
     let mut builder = GameBuilder::new(alloc);
@@ -95,7 +95,8 @@ fn three_vertices(alloc: Global) -> Result<GameBuilder, AllocError> {
     Ok(builder)
 }
 
-/// Two vertices. Vertex 1 has no edge, and the edge from vertex 0 leads to a vertex that was not added.
+/// Two vertices. An unfinished game: no edge leaves vertex 1, and the edge from vertex 0 leads to a vertex that was not
+/// added.
 #[tactic(auto, unfolding(ps_game::specs::Games::vertex_count))]
 fn a_bare_vertex(alloc: Global) -> Result<GameBuilder, AllocError> {
     let mut builder = GameBuilder::new(alloc);
@@ -105,7 +106,7 @@ fn a_bare_vertex(alloc: Global) -> Result<GameBuilder, AllocError> {
     Ok(builder)
 }
 
-/// A vertex with two edges to vertices that were not added.
+/// An unfinished game: a vertex with two edges to vertices that were not added.
 #[tactic(auto, unfolding(ps_game::specs::Games::vertex_count))]
 fn unknown_successors(alloc: Global) -> Result<GameBuilder, AllocError> {
     let mut builder = GameBuilder::new(alloc);
@@ -130,7 +131,7 @@ fn no_vertex_is_a_game(rt: HostRuntime) -> Result<(), Fail> {
     Ok(())
 }
 
-/// Whether the priorities of a parity are the wanted ones.
+/// Whether the priorities of one parity that a game has are the wanted ones.
 fn are_priorities(alloc: Global, game: &Game, parity: u64, wanted: &[u64]) -> bool {
     match priorities_of(alloc, game, parity) {
         Ok(priorities) => priorities.as_slice() == wanted,

@@ -1,10 +1,10 @@
-//! Ids that count up from the first one, and arbitrary ids.
+//! Tests of lists of ids: ids that count up from the first one, and arbitrary ids.
 
 use ps_ids::Ids;
 use std::alloc::{AllocError, Global};
 use std::test::Fail;
 
-/// The ids of a list of numbers. Ids that count up from `first` need no tree.
+/// Makes `Ids` from a list of numbers. `Ids` stores no search tree for ids that count up from `first`.
 fn ids_of(alloc: Global, first: u64, numbers: &[u64]) -> Result<Ids, AllocError> {
     let mut ids = Ids::starting_at(alloc, first);
     for &id in numbers {
@@ -15,7 +15,7 @@ fn ids_of(alloc: Global, first: u64, numbers: &[u64]) -> Result<Ids, AllocError>
     Ok(ids)
 }
 
-/// Whether each id has its index in the list, and the number 6 has no index.
+/// Whether `Ids` gives each id its index in the list of numbers, and gives the number 6 no index.
 fn are_placed(ids: &Ids, numbers: &[u64]) -> bool {
     for (place, &id) in numbers.iter().enumerate() {
         if ids.place(id) != Some(place) {
@@ -25,7 +25,7 @@ fn are_placed(ids: &Ids, numbers: &[u64]) -> bool {
     ids.place(6).is_none() && ids.list() == numbers
 }
 
-/// Whether each id has its index, and the list has the ids in the order in which they were added.
+/// Whether `Ids` gives each id its index, and lists the ids in the order in which they were added.
 fn are_kept(alloc: Global, first: u64, numbers: [u64; 5]) -> Result<bool, AllocError> {
     let ids = ids_of(alloc, first, &numbers)?;
     Ok(are_placed(&ids, &numbers) && ids.into_list().as_slice() == numbers.as_slice())

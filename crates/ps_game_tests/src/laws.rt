@@ -1,11 +1,11 @@
-//! The laws of texts, applied to a format and to a lexicon.
+//! Tests that the laws (theorems) of ps_text can be applied to a text format and to a lexicon.
 
 ghost use Rattle.std.specs.Prelude.{◌≡◌, [], ◌∷◌, length};
 
 use ps_text::answers::{Format, one_answer};
 use ps_text::tokens::{Lexicon, one_tokenisation};
 
-/// The format of arbitrary bytes. The value of a text is its length, and no text is rejected.
+/// A text format that accepts any bytes. The value of a text is its length, and no text is rejected.
 struct Bytes;
 
 impl Format for Bytes {
@@ -22,7 +22,7 @@ impl Format for Bytes {
     ghost number = { λ cause. cause };
 }
 
-/// The lexicon in which each byte is a token, except spaces.
+/// A lexicon in which each byte except the space is a token by itself.
 struct Punctuation;
 
 impl Lexicon for Punctuation {

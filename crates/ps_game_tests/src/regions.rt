@@ -1,4 +1,5 @@
-//! Regions are sets. The sizes of the tested regions are below, at and above the sizes of words and of groups of words.
+//! Regions are sets. The sizes of the tested regions are just below, at and just above multiples of the 64 bits of a
+//! word, and of the 512 bits of a group of eight words.
 
 use ps_game::Region;
 use std::alloc::{AllocError, Global};
@@ -6,7 +7,7 @@ use std::alloc::{AllocError, Global};
 /// The numbers of vertices of the regions that the tests use.
 const PLACES: [usize; 8] = [0, 1, 63, 64, 65, 511, 512, 513];
 
-/// Sets of vertices with indices below a given number.
+/// Sets of the vertices less than a given number `places`, by which regions are tested.
 #[derive(Clone, Copy)]
 enum Set {
     None,
@@ -34,7 +35,7 @@ impl Set {
         }
     }
 
-    /// Whether a region has exactly the vertices of this set, and the right count of them.
+    /// Whether a region has exactly the vertices of this set, and its `count` is their number.
     fn is(self, region: &Region, places: usize) -> bool {
         let mut count: usize = 0;
         for vertex in 0..region.places() {
@@ -46,7 +47,7 @@ impl Set {
         region.places() == places && region.count() == count && region.is_empty() == (count == 0)
     }
 
-    /// Whether there was enough memory for a region, and the region has exactly the vertices of this set.
+    /// Whether a region was made without an error, and has exactly the vertices of this set.
     fn is_made(self, region: Result<Region, AllocError>, places: usize) -> bool {
         match region {
             Ok(region) => self.is(&region, places),
@@ -66,7 +67,7 @@ fn filled(alloc: Global, places: usize, set: Set) -> Result<Region, AllocError> 
     Ok(region)
 }
 
-/// The union of the thirds and the fifths.
+/// The region of all multiples of 3 or 5, made as a union of two regions.
 fn united(alloc: Global, places: usize) -> Result<Region, AllocError> {
     let mut united = filled(alloc, places, Set::Thirds)?;
     let fifths = filled(alloc, places, Set::Fifths)?;
@@ -76,7 +77,7 @@ fn united(alloc: Global, places: usize) -> Result<Region, AllocError> {
     Ok(united)
 }
 
-/// A copy of the thirds, from which the fifths were removed.
+/// The region of all multiples of 3 that are no multiples of 5, made as a difference of two regions.
 fn subtracted(alloc: Global, places: usize) -> Result<Region, AllocError> {
     let mut rest = filled(alloc, places, Set::Thirds)?.copy()?;
     let fifths = filled(alloc, places, Set::Fifths)?;
@@ -86,7 +87,7 @@ fn subtracted(alloc: Global, places: usize) -> Result<Region, AllocError> {
     Ok(rest)
 }
 
-/// All vertices except the last, which was removed.
+/// The region of all vertices except the last one, made by removing the last vertex from the full region.
 fn without_the_last(alloc: Global, places: usize) -> Result<Region, AllocError> {
     let mut region = Region::full(alloc, places)?;
     if places > 0 {

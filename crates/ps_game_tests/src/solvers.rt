@@ -1,5 +1,5 @@
-//! Attractors, winning regions and counts of small games, and how much work they took. The expected results were
-//! computed by hand.
+//! Tests of attractors, winning regions and counts (progress measures) of small games, and of how much work a solver
+//! reports. The expected results were computed by hand.
 
 ghost use Rattle.std.specs.Prelude.{◌≤◌};
 
@@ -18,7 +18,7 @@ use std::test::Fail;
 /// 3 lead to themselves.
 const FORK: &[u8] = b"0 0 0 1,2; 1 0 1 0,3; 2 0 1 2; 3 0 0 3;";
 
-/// Vertex 0 leads to 1, which leads to itself, and 2 leads to itself and to 0.
+/// A game of three vertices: 0 leads to 1, 1 leads to itself, and 2 leads to itself and to 0.
 const LOOPS: &[u8] = b"0 2 0 1; 1 1 1 1; 2 1 0 2,0;";
 
 /// Whether a region has exactly the given vertices.
@@ -61,7 +61,8 @@ fn attract_to<A: Arena>(
     attract(alloc, arena, &subgame, player, &target)
 }
 
-/// Whether a player attracts the wanted vertices of `FORK` to the given ones, by the wanted moves.
+/// Whether the attractor of a player to the given vertices of the game `FORK` has the wanted vertices and the wanted
+/// moves.
 fn attracts(
     alloc: Global,
     player: u8,
@@ -87,7 +88,7 @@ fn attractors(rt: HostRuntime) {
     assert!(rt; attracts(rt.alloc(), 1, &[3], &[1, 3], &[None, Some(3), None, None]));
 }
 
-/// Whether numbers that are stored at some width are the wanted ones.
+/// Whether numbers that are stored as integers of the type `W` are the wanted ones.
 fn are_kept<W: Width>(kept: &[W], wanted: &[usize]) -> bool {
     kept.len() == wanted.len()
         && kept
@@ -96,8 +97,8 @@ fn are_kept<W: Width>(kept: &[W], wanted: &[usize]) -> bool {
             .all(|(number, wanted)| number.number() == *wanted)
 }
 
-/// Whether exactly the wanted vertices have an edge to vertex 3 of a game with four vertices, in tables of a given
-/// width.
+/// Whether `Sources` with integers of the type `W` gives the wanted predecessors of vertex 3 in a game of four
+/// vertices.
 fn are_sources<W: Width>(alloc: Global, game: &Game, wanted: &[usize]) -> bool {
     if game.count() != 4 || !has_room::<Game, W>(game) {
         return false;
@@ -108,7 +109,8 @@ fn are_sources<W: Width>(alloc: Global, game: &Game, wanted: &[usize]) -> bool {
     }
 }
 
-/// Whether the indices of some numbers are the wanted ones, with lists of a given width.
+/// Whether sorting the indices of a list by its numbers (`places_by_number`) gives the wanted indices, with integers of
+/// the type `W`.
 fn are_places<W: Width>(alloc: Global, wanted: &[usize]) -> Result<bool, AllocError>
     requires { 4 ≤ W.LIMIT }
 {
@@ -135,8 +137,8 @@ fn lists_by_number(rt: HostRuntime) -> Result<(), Fail> {
     Ok(())
 }
 
-/// Whether player 0 wins exactly the given vertices of a game, player 1 wins the others, and both win by the given
-/// moves.
+/// Whether `regions` states that player 0 wins exactly the given vertices of a game, and that both players win by the
+/// given moves.
 fn is_won(
     alloc: Global,
     game: &Game,
@@ -195,7 +197,7 @@ fn a_game_without_vertices_has_no_call(rt: HostRuntime) -> Result<(), Fail> {
     Ok(())
 }
 
-/// A region of one vertex, or of all vertices.
+/// The region with only the given vertex, or with all vertices if none is given.
 fn region_of(alloc: Global, places: usize, only: Option<usize>) -> Result<Region, AllocError> {
     let Some(vertex) = only else {
         return Region::full(alloc, places);
@@ -207,7 +209,7 @@ fn region_of(alloc: Global, places: usize, only: Option<usize>) -> Result<Region
     Ok(region)
 }
 
-/// A table with a move at one vertex.
+/// A table of moves with a move at only one vertex.
 fn moving(
     alloc: Global,
     places: usize,
@@ -220,17 +222,17 @@ fn moving(
     Ok(strategy)
 }
 
-/// The expected result for the counts of a region.
+/// The expected result of computing the least counts of a region: counts, or a lost cycle.
 #[derive(Clone, Copy)]
 enum Wanted<'a> {
-    /// The priority, and its count at each of three vertices.
+    /// The only priority by which the player loses, and the count for it at each of three vertices.
     Counts(u64, [u64; 3]),
     /// A lost cycle.
     Cycle(&'a [usize]),
 }
 
 impl Wanted<'_> {
-    /// Whether a result is the expected one.
+    /// Whether a result of `ranks` is the expected one.
     fn is(self, alloc: Global, found: &Result<Ranks, MeasureFault>) -> bool {
         match (self, found) {
             (Wanted::Counts(priority, counts), Ok(ranks)) => {
@@ -244,7 +246,7 @@ impl Wanted<'_> {
     }
 }
 
-/// Whether the only priority and the counts of three vertices are the given ones.
+/// Whether a result of `ranks` has only the given priority, and the given counts at three vertices.
 fn are_counts(alloc: Global, ranks: &Ranks, priority: u64, counts: [u64; 3]) -> bool {
     ranks.priorities.as_slice() == [priority].as_slice()
         && ranks.counts.len() == 3
@@ -253,7 +255,7 @@ fn are_counts(alloc: Global, ranks: &Ranks, priority: u64, counts: [u64; 3]) -> 
         && is_count(alloc, ranks, 2, counts[2])
 }
 
-/// Whether the given count is the only count of a vertex.
+/// Whether the row of a vertex has only one count, which is the given one.
 fn is_count(alloc: Global, ranks: &Ranks, vertex: usize, count: u64) -> bool {
     if vertex >= ranks.counts.len() {
         return false;
@@ -265,7 +267,8 @@ fn is_count(alloc: Global, ranks: &Ranks, vertex: usize, count: u64) -> bool {
     }
 }
 
-/// Whether a player's region has the expected result, if the player has a move at only one vertex.
+/// Whether `ranks` gives the expected result for a player's region, if the player's table has a move at only one
+/// vertex.
 fn is_ranked(
     alloc: Global,
     game: &Game,
@@ -286,8 +289,8 @@ fn is_ranked(
         )
 }
 
-/// Whether a player's region in `LOOPS` has the expected result. The region is the vertex `only`, or all vertices if
-/// `only` is `None`.
+/// Whether `ranks` gives the expected result for a player's region in the game `LOOPS`. The region is the vertex
+/// `only`, or all vertices if `only` is `None`.
 fn are_ranked(
     alloc: Global,
     (player, only): (u8, Option<usize>),
@@ -327,7 +330,7 @@ fn counts_of_a_region(rt: HostRuntime) {
     assert!(rt; are_ranked(rt.alloc(), (0, None), (2, 0), &mut counts, lost));
 }
 
-/// Appends the vertices of a region and the moves of a table.
+/// Appends the vertices of a region and the moves of a table to a list of results.
 fn add_table(
     found: &mut Vec<Option<u64>>,
     region: &Region,
@@ -342,7 +345,7 @@ fn add_table(
     Ok(())
 }
 
-/// Appends the vertices, the moves and the ranks of a player's attractor to the first vertex.
+/// Appends the vertices, the moves and the ranks of a player's attractor to vertex 0 to a list of results.
 fn add_attracted<A: Arena>(
     alloc: Global,
     arena: &A,
@@ -357,7 +360,8 @@ fn add_attracted<A: Arena>(
     Ok(())
 }
 
-/// Appends the winning region and the moves of both players, and the counts of player 0's region.
+/// Appends the winning region of player 0, the moves of both players, and the counts of the region to a list of
+/// results.
 fn add_won<A: Arena>(
     alloc: Global,
     arena: &A,
@@ -369,7 +373,7 @@ fn add_won<A: Arena>(
     add_counts(alloc, &ranks.counts, found)
 }
 
-/// Appends the vertices of a region and the moves of both players' tables.
+/// Appends the vertices of a region and the moves of both players' tables to a list of results.
 fn add_tables(
     found: &mut Vec<Option<u64>>,
     won: &Region,
@@ -380,7 +384,7 @@ fn add_tables(
     add_table(found, won, second)
 }
 
-/// Appends the counts of all vertices.
+/// Appends the counts of all vertices to a list of results.
 fn add_counts(
     alloc: Global,
     counts: &CountTable,
@@ -396,7 +400,7 @@ fn add_counts(
     Ok(())
 }
 
-/// All results for a game that is stored in some form.
+/// The results of all solvers for a game, in whatever data structure it is stored.
 fn found_in<A: Arena>(alloc: Global, arena: &A) -> Result<Vec<Option<u64>>, MeasureFault> {
     let mut found = Vec::new(alloc);
     add_attracted(alloc, arena, 0, &mut found)?;
@@ -405,7 +409,7 @@ fn found_in<A: Arena>(alloc: Global, arena: &A) -> Result<Vec<Option<u64>>, Meas
     Ok(found)
 }
 
-/// The winning region and the moves of a game, computed with tables of a given width.
+/// The winning region and the moves of a game, computed with tables of integers of the type `W`.
 fn won_by_tables<W: Width>(alloc: Global, game: &Game) -> Result<Vec<Option<u64>>, AllocError> {
     if !has_room::<Game, W>(game) {
         return Ok(Vec::new(alloc));
@@ -414,7 +418,7 @@ fn won_by_tables<W: Width>(alloc: Global, game: &Game) -> Result<Vec<Option<u64>
     tables_of(alloc, &won, &first, &second)
 }
 
-/// The vertices of a region, and the moves of both players' tables.
+/// A list of results with the vertices of a region and the moves of both players' tables.
 fn tables_of(
     alloc: Global,
     won: &Region,
@@ -426,13 +430,13 @@ fn tables_of(
     Ok(found)
 }
 
-/// Whether tables of both widths give the same results for the game of a text.
+/// Whether tables of 4-byte and of 8-byte integers give the same results for the game of a text.
 fn are_same_by_tables(alloc: Global, text: &[u8]) -> Result<bool, Fail> {
     let named = read(alloc, text)?;
     Ok(is_same_by_tables(alloc, named.game())?)
 }
 
-/// Whether tables of both widths give the same results for a game.
+/// Whether tables of 4-byte and of 8-byte integers give the same results for a game.
 fn is_same_by_tables(alloc: Global, game: &Game) -> Result<bool, AllocError> {
     let narrow = won_by_tables::<u32>(alloc, game)?;
     let wide = won_by_tables::<usize>(alloc, game)?;
@@ -448,7 +452,7 @@ fn tables_of_each_width_have_the_same_answers(rt: HostRuntime) -> Result<(), Fai
     Ok(())
 }
 
-/// All results for a game in flat arrays of 4-byte numbers, if the game fits into them.
+/// The results of all solvers for a game in flat arrays of 4-byte numbers, if the game fits into such arrays.
 fn found_narrow(alloc: Global, game: &Game) -> Result<Vec<Option<u64>>, MeasureFault> {
     if !fits_narrow(game) {
         return Ok(Vec::new(alloc));
@@ -457,19 +461,19 @@ fn found_narrow(alloc: Global, game: &Game) -> Result<Vec<Option<u64>>, MeasureF
     found_in(alloc, &narrow)
 }
 
-/// All results for a game in flat arrays of 8-byte numbers.
+/// The results of all solvers for a game in flat arrays of 8-byte numbers.
 fn found_wide(alloc: Global, game: &Game) -> Result<Vec<Option<u64>>, MeasureFault> {
     let wide = FlatGame::<usize>::of(alloc, game)?;
     found_in(alloc, &wide)
 }
 
-/// Whether flat arrays of both widths give the same results as the game of a text.
+/// Whether flat arrays of 4-byte and of 8-byte numbers give the same results as the game of a text.
 fn are_same_in_arrays(alloc: Global, text: &[u8]) -> Result<bool, Fail> {
     let named = read(alloc, text)?;
     Ok(is_same_in_arrays(alloc, named.game())?)
 }
 
-/// Whether flat arrays of both widths give the same results as a game.
+/// Whether flat arrays of 4-byte and of 8-byte numbers give the same results as a game.
 fn is_same_in_arrays(alloc: Global, game: &Game) -> Result<bool, MeasureFault> {
     let found = found_in(alloc, game)?;
     Ok(
