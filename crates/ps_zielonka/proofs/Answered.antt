@@ -1,4 +1,5 @@
--- The end of a turn that loses no top: its pending call is solved, and then the moves at its tops are written.
+-- The end of an iteration in which the player keeps all tops (the attractor's target vertices): the pending call is
+-- solved, and the moves at the tops are written.
 use Rattle.std.proofs.Common.{◌≡◌, ◌≢◌, ℕ, ◌+◌, ◌-◌, ◌*◌, ◌<◌, ◌≤◌, ◌⊎◌, inl, inr, List, [], ◌∷◌, ◌++◌, true, length}
 use Rattle.std.proofs.Common.{Some, get_or, refl, sym, ap, arith, rules}
 use Rattle.std.specs.Prelude.{IsTrue}
@@ -30,7 +31,7 @@ kept_nest {game} {old} {new} {winner} {order} frames frame {cursor} nest moved f
     let turned = waits.prepared in
     let done = nest.done refl in
     let at_level = λ (v : ℕ). ap (λ xs. get_or xs v 0) moved.level in
-    -- only tops have new moves
+    -- only the tops, the target vertices of the attractor, have new moves
     let still = λ (v : ℕ) (not_top : ¬ IsTrue (turned.tops v)). (
     let same : moves_of new v ≡ moves_of old v = search rules in
     same) in

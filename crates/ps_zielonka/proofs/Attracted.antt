@@ -1,9 +1,10 @@
--- Each target in a subgame has an attractor: vertices are added one at a time, as long as one can be added.
---     all_or_some      a property of each number below a bound, or another property of some
---     size      the number of vertices of a set below a bound
---     update      a function with another value at one vertex
---     Attracted      a set from which the player forces every play to the target, and outside of which none is forced
---     attracted      the attractor
+-- Each target in a subgame has an attractor: vertices are added to the target one at a time, as long as one can be
+-- added.
+--     `all_or_some`: all numbers less than a bound have one property, or some number has another property.
+--     `size`: the number of vertices of a set that are less than a bound.
+--     `update`: a function that is changed at one vertex.
+--     `Attracted`: the set of the vertices from which the player can force every play to the target.
+--     `attracted`: the attractor to a target exists.
 use Rattle.std.proofs.Common.{◌≡◌, ◌≢◌, ℕ, zero, suc, ◌+◌, ◌<◌, ◌≤◌, ◌⊎◌, inl, inr, Bool, true, false, cond, not, ◌&&◌}
 use Rattle.std.proofs.Common.{length, get_or, Option, None, Some, IsSomeAnd, nat_eq, refl, sym, subst, ◌∙◌, arith, rules}
 use Rattle.std.specs.Prelude.{IsTrue}
@@ -64,7 +65,7 @@ size_le small large zero within = omega arith
 size_le small large (suc n) within =
     omega (arith, bit_le (small n) (large n) (within n), size_le small large n within)
 
--- a set without a vertex of the other is smaller
+-- a subset that lacks some vertex of a larger set has fewer vertices
 pub size_less : (small large : ℕ → Bool) (n v : ℕ) → IsWithin small large → v < n → small v ≡ false →
     large v ≡ true → size small n < size large n
 unfolding size
@@ -96,7 +97,7 @@ update-other f v x {u} e = grind (arith, nat_tests)
 -- ## Attractors
 
 module _ (game : ParityGame) (subgame : ℕ → Bool) (player : ℕ) where
-  -- a vertex has an edge to a vertex that passes the test, or none
+  -- some edge of a vertex leads to a vertex that passes the test, or no edge does
   find_edge : (test : ℕ → Bool) (v : ℕ) → v < vertex_count game →
       ((w : ℕ) × HasEdge game v w × IsTrue (test w)) ⊎ ((w : ℕ) → HasEdge game v w → test w ≡ false)
   find_edge test v below = elim (some_or_none test (λ t. get_or (successors_of game v) t 0)
@@ -106,7 +107,7 @@ module _ (game : ParityGame) (subgame : ℕ → Bool) (player : ℕ) where
             let (t, less, is) = number_of_edge game v w edge in subst (λ (u : ℕ). test u ≡ false) is (none t less))
       ]
 
-  -- the player can force a play from the vertex into the set, or the other can stay outside
+  -- in one step from v, the player can force every play into the set
   record IsForced (set : ℕ → Bool) (v : ℕ) (move : Option ℕ) : Type 0 where
     own : owner_of game v ≡ player → IsSomeAnd move (λ w. LeadsInto game subgame v w × IsTrue (set w))
     other : owner_of game v ≢ player → (w : ℕ) → LeadsInto game subgame v w → IsTrue (set w)
@@ -156,7 +157,8 @@ module _ (game : ParityGame) (subgame : ℕ → Bool) (player : ℕ) where
       in_set : (a b : Bool) → a ≡ true → a && not b ≡ false → b ≡ true
       in_set a b e f = search rules
 
-  -- the player forces each play from the set to the target, and from outside none
+  -- the set is the player's attractor to the target: from its vertices, and from no others, the player can force every
+  -- play to the target
   pub record Attracted (target : ℕ → Bool) : Type 0 where
     pub set : ℕ → Bool
     pub table : ℕ → Option ℕ
@@ -167,7 +169,7 @@ module _ (game : ParityGame) (subgame : ℕ → Bool) (player : ℕ) where
     pub free : (v : ℕ) → IsTrue (subgame v) → set v ≡ false → IsFree set v
 
   module _ (is : IsSubgame game subgame) (target : ℕ → Bool) where
-    -- a set that can still grow; its ranks are below the bound
+    -- a part of the attractor, to which vertices are still added; the ranks of its vertices are less than the bound
     record Growing (set : ℕ → Bool) (table : ℕ → Option ℕ) (rank : ℕ → ℕ) (bound : ℕ) : Type 0 where
       has_target : IsWithin target set
       within : IsWithin set subgame
@@ -193,7 +195,7 @@ module _ (game : ParityGame) (subgame : ℕ → Bool) (player : ℕ) where
       inside_or : {u : ℕ} → u ≢ v → IsTrue (update set v true u) → IsTrue (set u)
       inside_or {u} other inside = sym (update-other set v true other) ∙ inside
 
-      -- an edge from the new vertex into the old set falls
+      -- an edge from the added vertex into the old set leads to a smaller rank
       down_new : {u w : ℕ} → u ≡ v → LeadsInto game subgame v w → IsTrue (set w) →
           LeadsDown game subgame (update set v true) (update rank v bound) u w
       down_new {u} {w} same leads inside = record {

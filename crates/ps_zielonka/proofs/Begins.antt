@@ -1,5 +1,5 @@
--- A turn begins: the tops and the vertices attracted to them are placed. The last call is then pending, and the next
--- call searches for a turn.
+-- An iteration (turn) of a call begins: the tops, which are the attractor's target, and the vertices attracted to them
+-- get the call's level. The call is then pending, and the next recursive call begins.
 use Rattle.std.proofs.Common.{◌≡◌, ℕ, ◌+◌, ◌*◌, ◌<◌, ◌≤◌, inl, inr, List, [], ◌∷◌, ◌++◌, length, get_or, Bool, rules}
 use Rattle.std.proofs.Common.{false, refl, sym, ap, ◌∙◌, arith}
 use Rattle.std.specs.Prelude.{IsTrue}
@@ -59,11 +59,12 @@ module _ (b : Begun) where
   turn : IsAttracted b.game (undecided b) b.aim.player (tops b) (pulled b) (moves_of b.new) (rank_of b.aim b.new)
   turn = b.attracted (undecided b) (tops b) (pulled b) posed taken
 
-  -- each attracted vertex was placed
+  -- each vertex of the attractor was placed: it got the level of the attractor and was appended to the trail
   pulled_placed : (v : ℕ) → IsTrue (pulled b v) → IsPlaced b.aim b.old b.new v
   pulled_placed v there = search (rules, placed_from, still_or_placed)
 
-  -- the rest of the turn consists of the vertices of level c or higher, for each level c above that of the attractor
+  -- for each level c above that of the attractor, the vertices of level c or higher are the undecided vertices outside
+  -- the attractor
   rest_of_turn : (c : ℕ) → 2 * b.depth + 3 ≤ c → c ≤ UNPLACED → IsWithout (undecided b) (pulled b) (from b.new.level c)
   rest_of_turn c above within =
       let into = λ (v : ℕ) (inside : IsTrue (from b.new.level c v)). (
@@ -77,7 +78,7 @@ module _ (b : Begun) where
 
   -- ## The pending calls and the next call
 
-  -- the call in which the turn begins is now pending
+  -- the call whose iteration begins is now pending: it waits for the next recursive call
   waits_here : Waits b.game b.new b.winner_now b.order (2 * b.depth) (frame_of b)
   waits_here =
       let attracted = turn in
@@ -126,21 +127,21 @@ module _ (b : Begun) where
         front = search (rules, cases_lt, was_open, to_from);
       }
 
-  -- a vertex of a higher level than the attractor's is not placed
+  -- a vertex with a higher level than the attractor's has the level `UNPLACED`
   still_high : (v : ℕ) → 2 * b.depth + 3 ≤ level_of b.new v → level_of b.new v ≡ UNPLACED
   still_high v high = search (rules, still_or_placed, to_from)
 
   first_vertex : get_or b.order b.cursor 0 < length b.old.level
   first_vertex = omega (arith, b.sound.is_order.vertices b.cursor b.within)
 
-  -- fewer vertices are left to the next call
+  -- the next recursive call has fewer vertices to solve than the call that is now pending
   fewer : (c d : ℕ) → c ≤ 2 * b.depth + 2 → 2 * b.depth + 3 ≤ d → size_from d b.new.level < size_from c b.old.level
   fewer c d less more =
       let u : ℕ = get_or b.order b.cursor 0 in
       let placed = later_placed (differ b) b.grown (tops_placed b u (first_top b)) in
       grind (arith, size_from-lt, agrees_at, agrees, first_vertex)
 
-  -- the next call searches for its turn
+  -- the next recursive call is ready to begin its first iteration
   searches_next : (a : ℕ) → a ≡ 2 * b.depth + 2 → Searches b.game b.new b.winner_now b.order a b.behind
   searches_next a next =
       let room : 2 * b.depth + 2 * size_from (2 * b.depth + 1) b.old.level ≤ 2 * length b.old.level = b.searches.room in
@@ -174,7 +175,7 @@ module _ (b : Begun) where
         };
       }
 
-  -- each pending call still has its segment of the trail
+  -- for each pending call, the vertices placed since its iteration began are still a segment at the end of the trail
   segment_later : {a : ℕ} {frame : Frame} → a + 3 ≤ 2 * b.depth + 2 →
       Waits b.game b.old b.winner b.order a frame → IsSegment b.new frame.turn (a + 2)
   segment_later {a} {frame} below waits =
@@ -246,7 +247,8 @@ module _ (b : Begun) where
       falls_begun b.old.level b.new.level (length frames) (length more) size (λ i less. size_from-same (2 * i + 2)
       b.old.level b.new.level sizes (agrees_at (2 * i + 2) (agrees b) (omega arith))) (grind (arith, fewer))
 
-  -- a vertex outside a set that satisfies `IsClosedToTops` is left to the next call by the first turn
+  -- the attractor of the first iteration does not contain a vertex outside a set that satisfies `IsClosedToTops`, so
+  -- the vertex is left to the next call
   pub begun_left : {set : ℕ → Bool} (v : ℕ) → b.depth ≡ 0 →
       ((u : ℕ) → u < vertex_count b.game → level_of b.old u ≡ UNPLACED) → IsClosedToTops b.game set →
       v < vertex_count b.game → ¬ IsTrue (set v) → level_of b.new v ≡ UNPLACED

@@ -1,4 +1,5 @@
--- A turn that begins: its premises, the undecided vertices, and the tops among them.
+-- An iteration (turn) of a call that begins: its premises, the undecided vertices of the call, and the tops (the
+-- attractor's target) among them.
 use Rattle.std.proofs.Common.{◌≡◌, ◌≢◌, ℕ, ◌+◌, ◌*◌, ◌%◌, ◌<◌, ◌≤◌, ◌⊎◌, inl, inr, List, length, get_or, Bool, true}
 use Rattle.std.proofs.Common.{not, ◌&&◌, ◌==◌, refl, sym, ap, ◌∙◌, arith, rules}
 use Rattle.std.specs.Prelude.{IsTrue}
@@ -61,7 +62,7 @@ tops b v = undecided b v && not (level_of b.mid v == UNPLACED)
 abbrev pub pulled : Begun → ℕ → Bool
 pulled b v = undecided b v && not (level_of b.new v == UNPLACED)
 
--- an undecided vertex is in the order, at the cursor or later
+-- an undecided vertex is in the list of vertices by descending priority, at index `cursor` or later
 pub record InOrder (b : Begun) (v : ℕ) : Type 0 where
   pub place : ℕ
   pub after : b.cursor ≤ place
@@ -78,7 +79,7 @@ module _ (b : Begun) where
   pub grown_all : IsGrown b.aim b.old b.new
   grown_all = IsGrown-both differ b.placed.grown b.grown
 
-  -- each vertex that follows the old trail was placed in this turn
+  -- each vertex after the end of the old trail was placed in this iteration
   placed_there : {v : ℕ} → StandsFrom b.new b.aim.begin v → IsPlaced b.aim b.old b.new v
   placed_there stands = search (rules, grown_all)
 
@@ -105,7 +106,7 @@ module _ (b : Begun) where
   pub is_open : (v : ℕ) → level_of b.old v ≡ UNPLACED → IsTrue (undecided b v)
   is_open v was = search (rules, AgreesAt, agrees_at, agrees, to_from)
 
-  -- an undecided vertex is still not placed, or it is attracted now
+  -- each undecided vertex of the call still has the level `UNPLACED`, or was attracted in this iteration
   pub still_or_placed : (v : ℕ) → IsTrue (undecided b v) → (level_of b.new v ≡ UNPLACED) ⊎ IsPlaced b.aim b.old b.new v
   still_or_placed v inside =
       let grown = grown_all in
@@ -149,7 +150,7 @@ module _ (b : Begun) where
         b.sound.is_order.falls b.cursor there.place there.after there.before,
       )
 
-  -- a free vertex that precedes the end of the tops in the order was placed
+  -- an undecided vertex before index `behind` of the list of vertices by descending priority was placed as a top
   placed_before : {v : ℕ} (inside : IsTrue (undecided b v)) (there : InOrder b v) → there.place < b.behind →
       IsPlaced b.aim b.old b.mid v
   placed_before {v} inside there before =
@@ -177,7 +178,8 @@ module _ (b : Begun) where
   pub tops_parity : {v : ℕ} → IsPlaced b.aim b.old b.mid v → priority_of b.game v % 2 ≡ b.aim.player
   tops_parity {v} placed = let top = b.placed.tops v placed in top.parity ∙ sym b.player
 
-  -- a top has a greater priority than an undecided vertex of the other parity, which is after the top in the order
+  -- each top (target vertex of the attractor) has a greater priority than every undecided vertex whose priority has the
+  -- other parity
   pub tops_above : (v w : ℕ) → IsTrue (tops b v) → IsTrue (undecided b w) →
       priority_of b.game w % 2 ≢ b.aim.player → priority_of b.game w < priority_of b.game v
   tops_above v w top inside other =

@@ -1,4 +1,4 @@
--- A change at or above a level does not affect the pending calls below this level.
+-- A change to vertices of level c or higher does not affect the pending calls whose levels are below c.
 use Rattle.std.proofs.Common.{◌≡◌, ℕ, ◌+◌, ◌*◌, ◌<◌, ◌≤◌, ◌⊎◌, List, length, get_or, Bool, Option, Some}
 use Rattle.std.proofs.Common.{sym, ap, ◌∙◌, arith, rules}
 use Rattle.std.specs.Prelude.{IsTrue}
@@ -55,14 +55,15 @@ pub subgame_below : {game : ParityGame} {c : ℕ} (b : ℕ) {old new : TablesDat
     Agrees c old new winner winner_now → b ≤ c → IsSubgame game (from old.level b) → IsSubgame game (from new.level b)
 subgame_below {game} {c} b {old} {new} {winner} {winner_now} agrees less alive = rw (agrees_from b agrees less) alive
 
--- the board is still sound if each level is unchanged or within the bounds
+-- the tables still satisfy their invariants (`IsSoundBoard`) if each changed level is within the bounds
 pub sound_on : {game : ParityGame} {old : TablesData} {winner winner_now order : List ℕ} (new : TablesData) →
     IsSoundBoard game old winner order → FitsGame game new → length winner_now ≡ vertex_count game →
     ((v : ℕ) → (level_of new v ≡ level_of old v) ⊎ ((1 ≤ level_of new v) × (level_of new v ≤ UNPLACED))) →
     IsSoundBoard game new winner_now order
 sound_on new sound fits winners each = search rules
 
--- a prepared turn is still prepared if its sets, and the winners and moves in its attractor, are unchanged
+-- a prepared iteration (`IsTurned`) stays prepared if its sets, and the winners and moves of the vertices in its
+-- attractor, are unchanged
 unfoldable pub IsTurned-on : {game : ParityGame} {open_part rest : ℕ → Bool} (open_now rest_now : ℕ → Bool) {player : ℕ}
     {win : ℕ → ℕ} (win_now : ℕ → ℕ) {table : ℕ → Option ℕ} (table_now : ℕ → Option ℕ)
     (turned : IsTurned game open_part rest player win table) → open_now ≡ open_part → rest_now ≡ rest →
@@ -119,7 +120,7 @@ IsTurned-on {game} {open_part} {rest} open_now rest_now win_now {table} table_no
       given = λ v inside. same_win v inside ∙ turned.given v inside;
     }
 
--- a vertex in an unchanged part of the trail is still there
+-- a vertex in the unchanged front of the trail is still between the same two indices
 between_front : {old : TablesData} (new : TablesData) (m : ℕ) {from_place to_place v : ℕ} →
     ((j : ℕ) → j < m → get_or new.trail j 0 ≡ get_or old.trail j 0) → to_place ≤ m →
     StandsBetween old from_place to_place v → StandsBetween new from_place to_place v
@@ -130,7 +131,7 @@ cursor_below : {c b : ℕ} {old new : TablesData} {winner winner_now order : Lis
 cursor_below {c} {b} {old} {new} {winner} {winner_now} {order} agrees less front =
     search (rules, cases_lt, AgreesAt, agrees_at)
 
--- a pending call below the level is still pending
+-- after changes to vertices of level c or higher, a pending call whose levels are below c is still pending
 pub waits_below : {game : ParityGame} {c a : ℕ} (m : ℕ) {old new : TablesData} {winner winner_now order : List ℕ}
     {frame : Frame} → Agrees c old new winner winner_now → a + 3 ≤ c →
     ((j : ℕ) → j < m → get_or new.trail j 0 ≡ get_or old.trail j 0) → m ≤ length new.trail → frame.top ≤ m →

@@ -1,4 +1,5 @@
--- The parts of a step: which tops the player keeps, and which vertices are taken off the trail and placed again.
+-- Two parts of a solver step: testing which tops (target vertices of the attractor) the player keeps, and taking
+-- vertices off the trail, some of which are placed again.
 use Rattle.std.proofs.Common.{◌≡◌, ◌≢◌, ℕ, ◌+◌, ◌-◌, ◌<◌, ◌≤◌, ◌⊎◌, inl, inr, List, [], ◌∷◌, length, get_or, take}
 use Rattle.std.proofs.Common.{refl, ◌∙◌, arith, rules}
 use Rattle.std.specs.Prelude.{slice_set}
@@ -15,13 +16,13 @@ use Rattle.ps_zielonka.specs.Inner.Nests.{StandsBetween, StandsBefore, IsKeptAt,
 
 -- ## Keeping the tops
 
--- only the move at u changes
+-- if in addition only the move at the top u changes, still only moves at tops have changed
 pub moved_more : {old mid new : TablesData} (turn top place u : ℕ) → turn ≤ place → place < top →
     get_or old.trail place 0 ≡ u → IsMoved old mid (StandsBetween old turn top) → IsMoved mid new (λ v. v ≡ u) →
     IsMoved old new (StandsBetween old turn top)
 moved_more turn top place u after before at first second = search rules
 
--- a top that is kept is still kept after the move of another vertex changes
+-- a top that the player keeps is still kept after the move at another vertex changes
 kept_on : {game : ParityGame} {mid new : TablesData} {winner : List ℕ} {level player other : ℕ} (u : ℕ) {v : ℕ} →
     IsMoved mid new (λ v. v ≡ u) → v ≢ u → IsKeptAt game mid winner level player other v →
     IsKeptAt game new winner level player other v
@@ -51,7 +52,7 @@ one_more {spare} k u at_k stands = search (rules, cases_eq)
 one_longer : {spare : List ℕ} {k v : ℕ} → StandsBefore spare k v → StandsBefore spare (k + 1) v
 one_longer {k} stands = search rules
 
--- one more vertex of the list is handled: it is free again, or it is placed again
+-- one more vertex that was taken off the trail is handled: it gets the level `UNPLACED`, or it is placed again
 reopened_more : {winner : List ℕ} {player level turn : ℕ} {spare : List ℕ} {k u : ℕ} {old mid new : TablesData} →
     get_or spare k 0 ≡ u → ((v : ℕ) → v ≢ u → level_of new v ≡ level_of mid v) →
     length mid.trail ≤ length new.trail →
@@ -81,7 +82,7 @@ reopened_more {winner = winner} {player = player} {turn = turn} {spare = spare} 
       sizes = sizes ∙ so_far.sizes;
     }
 
--- the case in which the player won the next vertex
+-- the case in which the player won the next vertex that was taken off the trail, which becomes `UNPLACED`
 pub reopened_free : {winner : List ℕ} {player level turn : ℕ} (spare : List ℕ) (k u : ℕ) {old mid : TablesData}
     (new : TablesData) → get_or spare k 0 ≡ u → u < length mid.level → get_or winner u 0 ≡ player →
     new.level ≡ slice_set mid.level u UNPLACED → new.moves ≡ mid.moves → new.trail ≡ mid.trail →
@@ -90,7 +91,7 @@ pub reopened_free : {winner : List ℕ} {player level turn : ℕ} (spare : List 
 reopened_free spare k u {mid = mid} new at_k within won levels moves trail so_far =
     search (rules, reopened_more, get_or-set_other, get_or-set_same, length-set)
 
--- the case in which the player did not win the next vertex
+-- the case in which the opponent won the next vertex that was taken off the trail, which is placed again
 pub reopened_lost : {winner : List ℕ} {player level turn : ℕ} (spare : List ℕ) (k u : ℕ) {old mid : TablesData}
     (new : TablesData) → get_or spare k 0 ≡ u → u < length mid.level → get_or winner u 0 ≢ player →
     new ≡ with_placed mid u level → IsReopened winner player level turn (StandsBefore spare k) old mid →
@@ -102,7 +103,7 @@ reopened_lost {level = level} spare k u {mid = mid} new at_k within not_won now 
     (λ j less. get_or_append_left mid.trail (u ∷ []) 0 j less) (λ j more before. grind (arith, get_or_push))
     (λ _. grind (arith, get_or-set_same)) (λ won. absurd (not_won won)) refl (length-set mid.level u level) so_far)
 
--- if all entries of the list are handled, all vertices of the trail from index `turn` on have been taken back
+-- once the whole list `spare` is handled, the vertices of the old trail from index `turn` on satisfy `IsReopened`
 pub reopened_end : {winner : List ℕ} {player level turn : ℕ} (k : ℕ) {spare : List ℕ} (old : TablesData)
     {cut new : TablesData} → turn ≤ length old.trail → cut.level ≡ old.level → cut.moves ≡ old.moves →
     cut.trail ≡ take turn old.trail → IsTakenOff turn old.trail spare → k ≡ length spare →

@@ -1,5 +1,5 @@
--- The last pending call continues: the vertices that the opponent won in the next call, and those that the opponent
--- attracts to them, are decided.
+-- The last pending call continues after its recursive call: the vertices that the opponent won in the recursive call,
+-- and those that the opponent attracts to them, are decided.
 use Rattle.std.proofs.Common.{◌≡◌, ◌≢◌, ℕ, ◌+◌, ◌-◌, ◌*◌, ◌<◌, ◌≤◌, ◌⊎◌, inl, inr, List, Bool, length, get_or, rules}
 use Rattle.std.proofs.Common.{Some, ap, sym, ◌∙◌, arith}
 use Rattle.std.specs.Prelude.{IsTrue}
@@ -20,7 +20,8 @@ use Rattle.ps_zielonka.proofs.Sets.{from_at, to_from, size_from-lt, size_from-sa
 use Rattle.ps_zielonka.proofs.Below.{IsStill, Agrees, agrees_at, agrees_from}
 use Rattle.ps_zielonka.proofs.Forms.{frame_goes_on}
 
--- the aim of the other player, who attracts to the vertices that it won in a call of depth a / 2
+-- the parameters of the attractor by which, in a pending call of depth a / 2, the opponent attracts vertices to those
+-- that it won in the recursive call
 abbrev pub on_aim : ℕ → Frame → Aim
 on_aim a frame = record { player = 1 - frame.player; begin = frame.turn; level = a + 1; free = UNPLACED }
 
@@ -42,18 +43,18 @@ pub record Going (game : ParityGame) (a : ℕ) (frame : Frame) (old mid new : Ta
 
 module _ {game : ParityGame} {a : ℕ} {frame : Frame} {old mid new : TablesData} {winner winner_now order : List ℕ}
     (going : Going game a frame old mid new winner winner_now order) where
-  -- a vertex was in the trail from index `turn` on if and only if it was open
+  -- a vertex was in the trail at index `turn` or later if and only if it was undecided in the pending call
   pub was_open : {v : ℕ} → StandsFrom old frame.turn v → a + 2 ≤ level_of old v
   was_open stands = search rules
 
   stood : (v : ℕ) → a + 2 ≤ level_of old v → StandsFrom old frame.turn v
   stood v high = going.waits.segment.stands v high (going.placed v)
 
-  -- a vertex that was not open is unchanged before the attraction, and is not free
+  -- the level of a vertex that the pending call had decided does not change when vertices are taken off the trail
   mid_still : (v : ℕ) → level_of old v < a + 2 → level_of mid v ≡ level_of old v
   mid_still v low = search (rules, was_open)
 
-  -- a vertex that is in the trail from index `turn` on was open
+  -- a vertex that is in the new trail at index `turn` or later was undecided before the step
   pub stands_open : {v : ℕ} → StandsFrom new frame.turn v → a + 2 ≤ level_of old v
   stands_open {v} stands = elim (cases_lt stands.place (length mid.trail)) [
     | inl less ↦
@@ -68,11 +69,11 @@ module _ {game : ParityGame} {a : ℕ} {frame : Frame} {old mid new : TablesData
         ]
   ]
 
-  -- a vertex that was not open is unchanged
+  -- a vertex that the pending call had decided keeps its level, move and winner
   pub going_still : (v : ℕ) → level_of old v < a + 2 → IsStill old new winner winner_now v
   going_still v low = search (rules, mid_still, stands_open)
 
-  -- a vertex that the other player won is decided
+  -- an undecided vertex that the opponent won in the recursive call is decided
   pub going_lost : (v : ℕ) → a + 2 ≤ level_of old v → get_or winner v 0 ≢ frame.player →
       (level_of mid v ≡ a + 1) × StandsFrom mid frame.turn v
   going_lost v high lost = going.reopened.lost v (stood v high) lost
@@ -86,7 +87,7 @@ module _ {game : ParityGame} {a : ℕ} {frame : Frame} {old mid new : TablesData
   stands_on : {v : ℕ} → StandsFrom mid frame.turn v → StandsFrom new frame.turn v
   stands_on stands = stands_longer going.grown.longer going.grown.front stands
 
-  -- a vertex that was open is decided, or is free again
+  -- each vertex that was undecided in the pending call is now decided, or has the level `UNPLACED`
   pub going_open : (v : ℕ) → a + 2 ≤ level_of old v → ((level_of new v ≡ a + 1) × StandsFrom new frame.turn v) ⊎
       (level_of new v ≡ UNPLACED)
   going_open v high = search (rules, cases_eq, going_lost, lost_new, stands_on, stood, stands_after)
@@ -96,8 +97,8 @@ module _ {game : ParityGame} {a : ℕ} {frame : Frame} {old mid new : TablesData
 
   -- ## The sets of the turn
 
-  -- the open vertices before and after the step, the part of them that the player keeps and the part that the player
-  -- loses, and the vertices that are decided in the step
+  -- the sets of the step: the undecided vertices before and after it, those of them that the player and the opponent
+  -- have won so far, and those that are decided now
   abbrev open_then : ℕ → Bool
   open_then = from old.level (a + 2)
 
@@ -135,7 +136,7 @@ module _ {game : ParityGame} {a : ℕ} {frame : Frame} {old mid new : TablesData
   gone_parts : IsWithout open_then the_gone open_now
   gone_parts = search (rules, from_at, cases_lt, going_still, to_from)
 
-  -- a vertex that is no longer open was open, and is decided now
+  -- a vertex of the set `the_gone` was undecided before the step and is decided now
   gone_is : (v : ℕ) → IsTrue (the_gone v) →
       (a + 2 ≤ level_of old v) × ((level_of new v ≡ a + 1) × StandsFrom new frame.turn v)
   gone_is v gone = search (rules, from_at, going_open, to_from)
@@ -199,7 +200,7 @@ module _ {game : ParityGame} {a : ℕ} {frame : Frame} {old mid new : TablesData
 
   -- ## Fewer vertices are open
 
-  -- the other player won some vertex that was open
+  -- if the player loses a top, the opponent won some undecided vertex in the recursive call
   pub some_lost : (v : ℕ) → StandsBetween old frame.turn frame.top v →
       IsLostAt game old winner (a + 1) frame.player (1 - frame.player) v →
       (u : ℕ) × (u < vertex_count game) × (a + 2 ≤ level_of old u) × (get_or winner u 0 ≢ frame.player)

@@ -1,5 +1,5 @@
--- The number of pending calls is at most the number of distinct priorities, since each turn removes a priority from the
--- rest.
+-- The number of pending recursive calls is at most the number of distinct priorities, since each call has fewer
+-- priorities in its subgame than the call that waits for it.
 use Rattle.std.proofs.Common.{◌≡◌, ℕ, zero, suc, ◌+◌, ◌*◌, ◌<◌, inl, inr, List, length, get_or, Bool, true, false}
 use Rattle.std.proofs.Common.{max, refl, sym, ◌∙◌, arith, rules}
 use Rattle.std.proofs.lemmas.Bool.{cases_lt, lt-ltb, false≢true}
@@ -16,7 +16,7 @@ use Rattle.ps_zielonka.proofs.Sets.{from_at}
 use Rattle.ps_zielonka.proofs.Begun.{Begun}
 use Rattle.ps_zielonka.proofs.Begins.{begun_left}
 
--- the first call has at least j more priorities than the call of depth j
+-- the subgame of the first call has at least j more priorities than the subgame of the call of depth j
 chain : {game : ParityGame} (tables : TablesData) (winner order : List ℕ) (frames : List Frame) (j : ℕ) {m : ℕ} →
     ((i : ℕ) → i < j → Waits game tables winner order (2 * i) (frame_at frames i)) →
     HasPriorities game (from tables.level (2 * j + 1)) m → HasPriorities game (from tables.level 1) (m + j)
@@ -45,12 +45,12 @@ nest_priorities {game} {tables} {winner} {order} {frames} k calls nest =
 
 -- ## The depth so far
 
--- the depth satisfies its invariant before the first turn
+-- the recorded maximal depth satisfies its invariant before the first iteration begins
 pub depth_start : (game : ParityGame) (levels : List ℕ) → ((v : ℕ) → v < vertex_count game →
     get_or levels v 0 ≡ UNPLACED) → IsDepthSoFar game levels 0 false 0
 depth_start game levels unplaced = search rules
 
--- a depth that satisfies `IsDepth` keeps satisfying it
+-- a recorded maximal depth that satisfies `IsDepth` satisfies the invariant `IsDepthSoFar` in every state
 depth_stays : {game : ParityGame} (levels : List ℕ) (calls : ℕ) (solved : Bool) {depth : ℕ} → IsDepth game depth →
     IsDepthSoFar game levels calls solved depth
 depth_stays levels calls solved is_depth = record {
@@ -59,7 +59,8 @@ depth_stays levels calls solved is_depth = record {
   two = λ set closed v is_vertex outside. inl (is_depth.two set closed v is_vertex outside);
 }
 
--- the depth satisfies `IsDepth` if the first turn has begun, and no vertex is left to a second call that has not begun
+-- the recorded maximal depth satisfies `IsDepth` if the first iteration has begun, and no vertex is left to a second
+-- call that has yet to begin
 depth_known : {game : ParityGame} {levels : List ℕ} {calls : ℕ} {solved : Bool} {depth : ℕ} →
     ((v : ℕ) → v < vertex_count game → IsFresh game levels calls solved → ⊥) →
     ((v : ℕ) → IsSecondCall levels calls solved v → ⊥) → IsDepthSoFar game levels calls solved depth →
@@ -79,13 +80,13 @@ depth_known not_fresh not_second so_far = record {
   ];
 }
 
--- if the current call is solved, the depth satisfies `IsDepth`
+-- if the current call is solved, the recorded maximal depth satisfies `IsDepth`
 pub depth_solved : {game : ParityGame} {levels : List ℕ} {calls : ℕ} {solved : Bool} {depth : ℕ} → solved ≡ true →
     IsDepthSoFar game levels calls solved depth → IsDepth game depth
 depth_solved is_solved so_far = depth_known (λ v is_vertex fresh. false≢true (sym fresh.unsolved ∙ is_solved))
     (λ v second. false≢true (sym second.unsolved ∙ is_solved)) so_far
 
--- the depth satisfies its invariant after the last pending call is solved or continues
+-- the recorded maximal depth satisfies its invariant after the solver returns to the last pending call
 pub depth_climbs : {game : ParityGame} {levels : List ℕ} (now : List ℕ) {calls : ℕ} (left : ℕ) {solved : Bool}
     (is : Bool) {depth : ℕ} → solved ≡ true → IsDepthSoFar game levels calls solved depth →
     IsDepthSoFar game now left is depth
@@ -98,7 +99,7 @@ pub depth_kept : {game : ParityGame} {levels : List ℕ} (now : List ℕ) {calls
 depth_kept {game} {levels} now {calls} left {solved} is {depth} deep same is_solved so_far =
     rw same (depth_climbs now left is is_solved so_far)
 
--- the depth satisfies its invariant when no open vertex remains for the current call
+-- the recorded maximal depth satisfies its invariant when the current call has no undecided vertex left
 pub depth_done : {game : ParityGame} {tables : TablesData} {winner order : List ℕ} {frames : List Frame} {cursor : ℕ}
     {solved : Bool} {depth : ℕ} → IsNest game tables winner order frames cursor true →
     IsDepthSoFar game tables.level (length frames) solved depth →
@@ -108,7 +109,7 @@ depth_done {tables = tables} {frames = frames} nest so_far =
     depth_stays tables.level (length frames) true (depth_known
     (λ v is_vertex fresh. placed v (fresh.unplaced v is_vertex)) (λ v second. placed v second.unplaced) so_far)
 
--- the depth satisfies its invariant after a turn begins
+-- the recorded maximal depth satisfies its invariant after an iteration begins
 pub depth_begun : (b : Begun) {frames : List Frame} {cursor : ℕ} {solved : Bool} {depth : ℕ} (deeper : ℕ) →
     length frames ≡ b.depth + 1 → solved ≡ false → deeper ≡ max depth (length frames) →
     IsNest b.game b.new b.winner_now b.order frames cursor solved →

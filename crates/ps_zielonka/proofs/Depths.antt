@@ -1,5 +1,5 @@
--- The number of priorities of a subgame, from the turns on it, and the vertices that the first turn leaves to the next
--- call.
+-- How many distinct priorities a subgame has at least, and which vertices the first iteration leaves to the next
+-- recursive call.
 use Rattle.std.proofs.Common.{◌≡◌, ◌≢◌, ℕ, zero, suc, ◌+◌, ◌%◌, ◌<◌, ◌≤◌, List, [], ◌∷◌, length, get_or, Bool, Option}
 use Rattle.std.proofs.Common.{sym, ap, ◌∙◌, arith, rules}
 use Rattle.std.specs.Prelude.{IsTrue}
@@ -45,7 +45,7 @@ pub HasPriorities-larger : {game : ParityGame} {smaller : ℕ → Bool} (larger 
     IsWithin smaller larger → HasPriorities game smaller n → HasPriorities game larger n
 HasPriorities-larger larger within has_n = search rules
 
--- a set has at least one priority more than a part that lacks one of its priorities
+-- a set has at least one distinct priority more than a subset that lacks one of the set's priorities
 HasPriorities-more : {game : ParityGame} {smaller : ℕ → Bool} (larger : ℕ → Bool) {n : ℕ} (top : ℕ) →
     IsWithin smaller larger → IsTrue (larger top) → ((v : ℕ) → IsTrue (smaller v) →
     priority_of game v ≢ priority_of game top) → HasPriorities game smaller n → HasPriorities game larger (n + 1)
@@ -60,7 +60,8 @@ HasPriorities-more {game} larger {n} top within inside differ has_n = record {
       omega (arith, length-drop_at list found.0 found.1));
 }
 
--- the rest of a turn has fewer priorities than the open part
+-- the undecided vertices outside the attractor of an iteration have fewer distinct priorities than all undecided
+-- vertices
 pub HasPriorities-turned : {game : ParityGame} {open_part rest : ℕ → Bool} {player : ℕ} {win : ℕ → ℕ}
     {table : ℕ → Option ℕ} {n : ℕ} → IsTurned game open_part rest player win table → HasPriorities game rest n →
     HasPriorities game open_part (n + 1)
@@ -68,8 +69,8 @@ HasPriorities-turned {game} {open_part} {rest} {n} turned has_n =
     let (top, is_top, greatest) = turned.some_top in
     HasPriorities-more open_part top turned.left.within (grind arith) (λ v inside same. grind arith) has_n
 
--- let the tops of a turn be exactly the vertices of the greatest priority; then the rest of the turn contains each
--- vertex outside a set that satisfies `IsClosedToTops`
+-- if the attractor's target is exactly the vertices of the greatest priority, each vertex outside a set that satisfies
+-- `IsClosedToTops` is outside the attractor
 pub left_out : {game : ParityGame} {whole rest set : ℕ → Bool} {player : ℕ} {win : ℕ → ℕ} {table : ℕ → Option ℕ} (v : ℕ)
     → ((u : ℕ) → u < vertex_count game → IsTrue (whole u)) → ((u : ℕ) → IsTrue (whole u) → u < vertex_count game) →
     (turned : IsTurned game whole rest player win table) → ((u : ℕ) → IsTrue (turned.tops u) →

@@ -1,8 +1,9 @@
--- Each game is divided into a region that player 0 holds and a rest that player 1 holds. The proof is by induction on the
--- number of vertices of a subgame, and takes the steps of the solver.
---     Divided      a subgame whose vertices the players hold, each by its table
---     all_mine, both_parts      the two ways in which a turn ends
---     game_divided      the law `each_game_is_divided`
+-- The vertices of each game are divided into a region that player 0 holds and a rest that player 1 holds. The proof is
+-- by induction on the number of vertices of a subgame, and follows Zielonka's algorithm.
+--     `Divided`: a subgame whose vertices are divided between the players, each of whom holds its vertices by a table
+--     of moves.
+--     `all_mine`, `both_parts`: the two ways in which an iteration of the algorithm ends.
+--     `game_divided`: the law `each_game_is_divided`.
 use Rattle.std.proofs.Common.{◌≡◌, ◌≢◌, ℕ, zero, suc, ◌-◌, ◌%◌, ◌<◌, ◌⊎◌, inl, inr, Bool, true, false, not, ◌&&◌}
 use Rattle.std.proofs.Common.{◌||◌, Option, None, Some, IsSomeAnd, nat_eq, replicate, refl, sym, subst, ap, ◌∙◌, arith}
 use Rattle.std.specs.Prelude.{IsTrue}
@@ -22,7 +23,7 @@ use Rattle.ps_zielonka.proofs.Holding.{HoldsWithin-none, HoldsWithin-same}
 use Rattle.ps_zielonka.proofs.SetTables.{by_set, by_set-inside, by_set-outside, is_false, some_as}
 use Rattle.ps_zielonka.proofs.Tops.{IsGreatest, top_there}
 
--- the player holds `mine`, and the other player holds `theirs`
+-- the subgame is divided into a set `mine`, which the player holds, and a set `theirs`, which the other player holds
 record Divided (game : ParityGame) (subgame : ℕ → Bool) (player : ℕ) : Type 0 where
   mine : ℕ → Bool
   theirs : ℕ → Bool
@@ -33,7 +34,7 @@ record Divided (game : ParityGame) (subgame : ℕ → Bool) (player : ℕ) : Typ
   split : (v : ℕ) → IsTrue (subgame v) → IsTrue (mine v) ⊎ IsTrue (theirs v)
   apart : (v : ℕ) → IsTrue (mine v) → theirs v ≡ false
 
--- the same for the other player
+-- a division of a subgame, seen from the other player
 swapped : {game : ParityGame} {subgame : ℕ → Bool} (player : ℕ) → player < 2 → Divided game subgame player →
     Divided game subgame (1 - player)
 swapped {game} {subgame} player small d = record {
@@ -109,12 +110,13 @@ module _ (game : ParityGame) (subgame : ℕ → Bool) (is : IsSubgame game subga
     | inr out ↦ out
   ]
 
-  -- an attracted vertex is not in the rest
+  -- if the attractor has a vertex, fewer vertices of the subgame are outside the attractor than in the whole subgame
   rest_smaller : (v : ℕ) → IsTrue (a.set v) → size rest (vertex_count game) < size subgame (vertex_count game)
   rest_smaller v there = size_less rest subgame (vertex_count game) v rest_within
       (is.vertices v (a.within v there)) (out_of_rest v there) (a.within v there)
 
-  -- the player's moves from the rest, within the subgame, stay in the rest
+  -- an edge within the subgame from a vertex of the player outside the attractor leads to a vertex outside the
+  -- attractor
   lands : (v w : ℕ) → IsTrue (rest v) → owner_of game v ≡ player → LeadsInto game subgame v w → IsTrue (rest w)
   lands v w there own leads =
       let (inside, out) = rest_parts v there in in_rest w leads.inside ((a.free v inside out).own own w leads)
@@ -129,7 +131,7 @@ module _ (game : ParityGame) (is_game : IsGame game) (subgame : ℕ → Bool) (i
   own_owner : (v : ℕ) → IsTrue (subgame v) → owner_of game v ≢ player → owner_of game v ≡ 1 - player
   own_owner v inside differs = let owner = is_game.owners v (is.vertices v inside) in omega (arith, differs, owner, small)
 
-  -- a move that stays in the subgame
+  -- a move from a vertex of the subgame to a successor in the subgame; none at other vertices
   step_on : (v : ℕ) → (subgame v ≡ true) ⊎ (subgame v ≡ false) → Option ℕ
   step_on v (inl inside) = Some ((is.goes_on v inside).0)
   step_on v (inr out) = None
@@ -325,7 +327,7 @@ module _ (game : ParityGame) (is_game : IsGame game) where
             | inr (u, less, theirs) ↦ some_theirs u theirs
           ]
 
-    -- the turn at a vertex of the greatest priority
+    -- the iteration of the algorithm that attracts to a vertex of the greatest priority solves the subgame
     with_top : (v : ℕ) → IsGreatest game subgame (vertex_count game) v → Solved subgame
     with_top v g =
         let player : ℕ = priority_of game v % 2 in

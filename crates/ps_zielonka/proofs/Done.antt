@@ -1,4 +1,4 @@
--- The current call is solved, and at the end the whole game is solved.
+-- The case in which the current recursive call is solved; if no other call is pending, the whole game is solved.
 use Rattle.std.proofs.Common.{◌≡◌, ◌≢◌, ℕ, ◌+◌, ◌*◌, ◌<◌, ◌≤◌, List, length, get_or, Bool, true, false, rules, sym}
 use Rattle.std.proofs.lemmas.Bool.{cases_lt, false≢true}
 use Rattle.ps_game.specs.Games.{ParityGame}
@@ -10,7 +10,8 @@ use Rattle.ps_zielonka.specs.Inner.Stacks.{IsSolvedBy}
 use Rattle.ps_zielonka.proofs.Turning.{Solved-done}
 use Rattle.ps_zielonka.proofs.Sets.{from_at, to_from}
 
--- if the order has no unplaced vertex from the cursor on, no vertex of the call is open
+-- if no vertex from index `cursor` on in the list of vertices by descending priority is `UNPLACED`, the call has no
+-- undecided vertex
 none_left : {game : ParityGame} {tables : TablesData} {winner order : List ℕ} {a cursor : ℕ} →
     IsSoundBoard game tables winner order → Searches game tables winner order a cursor →
     ((j : ℕ) → cursor ≤ j → j < length order → level_of tables (get_or order j 0) ≢ UNPLACED) → (v : ℕ) →
@@ -38,7 +39,7 @@ done_nest {game} {tables} {winner} {order} {frames} {cursor} {solved} unsolved n
       };
     }
 
--- if the current call is solved and no call is pending, the whole game is solved
+-- if the current recursive call is solved and no call is pending, the whole game is solved
 pub solved_by : {game : ParityGame} {tables : TablesData} {winner order : List ℕ} {frames : List Frame} {cursor : ℕ}
     {solved : Bool} → solved ≡ true → length frames ≡ 0 → IsNest game tables winner order frames cursor solved →
     IsSolvedBy game tables winner

@@ -1,4 +1,5 @@
--- The end: from a solved game to the region and the strategies by which both players hold their vertices.
+-- The end of the solver: once the game is solved, the region and the strategies by which both players hold their
+-- vertices are read off.
 use Rattle.std.proofs.Common.{◌≡◌, ℕ, ◌<◌, List, length, get_or, Option, Some, Bool, rules, arith}
 use Rattle.std.specs.Prelude.{IsTrue, IsSome}
 use Rattle.std.proofs.lemmas.Bool.{cases_eq, cases_lt, false≢true, not-true}
@@ -16,14 +17,14 @@ use Rattle.ps_zielonka.proofs.Sets.{from_at, to_from}
 use Rattle.ps_zielonka.proofs.Holding.{not_in, HoldsWithin-same}
 use Rattle.ps_zielonka.proofs.Turning.{won_by, IsWon-won_by}
 
--- a set that has the same vertices of the game is also held
+-- if a player holds a set, the player also holds each set that has the same vertices of the game
 Holds-same : {game : ParityGame} {player : ℕ} {set : ℕ → Bool} (other : ℕ → Bool) {table : ℕ → Option ℕ} →
     ((v : ℕ) → v < vertex_count game → IsTrue (set v) → IsTrue (other v)) →
     ((v : ℕ) → v < vertex_count game → IsTrue (other v) → IsTrue (set v)) → Holds game player set table →
     Holds game player other table
 Holds-same other there back holds = search rules
 
--- all vertices are solved
+-- the winners and the moves solve the subgame `whole`, which has all vertices of the game
 pub record IsSolved (game : ParityGame) (winner moves : List ℕ) (whole : ℕ → Bool) : Type 0 where
   pub all : (v : ℕ) → v < vertex_count game → IsTrue (whole v)
   pub only : (v : ℕ) → IsTrue (whole v) → v < vertex_count game
@@ -40,12 +41,12 @@ holds_won {game} {winner} {whole} {player} {strategy} is_solved is_player given 
     (HoldsWithin-same (won_by whole win player) (move_at strategy) (λ v inside. inside) (λ v inside. inside)
     (λ v inside owns. grind arith) (is_solved.solved.held player (won_by whole win player) is_player won))
 
--- tables that solve the whole game solve all of its vertices
+-- tables that satisfy `IsSolvedBy` give winners and moves that solve the subgame of all vertices
 IsSolved-tables : {game : ParityGame} {tables : TablesData} {winner : List ℕ} → IsSolvedBy game tables winner →
     IsSolved game winner tables.moves (from tables.level 1)
 IsSolved-tables {game} {tables} solved_by = search (rules, to_from, cases_lt, get_or_past, from_at)
 
--- a player who has a move at a vertex wins and owns the vertex
+-- if a player's final strategy has a move at a vertex, the player wins and owns the vertex
 move_is_given : {game : ParityGame} {moves winner : List ℕ} {player n : ℕ} (v : ℕ) {strategy : List (Option ℕ)} →
     AreWinningMovesTo game moves winner player n strategy → IsSome (move_at strategy v) →
     (v < n) × MovesAt game winner player v
@@ -56,14 +57,14 @@ pub record IsPlayed (game : ParityGame) (player : ℕ) (set : ℕ → Bool) (str
   pub holds : Holds game player set (move_at strategy)
   pub moves : MovesWithin game player set strategy
 
--- the winners and the region that the code reads at the end
+-- consider the winners and the region that the code reads from the tables of a solved game
 module _ {game : ParityGame} {tables : TablesData} {winner read again : List ℕ} {region : List Bool}
     (same : read ≡ winner) (same_again : again ≡ winner) (solved_by : IsSolvedBy game tables winner)
     (is_region : IsWonRegionTo read (length read) region) where
   whole : IsWonRegionTo winner (vertex_count game) region
   whole = rw (same, solved_by.winners) at is_region
 
-  -- the set has exactly the vertices that the player wins
+  -- a player holds the set of exactly the vertices that the player wins
   played : {player : ℕ} (set : ℕ → Bool) {strategy : List (Option ℕ)} → player < 2 →
       ((v : ℕ) → v < vertex_count game → IsTrue (set v) → get_or winner v 0 ≡ player) →
       ((v : ℕ) → v < vertex_count game → get_or winner v 0 ≡ player → IsTrue (set v)) →
@@ -78,12 +79,12 @@ module _ {game : ParityGame} {tables : TablesData} {winner read again : List ℕ
         moves = search (rules, move_is_given);
       }
 
-  -- player 0 holds the region
+  -- player 0 holds the region of the result by the first strategy
   pub played_first : {strategy : List (Option ℕ)} →
       AreWinningMovesTo game tables.moves again 0 (vertex_count game) strategy → IsPlayed game 0 (has region) strategy
   played_first given = played (has region) (omega arith) whole.won whole.all given
 
-  -- player 1 holds all other vertices
+  -- player 1 holds all vertices outside the region of the result by the second strategy
   pub played_second : {strategy : List (Option ℕ)} →
       AreWinningMovesTo game tables.moves again 1 (vertex_count game) strategy →
       IsPlayed game 1 (others region) strategy

@@ -1,4 +1,4 @@
--- The mathematics of a turn, in the form that the steps of the stack use.
+-- Facts about one iteration of Zielonka's algorithm, in the form in which the proofs about the solver's steps use them.
 use Rattle.std.proofs.Common.{◌≡◌, ◌≢◌, ℕ, ◌-◌, ◌<◌, inl, inr, Option, IsSomeAnd, Bool, IsTrue, sym, ◌∙◌, arith, rules}
 use Rattle.std.proofs.lemmas.Bool.{false≢true}
 use Rattle.ps_game.specs.Games.{ParityGame, IsGame, owner_of, HasEdge}
@@ -10,12 +10,13 @@ use Rattle.ps_zielonka.proofs.Turning.{won_by, IsWon-won_by, without, IsWithout-
 use Rattle.ps_zielonka.proofs.Turning.{Progress-same, Progress-attracted, lost_held}
 use Rattle.ps_zielonka.proofs.Kept.{Solved-kept}
 
--- at the start nothing is decided
+-- if no vertex of a subgame is decided yet, the decisions so far (`Progress`) are correct
 pub progress_start : (game : ParityGame) (subgame open_part : ℕ → Bool) (win : ℕ → ℕ) (table : ℕ → Option ℕ) →
     IsWithin open_part subgame → IsWithin subgame open_part → Progress game subgame open_part win table
 progress_start game subgame open_part win table smaller larger = search (rules, HoldsWithin-none)
 
--- a turn solves the subgame if no top is lost: at each top, the player stays among the vertices that it wins
+-- an iteration solves the subgame if the player keeps each top: there, every play stays among the vertices that the
+-- player wins
 pub frame_kept : {game : ParityGame} {subgame open_part rest : ℕ → Bool} {player : ℕ} {win : ℕ → ℕ}
     {table : ℕ → Option ℕ} → IsGame game → IsSubgame game open_part → Progress game subgame open_part win table →
     (turned : IsTurned game open_part rest player win table) → Solved game rest win table →
@@ -39,7 +40,8 @@ frame_kept {game} {subgame} {open_part} {rest} {player} {win} {table} is_game al
     there)
     progress
 
--- the vertices that the other player won in the rest, and those that it attracts to them, are decided
+-- the vertices that the opponent won outside the attractor, and those that the opponent attracts to them, can be
+-- decided for the opponent
 pub frame_goes_on : {game : ParityGame} {subgame open_part rest lost gone left : ℕ → Bool} {player : ℕ} {win : ℕ → ℕ}
     (win_now : ℕ → ℕ) {table table_now : ℕ → Option ℕ} {rank : ℕ → ℕ} → IsGame game → IsSubgame game open_part →
     Progress game subgame open_part win table → IsTurned game open_part rest player win table →

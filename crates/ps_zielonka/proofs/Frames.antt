@@ -1,4 +1,4 @@
--- The stack of pending calls: its last call, the calls below the last one, and the stack without a pending call.
+-- The stack of pending recursive calls: its last call, the calls below the last one, and the empty stack.
 use Rattle.std.proofs.Common.{◌≡◌, ℕ, ◌+◌, ◌*◌, ◌<◌, ◌≤◌, ◌⊎◌, List, [], ◌∷◌, ◌++◌, Bool, true}
 use Rattle.std.proofs.Common.{false, length, get_or, replicate, refl, subst, ap, ◌∙◌, arith, rules}
 use Rattle.std.specs.Prelude.{IsTrue}
@@ -51,7 +51,7 @@ module _ {game : ParityGame} {tables : TablesData} {winner order : List ℕ} (fr
   last_rises i below =
       grind (arith, frames_size frames frame, frame_before frames frame i below, frame_last frames frame)
 
-  -- the calls below the last one are still pending
+  -- after the last call's vertices change, the calls below the last one on the stack are still pending
   pub below_wait : {new : TablesData} {winner_now : List ℕ} →
       Agrees (2 * length frames + 1) tables new winner winner_now → frame.turn ≤ length new.trail →
       ((j : ℕ) → j < frame.turn → get_or new.trail j 0 ≡ get_or tables.trail j 0) →
@@ -72,7 +72,8 @@ last_solved frames frame nest = search (rules, frames_size)
 
 -- ## Segments of the trail
 
--- changes at or above a level, and from an index of the trail on, do not affect the segments of lower levels
+-- changes to vertices of level c or higher, and to the trail from index m on, do not affect the segments of the trail
+-- that belong to lower levels
 pub segment_below : {b : ℕ} (c m : ℕ) {t : ℕ} {old : TablesData} (new : TablesData) → b ≤ c → t ≤ m →
     m ≤ length old.trail → m ≤ length new.trail → ((j : ℕ) → j < m → get_or new.trail j 0 ≡ get_or old.trail j 0) →
     ((j : ℕ) → m ≤ j → j < length new.trail → c ≤ level_of new (get_or new.trail j 0)) →
@@ -80,7 +81,7 @@ pub segment_below : {b : ℕ} (c m : ℕ) {t : ℕ} {old : TablesData} (new : Ta
     ((c ≤ level_of new v) × (level_of new v < UNPLACED → StandsFrom new m v))) → IsSegment old t b → IsSegment new t b
 segment_below {b} c m {old} new less before inside within front behind each segment = grind (arith, cases_lt)
 
--- a segment is unchanged if levels and trail are unchanged
+-- if the levels and the trail are unchanged, a segment of the trail is still one
 pub segment_moved : {b t : ℕ} {old : TablesData} (new : TablesData) → new.level ≡ old.level → new.trail ≡ old.trail →
     IsSegment old t b → IsSegment new t b
 segment_moved {b} {t} {old} new level trail segment = search (rules, stands_longer)

@@ -1,4 +1,5 @@
--- The last pending call continues: its frame leaves the stack, and the number of remaining steps decreases.
+-- The last pending call continues with its undecided vertices: its frame leaves the stack, and the bound on the
+-- remaining steps decreases.
 use Rattle.std.proofs.Common.{◌≡◌, ℕ, ◌+◌, ◌-◌, ◌*◌, ◌<◌, ◌≤◌, inl, inr, List, [], ◌∷◌, ◌++◌, Bool, true, rules}
 use Rattle.std.proofs.Common.{false, length, get_or, refl, sym, ap, ◌∙◌, arith}
 use Rattle.std.proofs.lemmas.Bool.{cases_lt, false≢true}
@@ -59,8 +60,8 @@ on_nest {game} {old} {mid} {new} {winner} {winner_now} {order} frames {frame} {c
       done = λ solved_now. absurd (false≢true solved_now);
     }
 
--- the tables after vertices are taken back and the opponent has attracted others; a code gives the level of decided
--- vertices
+-- the tables after the vertices that the player won were taken off the trail and the opponent has attracted vertices;
+-- `level` is the level of decided vertices
 pub record Reached (game : ParityGame) (level : ℕ) (aim : Aim) (frame : Frame) (old mid new : TablesData)
     (winner winner_now : List ℕ) : Type 0 where
   pub reopened : IsReopened winner frame.player level frame.turn (StandsFrom old frame.turn) old mid
@@ -91,7 +92,7 @@ going_on {game} {aim} {old} {mid} {new} {winner} {winner_now} {order} frames {fr
       attracted = here.attracted;
     }
 
--- the tables still fit the game after vertices are placed again
+-- the tables still fit the game after vertices were taken off the trail and some were placed again
 pub fits_reopened : {game : ParityGame} {winner : List ℕ} {player level turn : ℕ} {old new : TablesData} →
     turn ≤ length old.trail → FitsGame game old → IsReopened winner player level turn (StandsFrom old turn) old new →
     FitsGame game new
@@ -107,7 +108,7 @@ fits_reopened {game} {turn} {old} {new} within fits reopened =
       ]);
     }
 
--- the number of remaining steps decreases
+-- the bound on the remaining steps decreases when the last pending call continues
 pub on_falls : {game : ParityGame} {level v : ℕ} {old mid new : TablesData} {winner winner_now order : List ℕ}
     (frames : List Frame) {frame : Frame} {cursor : ℕ} → IsNest game old winner order (frames ++ frame ∷ []) cursor true
     → level ≡ 2 * length frames + 1 → Going game (2 * length frames) frame old mid new winner winner_now order →

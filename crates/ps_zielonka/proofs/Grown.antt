@@ -1,4 +1,5 @@
--- If tables grow in two steps, they grow in one: a vertex that is placed in either step is placed.
+-- If the attractor's tables grow in two steps, both together are one step of growth: a vertex placed in either step is
+-- placed in this one.
 use Rattle.std.proofs.Common.{◌≢◌, ℕ, rules}
 use Rattle.std.proofs.lemmas.Bool.{cases_lt}
 use Rattle.ps_attractor.specs.declared.aim.Aim.{Aim}

@@ -1,5 +1,5 @@
--- Sets that a player holds within a subgame: with other moves, within a larger subgame, the union of two sets, and an
--- attractor.
+-- Sets that a player holds within a subgame are also held by other moves, within a larger subgame, as a union of two
+-- sets, and as an attractor, under conditions.
 use Rattle.std.proofs.Common.{◌≡◌, ◌≢◌, ℕ, ◌+◌, ◌%◌, ◌<◌, ◌≤◌, ◌⊎◌, inl, inr, Bool, false, Option, Some, rules}
 use Rattle.std.proofs.Common.{IsSomeAnd, sym, ◌∙◌, arith}
 use Rattle.std.specs.Prelude.{IsTrue}
@@ -25,7 +25,7 @@ leads_down game subgame set rank v move there = search (rules, some_more)
 pub not_in : (set : ℕ → Bool) (v : ℕ) → set v ≡ false → ¬ IsTrue (set v)
 not_in set v outside inside = false≢true (sym outside ∙ inside)
 
--- the last vertex of a round is also in the set, since it is the first vertex
+-- each vertex of a round (a cycle through the set), including the last one, which equals the first, is in the set
 pub round_inside : {game : ParityGame} {player : ℕ} {set : ℕ → Bool} {table : ℕ → Option ℕ} {walk : ℕ → ℕ} {k : ℕ} →
     IsRound game player set table walk k → (t : ℕ) → t ≤ k → IsTrue (set (walk t))
 round_inside {set} {walk} {k} round t within = search (rules, cases_eq)
@@ -35,13 +35,14 @@ pub round_within : {game : ParityGame} {player : ℕ} {set : ℕ → Bool} (othe
     IsRound game player other table walk k
 round_within other round inside = search rules
 
--- a step by the table, from a held set and within the subgame, stays in the held set
+-- from a set that the player holds by a table, each step within the subgame that follows the table stays in the set
 pub held_step : {game : ParityGame} {subgame : ℕ → Bool} {player : ℕ} {set : ℕ → Bool} {table : ℕ → Option ℕ} →
     HoldsWithin game subgame player set table → (v w : ℕ) → HasEdge game v w →
     (owner_of game v ≡ player → table v ≡ Some w) → IsTrue (subgame w) → IsTrue (set v) → IsTrue (set w)
 held_step {game} {player} {set} {table} holds v w edge follows to from = search (rules, cases_eq)
 
--- a round is inside a held set, or outside it
+-- a round (a cycle that follows the table) is entirely inside a set that the player holds by the table, or entirely
+-- outside the set
 pub round_beside : {game : ParityGame} {subgame : ℕ → Bool} {player : ℕ} {set held : ℕ → Bool} {table : ℕ → Option ℕ}
     {walk : ℕ → ℕ} {k : ℕ} → HoldsWithin game subgame player held table → IsWithin set subgame →
     IsRound game player set table walk k → ((t : ℕ) → t < k → IsTrue (held (walk t))) ⊎
@@ -49,7 +50,7 @@ pub round_beside : {game : ParityGame} {subgame : ℕ → Bool} {player : ℕ} {
 round_beside {game} {subgame} {player} {set} {held} {table} {walk} {k} holds within round =
     all_or_none held walk k round.closes (λ t less from. grind (arith, held_step, round_inside))
 
--- in an attractor, a step of a round from a vertex outside the target, within the subgame, leads to a smaller rank
+-- in an attractor, a step of a cycle that follows the table, from a vertex outside the target, leads to a smaller rank
 falls_step : {game : ParityGame} {subgame : ℕ → Bool} {player : ℕ} {target set other : ℕ → Bool}
     {table : ℕ → Option ℕ} {rank walk : ℕ → ℕ} {k : ℕ} → IsWithin other subgame →
     Falls game subgame player target set table rank → IsRound game player other table walk k → (t : ℕ) → t < k →
@@ -61,7 +62,7 @@ falls_step {game = game} {player = player} {target = target} {walk = walk} withi
       | inr others ↦ falls.other (walk t) (walk (t + 1)) from outside others (grind (arith, round_inside))
     ]
 
--- every round in an attractor visits the target
+-- every cycle in an attractor that follows the attractor's moves visits the target
 pub no_round_falls : {game : ParityGame} {subgame : ℕ → Bool} {player : ℕ} {target set : ℕ → Bool}
     {table : ℕ → Option ℕ} {rank walk : ℕ → ℕ} {k : ℕ} → IsWithin set subgame →
     Falls game subgame player target set table rank → IsRound game player set table walk k →
@@ -71,7 +72,7 @@ no_round_falls {rank = rank} {walk = walk} {k = k} within falls round misses = n
 
 -- ## Held sets
 
--- a held set is still held by other moves that agree with the table on the set
+-- a set that a player holds by a table is also held by other moves that agree with the table on the set
 pub HoldsWithin-same : {game : ParityGame} {subgame : ℕ → Bool} {player : ℕ} {set : ℕ → Bool} (other : ℕ → Bool)
     {table : ℕ → Option ℕ} (moves : ℕ → Option ℕ) → IsWithin set other → IsWithin other set →
     ((v : ℕ) → IsTrue (set v) → owner_of game v ≡ player → moves v ≡ table v) →
@@ -83,22 +84,22 @@ HoldsWithin-same {game} {set} other {table} moves there back same holds = record
   wins = λ walk k top round is_top. holds.wins walk k top (search rules) is_top;
 }
 
--- a held set is also held within a larger subgame, if the other player's edges from the set lead only into the smaller
--- subgame
+-- a set that a player holds within a subgame is also held within a larger one, if the other player's edges from the set
+-- within the larger one lead into the smaller
 pub HoldsWithin-larger : {game : ParityGame} {smaller : ℕ → Bool} (larger : ℕ → Bool) {player : ℕ} {set : ℕ → Bool}
     {table : ℕ → Option ℕ} → IsWithin smaller larger → ((v w : ℕ) → IsTrue (set v) → owner_of game v ≢ player →
     LeadsInto game larger v w → IsTrue (smaller w)) → HoldsWithin game smaller player set table →
     HoldsWithin game larger player set table
 HoldsWithin-larger larger within lands holds = search rules
 
--- the empty set is held by every table
+-- a player holds the empty set by every table of moves
 pub HoldsWithin-none : (game : ParityGame) (subgame : ℕ → Bool) (player : ℕ) (set : ℕ → Bool) (table : ℕ → Option ℕ) →
     ((v : ℕ) → ¬ IsTrue (set v)) → HoldsWithin game subgame player set table
 HoldsWithin-none game subgame player set table none = search rules
 
--- the union of two sets is held within the larger subgame. The first set is held within the larger subgame, and the
--- second set is held within the smaller subgame. The other player's edges from the second set lead into the smaller
--- subgame or to the first set
+-- the player holds the union of two sets within a larger subgame under three conditions. The player holds the first set
+-- within the larger subgame, and the second set within the smaller subgame. The other player's edges from the second
+-- set lead into the smaller subgame or to the first set
 pub HoldsWithin-beside : {game : ParityGame} {smaller larger : ℕ → Bool} {player : ℕ} {first second : ℕ → Bool}
     (set : ℕ → Bool) {table : ℕ → Option ℕ} → IsWithin smaller larger → IsWithin first set → IsWithin second set →
     ((v : ℕ) → IsTrue (set v) → IsTrue (first v) ⊎ IsTrue (second v)) →
@@ -119,7 +120,7 @@ HoldsWithin-beside {game} {larger} {player} {first} {second} set {table} less ha
       ];
     }
 
--- the attractor to a held set is held
+-- a player who holds a set also holds the player's attractor to this set
 pub HoldsWithin-attracted : {game : ParityGame} {subgame : ℕ → Bool} {player : ℕ} {target set : ℕ → Bool}
     {table : ℕ → Option ℕ} {rank : ℕ → ℕ} → IsWithin target set → IsWithin set subgame →
     Falls game subgame player target set table rank → HoldsWithin game subgame player target table →
@@ -137,8 +138,8 @@ HoldsWithin-attracted {game} {subgame} {player} {target} {set} {table} {rank} ha
   ];
 }
 
--- a whole subgame is held, if the part outside the attractor to the tops is held. The priority of each top has the
--- player's parity, and is greater than all priorities of the other parity
+-- a player holds a whole subgame if the player holds the part outside its attractor to certain vertices, the tops. The
+-- priority of each top has the player's parity, and is greater than all priorities of the other parity in the subgame
 pub HoldsWithin-all : {game : ParityGame} {subgame : ℕ → Bool} {player : ℕ} {tops set rest nested : ℕ → Bool}
     {table : ℕ → Option ℕ} {rank : ℕ → ℕ} → ((v w : ℕ) → IsTrue (tops v) → IsTrue (subgame w) →
     priority_of game w % 2 ≢ player → priority_of game w < priority_of game v) →

@@ -1,5 +1,5 @@
--- A turn that decides the whole subgame: the other player wins the vertices that it won in the rest, and the player
--- wins all others.
+-- An iteration that solves the whole subgame: the opponent wins the vertices that it won outside the player's
+-- attractor, and the player wins all others.
 use Rattle.std.proofs.Common.{◌≡◌, ◌≢◌, ℕ, ◌<◌, ◌⊎◌, inl, inr, Bool, Option, IsSomeAnd, sym, ◌∙◌, rules}
 use Rattle.std.specs.Prelude.{IsTrue}
 use Rattle.std.proofs.lemmas.Bool.{cases_Bool, false≢true}
@@ -16,14 +16,15 @@ kept_of rest lost v inside = let split = IsWithout-without rest lost in (split.w
 to_keeps : (rest lost : ℕ → Bool) (v : ℕ) → IsTrue (rest v) → ¬ IsTrue (lost v) → IsTrue (without rest lost v)
 to_keeps rest lost v inside outside = let split = IsWithout-without rest lost in split.all v inside outside
 
--- the player wins exactly the vertices of the rest that the opponent does not win
+-- of the vertices outside the attractor (`rest`), the player wins exactly those that the opponent does not win
 pub IsWon-without : (game : ParityGame) {rest lost : ℕ → Bool} {win : ℕ → ℕ} (table : ℕ → Option ℕ) (player : ℕ)
     {other : ℕ} → player < 2 → other < 2 → other ≢ player → IsWon rest nothing win other lost →
     Solved game rest win table → IsWon rest nothing win player (without rest lost)
 IsWon-without game {rest} {lost} {win} table player {other} is_player is_other differ is_won solved =
     search (rules, kept_of, false≢true, to_keeps)
 
--- if no top of the opponent has an edge to a lost vertex, no other vertex of the opponent has such an edge
+-- if no top (target vertex) of the opponent has an edge to a vertex of `lost`, no undecided vertex of the opponent
+-- outside `lost` has such an edge
 none_to_lost : {game : ParityGame} {open_part rest lost left : ℕ → Bool} {win : ℕ → ℕ} {table : ℕ → Option ℕ}
     {player other : ℕ} → player < 2 → other < 2 → other ≢ player →
     (turned : IsTurned game open_part rest player win table) → IsWon rest nothing win other lost →

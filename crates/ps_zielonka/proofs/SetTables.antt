@@ -5,7 +5,7 @@ use Rattle.std.proofs.lemmas.Bool.{cases_Bool}
 pub is_false : (b : Bool) → (b ≡ true → ⊥) → b ≡ false
 is_false b out = elim (cases_Bool b) [ inl inside ↦ absurd (out inside) | inr outside ↦ outside ]
 
--- a table that is one table inside a set, and another outside
+-- the table of moves that equals one table inside a set, and another table outside the set
 pub by_set : (ℕ → Bool) → (ℕ → Option ℕ) → (ℕ → Option ℕ) → ℕ → Option ℕ
 by_set set inner outer v = cond (set v) (inner v) (outer v)
 

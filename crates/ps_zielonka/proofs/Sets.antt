@@ -1,4 +1,4 @@
--- The set of the vertices of a level or a higher one, and the number of these vertices.
+-- The set of the vertices whose level is at least a given one, and the number of these vertices.
 use Rattle.std.proofs.Common.{◌≡◌, ℕ, zero, suc, ◌<◌, ◌≤◌, inl, inr, List, [], ◌∷◌, Bool, cond, length, get_or, sym, ap}
 use Rattle.std.proofs.Common.{◌∙◌, arith, rules}
 use Rattle.std.specs.Prelude.{IsTrue, nat_le}
@@ -6,17 +6,17 @@ use Rattle.std.proofs.Math.Path.{fun_ext}
 use Rattle.std.proofs.lemmas.Bool.{cases_lt, leb-true, le-leb, lt-leb}
 use Rattle.ps_zielonka.specs.Inner.Nests.{from, size_from}
 
--- a vertex of the set has level c or higher
+-- each vertex of the set `from levels c` has level c or higher
 pub from_at : (levels : List ℕ) (c v : ℕ) → IsTrue (from levels c v) → c ≤ get_or levels v 0
 unfolding from
 from_at levels c v inside = leb-true c (get_or levels v 0) inside
 
--- a vertex of level c or higher is in the set
+-- each vertex of level c or higher is in the set `from levels c`
 pub to_from : (levels : List ℕ) (c v : ℕ) → c ≤ get_or levels v 0 → IsTrue (from levels c v)
 unfolding from
 to_from levels c v high = le-leb c (get_or levels v 0) high
 
--- the vertex v has level c or higher either in both lists or in neither
+-- the vertex v has level c or higher in both lists of levels or in neither
 pub record AgreesAt (old new : List ℕ) (c v : ℕ) : Type 0 where
   pub up : c ≤ get_or old v 0 → c ≤ get_or new v 0
   pub back : c ≤ get_or new v 0 → c ≤ get_or old v 0
@@ -61,7 +61,8 @@ size_from-le c d (x ∷ xs) (y ∷ ys) sizes more =
     size_from-le c d xs ys (omega arith) (λ v within. more (suc v) (omega arith)) in
     omega arith
 
--- fewer vertices have level d or higher in the new list, if one vertex of the old set is now below level d
+-- fewer vertices have level d or higher now than had level c or higher before, if each of them had level c or higher
+-- and some other vertex did too
 pub size_from-lt : (c d : ℕ) (old new : List ℕ) (u : ℕ) → length new ≡ length old →
     ((v : ℕ) → v < length old → d ≤ get_or new v 0 → c ≤ get_or old v 0) → u < length old → c ≤ get_or old u 0 →
     get_or new u 0 < d → size_from d new < size_from c old

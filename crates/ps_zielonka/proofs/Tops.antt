@@ -20,7 +20,7 @@ module _ (game : ParityGame) (subgame : ℕ → Bool) where
         | inr other ↦ none u (omega arith)
       ]
 
-      -- the last vertex is inside, and no earlier one has a greater priority
+      -- the case in which the last vertex is in the subgame, and no earlier one has a greater priority
       last : IsTrue (subgame n) → ((u : ℕ) → u < n → IsTrue (subgame u) → priority_of game u ≤ priority_of game n) →
           IsGreatest (suc n) n
       last inside at_most = record {
@@ -32,7 +32,7 @@ module _ (game : ParityGame) (subgame : ℕ → Bool) where
         ];
       }
 
-      -- an earlier vertex, if the last one is outside or has no greater priority
+      -- the case in which the last vertex is outside the subgame or has no greater priority than an earlier vertex
       earlier : (v : ℕ) → IsGreatest n v → (IsTrue (subgame n) → priority_of game n ≤ priority_of game v) →
           IsGreatest (suc n) v
       earlier v g at_most = record {

@@ -1,4 +1,5 @@
--- The turns: which part of a subgame is decided, and how this part grows until nothing is left to decide.
+-- The iterations (turns) of a call: which part of a subgame is decided, and how this part grows until nothing is left
+-- to decide.
 use Rattle.std.proofs.Common.{◌≡◌, ◌≢◌, ℕ, ◌<◌, ◌⊎◌, inl, inr, Bool, false, not, ◌&&◌, ◌==◌, Option, rules}
 use Rattle.std.specs.Prelude.{IsTrue}
 use Rattle.std.proofs.lemmas.Bool.{cases_eq, cases_Bool, false≢true, eqb-true, eq-eqb, and_parts, and_from, not-true}
@@ -10,14 +11,14 @@ use Rattle.ps_zielonka.specs.Inner.Turns.{nothing, IsWithout, IsWon, Progress, S
 use Rattle.ps_zielonka.proofs.Holding.{not_in, HoldsWithin-same, HoldsWithin-larger, HoldsWithin-beside}
 use Rattle.ps_zielonka.proofs.Holding.{HoldsWithin-attracted}
 
--- each vertex of the whole is in the part or in the rest
+-- if `rest` is `whole` without `part`, each vertex of `whole` is in `part` or in `rest`
 pub in_part_or_rest : {whole part rest : ℕ → Bool} → IsWithout whole part rest → (v : ℕ) → IsTrue (whole v) →
     IsTrue (part v) ⊎ IsTrue (rest v)
 in_part_or_rest {part} left v inside = search (rules, cases_Bool, not_in)
 
 -- ## The start and the end
 
--- if no vertex is open, the subgame is solved
+-- if no vertex of a subgame is undecided, the subgame is solved
 pub Solved-done : {game : ParityGame} {subgame open_part : ℕ → Bool} {win : ℕ → ℕ} {table : ℕ → Option ℕ} →
     Progress game subgame open_part win table → ((v : ℕ) → ¬ IsTrue (open_part v)) → Solved game subgame win table
 Solved-done progress none = record {
@@ -29,7 +30,7 @@ Solved-done progress none = record {
 
 -- ## The same progress with other tables
 
--- the progress is kept if the winners and moves of decided vertices are unchanged
+-- the decisions so far (`Progress`) stay correct if the winners and moves of decided vertices are unchanged
 pub Progress-same : {game : ParityGame} {subgame open_part : ℕ → Bool} {win : ℕ → ℕ} (other_win : ℕ → ℕ)
     {table : ℕ → Option ℕ} (other_table : ℕ → Option ℕ) → ((v : ℕ) → IsTrue (subgame v) → ¬ IsTrue (open_part v) →
     other_win v ≡ win v) → ((v : ℕ) → IsTrue (subgame v) → ¬ IsTrue (open_part v) → other_table v ≡ table v) →
@@ -44,8 +45,8 @@ Progress-same {win} other_win other_table same_win same_move progress = record {
 
 -- ## One step
 
--- a part that a player holds within the open part is decided, if no open vertex of the player has an edge into this
--- part
+-- a set that a player holds within the undecided part can be decided, if no other undecided vertex of the player has an
+-- edge into this set
 pub Progress-taken : {game : ParityGame} {subgame open_part part left : ℕ → Bool} {win : ℕ → ℕ} {table : ℕ → Option ℕ}
     {player : ℕ} → IsGame game → player < 2 → IsWithout open_part part left → IsWithin part open_part →
     ((v : ℕ) → IsTrue (part v) → win v ≡ player) → ((v w : ℕ) → IsTrue (left v) → owner_of game v ≡ player →
@@ -79,7 +80,7 @@ Progress-taken {game} {subgame} {open_part} {part} {left} {win} {table} {player}
 
 -- ## Turns
 
--- the other player holds, within the open part, the vertices that it wins in the rest of a turn
+-- within the undecided part, the opponent holds the vertices that it wins outside the attractor of an iteration
 pub lost_held : {game : ParityGame} {open_part rest lost : ℕ → Bool} {win : ℕ → ℕ} {table : ℕ → Option ℕ}
     {player other : ℕ} → IsGame game → player < 2 → other < 2 → other ≢ player →
     IsTurned game open_part rest player win table → IsWon rest nothing win other lost → Solved game rest win table →
@@ -88,7 +89,7 @@ lost_held {game} {open_part} {rest} {lost} {player} {other} is_game is_player is
     HoldsWithin-larger open_part {player = other} turned.left.within
     (λ v w inside others leads. search (rules, in_part_or_rest)) (solved.held other lost is_other is_won)
 
--- the attractor of the other player to vertices that it holds is decided for the other player
+-- a player's attractor, within the undecided part, to vertices that the player holds can be decided for this player
 pub Progress-attracted : {game : ParityGame} {subgame open_part target set left : ℕ → Bool} {win : ℕ → ℕ}
     {table : ℕ → Option ℕ} {player : ℕ} {rank : ℕ → ℕ} → IsGame game → player < 2 →
     IsAttracted game open_part player target set table rank → IsWithin set open_part → IsWithout open_part set left →

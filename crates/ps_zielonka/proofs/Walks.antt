@@ -1,5 +1,5 @@
--- Walks that return to their start. A number that never increases along the steps is the same at all vertices of the
--- walk, and a set that no step leaves has all of its vertices or none.
+-- Walks that return to their start. A number that never increases along such a walk is the same at all of its vertices,
+-- and a set that no step of the walk leaves contains all vertices of the walk or none.
 use Rattle.std.proofs.Common.{◌≡◌, ℕ, zero, suc, ◌+◌, ◌<◌, ◌≤◌, ◌⊎◌, inl, inr, Bool, true, false, cond, ap, ◌∙◌}
 use Rattle.std.proofs.Common.{arith, rules}
 use Rattle.std.specs.Prelude.{IsTrue}
@@ -12,7 +12,7 @@ falling y k steps t (suc j) after within = elim (cases_eq t (suc j)) [
   | inr other ↦ grind (arith, falling y k steps t j (omega arith) (omega arith))
 ]
 
--- a number that never increases along the steps is the same at each index
+-- a sequence of numbers that never increases, and whose last number equals its first, is constant
 pub level : (y : ℕ → ℕ) (k : ℕ) → y k ≡ y 0 → ((t : ℕ) → t < k → y (t + 1) ≤ y t) → (t : ℕ) → t ≤ k → y t ≡ y 0
 level y k closes steps t within =
     grind (arith, falling y k steps 0 t (omega arith) within, falling y k steps t k within (omega arith))
@@ -35,7 +35,7 @@ distance-le a b h = search rules
 distance-same : (a b : Bool) → distance a ≡ distance b → a ≡ b
 distance-same a b h = search rules
 
--- a set that no step leaves has all vertices of the walk or none
+-- a set that no step of a walk leaves contains all vertices of the walk or none, if the walk returns to its start
 pub all_or_none : (set : ℕ → Bool) (walk : ℕ → ℕ) (k : ℕ) → walk k ≡ walk 0 →
     ((t : ℕ) → t < k → IsTrue (set (walk t)) → IsTrue (set (walk (t + 1))))
     → ((t : ℕ) → t < k → IsTrue (set (walk t))) ⊎ ((t : ℕ) → t < k → set (walk t) ≡ false)
@@ -48,7 +48,7 @@ all_or_none set walk k closes steps =
       | inr not_there ↦ inr (λ t less. same t less ∙ not_there)
     ]
 
--- one of the first k vertices is in the set, or none is
+-- one of the first k vertices of a walk is in the set, or none of them is
 pub some_or_none : (set : ℕ → Bool) (walk : ℕ → ℕ) (k : ℕ) →
     ((t : ℕ) × (t < k) × IsTrue (set (walk t))) ⊎ ((t : ℕ) → t < k → set (walk t) ≡ false)
 some_or_none set walk zero = inr (λ t less. absurd (omega arith))

@@ -1,4 +1,4 @@
--- A division of a game: player 0 holds a region, and player 1 the other vertices, each by a table of moves.
+-- A division of a game: player 0 holds a region, and player 1 holds all other vertices, each by a table of moves.
 use Rattle.std.specs.Prelude.{◌≡◌, ℕ, ◌<◌, Bool, not, Option}
 use Rattle.ps_game.specs.Games.{ParityGame, vertex_count}
 use Rattle.ps_game.specs.Plays.{Holds}

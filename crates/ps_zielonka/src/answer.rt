@@ -1,4 +1,4 @@
-//! The region and the strategies that result from a decided board.
+//! The region and the strategies that follow from the winners and moves once every vertex is decided.
 
 ghost use Rattle.std.specs.Prelude.{◌≡◌, IfOk, length};
 ghost use Rattle.ps_game.specs.Games.{vertex_count};
@@ -8,7 +8,7 @@ use ps_attractor::Tables;
 use ps_game::{Arena, Player, Region, Strategy, Width};
 use std::alloc::{AllocError, Global};
 
-/// The set of the vertices that player 0 wins. Fails if out of memory.
+/// The set of the vertices that player 0 wins, given the winner of each vertex. Fails if out of memory.
 pub fn region_of(alloc: Global, winner: &[Player]) -> Result<Region, AllocError>
     ensures places { IfOk result (λ region. length region ≡ length winner.now) }
     ensures won { IfOk result (IsWonRegionTo winner.now (length winner.now)) }

@@ -1,4 +1,4 @@
-//! Attractions, which compute a player's attractor to vertices of the trail.
+//! The parameters of an attractor computation whose target is a part of the trail.
 
 ghost use Rattle.std.specs.Prelude.{◌≡◌, ◌<◌};
 ghost use Rattle.ps_zielonka.specs.declared.level.Level.{Level};
@@ -8,14 +8,14 @@ use crate::level::Level;
 use ps_attractor::Aim;
 use ps_game::Player;
 
-/// An attraction, which computes a player's attractor to the vertices of the trail from index `begin` on.
+/// The parameters of the computation of a player's attractor to the vertices of the trail from index `begin` on.
 #[derive(Drop)]
 pub struct Attraction {
     /// The player.
     pub player: Player,
-    /// The index at which the target begins in the trail.
+    /// The index of the trail at which the attractor's target begins.
     pub begin: usize,
-    /// The level of a vertex after it is placed.
+    /// The level that a vertex gets when it is attracted.
     pub level: Level,
     ghost placed: { code_of level < code_of Level.Unplaced },
 }
@@ -23,7 +23,8 @@ pub struct Attraction {
 impl Attraction {
     ghost use Rattle.ps_zielonka.specs.Inner.Aims.{aim_of};
 
-    /// The aim for the tables. The free vertices are those that are not placed.
+    /// The same parameters as the attractor's tables need them. The vertices that can be attracted are those with the
+    /// level `UNPLACED`.
     pub fn aim(&self) -> Aim
         ensures { result ≡ aim_of self.now }
     {

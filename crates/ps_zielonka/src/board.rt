@@ -1,5 +1,5 @@
-//! The board records what is decided about each vertex. The methods of the board attract vertices to a player, test
-//! whether the player keeps the tops, and take vertices back.
+//! The board records the level, the move and the winner of each vertex. Its methods attract vertices to a player, test
+//! whether the player keeps the target vertices (tops), and reopen vertices.
 
 ghost use Rattle.std.specs.Prelude.{◌≡◌, ◌≢◌, ◌+◌, ◌-◌, ◌<◌, ◌≤◌, ℕ, Bool, false, IfSome, IfNone, OnOk, IsTrue, length};
 ghost use Rattle.std.specs.Prelude.{take, slice_index, replicate, IfOk, []};
@@ -22,11 +22,12 @@ use std::alloc::{AllocError, Global};
 /// The level, the move and the winner of each vertex.
 #[derive(Drop)]
 pub struct Board<W: Width> {
-    /// The level of each vertex, its move, and the trail of the vertices that were placed.
+    /// The attractor's tables: the level and the move of each vertex; and the trail, which lists the vertices that were
+    /// decided or attracted (placed), in order.
     pub tables: Tables<W>,
-    /// The winner of each vertex that was placed.
+    /// The winner of each vertex that was decided or attracted; any player for all other vertices.
     pub winner: Vec<Player>,
-    /// The vertices that were taken off the trail.
+    /// A buffer for the vertices that `reopen` takes off the trail.
     pub spare: Numbers<W>,
 }
 
@@ -46,8 +47,8 @@ impl<W: Width> Board<W> {
         })
     }
 
-    /// Extends the trail by the attractor of its vertices from index `begin` on, and records the player as the winner
-    /// of all vertices from this index on. Fails if out of memory.
+    /// Extends the trail by the player's attractor to its vertices from index `begin` on, and records the player as the
+    /// winner of all vertices of the trail from this index on. Fails if out of memory.
     pub fn attract<A: Arena>(
         &mut self,
         edges: &Adjacency<'_, A, W>,
@@ -71,7 +72,7 @@ impl<W: Width> Board<W> {
         Ok(())
     }
 
-    /// Makes the player the winner of all vertices of the trail from index `begin` on.
+    /// Records the player as the winner of all vertices of the trail from index `begin` on.
     fn give(&mut self, player: Player, begin: usize)
         requires begin { begin ≤ length self.old.tables.trail }
         requires winners { (j : ℕ) → j < length self.old.tables.trail →
@@ -85,8 +86,8 @@ impl<W: Width> Board<W> {
         }
     }
 
-    /// Whether the player keeps each top (see `keeps`), and so wins all vertices that the opponent did not win. Writes
-    /// the moves at the tops.
+    /// Whether the player keeps each top, a target vertex of its attractor, as `keeps` states; then the player wins all
+    /// vertices that the opponent did not win. Writes the player's moves at the tops.
     pub fn is_kept<A: Arena>(
         &mut self,
         edges: &Adjacency<'_, A, W>,
@@ -114,8 +115,9 @@ impl<W: Width> Board<W> {
         true
     }
 
-    /// Whether the player keeps a top: a top of the player has a successor that the player won, and a top of the
-    /// opponent has no successor that the opponent won. Writes the move at a top that the player owns and keeps.
+    /// Whether the player keeps a vertex: a vertex of the player has a successor above `level` that the player won, and
+    /// a vertex of the opponent has none that the opponent won. Writes the move at a vertex that the player owns and
+    /// keeps.
     fn keeps<A: Arena>(
         &mut self,
         edges: &Adjacency<'_, A, W>,
@@ -147,7 +149,7 @@ impl<W: Width> Board<W> {
         }
     }
 
-    /// A successor that has a higher level than `level` and that the player wins, or `None` if the vertex has none.
+    /// The first successor of a vertex that has a higher level than `level` and is won by the player, or `None`.
     fn won_successor<A: Arena>(
         &self,
         edges: &Adjacency<'_, A, W>,
@@ -173,8 +175,8 @@ impl<W: Width> Board<W> {
         None
     }
 
-    /// Takes back the vertices of the trail from index `turn` on: a vertex that the player won is then no longer
-    /// placed, and any other vertex is placed again, at the given level. Fails if out of memory.
+    /// Takes the vertices from index `turn` on off the trail. A vertex that the player won gets the level `Unplaced`;
+    /// any other vertex is appended to the trail again, with the given level. Fails if out of memory.
     pub fn reopen(&mut self, frame: &Frame, level: Level) -> Result<(), AllocError>
         requires turn { HasTurn self.old.tables W.LIMIT frame.now.turn }
         requires winners { length self.old.winner.items ≡ length self.old.tables.level }

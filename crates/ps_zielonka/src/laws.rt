@@ -4,7 +4,8 @@ ghost use Rattle.ps_game.specs.Games.{ParityGame, IsGame};
 ghost use Rattle.ps_zielonka.specs.Divisions.{Division};
 
 /// Each vertex of a game is won by one of the players: player 0 holds a region by a table of moves, and player 1 holds
-/// the rest by another. This law is about games, not about calls, so it needs no memory.
+/// all other vertices by another table. This law is a theorem about games, not about the solver, so it mentions no
+/// memory.
 pub fn each_game_is_divided()
     ensures { (game : ParityGame) → IsGame game → Division game }
 {}

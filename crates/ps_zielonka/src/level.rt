@@ -1,20 +1,21 @@
-//! The state of a vertex in the nested calls.
+//! The state of a vertex in the nested recursive calls of the solver.
 
 ghost use Rattle.std.specs.Prelude.{◌≡◌, ◌≤◌};
 ghost use Rattle.ps_zielonka.specs.Inner.Levels.{code_of};
 
-/// The code of each vertex that is currently not placed.
+/// The code of the level `Unplaced`.
 const UNPLACED: usize = usize::MAX;
 
-/// The state of a vertex in the nested calls. The depth of a call is the number of calls that are pending when it runs.
+/// The state of a vertex in the nested recursive calls of the solver. The depth of a recursive call is the number of
+/// calls that are pending when it runs.
 #[derive(Clone, Copy)]
 pub enum Level {
-    /// Decided by a call, and final within this call.
+    /// The vertex was decided by a call: its winner and its move are final within this call.
     Decided {
         /// The depth of the call.
         depth: usize,
     },
-    /// Attracted in the current turn of a call.
+    /// The vertex was attracted in the current iteration of a call, or is in the attractor's target.
     Attracted {
         /// The depth of the call.
         depth: usize,

@@ -1,14 +1,15 @@
-//! The vertices of a parity game from which each player wins, and the moves by which the player wins.
+//! Solves parity games: the vertices from which each player wins, and the moves by which that player wins.
 //!
-//! This is the recursive algorithm of McNaughton and Zielonka, with a list of frames instead of recursion: no function
-//! calls itself. A call starts from the greatest priority of its subgame. The player who wins by the greatest priority
-//! attracts vertices to the tops, which are the vertices of that priority. In all calls except the first, the tops also
-//! include vertices of lower priorities, down to the first priority of the other parity. The remaining vertices are
-//! solved first. The player keeps a top of its own if it can move from there to a vertex that it won. The player keeps
-//! a top of the opponent if no edge leads from there to a vertex that the opponent won. If the player keeps each top,
-//! the player wins all vertices that the opponent did not win in the remaining part. If the player does not keep each
-//! top, the opponent attracts vertices to those that it won in the remaining part, and the call continues with the
-//! rest.
+//! The solver uses the recursive algorithm of McNaughton and Zielonka, with an explicit stack of frames instead of
+//! recursion. Each iteration of a call starts from the greatest priority of the undecided vertices of the call's
+//! subgame. The player who wins by the greatest priority attracts vertices to the tops, which are the vertices of that
+//! priority. In all calls except the first, the tops also include vertices of lower priorities, down to the first
+//! priority of the other parity. The undecided vertices outside the attractor are solved next, by a recursive call. The
+//! player keeps a top of its own if it can move from there to a vertex that it won. The player keeps a top of the
+//! opponent if no edge leads from there to a vertex that the opponent won. If the player keeps each top, the player
+//! wins all vertices that the opponent did not win in the recursive call. If the player loses a top, the opponent
+//! attracts vertices to those that it won in the recursive call, and the call continues with the vertices that are
+//! still undecided.
 //!
 //! | Call | What it gives |
 //! |---|---|
@@ -17,12 +18,13 @@
 //! | `regions_within` | the result of `regions`, or none if a budget of placements is used up first |
 //! | `each_game_is_divided` | a law: on each game player 0 holds a region, and player 1 the rest |
 //!
-//! A strategy has moves only at vertices that its player owns and wins. `Counts` records the depth of nested calls. The
-//! depth is at most the number of distinct priorities, and at least 1 if there is a vertex. The depth is at least 2 if
-//! the attractor of the first turn leaves a vertex out.
+//! A strategy has moves only at vertices that its player owns and wins. `Counts` records the maximal depth of nested
+//! calls. This depth is at most the number of distinct priorities, and at least 1 if there is a vertex. The depth is at
+//! least 2 if some vertex is outside the attractor to the vertices of the game's greatest priority.
 //!
-//! The number of calls can grow exponentially with the number of priorities. The time of a turn is proportional to the
-//! number of edges that its attractor examines. The memory is proportional to the numbers of vertices and edges.
+//! The number of recursive calls can grow exponentially with the number of priorities. One iteration of a call takes
+//! time at most proportional to the numbers of vertices and edges. The memory is proportional to the numbers of
+//! vertices and edges.
 #![tactic(auto)]
 
 mod answer;

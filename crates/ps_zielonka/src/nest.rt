@@ -1,4 +1,4 @@
-//! The nested pending calls, and the steps down into a subgame and back up.
+//! The stack of pending recursive calls, and the solver's steps down into a subgame and back up.
 
 ghost use Rattle.std.specs.Prelude.{◌≡◌, ◌≢◌, ◌+◌, ◌-◌, ◌*◌, ◌<◌, ◌≤◌, ℕ, Bool, true, false, [], ◌∷◌, ◌++◌, IfOk, OnOk};
 ghost use Rattle.std.specs.Prelude.{IsTrue, None, length, slice_index};
@@ -16,27 +16,29 @@ use ps_attractor::{Adjacency, Tables};
 use ps_game::{Arena, Numbers, Player, Width};
 use std::alloc::{AllocError, Global};
 
-/// The pending calls, the decisions so far, and the position of the search for the next turn.
+/// The state of the solver: the pending recursive calls, the decisions so far, and where the search for the greatest
+/// undecided priority continues.
 #[derive(Drop)]
 pub struct Nest<W: Width> {
-    /// The decisions about each vertex.
+    /// The level, the move and the winner of each vertex.
     pub board: Board<W>,
-    /// The vertices by descending priority.
+    /// All vertices of the game, by descending priority.
     pub order: Numbers<W>,
     /// The pending calls.
     pub frames: Vec<Frame>,
-    /// An index into `order`, before which the current call has no open vertex.
+    /// An index into `order`; no vertex before it is undecided in the current call.
     pub cursor: usize,
-    /// Whether the current call is solved.
+    /// Whether the current recursive call is solved.
     pub solved: bool,
-    /// The maximal number of pending calls so far.
+    /// The maximal number of pending recursive calls so far.
     pub depth: usize,
-    /// The number of times that a vertex was placed, or the largest 64-bit number if there were more.
+    /// How often a vertex was placed (decided or attracted), counted over all vertices and capped at the largest 64-bit
+    /// number.
     pub work: u64,
 }
 
 impl<W: Width> Nest<W> {
-    /// No vertex is decided, and no call is pending. Fails if out of memory.
+    /// The initial state of the solver, in which no vertex is decided and no call is pending. Fails if out of memory.
     pub fn new<A: Arena>(alloc: Global, edges: &Adjacency<'_, A, W>) -> Result<Nest<W>, AllocError>
         ensures stack { IfOk result (IsStack (A.game edges.now.arena.now)) }
         ensures deep { IfOk result (IsDeep (A.game edges.now.arena.now)) }
@@ -52,8 +54,8 @@ impl<W: Width> Nest<W> {
         })
     }
 
-    /// Decides each vertex, unless a budget of placements is used up first. Returns whether all vertices are decided.
-    /// Fails if out of memory.
+    /// Decides each vertex, unless vertices are decided or attracted `budget` times before that. Returns whether all
+    /// vertices are decided. Fails if out of memory.
     pub fn solve<A: Arena>(
         &mut self,
         edges: &Adjacency<'_, A, W>,
@@ -77,14 +79,15 @@ impl<W: Width> Nest<W> {
         Ok(true)
     }
 
-    /// Whether the budget is used up; false if there is no budget.
+    /// Whether the budget for `work` is used up; false if there is no budget.
     fn has_spent(&self, budget: Option<u64>) -> bool
         ensures { budget ≡ None → result ≡ false }
     {
         budget.is_some_and(|most| self.work >= most)
     }
 
-    /// Begins a turn if an unplaced vertex remains; otherwise the current call is solved. Fails if out of memory.
+    /// Begins an iteration of the current call if a vertex with the level `Unplaced` remains; otherwise records that
+    /// the call is solved. Fails if out of memory.
     fn descend<A: Arena>(&mut self, edges: &Adjacency<'_, A, W>) -> Result<(), AllocError>
         requires { IsSearching (A.game edges.now.arena.now) self.old }
         ensures { OnOk result (IsStep (A.game edges.now.arena.now) self.old self.new) }
@@ -98,10 +101,10 @@ impl<W: Width> Nest<W> {
         }
     }
 
-    /// Begins a turn at index `cursor` of the order, which has an unplaced vertex of the greatest priority. Computes
-    /// the attractor of the player who wins by the greatest priority to all vertices of that priority. In every call
-    /// except the first, the target of the attractor also has vertices of lower priorities, down to the first priority
-    /// of the other parity. Fails if out of memory.
+    /// Begins an iteration of the current call. The vertex at index `cursor` of `order` is undecided and has the
+    /// greatest priority of all undecided vertices. Computes the attractor of the player who wins by this priority to
+    /// all undecided vertices of this priority. In every call except the first, the target of the attractor also has
+    /// vertices of lower priorities, down to the first priority of the other parity. Fails if out of memory.
     fn begin_turn<A: Arena>(
         &mut self,
         edges: &Adjacency<'_, A, W>,
@@ -145,8 +148,8 @@ impl<W: Width> Nest<W> {
         Ok(())
     }
 
-    /// Returns to the last pending call, which is then solved or continues with its open vertices. Fails if out of
-    /// memory.
+    /// Returns to the last pending call, which is then solved or continues with the vertices that are still undecided.
+    /// Fails if out of memory.
     fn climb<A: Arena>(&mut self, edges: &Adjacency<'_, A, W>) -> Result<(), AllocError>
         requires stack { IsStack (A.game edges.now.arena.now) self.old }
         requires done { self.old.solved ≡ true }
@@ -165,8 +168,8 @@ impl<W: Width> Nest<W> {
         }
     }
 
-    /// Decides the vertices that the opponent won or attracts, and continues the call with the vertices that are still
-    /// open. Fails if out of memory.
+    /// Decides the vertices that the opponent won in the recursive call, and those that the opponent attracts to them.
+    /// Then continues the call with the vertices that are still undecided. Fails if out of memory.
     fn go_on<A: Arena>(
         &mut self,
         edges: &Adjacency<'_, A, W>,
@@ -196,7 +199,7 @@ impl<W: Width> Nest<W> {
     }
 }
 
-/// `work` plus the number of vertices in the trail from index `turn` on, or the largest `u64` if the sum is larger.
+/// Adds the number of vertices in the trail from index `turn` on to `work`; the sum is capped at the largest `u64`.
 fn work_behind<W: Width>(work: u64, tables: &Tables<W>, turn: usize) -> u64 {
     let placed = tables.placed().saturating_sub(turn);
     work.saturating_add(placed as u64)

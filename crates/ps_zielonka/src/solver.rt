@@ -12,11 +12,11 @@ use ps_attractor::{Adjacency, has_room, no_room};
 use ps_game::{Arena, Counts, Player, Region, Strategy, Width};
 use std::alloc::{AllocError, Global};
 
-/// The vertices that player 0 wins, the moves by which player 0 wins them, and the moves by which player 1 wins all
-/// others.
+/// The vertices of a game that player 0 wins, the moves by which player 0 wins them, and the moves by which player 1
+/// wins all other vertices.
 ///
-/// Fails if out of memory. With 2^63 - 2 vertices or more, or 2^64 edges or more, the call always fails as if out of
-/// memory. There is no other fault, since each vertex of a game is won by one of the players.
+/// Fails if out of memory. For games with 2^63 - 2 vertices or more, or 2^64 edges or more, the call always returns the
+/// out-of-memory error. No other error is possible, since each vertex of a game is won by one of the players.
 pub fn regions<A: Arena>(
     alloc: Global,
     arena: &A,
@@ -35,7 +35,7 @@ pub fn regions<A: Arena>(
     }
 }
 
-/// Like `regions`, computed in tables with numbers of the width `W`. Fails if out of memory.
+/// Like `regions`, computed with tables that store integers of the type `W`. Fails if out of memory.
 pub fn regions_in<A: Arena, W: Width>(
     alloc: Global,
     arena: &A,
@@ -50,9 +50,9 @@ pub fn regions_in<A: Arena, W: Width>(
     answer_by(alloc, arena, &mut counts.depth, &nest)
 }
 
-/// The result of `regions`, or `None` if a budget is used up first. The budget is used up if vertices are placed
-/// `budget` times or more before all vertices are decided. No clause states how often vertices are placed: a vertex
-/// that was taken back is placed again.
+/// The result of `regions`, or `None` if a budget is used up first. The budget is used up if vertices are decided or
+/// attracted `budget` times or more before all vertices are decided. No clause bounds how often this happens, since a
+/// vertex can be attracted again and again.
 ///
 /// Fails if out of memory, like `regions`.
 pub fn regions_within<A: Arena>(
@@ -75,7 +75,7 @@ pub fn regions_within<A: Arena>(
     }
 }
 
-/// Like `regions_within`, computed in tables with numbers of the width `W`. Fails if out of memory.
+/// Like `regions_within`, computed with tables that store integers of the type `W`. Fails if out of memory.
 fn answer_within<A: Arena, W: Width>(
     alloc: Global,
     arena: &A,
@@ -95,7 +95,7 @@ fn answer_within<A: Arena, W: Width>(
     Ok(Some(answer))
 }
 
-/// A nest that has decided the winner of each vertex. Fails if out of memory.
+/// The final state of the solver, in which the winner of each vertex is decided. Fails if out of memory.
 fn solved_nest<A: Arena, W: Width>(alloc: Global, arena: &A) -> Result<Nest<W>, AllocError>
     requires { HasRoom (A.game arena.now) W.LIMIT }
     ensures { IfOk result (IsDone (A.game arena.now)) }
@@ -106,8 +106,8 @@ fn solved_nest<A: Arena, W: Width>(alloc: Global, arena: &A) -> Result<Nest<W>, 
     Ok(nest)
 }
 
-/// The region and the two strategies of a nest that has decided each vertex. The depth of the nest is written to
-/// `depth`. Fails if out of memory.
+/// The region and the two strategies in the final state of the solver. The maximal number of pending calls is written
+/// to `depth`. Fails if out of memory.
 fn answer_by<A: Arena, W: Width>(
     alloc: Global,
     arena: &A,

@@ -1,4 +1,5 @@
--- The aim of an attraction, for which the unplaced vertices are free.
+-- The parameters (`Aim`) of an attractor computation in which the vertices with the level `UNPLACED` are those not yet
+-- attracted.
 use Rattle.ps_attractor.specs.declared.aim.Aim.{Aim}
 use Rattle.ps_zielonka.specs.declared.attraction.Attraction.{Attraction}
 use Rattle.ps_zielonka.specs.declared.level.TheConstants.{UNPLACED}

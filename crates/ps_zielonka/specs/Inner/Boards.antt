@@ -1,22 +1,24 @@
--- The board: an entry for each vertex, and what the steps on it change.
+-- The board, which has the level, the move and the winner of each vertex, and what the steps of the solver change on
+-- it.
 use Rattle.std.specs.Prelude.{◌≡◌, ℕ, ◌<◌, ◌≤◌, length, slice_index}
 use Rattle.ps_game.specs.Games.{ParityGame, vertex_count}
 use Rattle.ps_attractor.specs.Tables.{TablesData, FitsGame}
 use Rattle.ps_zielonka.specs.declared.board.Board.{Board}
 use Rattle.ps_zielonka.specs.Inner.Nests.{IsMoved}
 
--- the tables fit the game, and there is a winner for each vertex
+-- the board's tables fit the game, and the list of winners has an entry for each vertex
 pub record IsBoardOf {W : Type 0} (game : ParityGame) (board : Board W) : Type 0 where
   pub fits : FitsGame game board.tables
   pub winners : length board.winner.items ≡ vertex_count game
 
--- only the moves of the vertices in `Some` have changed
+-- nothing changed on the board except moves at vertices that satisfy `Some`
 pub record OnlyMoves {W : Type 0} (game : ParityGame) (old new : Board W) (Some : ℕ → Type 0) : Type 0 where
   pub moved : IsMoved old.tables new.tables Some
   pub winner : new.winner.items ≡ old.winner.items
   pub fits : FitsGame game new.tables
 
--- the turn begins within the trail, whose vertices have levels, and the limit is not less than any vertex
+-- the index `turn` is within the trail, every entry of the trail is a vertex, and `limit` is at least the number of
+-- vertices
 pub record HasTurn (tables : TablesData) (limit turn : ℕ) : Type 0 where
   pub within : turn ≤ length tables.trail
   pub vertices : (j : ℕ) → j < length tables.trail → slice_index tables.trail j < length tables.level

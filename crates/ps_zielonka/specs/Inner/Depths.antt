@@ -1,16 +1,16 @@
--- The maximal depth of nested calls so far, while a game is being solved.
+-- The maximal number of pending recursive calls so far, while a game is being solved.
 use Rattle.std.specs.Prelude.{◌≡◌, ℕ, ◌<◌, ◌≤◌, ◌⊎◌, List, Bool, false, IsTrue, slice_index}
 use Rattle.ps_game.specs.Games.{ParityGame, vertex_count}
 use Rattle.ps_zielonka.specs.declared.level.TheConstants.{UNPLACED}
 use Rattle.ps_zielonka.specs.Depths.{is_vertex, HasPriorities, IsClosedToTops}
 
--- no turn has begun
+-- no iteration has begun: no call is pending, the current call is unsolved, and each vertex is `UNPLACED`
 pub record IsFresh (game : ParityGame) (levels : List ℕ) (calls : ℕ) (solved : Bool) : Type 0 where
   pub none : calls ≡ 0
   pub unsolved : solved ≡ false
   pub unplaced : (v : ℕ) → v < vertex_count game → slice_index levels v ≡ UNPLACED
 
--- only the first call is pending, and the vertex v is left to the second call
+-- only the first call is pending, the second call is unsolved, and the vertex v is left to the second call
 pub record IsSecondCall (levels : List ℕ) (calls : ℕ) (solved : Bool) (v : ℕ) : Type 0 where
   pub one : calls ≡ 1
   pub unsolved : solved ≡ false

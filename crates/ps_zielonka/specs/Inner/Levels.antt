@@ -1,6 +1,6 @@
--- The code of a level, which is the number that represents it in the tables. Marks increase with the depth of the call.
--- In one call, the code of decided vertices is less than that of attracted vertices. Unplaced vertices have the
--- largest code.
+-- The code of a vertex's level, which is the number that represents the level in the tables. Codes increase with the
+-- depth of the recursive call. In one call, the code of decided vertices is less than that of attracted vertices.
+-- Vertices that are neither decided nor attracted have the largest code, `UNPLACED`.
 use Rattle.std.specs.Prelude.{ℕ, ◌+◌, ◌*◌}
 use Rattle.ps_zielonka.specs.declared.level.Level.{Level}
 use Rattle.ps_zielonka.specs.declared.level.Level.TheVariants.{Decided, Attracted, Unplaced}

@@ -1,7 +1,8 @@
--- The pending calls of the solver, expressed by one number for each vertex: the code of its level (`code_of`). A call
--- of depth k, counted from 0, solves the vertices with a code of 2k + 1 or more. In a call of depth k, the vertices
--- with the code 2k + 1 are decided, and those with the code 2k + 2 were attracted in the current turn. All other
--- vertices of the call are left to the next call. Unplaced vertices have the largest code.
+-- The pending recursive calls of the solver, expressed by one number for each vertex: the code of its level
+-- (`code_of`). A call of depth k, counted from 0, solves the vertices with a code of 2k + 1 or more. In a call of depth
+-- k, the vertices with the code 2k + 1 are decided, and those with the code 2k + 2 were attracted in the call's current
+-- iteration. All other vertices of the call are left to the next call. Vertices that no call has decided or attracted
+-- have the largest code, `UNPLACED`.
 use Rattle.std.specs.Prelude.{◌≡◌, ◌≢◌, ℕ, zero, suc, ◌+◌, ◌*◌, ◌%◌, ◌^◌, ◌<◌, ◌≤◌, ◌⊎◌, Bool, true, false, IsTrue}
 use Rattle.std.specs.Prelude.{cond}
 use Rattle.std.specs.Prelude.{List, [], ◌∷◌, length, slice_index, slice_index_or, nat_le}
@@ -15,11 +16,11 @@ use Rattle.ps_zielonka.specs.declared.level.TheConstants.{UNPLACED}
 use Rattle.ps_zielonka.specs.declared.frame.Frame.{Frame}
 use Rattle.ps_zielonka.specs.Inner.Turns.{Progress, Solved, IsTurned}
 
--- the vertices of level c or higher
+-- the set of the vertices whose level is c or higher
 unfoldable pub from : List ℕ → ℕ → ℕ → Bool
 from levels c v = nat_le c (slice_index levels v)
 
--- the number of vertices of level c or higher
+-- the number of vertices whose level is c or higher
 abbrev pub size_from : ℕ → List ℕ → ℕ
 size_from c [] = 0
 size_from c (level ∷ levels) = cond (nat_le c level) 1 0 + size_from c levels
@@ -28,32 +29,33 @@ size_from c (level ∷ levels) = cond (nat_le c level) 1 0 + size_from c levels
 abbrev pub winner_of : List ℕ → ℕ → ℕ
 winner_of winner v = slice_index winner v
 
--- the list has the vertices of a game by descending priority
+-- the list `order` has all vertices of the game, by descending priority
 pub record IsOrder (game : ParityGame) (order : List ℕ) : Type 0 where
   pub vertices : (j : ℕ) → j < length order → slice_index order j < vertex_count game
   pub all : (v : ℕ) → v < vertex_count game → (j : ℕ) × (j < length order) × (slice_index order j ≡ v)
   pub falls : (i j : ℕ) → i ≤ j → j < length order → priority_of game (slice_index order j) ≤ priority_of game
       (slice_index order i)
 
--- the vertices of the order before index `cursor` have levels less than c
+-- the vertices before index `cursor` in the list of vertices by descending priority have levels less than c
 pub record IsCursor (order levels : List ℕ) (cursor c : ℕ) : Type 0 where
   pub within : cursor ≤ length order
   pub below : (j : ℕ) → j < cursor → slice_index levels (slice_index order j) < c
 
--- the placed vertices of level c or higher are exactly those in the trail from index m on
+-- the vertices of level c or higher, except those with the level `UNPLACED`, are exactly those in the trail from index
+-- m on
 pub record IsSegment (tables : TablesData) (m c : ℕ) : Type 0 where
   pub within : m ≤ length tables.trail
   pub above : (j : ℕ) → m ≤ j → j < length tables.trail → c ≤ level_of tables (slice_index tables.trail j)
   pub stands : (v : ℕ) → c ≤ level_of tables v → level_of tables v < UNPLACED → StandsFrom tables m v
 
--- v is in the trail, from index `from` on and before index `to`
+-- v is in the trail, at index `from` or later and before index `to`
 pub record StandsBetween (tables : TablesData) (from to v : ℕ) : Type 0 where
   pub place : ℕ
   pub after : from ≤ place
   pub before : place < to
   pub is : slice_index tables.trail place ≡ v
 
--- for an even number a, the call of depth a / 2 is pending, and waits for the result of the next call
+-- for an even number a, the call of depth a / 2 is pending: it waits for the result of the next recursive call
 pub record Waits (game : ParityGame) (tables : TablesData) (winner order : List ℕ) (a : ℕ) (frame : Frame) : Type 0
   where
     pub alive : IsSubgame game (from tables.level (a + 2))
@@ -69,7 +71,8 @@ pub record Waits (game : ParityGame) (tables : TablesData) (winner order : List 
     pub only_tops : (v : ℕ) → StandsBetween tables frame.turn frame.top v → IsTrue (prepared.tops v)
     pub front : IsCursor order tables.level frame.cursor (a + 2)
 
--- the call of depth a / 2 searches for its next turn, and no open vertex of the call is placed
+-- the call of depth a / 2 is the current one and is between two iterations: each of its undecided vertices has the
+-- level `UNPLACED`
 pub record Searches (game : ParityGame) (tables : TablesData) (winner order : List ℕ) (a cursor : ℕ) : Type 0 where
   pub alive : IsSubgame game (from tables.level (a + 2))
   pub progress : Progress game (from tables.level (a + 1)) (from tables.level (a + 2)) (winner_of winner)
@@ -78,16 +81,16 @@ pub record Searches (game : ParityGame) (tables : TablesData) (winner order : Li
   pub unplaced : (v : ℕ) → a + 2 ≤ level_of tables v → level_of tables v ≡ UNPLACED
   pub front : IsCursor order tables.level cursor (a + 2)
 
--- the call of depth a / 2 is solved, and each vertex is placed
+-- the call of depth a / 2 is solved, and no vertex of the game has the level `UNPLACED`
 pub record HasAnswer (game : ParityGame) (tables : TablesData) (winner : List ℕ) (a : ℕ) : Type 0 where
   pub solved : Solved game (from tables.level (a + 1)) (winner_of winner) (moves_of tables)
   pub placed : (v : ℕ) → level_of tables v < UNPLACED
 
--- the frame of the pending call of depth i
+-- the frame on the solver's stack for the pending call of depth i
 abbrev pub frame_at : List Frame → ℕ → Frame
 frame_at frames i = slice_index_or frames i (record { cursor = 0; player = 0; turn = 0; top = 0 })
 
--- the invariants of the board
+-- the invariants of the board, which has the level, the move and the winner of each vertex
 pub record IsSoundBoard (game : ParityGame) (tables : TablesData) (winner order : List ℕ) : Type 0 where
   pub is_game : IsGame game
   pub fits : FitsGame game tables
@@ -97,7 +100,8 @@ pub record IsSoundBoard (game : ParityGame) (tables : TablesData) (winner order 
   pub levels : (v : ℕ) → v < vertex_count game → 1 ≤ level_of tables v
   pub most : (v : ℕ) → level_of tables v ≤ UNPLACED
 
--- all calls except the current one are pending, and the current call searches for its next turn or is solved
+-- the state of the solver: the calls on the stack are pending, and the current call is between two iterations or is
+-- solved
 pub record IsNest (game : ParityGame) (tables : TablesData) (winner order : List ℕ) (frames : List Frame) (cursor : ℕ)
     (solved : Bool) : Type 0 where
   pub sound : IsSoundBoard game tables winner order
@@ -116,7 +120,7 @@ abbrev pub rest_of : ℕ → ℕ
 rest_of zero = 1
 rest_of (suc m) = 1 + steps m
 
--- the part of the bound that the first k calls contribute
+-- what the first k pending calls contribute to the bound on the remaining steps
 abbrev pub waiting_steps : List ℕ → ℕ → ℕ
 waiting_steps levels zero = 0
 waiting_steps levels (suc k) = waiting_steps levels k + rest_of (size_from (2 * k + 2) levels)
@@ -132,15 +136,16 @@ pub record StandsBefore (list : List ℕ) (end v : ℕ) : Type 0 where
   pub before : place < end
   pub is : slice_index list place ≡ v
 
--- v is in the order before index `behind`; its priority has the parity of the priority at index `cursor`, and is equal
--- to it if `just_greatest` is true
+-- v may be a top, a target vertex of an iteration's attractor: it is before index `behind` of the list `order`, and its
+-- priority has the parity of that at index `cursor`, and equals it if `just_greatest` is true
 pub record IsTop (game : ParityGame) (order : List ℕ) (cursor behind : ℕ) (just_greatest : Bool) (v : ℕ) : Type 0 where
   pub stands : StandsBefore order behind v
   pub parity : priority_of game v % 2 ≡ priority_of game (slice_index order cursor) % 2
   pub just : just_greatest ≡ true → priority_of game v ≡ priority_of game (slice_index order cursor)
 
--- The free vertices of the order from index `cursor` up to `behind` are placed. Each placed vertex has the greatest
--- priority or, unless `just_greatest` is true, a priority of the same parity
+-- The tops, the target of an iteration's attractor, were placed in the trail: all undecided vertices of the list
+-- `order` from index `cursor` up to `behind`. Each of them has the greatest priority or, unless `just_greatest` is
+-- true, a priority of the same parity
 pub record ArePlaced (game : ParityGame) (aim : Aim) (old new : TablesData) (order : List ℕ) (cursor behind : ℕ)
     (just_greatest : Bool) : Type 0 where
   pub grown : IsGrown aim old new
@@ -149,47 +154,48 @@ pub record ArePlaced (game : ParityGame) (aim : Aim) (old new : TablesData) (ord
   pub tops : (v : ℕ) → IsPlaced aim old new v → IsTop game order cursor behind just_greatest v
   pub all : (j : ℕ) → cursor ≤ j → j < behind → level_of new (slice_index order j) ≢ aim.free
 
--- the player wins all vertices of the trail from index `begin` on, and the winners of all other vertices are unchanged
+-- the player was recorded as the winner of all vertices of the trail from index `begin` on, and the winners of all
+-- other vertices are unchanged
 pub record IsGiven (player begin : ℕ) (tables : TablesData) (old new : List ℕ) : Type 0 where
   pub given : (v : ℕ) → StandsFrom tables begin v → slice_index new v ≡ player
   pub kept : (v : ℕ) → (slice_index new v ≡ slice_index old v) ⊎ StandsFrom tables begin v
 
--- an edge leads from v to w, and w has a higher level than `level` and is won by the player
+-- an edge leads from v to w, which has a higher level than `level` and is won by the player
 pub record IsWonStep (game : ParityGame) (tables : TablesData) (winner : List ℕ) (level player v w : ℕ) : Type 0 where
   pub edge : HasEdge game v w
   pub above : level < level_of tables w
   pub won : slice_index winner w ≡ player
 
--- at a vertex of the player, the move leads to a vertex that the player won; at a vertex of the opponent, no edge leads
--- to a vertex that the opponent won
+-- the player keeps v: if the player owns v, its move leads to a vertex above `level` that the player won; otherwise no
+-- edge leads from v to a vertex above `level` that the opponent won
 pub record IsKeptAt (game : ParityGame) (tables : TablesData) (winner : List ℕ) (level player other v : ℕ) : Type 0
   where
     pub own : owner_of game v ≡ player → IsWonStep game tables winner level player v (slice_index tables.moves v)
     pub foreign : owner_of game v ≢ player → (w : ℕ) → HasEdge game v w → level < level_of tables w →
         slice_index winner w ≢ other
 
--- a vertex of the player has no edge to a vertex that the player won, or a vertex of the opponent has an edge to a
--- vertex that the opponent won
+-- the player loses v: the player owns v and no edge leads from v to a vertex above `level` that the player won, or the
+-- opponent owns v and an edge leads to one that the opponent won
 pub record IsLostAt (game : ParityGame) (tables : TablesData) (winner : List ℕ) (level player other v : ℕ) : Type 0
   where
     pub own : owner_of game v ≡ player → (w : ℕ) → HasEdge game v w → level < level_of tables w →
         slice_index winner w ≢ player
     pub foreign : owner_of game v ≢ player → (w : ℕ) × IsWonStep game tables winner level other v w
 
--- only the moves of the vertices in `Some` have changed
+-- nothing changed in the tables except moves at vertices that satisfy `Some`
 pub record IsMoved (old new : TablesData) (Some : ℕ → Type 0) : Type 0 where
   pub level : new.level ≡ old.level
   pub trail : new.trail ≡ old.trail
   pub choices : length new.moves ≡ length old.moves
   pub moves : (v : ℕ) → (slice_index new.moves v ≡ slice_index old.moves v) ⊎ Some v
 
--- the spare vertices are those that were in the trail from index `turn` on
+-- the list `spare` has the vertices that were in the trail from index `turn` on, in order
 pub record IsTakenOff (turn : ℕ) (trail spare : List ℕ) : Type 0 where
   pub all : length spare + turn ≡ length trail
   pub same : (j : ℕ) → j < length spare → slice_index spare j ≡ slice_index trail (turn + j)
 
--- of the vertices in `Off`, those that the player won are no longer placed; only the others are in the trail from index
--- `turn` on, and they have the given level
+-- of the vertices that satisfy `Off`, those that the player won have the level `UNPLACED` again; exactly the others are
+-- in the trail from index `turn` on, and have the given level
 pub record IsReopened (winner : List ℕ) (player level turn : ℕ) (Off : ℕ → Type 0) (old new : TablesData) : Type 0 where
   pub longer : turn ≤ length new.trail
   pub front : (j : ℕ) → j < turn → slice_index new.trail j ≡ slice_index old.trail j
@@ -201,7 +207,8 @@ pub record IsReopened (winner : List ℕ) (player level turn : ℕ) (Off : ℕ �
   pub moves : new.moves ≡ old.moves
   pub sizes : length new.level ≡ length old.level
 
--- a pair for each vertex less than n: a number that decreases as the priority increases, and the vertex
+-- the list has a pair for each vertex less than n: a number that decreases as the vertex's priority increases, and the
+-- vertex
 pub record AreRanked (game : ParityGame) (n : ℕ) (ranked : List (ℕ × ℕ)) : Type 0 where
   pub each : All (λ pair. (pair.1 < n) × (pair.0 + priority_of game pair.1 + 1 ≡ 2 ^ 64)) ranked
   pub stands : (v : ℕ) → v < n → (rank : ℕ) × Contains ranked (rank, v)

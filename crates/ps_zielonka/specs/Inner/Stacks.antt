@@ -15,7 +15,7 @@ IsStack game nest =
 abbrev pub steps_of : {W : Type 0} → Nest W → ℕ
 steps_of nest = steps_left nest.board.tables.level (length nest.frames.items) nest.solved
 
--- the tables solve the whole game
+-- the winners and the moves in the tables solve the whole game
 pub record IsSolvedBy (game : ParityGame) (tables : TablesData) (winner : List ℕ) : Type 0 where
   pub winners : length winner ≡ vertex_count game
   pub levels : length tables.level ≡ vertex_count game
@@ -26,23 +26,24 @@ pub record IsSolvedBy (game : ParityGame) (tables : TablesData) (winner : List �
 abbrev pub IsDeep : {W : Type 0} → ParityGame → Nest W → Type 0
 IsDeep game nest = IsDepthSoFar game nest.board.tables.level (length nest.frames.items) nest.solved nest.depth
 
--- each vertex is decided
+-- the solver has finished: the winners and the moves solve the whole game
 pub record IsDone {W : Type 0} (game : ParityGame) (nest : Nest W) : Type 0 where
   pub solved : IsSolvedBy game nest.board.tables nest.board.winner.items
   pub depth : IsDepth game nest.depth
 
--- the current call searches for its next turn
+-- the current recursive call is unsolved, and is between two iterations
 pub record IsSearching {W : Type 0} (game : ParityGame) (nest : Nest W) : Type 0 where
   pub stack : IsStack game nest
   pub searches : nest.solved ≡ false
 
--- the last pending call, whose frame was taken from `old`, is the current call again, and fewer steps are left
+-- the last pending call, whose frame was popped from the stack of `old`, is the current call again, and the bound on
+-- the remaining steps has decreased
 pub record IsResumed {W : Type 0} (game : ParityGame) (old new : Nest W) : Type 0 where
   pub stack : IsStack game new
   pub falls : steps_of new < steps_left old.board.tables.level (length old.frames.items + 1) true
   pub depth : new.depth ≡ old.depth
 
--- a step keeps the invariants, and fewer steps are left
+-- a step of the solver keeps the invariants and decreases the bound on the remaining steps
 pub record IsStep {W : Type 0} (game : ParityGame) (old new : Nest W) : Type 0 where
   pub stack : IsStack game new
   pub falls : steps_of new < steps_of old

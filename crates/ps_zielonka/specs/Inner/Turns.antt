@@ -1,5 +1,5 @@
--- The turns that solve a subgame. Sets of vertices are Boolean functions. `win` maps each vertex to the player who wins
--- it, and `table` maps each vertex to a vertex or to None.
+-- The iterations (turns) by which a recursive call solves its subgame. Sets of vertices are Boolean functions. `win`
+-- maps each vertex to the player who wins it, and `table` maps each vertex to a vertex or to None.
 use Rattle.std.specs.Prelude.{◌≡◌, ◌≢◌, ℕ, ◌%◌, ◌<◌, ◌≤◌, Option, Bool, false, IsTrue}
 use Rattle.ps_game.specs.Games.{ParityGame, owner_of, priority_of, HasEdge}
 use Rattle.ps_game.specs.Subgames.{IsWithin, HoldsWithin}
@@ -15,15 +15,16 @@ pub record IsWithout (whole part rest : ℕ → Bool) : Type 0 where
   pub outside : (v : ℕ) → IsTrue (rest v) → ¬ IsTrue (part v)
   pub all : (v : ℕ) → IsTrue (whole v) → ¬ IsTrue (part v) → IsTrue (rest v)
 
--- the set has exactly the vertices of the subgame that are outside the open part and won by the player
+-- the set has exactly the decided vertices that the player wins: those of the subgame outside the undecided part
+-- `open_part`
 pub record IsWon (subgame open_part : ℕ → Bool) (win : ℕ → ℕ) (player : ℕ) (set : ℕ → Bool) : Type 0 where
   pub within : IsWithin set subgame
   pub decided : (v : ℕ) → IsTrue (set v) → ¬ IsTrue (open_part v)
   pub won : (v : ℕ) → IsTrue (set v) → win v ≡ player
   pub all : (v : ℕ) → IsTrue (subgame v) → ¬ IsTrue (open_part v) → win v ≡ player → IsTrue (set v)
 
--- the decisions so far about a subgame: each player holds the vertices that it wins outside the open part, and no open
--- vertex has an edge to a decided vertex that its owner wins
+-- the decisions so far about a subgame: each player holds the decided vertices that it wins, and no undecided vertex
+-- has an edge to a decided vertex that is won by the undecided vertex's owner
 pub record Progress (game : ParityGame) (subgame open_part : ℕ → Bool) (win : ℕ → ℕ) (table : ℕ → Option ℕ) : Type 0
   where
     pub within : IsWithin open_part subgame
@@ -37,9 +38,10 @@ pub record Progress (game : ParityGame) (subgame open_part : ℕ → Bool) (win 
 abbrev pub Solved : ParityGame → (ℕ → Bool) → (ℕ → ℕ) → (ℕ → Option ℕ) → Type 0
 Solved game subgame win table = Progress game subgame nothing win table
 
--- a turn is prepared: the player who wins by the greatest priority has attracted vertices to the tops, and the rest is
--- still to be solved. The tops include all vertices of the greatest priority. The priority of each top has the player's
--- parity, and is greater than all priorities of the other parity in the open part
+-- an iteration is prepared: in the undecided part, the player who wins by the greatest priority has attracted vertices
+-- to target vertices, the tops, and the other vertices are still to be solved. The tops include all vertices of the
+-- greatest priority. The priority of each top has the player's parity, and is greater than all priorities of the other
+-- parity in the undecided part
 pub record IsTurned (game : ParityGame) (open_part rest : ℕ → Bool) (player : ℕ) (win : ℕ → ℕ)
     (table : ℕ → Option ℕ) : Type 0 where
   pub greatest : ℕ
