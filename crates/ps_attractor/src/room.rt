@@ -17,8 +17,8 @@ pub fn has_room<A: Arena, W: Width>(arena: &A) -> bool
     limit >= 4 && arena.count() <= (limit - 4) / 2 && has_room_for_edges::<A, W>(arena)
 }
 
-/// The error for a game that is too large for every integer type. This error is that of a request for `usize::MAX`
-/// numbers, which no memory can hold.
+/// The error for a game that is too large for every integer type. The error is made by requesting memory for
+/// `usize::MAX` numbers, which no memory can hold.
 pub fn no_room(alloc: Global) -> AllocError {
     match Vec::<usize>::with_capacity(alloc, usize::MAX) {
         Err(refused) => refused,

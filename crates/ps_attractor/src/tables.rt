@@ -12,8 +12,8 @@ use ps_game::{Numbers, Width};
 use std::alloc::{AllocError, Global};
 use std::marker::Model;
 
-/// A level and a move for each vertex, and the trail, which is the worklist: the attracted vertices in order. All are
-/// stored as integers of the type `W`.
+/// A level and a move for each vertex, and the trail, which is the worklist: the attracted vertices in order. Levels,
+/// moves and trail are stored as integers of the type `W`.
 #[derive(Drop)]
 pub struct Tables<W: Width> {
     level: Levels<W>,

@@ -77,13 +77,13 @@ pub length-but_last : {X : Type 0} (xs : List X) {x : X} → slice_get xs (lengt
     length (take (length xs - 1) xs) + 1 ≡ length xs
 length-but_last xs h = omega (arith, slice_get_within xs _ _ h, length-take-le (length xs - 1) xs (omega arith))
 
--- an item of a list is the last item, or an item of the list without the last item
+-- each entry of a list is the last entry, or an entry of the list without the last one
 pub slice_get-but_last : {X : Type 0} (xs : List X) {x : X} → slice_get xs (length xs - 1) ≡ Some x → (i : ℕ) (y : X) →
     slice_get xs i ≡ Some y → (slice_get (take (length xs - 1) xs) i ≡ Some y) ⊎ (x ≡ y)
 slice_get-but_last xs {x} last i y h =
     grind (arith, slice_get-push_cases (take (length xs - 1) xs) x i y (rw (last_split xs last) at h))
 
--- an item of two joined lists is an item of the first list or of the second list
+-- each entry of two concatenated lists is an entry of the first list or of the second list
 pub slice_get-append_cases : {X : Type 0} (xs ys : List X) (i : ℕ) (x : X) → slice_get (xs ++ ys) i ≡ Some x →
     (slice_get xs i ≡ Some x) ⊎ ((j : ℕ) × (i ≡ length xs + j) × (slice_get ys j ≡ Some x))
 slice_get-append_cases [] ys i x h = inr (i, omega arith, h)

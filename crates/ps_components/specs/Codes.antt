@@ -3,8 +3,8 @@ use Rattle.std.specs.Prelude.{ℕ, ◌-◌, ◌^◌, ◌==◌, nat_le, if◌then
 use Rattle.ps_components.specs.declared.statuses.Status.{Status}
 use Rattle.ps_components.specs.declared.statuses.Status.TheVariants.{Unseen, Active, Closed}
 
--- the status of an 8-byte code: 0 means unseen, k + 1 up to 2 ^ 63 means finished, in component k, and 2 ^ 63 + 1 + p
--- means active, at index p of the search path
+-- the status of an 8-byte code: 0 means unseen, k + 1 (at most 2 ^ 63) means finished, in component k, and 2 ^ 63 + 1 +
+-- p means at index p of the search path
 abbrev pub status_of : ℕ → Status
 status_of code =
     if code == 0 then Unseen else if nat_le code (2 ^ 63) then Closed (code - 1) else Active (code - 2 ^ 63 - 1)

@@ -61,7 +61,7 @@ impl Search {
         }
     }
 
-    /// Forgets the graph, but keeps the allocated memory.
+    /// Forgets all vertices of the searched graph, but keeps the allocated memory.
     pub fn forget(&mut self)
         ensures statuses { self.new.statuses ≡ [] }
         ensures order { self.new.order.items ≡ [] }

@@ -1,16 +1,16 @@
--- A draft of a game is an unfinished game, whose vertices may have no successors, repeated ones, or numbers of vertices
--- that don't exist.
+-- A draft of a game is an unfinished game, whose vertices may have no successors, repeated successors, or successors
+-- that are not vertices.
 use Rattle.std.specs.Prelude.{◌≡◌, ◌≢◌, ℕ, ◌<◌, ◌++◌, ◌∷◌, List, [], length, map, find, filter, not, ◌==◌, nat_le, Some}
 use Rattle.std.specs.Prelude.{slice_set}
 use Rattle.ps_game.specs.Games.{VertexData, ParityGame, vertex_count, owner_of, priority_of, successors_of}
 use Rattle.std.specs.List.{All, AllPairs}
 use Rattle.ps_ids.specs.Ids.{place_of}
 
--- the draft with one more vertex, which has no successor yet
+-- the unfinished game (draft) with one more vertex, which has no successor yet
 abbrev pub with_vertex : ParityGame → ℕ → ℕ → ParityGame
 with_vertex draft owner priority = draft ++ record { owner = owner; priority = priority; successors = [] } ∷ []
 
--- the draft in which the vertex v has w as one more successor
+-- the unfinished game (draft) in which the vertex v has w as one more successor
 abbrev pub with_edge : ParityGame → ℕ → ℕ → ParityGame
 with_edge draft v w =
     slice_set draft v (record {

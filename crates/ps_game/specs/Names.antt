@@ -1,4 +1,4 @@
--- Lists of names, as contracts see them.
+-- Lists of optional names, and how contracts represent them.
 use Rattle.std.specs.Prelude.{ℕ, ◌-◌, List, ◌++◌, length, replicate, Option, None, Vec}
 use Rattle.std.specs.Option.{option_map}
 use Rattle.std.specs.Global.{Global}

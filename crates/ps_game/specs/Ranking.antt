@@ -1,5 +1,5 @@
 -- The edges that remain when a player moves by a table of moves, the priorities of a game by parity, and the condition
--- that counts for these priorities (a progress measure) must meet on these edges.
+-- that counts (a progress measure) must meet on these edges.
 use Rattle.std.specs.Prelude.{◌≡◌, ℕ, ◌%◌, ◌<◌, ◌≤◌, List, Option, Some, Bool, IsTrue}
 use Rattle.std.specs.List.{All, Contains}
 use Rattle.std.specs.List.Sorted.{IsStrictlyIncreasing}

@@ -7,14 +7,15 @@ use thiserror::Error;
 /// The reason why an unfinished game is rejected.
 #[derive(Clone, Copy, Debug, PartialEq, Eq, Error)]
 pub enum GameFault {
-    /// The smallest vertex without an edge.
+    /// The fault that no edge leaves some vertex; the smallest such vertex is reported.
     #[error("vertex {vertex} has no successor")]
     NoSuccessor {
         /// The number of the vertex at fault, from 0.
         vertex: usize,
     },
 
-    /// The smallest vertex with an unknown successor (a number that is not a vertex), and its first unknown successor.
+    /// The fault that some edge leads to a number that is not a vertex. Reported are the smallest vertex with such an
+    /// edge, and the target of the first such edge of this vertex.
     #[error("vertex {vertex} has the unknown successor {successor}")]
     UnknownSuccessor {
         /// The number of the vertex at fault, from 0.

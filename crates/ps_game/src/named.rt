@@ -9,8 +9,8 @@ ghost use Rattle.ps_game.specs.Names.{name_bytes, with_none};
 use crate::games::Game;
 use std::marker::Model;
 
-/// A game with an id and an optional name for each vertex. A name does not contain `"`. No entry is stored for the
-/// vertices after the last one that has a name.
+/// A game with an id and an optional name for each vertex. A name does not contain `"`. The list of names is stored
+/// only up to the last vertex that has a name.
 #[derive(Drop)]
 pub struct NamedGame {
     game: Game,

@@ -27,7 +27,7 @@ impl Model for Strategy {
 }
 
 impl Strategy {
-    /// No move at any vertex. Fails if out of memory.
+    /// A table without a move at any vertex. Fails if out of memory.
     pub fn empty(alloc: Global, places: usize) -> Result<Strategy, AllocError>
         ensures { IfOk result (λ strategy. strategy ≡ replicate places None) }
     {

@@ -126,7 +126,7 @@ impl Vertices {
         distinct_game(alloc, listed)
     }
 
-    /// The game with these vertices.
+    /// The game with the vertices of the list.
     pub(crate) fn as_game(self) -> Game
         requires { IsGame self }
         ensures { result ≡ self }

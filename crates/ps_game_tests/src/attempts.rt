@@ -12,8 +12,8 @@ use std::test::Fail;
 /// Vertex 4 belongs to player 1 and leads to 1 and 2.
 const BOTH: &[u8] = b"0 1 0 0,1; 1 2 1 0; 2 3 0 3; 3 0 1 2,0; 4 5 1 1,2;";
 
-/// A game of ten vertices in several strongly connected components; and vertex 10, whose only edge leads to itself, and
-/// which player 1 wins.
+/// A game with the vertices 0 to 9 in several strongly connected components, and with vertex 10, which has an edge only
+/// to itself and is won by player 1.
 const RUNGS: &[u8] =
     b"0 1 1 1; 1 1 0 0,7; 2 4 1 1,3; 3 3 0 4; 4 5 0 6,3; 5 0 0 6; 6 0 1 5; 7 7 0 6,8; 8 6 1 9,3;
     9 8 1 8; 10 1 1 10;";

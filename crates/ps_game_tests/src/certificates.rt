@@ -22,7 +22,7 @@ enum Wanted<'a> {
     CompactText(&'a [u8]),
     /// The call `closed` accepts the certificate, and this is the first flaw that `check` finds.
     Flaw(Flaw),
-    /// As `Flaw`, with the game stored in flat arrays.
+    /// Like `Flaw`, but the game is stored in flat arrays.
     FlawInArrays(Flaw),
 }
 
@@ -56,7 +56,7 @@ fn has_flaw<A: Arena>(arena: &A, certificate: &Certificate, flaw: Flaw) -> bool 
         && check(arena, certificate) == Err(flaw)
 }
 
-/// As `has_flaw`, with the game stored in flat arrays.
+/// Like `has_flaw`, but the game is stored in flat arrays.
 fn has_flaw_in_arrays(alloc: Global, game: &Game, certificate: &Certificate, flaw: Flaw) -> bool {
     if !fits_narrow(game) {
         return false;

@@ -48,7 +48,7 @@ fn flat_reads_as<W: Width>(flat: Result<FlatGame<W>, AllocError>, rows: &[Row]) 
     }
 }
 
-/// Whether the methods of a game, and of its flat arrays of each width, return the given vertices.
+/// Whether the methods of a game, and of its flat arrays of 4-byte and of 8-byte numbers, return the given vertices.
 fn all_read_as(alloc: Global, game: &Game, rows: &[Row]) -> bool {
     fits_narrow(game)
         && reads_as(game, rows)

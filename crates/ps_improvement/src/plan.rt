@@ -19,7 +19,7 @@ pub struct Plan<'a, A: Arena> {
     pub arena: &'a A,
     /// The moves of player 0. At a vertex without a move, player 0 stops.
     pub first: Strategy,
-    /// The vertices of player 1 that plays may enter; before all others of player 1, plays stop.
+    /// The vertices of player 1 that plays may enter. Plays stop before they enter any other vertex of player 1.
     pub opened: Region,
     /// The row of priorities that a play from each vertex meets before it stops, or `None` if the play never stops.
     pub rows: Vec<Option<Row>>,

@@ -147,7 +147,7 @@ impl<'a, A: Arena> Settling<'a, A> {
     }
 
     /// Lets plays enter those closed vertices of player 1 in the current component that are worth more than stopping.
-    /// Returns whether there are any.
+    /// Returns whether plays may now enter a further vertex.
     fn open_up(&mut self, fuel: &mut Fuel) -> bool
         ensures { self.new.ground ≡ self.old.ground }
     {

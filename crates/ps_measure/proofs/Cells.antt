@@ -51,7 +51,7 @@ module _ (cells : List CountCell)
         any_fuel f g (next_cell (slice_get cells i)) k (omega (arith, less, a)) (omega (arith, less, b)),
       )
 
-  -- the count of a chain is the greater of the count of its first cell and the count of the cells after it
+  -- at each index, the count of a chain is the greater of the first cell's count and the count of the cells after it
   pub from_number : (i k : ℕ) (cell : CountCell) → slice_get cells i ≡ Some cell →
       count_from cells (suc i) (suc i) k ≡ max (count_here (Some cell) k) (count_from cells cell.next cell.next k)
   from_number i k cell at = search (rules, from_cell, any_fuel)

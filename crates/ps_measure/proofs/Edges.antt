@@ -14,7 +14,7 @@ use Rattle.ps_measure.specs.Inner.Remaining.{RemainingData, is_move, remaining_g
 use Rattle.ps_measure.specs.Inner.Remaining.{LowData, low_graph, low_weight}
 use Rattle.ps_measure.specs.Sums.{counted}
 
--- an edge remains within the region, when the player moves by the table; all are given by the value r
+-- an edge that remains within the region, for the game, the player, the region and the moves that the value r gives
 abbrev pub Remains : RemainingData → ℕ → ℕ → Type 0
 Remains r = RemainsWithin r.game r.player (has r.region) (move_at r.strategy)
 

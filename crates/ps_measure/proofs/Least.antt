@@ -1,5 +1,5 @@
 -- The least counts of the reversed graph of the vertices up to a priority are the least counts of the game for this
--- priority. A link of this graph and a path back to the link's source form a cycle of the game.
+-- priority. A link of the reversed graph and a path back to the link's source form a cycle of the game.
 use Rattle.std.proofs.Common.{◌≡◌, ◌≢◌, ℕ, zero, suc, ◌+◌, ◌-◌, ◌%◌, ◌<◌, ◌≤◌, ◌∙◌, List, [], ◌∷◌, length, map, get_or}
 use Rattle.std.proofs.Common.{inl, inr, refl, ap, arith, Bool, true, false, cond, nat_le, rules}
 use Rattle.std.specs.Prelude.{slice_index, IsTrue}

@@ -1,5 +1,5 @@
--- The pass that raises the values of components along the links: it goes from the last vertex in the list of finished
--- vertices to the first, so that each value is final before it is used.
+-- The pass that raises the values of components along the links, from the last finished vertex to the first, so that
+-- each value is final before it is used.
 use Rattle.std.proofs.Common.{rules, ◌≡◌, ℕ, ◌+◌, ◌<◌, ◌≤◌, ◌∙◌, List, length, inl, inr, ap, arith, refl}
 use Rattle.std.proofs.Common.{Option, None, Some}
 use Rattle.std.specs.Prelude.{slice_get, slice_index, slice_set}

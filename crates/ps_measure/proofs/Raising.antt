@@ -1,6 +1,6 @@
 -- For each priority, least counts exist, or the player loses a cycle. The proof raises counts from 0 along the
 -- remaining edges until no edge breaks the rule. Each count is the length of a chain of vertices of the priority, each
--- of which leads to the next one. If a vertex occurs twice in a chain, the player loses a cycle.
+-- of which leads to the next one. If a vertex occurs twice in such a chain, the player loses a cycle through it.
 use Rattle.std.proofs.Common.{◌≡◌, ℕ, zero, suc, ◌+◌, ◌-◌, ◌*◌, ◌%◌, ◌<◌, ◌≤◌, ◌⊎◌, ◌∙◌, List, [], ◌∷◌, ◌++◌, length}
 use Rattle.std.proofs.Common.{map, max, get_or, inl, inr, refl, sym, ap, arith, add-one, Option, Bool, true}
 use Rattle.std.proofs.Common.{cond, not, nat_le, nat_eq, ◌&&◌, rules}
@@ -38,7 +38,7 @@ Distinct (u ∷ us) = (Contains us u → ⊥) × Distinct us
 fewer : (b c : Bool) → counted (b && c) ≤ counted b
 fewer b c = search rules
 
--- a list of distinct numbers less than n that pass a test is at most as long as the count of all such numbers
+-- a list of distinct numbers less than n that pass a test has at most as many entries as there are such numbers
 fits : (h : ℕ → Bool) (n : ℕ) (us : List ℕ) → Distinct us → ((u : ℕ) → Contains us u → (h u ≡ true) × (u < n)) →
     length us ≤ count_below h n
 fits h n [] d each = omega arith

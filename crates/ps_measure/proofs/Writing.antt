@@ -1,4 +1,4 @@
--- A list of numbers after one of them was replaced, and a list of zeros.
+-- The entries of a list of numbers after one number was replaced, and the entries of a list of zeros.
 use Rattle.std.proofs.Common.{rules, ◌≡◌, ◌≢◌, ℕ, ◌<◌, ◌⊎◌, List, length, replicate}
 use Rattle.std.specs.Prelude.{slice_index, slice_set}
 use Rattle.std.proofs.lemmas.Bool.{cases_eq, cases_lt}

@@ -78,8 +78,8 @@ impl CountCells {
         }
     }
 
-    /// Appends a cell. If one of its numbers does not fit in 4 bytes, every cell takes 24 bytes from
-    /// then on. If out of memory, nothing changes.
+    /// Appends a cell. If a number of the new cell does not fit in 4 bytes, every cell takes 24 bytes from then on. If
+    /// out of memory, nothing changes.
     #[inline(always)]
     pub fn push(&mut self, cell: CountCell) -> Result<(), AllocError>
         ensures ok { OnOk result (self.new ≡ self.old ++ cell ∷ []) }

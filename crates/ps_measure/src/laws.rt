@@ -1,4 +1,4 @@
-//! A law (theorem) about least counts and lost cycles.
+//! A law (theorem) about least counts and cycles that a player loses.
 
 ghost use Rattle.std.specs.Prelude.{ℕ, ◌<◌, ◌⊎◌, Bool, List, Option};
 ghost use Rattle.ps_game.specs.Games.{ParityGame};

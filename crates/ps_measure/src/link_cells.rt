@@ -16,7 +16,8 @@ pub struct NarrowLink {
     next: u32,
 }
 
-/// A list of cells. Each cell takes 8 bytes as long as all numbers fit in 4 bytes, and 16 bytes from then on.
+/// A list of cells that store the links of a graph. Each cell takes 8 bytes as long as all numbers fit in 4 bytes, and
+/// 16 bytes from then on.
 #[derive(Drop)]
 pub(crate) struct LinkCells {
     alloc: Global,
@@ -75,8 +76,7 @@ impl LinkCells {
         }
     }
 
-    /// Appends a cell. If one of its numbers does not fit in 4 bytes, every cell takes 16 bytes from
-    /// then on.
+    /// Appends a cell. If a number of the new cell does not fit in 4 bytes, every cell takes 16 bytes from then on.
     #[inline(always)]
     pub(crate) fn push(&mut self, cell: Cell) -> Result<(), AllocError>
         ensures { OnOk result (self.new ≡ self.old ++ cell ∷ []) }

@@ -91,8 +91,7 @@ impl Packed {
         }
     }
 
-    /// Appends a number. If it does not fit in 4 bytes, every number of the list takes 8 bytes from
-    /// then on.
+    /// Appends a number. If the number does not fit in 4 bytes, every number of the list takes 8 bytes from then on.
     #[inline(always)]
     pub(crate) fn push(&mut self, number: usize) -> Result<(), AllocError>
         ensures { OnOk result (self.new ≡ self.old ++ number ∷ []) }

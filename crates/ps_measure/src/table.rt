@@ -1,4 +1,4 @@
-//! The table of the counts that were computed.
+//! The table in which the computed counts of all vertices are stored.
 
 ghost use Rattle.std.specs.Prelude.{◌≡◌, ℕ, ◌<◌, ◌≤◌, Some, IfOk, OnOk, length, max, slice_get, slice_index};
 ghost use Rattle.ps_measure.specs.Ranks.{width_of};

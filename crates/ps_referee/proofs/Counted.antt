@@ -34,7 +34,7 @@ module _ {game : ParityGame} {player : ℕ} {set : ℕ → Bool} {table : ℕ �
       | inr earlier ↦ le-loop_priority game path i j k after (omega arith) (omega (arith, loop.within))
     ]
 
-    -- the loop's priority is not one by which the player loses
+    -- the priority of the loop is not one by which the player loses
     not_listed : (place : ℕ) → place < length priorities → get_or priorities place 0 ≡ loop_priority game path i j → ⊥
     not_listed place within is =
         let (m, after, below, has) =

@@ -1,5 +1,5 @@
--- Claimed solutions of a game: the vertices that player 0 wins, and a table of moves for each player. Player 1 wins all
--- other vertices.
+-- Claimed solutions of a game: the vertices that player 0 is claimed to win, and a table of moves for each player.
+-- Player 1 is claimed to win all other vertices.
 --     `won_by`: the vertices that a player is claimed to win.
 --     `moves_by`: the table of moves of a player.
 --     `claimed`: the claimed solution as a certificate without priorities and counts.

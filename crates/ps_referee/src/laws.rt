@@ -13,9 +13,9 @@ pub fn one_certificate()
         IsCertificateOf game won first second one → IsCertificateOf game won first second other → one ≡ other }
 {}
 
-/// A solution never has both a flaw and a cycle in the sense of `IsCycleOf`, and all such cycles are lost by the same
-/// player. A correct solution has neither a flaw nor such a cycle. The first flaw of a solution is unique
-/// (`ps_certificate::first_flaw_is_one`).
+/// A solution never has both a flaw and a cycle in the sense of `IsCycleOf`, and all its cycles in this sense are lost
+/// by the same player. A correct solution has neither a flaw nor a cycle in the sense of `IsCycleOf`. The first flaw of
+/// a solution is unique (`ps_certificate::first_flaw_is_one`).
 pub fn one_verdict()
     ensures apart { (game : ParityGame) (won : List Bool) (first second : List (Option ℕ)) (flaw : Flaw) (player : ℕ)
         (cycle : List ℕ) → IsFirstFlaw game (claimed game won first second) flaw →

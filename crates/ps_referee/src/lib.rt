@@ -18,7 +18,8 @@
 //! The moves of a solution may be any numbers. Only the moves of the winners at their own vertices are checked. A cycle
 //! that player 1 loses is reported only if player 0 holds the vertices that player 0 is claimed to win.
 //!
-//! Each of the two calls takes about as long as `ps_measure::ranks` for both players, and calls no solver.
+//! Each of the calls `judge` and `certificate_of_solution` takes about as long as `ps_measure::ranks` for both players,
+//! and calls no solver.
 #![tactic(auto)]
 
 mod building;

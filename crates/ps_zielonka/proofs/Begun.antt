@@ -114,7 +114,7 @@ module _ (b : Begun) where
 
   -- ## The tops
 
-  -- the undecided vertices that have a level other than `UNPLACED`
+  -- the undecided vertices that have a level other than `UNPLACED` in the given tables
   pub placed_from : (tables : TablesData) (v : ℕ) → IsTrue (undecided b v && not (level_of tables v == UNPLACED)) →
       IsTrue (undecided b v) × (level_of tables v ≢ UNPLACED)
   placed_from tables v there = search (rules, and_parts, false≢true, not-true, eq-eqb)

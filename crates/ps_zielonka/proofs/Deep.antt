@@ -30,7 +30,7 @@ chain {game} tables winner order frames (suc j) {m} waits has_m =
     rw same at (chain tables winner order frames j (λ i less. waits i (omega arith))
     (HasPriorities-larger (from tables.level (2 * j + 1)) wait.progress.within more))
 
--- there are at least as many distinct priorities as pending calls
+-- the game has at least as many distinct priorities as there are pending recursive calls
 nest_priorities : {game : ParityGame} {tables : TablesData} {winner order : List ℕ} {frames : List Frame} {cursor : ℕ}
     {solved : Bool} (k : ℕ) → length frames ≡ k + 1 → IsNest game tables winner order frames cursor solved →
     HasPriorities game (is_vertex game) (k + 1)

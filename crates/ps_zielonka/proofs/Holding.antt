@@ -1,5 +1,5 @@
--- Sets that a player holds within a subgame are also held by other moves, within a larger subgame, as a union of two
--- sets, and as an attractor, under conditions.
+-- When a set that a player holds within a subgame is also held by other moves, or within a larger subgame; and when a
+-- player holds a union of two sets, or an attractor.
 use Rattle.std.proofs.Common.{◌≡◌, ◌≢◌, ℕ, ◌+◌, ◌%◌, ◌<◌, ◌≤◌, ◌⊎◌, inl, inr, Bool, false, Option, Some, rules}
 use Rattle.std.proofs.Common.{IsSomeAnd, sym, ◌∙◌, arith}
 use Rattle.std.specs.Prelude.{IsTrue}
@@ -84,8 +84,8 @@ HoldsWithin-same {game} {set} other {table} moves there back same holds = record
   wins = λ walk k top round is_top. holds.wins walk k top (search rules) is_top;
 }
 
--- a set that a player holds within a subgame is also held within a larger one, if the other player's edges from the set
--- within the larger one lead into the smaller
+-- a set that a player holds within a smaller subgame is also held within a larger one, if each edge of the other player
+-- from the set into the larger subgame leads into the smaller one
 pub HoldsWithin-larger : {game : ParityGame} {smaller : ℕ → Bool} (larger : ℕ → Bool) {player : ℕ} {set : ℕ → Bool}
     {table : ℕ → Option ℕ} → IsWithin smaller larger → ((v w : ℕ) → IsTrue (set v) → owner_of game v ≢ player →
     LeadsInto game larger v w → IsTrue (smaller w)) → HoldsWithin game smaller player set table →

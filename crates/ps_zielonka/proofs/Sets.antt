@@ -61,8 +61,8 @@ size_from-le c d (x ∷ xs) (y ∷ ys) sizes more =
     size_from-le c d xs ys (omega arith) (λ v within. more (suc v) (omega arith)) in
     omega arith
 
--- fewer vertices have level d or higher now than had level c or higher before, if each of them had level c or higher
--- and some other vertex did too
+-- fewer vertices have a new level of at least d than had an old level of at least c, if the former are a proper subset
+-- of the latter
 pub size_from-lt : (c d : ℕ) (old new : List ℕ) (u : ℕ) → length new ≡ length old →
     ((v : ℕ) → v < length old → d ≤ get_or new v 0 → c ≤ get_or old v 0) → u < length old → c ≤ get_or old u 0 →
     get_or new u 0 < d → size_from d new < size_from c old

@@ -1,5 +1,6 @@
--- Walks that return to their start. A number that never increases along such a walk is the same at all of its vertices,
--- and a set that no step of the walk leaves contains all vertices of the walk or none.
+-- Walks that return to their start. A number that never increases along a walk that returns to its start is the same at
+-- all vertices of the walk. A set that no step of a walk that returns to its start leaves contains all vertices of the
+-- walk or none.
 use Rattle.std.proofs.Common.{◌≡◌, ℕ, zero, suc, ◌+◌, ◌<◌, ◌≤◌, ◌⊎◌, inl, inr, Bool, true, false, cond, ap, ◌∙◌}
 use Rattle.std.proofs.Common.{arith, rules}
 use Rattle.std.specs.Prelude.{IsTrue}

@@ -23,8 +23,8 @@ pub struct Attraction {
 impl Attraction {
     ghost use Rattle.ps_zielonka.specs.Inner.Aims.{aim_of};
 
-    /// The same parameters as the attractor's tables need them. The vertices that can be attracted are those with the
-    /// level `UNPLACED`.
+    /// Converts the parameters to an `Aim`, which the attractor's tables take. The vertices that can be attracted are
+    /// those with the level `UNPLACED`.
     pub fn aim(&self) -> Aim
         ensures { result ≡ aim_of self.now }
     {

@@ -1,5 +1,5 @@
-//! The board records the level, the move and the winner of each vertex. Its methods attract vertices to a player, test
-//! whether the player keeps the target vertices (tops), and reopen vertices.
+//! The board records the level, the move and the winner of each vertex. The board's methods attract vertices to a
+//! player, test whether the player keeps the attractor's target vertices (tops), and take vertices off the trail.
 
 ghost use Rattle.std.specs.Prelude.{◌≡◌, ◌≢◌, ◌+◌, ◌-◌, ◌<◌, ◌≤◌, ℕ, Bool, false, IfSome, IfNone, OnOk, IsTrue, length};
 ghost use Rattle.std.specs.Prelude.{take, slice_index, replicate, IfOk, []};
@@ -32,7 +32,7 @@ pub struct Board<W: Width> {
 }
 
 impl<W: Width> Board<W> {
-    /// A board on which none of `count` vertices is decided. Fails if out of memory.
+    /// The initial board, on which none of `count` vertices is decided. Fails if out of memory.
     pub fn undecided(alloc: Global, count: usize) -> Result<Board<W>, AllocError>
         requires { count ≤ W.LIMIT }
         ensures levels { IfOk result (λ board. board.tables.level ≡ replicate count (code_of Level.Unplaced)) }
@@ -198,7 +198,7 @@ impl<W: Width> Board<W> {
         Ok(())
     }
 
-    /// Moves the trail's vertices from index `turn` on into `spare`. Fails if out of memory.
+    /// Takes the vertices from index `turn` on off the trail, and stores them in `spare`. Fails if out of memory.
     fn take_off(&mut self, turn: usize) -> Result<(), AllocError>
         requires { HasTurn self.old.tables W.LIMIT turn }
         ensures winner { self.new.winner.items ≡ self.old.winner.items }

@@ -10,8 +10,8 @@ pub struct Frame {
     pub cursor: usize,
     /// The player who wins by the greatest priority of the call's undecided vertices.
     pub player: Player,
-    /// The index of the trail at which the target (the tops) of the current iteration's attractor begins. The attracted
-    /// vertices follow the target.
+    /// The index of the trail at which the target (the tops) of the current iteration's attractor begins. In the trail,
+    /// the attracted vertices follow the target.
     pub turn: usize,
     /// The index of the trail at which the target (the tops) of the current iteration's attractor ends.
     pub top: usize,

@@ -12,12 +12,12 @@ const UNPLACED: usize = usize::MAX;
 pub enum Level {
     /// The vertex was decided by a call: its winner and its move are final within this call.
     Decided {
-        /// The depth of the call.
+        /// The depth of the recursive call.
         depth: usize,
     },
     /// The vertex was attracted in the current iteration of a call, or is in the attractor's target.
     Attracted {
-        /// The depth of the call.
+        /// The depth of the recursive call.
         depth: usize,
     },
     /// Not placed yet.

@@ -19,12 +19,13 @@
 //! | `each_game_is_divided` | a law: on each game player 0 holds a region, and player 1 the rest |
 //!
 //! A strategy has moves only at vertices that its player owns and wins. `Counts` records the maximal depth of nested
-//! calls. This depth is at most the number of distinct priorities, and at least 1 if there is a vertex. The depth is at
-//! least 2 if some vertex is outside the attractor to the vertices of the game's greatest priority.
+//! calls. The depth is at most the number of distinct priorities, and at least 1 if there is a vertex. The depth is at
+//! least 2 if some vertex is outside the attractor of the player who wins by the game's greatest priority to all
+//! vertices of this priority.
 //!
-//! The number of recursive calls can grow exponentially with the number of priorities. One iteration of a call takes
-//! time at most proportional to the numbers of vertices and edges. The memory is proportional to the numbers of
-//! vertices and edges.
+//! The number of recursive calls can grow exponentially with the number of priorities. Apart from its recursive call,
+//! one iteration of a call takes time at most proportional to the numbers of vertices and edges. The memory is
+//! proportional to the numbers of vertices and edges.
 #![tactic(auto)]
 
 mod answer;

@@ -169,7 +169,7 @@ impl<W: Width> Nest<W> {
     }
 
     /// Decides the vertices that the opponent won in the recursive call, and those that the opponent attracts to them.
-    /// Then continues the call with the vertices that are still undecided. Fails if out of memory.
+    /// The call then continues with the vertices that are still undecided. Fails if out of memory.
     fn go_on<A: Arena>(
         &mut self,
         edges: &Adjacency<'_, A, W>,

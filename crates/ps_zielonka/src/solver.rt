@@ -1,4 +1,4 @@
-//! The functions that solve a game.
+//! The functions that solve a parity game.
 
 ghost use Rattle.std.specs.Prelude.{◌≡◌, IfOk, IfSome, IfNone, OnOk, OnSome};
 ghost use Rattle.ps_attractor.specs.Room.{HasRoom};
@@ -51,8 +51,8 @@ pub fn regions_in<A: Arena, W: Width>(
 }
 
 /// The result of `regions`, or `None` if a budget is used up first. The budget is used up if vertices are decided or
-/// attracted `budget` times or more before all vertices are decided. No clause bounds how often this happens, since a
-/// vertex can be attracted again and again.
+/// attracted `budget` times or more before all vertices are decided. No clause bounds how often vertices are attracted,
+/// since a vertex can be attracted again and again.
 ///
 /// Fails if out of memory, like `regions`.
 pub fn regions_within<A: Arena>(

@@ -1,8 +1,8 @@
 -- The pending recursive calls of the solver, expressed by one number for each vertex: the code of its level
 -- (`code_of`). A call of depth k, counted from 0, solves the vertices with a code of 2k + 1 or more. In a call of depth
 -- k, the vertices with the code 2k + 1 are decided, and those with the code 2k + 2 were attracted in the call's current
--- iteration. All other vertices of the call are left to the next call. Vertices that no call has decided or attracted
--- have the largest code, `UNPLACED`.
+-- iteration. All other vertices of the call are left to the next recursive call. Vertices that no call has decided or
+-- attracted have the largest code, `UNPLACED`.
 use Rattle.std.specs.Prelude.{◌≡◌, ◌≢◌, ℕ, zero, suc, ◌+◌, ◌*◌, ◌%◌, ◌^◌, ◌<◌, ◌≤◌, ◌⊎◌, Bool, true, false, IsTrue}
 use Rattle.std.specs.Prelude.{cond}
 use Rattle.std.specs.Prelude.{List, [], ◌∷◌, length, slice_index, slice_index_or, nat_le}
@@ -136,16 +136,16 @@ pub record StandsBefore (list : List ℕ) (end v : ℕ) : Type 0 where
   pub before : place < end
   pub is : slice_index list place ≡ v
 
--- v may be a top, a target vertex of an iteration's attractor: it is before index `behind` of the list `order`, and its
--- priority has the parity of that at index `cursor`, and equals it if `just_greatest` is true
+-- v may be in the target of an iteration's attractor: it is before index `behind` in `order`, and its priority has the
+-- parity of that at index `cursor`, or equals that if `just_greatest` is true
 pub record IsTop (game : ParityGame) (order : List ℕ) (cursor behind : ℕ) (just_greatest : Bool) (v : ℕ) : Type 0 where
   pub stands : StandsBefore order behind v
   pub parity : priority_of game v % 2 ≡ priority_of game (slice_index order cursor) % 2
   pub just : just_greatest ≡ true → priority_of game v ≡ priority_of game (slice_index order cursor)
 
 -- The tops, the target of an iteration's attractor, were placed in the trail: all undecided vertices of the list
--- `order` from index `cursor` up to `behind`. Each of them has the greatest priority or, unless `just_greatest` is
--- true, a priority of the same parity
+-- `order` from index `cursor` up to `behind`. Each top has the greatest priority or, unless `just_greatest` is true, a
+-- priority of the same parity
 pub record ArePlaced (game : ParityGame) (aim : Aim) (old new : TablesData) (order : List ℕ) (cursor behind : ℕ)
     (just_greatest : Bool) : Type 0 where
   pub grown : IsGrown aim old new
@@ -167,15 +167,15 @@ pub record IsWonStep (game : ParityGame) (tables : TablesData) (winner : List �
   pub won : slice_index winner w ≡ player
 
 -- the player keeps v: if the player owns v, its move leads to a vertex above `level` that the player won; otherwise no
--- edge leads from v to a vertex above `level` that the opponent won
+-- edge leads to one that the opponent won
 pub record IsKeptAt (game : ParityGame) (tables : TablesData) (winner : List ℕ) (level player other v : ℕ) : Type 0
   where
     pub own : owner_of game v ≡ player → IsWonStep game tables winner level player v (slice_index tables.moves v)
     pub foreign : owner_of game v ≢ player → (w : ℕ) → HasEdge game v w → level < level_of tables w →
         slice_index winner w ≢ other
 
--- the player loses v: the player owns v and no edge leads from v to a vertex above `level` that the player won, or the
--- opponent owns v and an edge leads to one that the opponent won
+-- the player loses v: if the player owns v, no edge leads to a vertex above `level` that the player won; otherwise an
+-- edge leads to one that the opponent won
 pub record IsLostAt (game : ParityGame) (tables : TablesData) (winner : List ℕ) (level player other v : ℕ) : Type 0
   where
     pub own : owner_of game v ≡ player → (w : ℕ) → HasEdge game v w → level < level_of tables w →

@@ -1,4 +1,4 @@
--- The law `one_certificate` is the lemma `one_certificate`.
+-- The law `one_certificate` is proved by the lemma of the same name.
 use Rattle.ps_referee.proofs.OneVerdict.{one_certificate}
 use Rattle.ps_referee.proofs.laws.one_certificate.Goals as goal
 

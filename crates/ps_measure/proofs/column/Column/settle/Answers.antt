@@ -6,7 +6,7 @@ use Rattle.ps_measure.proofs.Passing.{grows_on}
 use Rattle.ps_measure.proofs.Steps.{settle_one, grows_within}
 use Rattle.ps_measure.proofs.column.Column.settle.Goals as goal
 
--- the vertex that the loop visits at an index is the entry of the order at that index
+-- the vertex that the code reads at an index of `order` is the entry of that list at the index
 vertex_at : (order items : List ℕ) (place : ℕ) → items ≡ order → place < length order →
     slice_get order place ≡ Some (get_or items place 0)
 vertex_at order items place same within = rw same (slice_get-get_or order place 0 within)
