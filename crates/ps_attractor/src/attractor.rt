@@ -40,9 +40,9 @@ pub struct Attracted {
     pub rank: Vec<usize>,
 }
 
-/// The attractor of a player to a target within a subgame. The attractor is the least set that contains the target,
-/// each vertex of the player with an edge into the set, and each vertex of the other player with all edges within the
-/// subgame into the set.
+/// The attractor of a player to a target within a subgame. The attractor is the least set that contains the target, the
+/// player's vertices with an edge into the set, and the other player's vertices whose edges within the subgame all lead
+/// into the set.
 ///
 /// Fails if out of memory. For games with 2^63 - 2 vertices or more, or 2^64 edges or more, the call always returns the
 /// out-of-memory error.

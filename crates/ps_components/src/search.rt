@@ -187,8 +187,8 @@ impl Search {
         Ok(())
     }
 
-    /// Merges all segments of the search path from the one with index `place` on; the last segment has a link to the
-    /// vertex at this index.
+    /// Merges the segment that contains index `place` of the search path with all later segments; the last segment has
+    /// a link to the vertex at this index.
     fn merge<G: Graph>(&mut self, graph: &G, pending: Pending, place: usize)
         requires within { pending.to < length self.old.statuses }
         requires linked { (v : ℕ) × (slice_get self.old.active.items pending.from ≡ Some v) ×

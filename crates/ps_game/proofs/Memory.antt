@@ -15,7 +15,7 @@ use Rattle.ps_game.proofs.Repeats.{repeats}
 
 module _ (game : ParityGame) (player : ℕ) (strategy : FiniteMemory) (is_strategy : IsFiniteMemory game player strategy)
   where
-    -- the memory state of a strategy after any vertices is less than the number of memory states
+    -- whatever vertices were visited, the memory state of a strategy is less than the number of memory states
     after_below : (memory : ℕ) (met : List ℕ) → memory < strategy.size → All (λ v. v < vertex_count game) met →
         fold strategy.update memory met < strategy.size
     after_below memory [] below all = below

@@ -20,7 +20,7 @@ enum Wanted<'a> {
     Text(&'a [u8]),
     /// Writing the certificate compactly gives this text.
     CompactText(&'a [u8]),
-    /// The call `closed` accepts the certificate, and this is the first flaw that `check` finds.
+    /// The call `closed` accepts the certificate, and `check` finds the given flaw first.
     Flaw(Flaw),
     /// Like `Flaw`, but the game is stored in flat arrays.
     FlawInArrays(Flaw),

@@ -128,7 +128,8 @@ impl<'a, A: Arena> Settling<'a, A> {
     }
 
     /// At each vertex of player 0 in the current component, changes the move to a successor that is worth most, if it
-    /// is worth more than the present move. All comparisons use the present values. Returns whether a move changed.
+    /// is worth more than the present move. All comparisons use the present values of the vertices. Returns whether a
+    /// move changed.
     fn go_on(&mut self, fuel: &mut Fuel) -> bool
         ensures { self.new.ground ≡ self.old.ground }
     {

@@ -97,7 +97,7 @@ passed_from_here weight place {w} {k} components at is grown before here j w' v 
 
 -- ## The end
 
--- if the values respect all links, they are the least counts of the vertices
+-- if the values of components respect all links, they are the least counts of the components' vertices
 module _ {g : Digraph} {weight : ℕ → ℕ} {c : ComponentsData} {values roots : List ℕ}
     (light : (v : ℕ) → weight v ≤ 1) (components : AreComponents g c) (root : AreRoots g weight roots)
     (met : AreMet g roots c) (column : IsColumn g weight c values) (raised : AreRaised c values roots)

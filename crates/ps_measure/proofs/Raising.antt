@@ -191,11 +191,11 @@ module _ (game : ParityGame) (player : ℕ) (set : ℕ → Bool) (table : ℕ �
 
   -- ## Counts
 
-  -- the smallest count that the edge from v to w allows v, given the count of w
+  -- the smallest count of v that the edge from v to w allows, given the count of w
   abbrev wish : (ℕ → ℕ) → ℕ → ℕ → ℕ
   wish d v w = cond (goes v w) (d w + weight v) 0
 
-  -- the smallest count that the edges from v to the given successors allow v
+  -- the smallest count of v that the edges from v to the given successors allow
   best : (ℕ → ℕ) → ℕ → List ℕ → ℕ
   best d v [] = 0
   best d v (w ∷ ws) = max (wish d v w) (best d v ws)

@@ -84,8 +84,8 @@ HoldsWithin-same {game} {set} other {table} moves there back same holds = record
   wins = λ walk k top round is_top. holds.wins walk k top (search rules) is_top;
 }
 
--- a set that a player holds within a smaller subgame is also held within a larger one, if each edge of the other player
--- from the set into the larger subgame leads into the smaller one
+-- a set that a player holds within a smaller subgame is also held within a larger one, if no edge of the other player
+-- leads from the set to a vertex in their difference
 pub HoldsWithin-larger : {game : ParityGame} {smaller : ℕ → Bool} (larger : ℕ → Bool) {player : ℕ} {set : ℕ → Bool}
     {table : ℕ → Option ℕ} → IsWithin smaller larger → ((v w : ℕ) → IsTrue (set v) → owner_of game v ≢ player →
     LeadsInto game larger v w → IsTrue (smaller w)) → HoldsWithin game smaller player set table →

@@ -29,8 +29,8 @@ pub record IsClosedToTops (game : ParityGame) (set : ℕ → Bool) : Type 0 wher
   pub is_target : (v : ℕ) → v < vertex_count game → IsTrue (target v) ↔ (priority_of game v ≡ greatest)
   pub closed : IsClosedUnderAttraction game (is_vertex game) (greatest % 2) target set
 
--- what is promised about the maximal depth of calls: at most the number of distinct priorities, at least 1 if there is
--- a vertex, and at least 2 if a vertex is outside a set that satisfies `IsClosedToTops`
+-- the promised bounds on the maximal depth: at most the number of distinct priorities; at least 1 if there is a vertex,
+-- and 2 if some vertex is outside a set that satisfies `IsClosedToTops`
 pub record IsDepth (game : ParityGame) (depth : ℕ) : Type 0 where
   pub most : HasPriorities game (is_vertex game) depth
   pub some : (v : ℕ) → v < vertex_count game → 1 ≤ depth

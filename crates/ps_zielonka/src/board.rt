@@ -175,8 +175,8 @@ impl<W: Width> Board<W> {
         None
     }
 
-    /// Takes the vertices from index `turn` on off the trail. A vertex that the player won gets the level `Unplaced`;
-    /// any other vertex is appended to the trail again, with the given level. Fails if out of memory.
+    /// Removes the vertices at index `turn` and later from the trail. A vertex that the player won gets the level
+    /// `Unplaced`; any other vertex is appended to the trail again, with the given level. Fails if out of memory.
     pub fn reopen(&mut self, frame: &Frame, level: Level) -> Result<(), AllocError>
         requires turn { HasTurn self.old.tables W.LIMIT frame.now.turn }
         requires winners { length self.old.winner.items ≡ length self.old.tables.level }
@@ -198,7 +198,8 @@ impl<W: Width> Board<W> {
         Ok(())
     }
 
-    /// Takes the vertices from index `turn` on off the trail, and stores them in `spare`. Fails if out of memory.
+    /// Removes the vertices at index `turn` and later from the trail, and stores them in `spare`. Fails if out of
+    /// memory.
     fn take_off(&mut self, turn: usize) -> Result<(), AllocError>
         requires { HasTurn self.old.tables W.LIMIT turn }
         ensures winner { self.new.winner.items ≡ self.old.winner.items }

@@ -3,13 +3,13 @@
 //! The solver uses the recursive algorithm of McNaughton and Zielonka, with an explicit stack of frames instead of
 //! recursion. Each iteration of a call starts from the greatest priority of the undecided vertices of the call's
 //! subgame. The player who wins by the greatest priority attracts vertices to the tops, which are the vertices of that
-//! priority. In all calls except the first, the tops also include vertices of lower priorities, down to the first
-//! priority of the other parity. The undecided vertices outside the attractor are solved next, by a recursive call. The
-//! player keeps a top of its own if it can move from there to a vertex that it won. The player keeps a top of the
-//! opponent if no edge leads from there to a vertex that the opponent won. If the player keeps each top, the player
-//! wins all vertices that the opponent did not win in the recursive call. If the player loses a top, the opponent
-//! attracts vertices to those that it won in the recursive call, and the call continues with the vertices that are
-//! still undecided.
+//! priority. In all calls except the first, the tops also include undecided vertices of lower priorities, down to, but
+//! not including, the first priority of the other parity. The undecided vertices outside the attractor are solved next,
+//! by a recursive call. The player keeps a top of its own if it can move from there to a vertex that it won. The player
+//! keeps a top of the opponent if no edge leads from there to a vertex that the opponent won. If the player keeps each
+//! top, the player wins all vertices that the opponent did not win in the recursive call. If the player loses a top,
+//! the opponent attracts vertices to those that it won in the recursive call, and the call continues with the vertices
+//! that are still undecided.
 //!
 //! | Call | What it gives |
 //! |---|---|

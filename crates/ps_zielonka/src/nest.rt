@@ -104,7 +104,8 @@ impl<W: Width> Nest<W> {
     /// Begins an iteration of the current call. The vertex at index `cursor` of `order` is undecided and has the
     /// greatest priority of all undecided vertices. Computes the attractor of the player who wins by this priority to
     /// all undecided vertices of this priority. In every call except the first, the target of the attractor also has
-    /// vertices of lower priorities, down to the first priority of the other parity. Fails if out of memory.
+    /// undecided vertices of lower priorities, down to, but not including, the first priority of the other parity.
+    /// Fails if out of memory.
     fn begin_turn<A: Arena>(
         &mut self,
         edges: &Adjacency<'_, A, W>,

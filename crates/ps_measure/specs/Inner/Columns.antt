@@ -41,8 +41,8 @@ pub record IsCounting (g : Digraph) (weight : ℕ → ℕ) (c : ComponentsData) 
   pub components : AreComponents g c
   pub column : IsColumn g weight c values
 
--- the values respect the link from w to v: both are in one component and v has weight 0, or v is in an earlier
--- component, whose value is at least that of w's component plus v's weight
+-- the values respect the link from w to v: both have one component and v has weight 0, or v's component is earlier, and
+-- its value is at least that of w's component plus v's weight
 pub data IsPassed (weight : ℕ → ℕ) (c : ComponentsData) (values : List ℕ) (w v : ℕ) : Type 0 where
   inside : (k : ℕ) → IsIn c w k → IsIn c v k → weight v ≡ 0 → IsPassed weight c values w v
   across : (k m : ℕ) → IsIn c w k → IsIn c v m → m < k → slice_index values k + weight v ≤ slice_index values m →
