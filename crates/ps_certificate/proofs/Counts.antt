@@ -1,4 +1,5 @@
--- The rule of counts at one edge, and the first edge of a vertex that breaks it.
+-- Lemmas about a certificate's rule of counts: when one edge obeys the rule, and which edge of a vertex breaks it
+-- first.
 use Rattle.std.proofs.Common.{◌≡◌, ◌≢◌, ℕ, ◌%◌, ◌<◌, ◌≤◌, List, length, get_or, max, ◌⊎◌, inl, inr, sym, subst}
 use Rattle.std.proofs.Common.{ap, ◌∙◌, arith, refl, None, Some, Option, rules}
 use Rattle.std.specs.Prelude.{slice_index, IfNone}
@@ -18,21 +19,22 @@ use Rattle.ps_certificate.proofs.Edges.{place_of, IsSomeAnd-at, Remains-own}
 use Rattle.ps_certificate.proofs.FirstFlaws.{first_of_stage, closed_has_no_flaw, stage_cases, IsClosed-from_sound}
 use Rattle.ps_certificate.proofs.Lists.{rising_far}
 
--- the opposing priorities are in ascending order
+-- a certificate that fits its game lists the priorities that oppose a player in ascending order
 pub opposing_rises : {game : ParityGame} {certificate : CertificateData} (player : ℕ) → Fits game certificate →
     IsStrictlyIncreasing (opposing certificate player)
 unfolding opposing
 opposing_rises {certificate} player fits = search rules
 
--- if the player loses by the priority of a vertex, that priority is one of the opposing priorities
+-- if the parity of a vertex's priority is that of the player's opponent, the certificate lists this priority among
+-- those that oppose the player
 pub opposing_complete : {game : ParityGame} {certificate : CertificateData} (player : ℕ) → Fits game certificate →
     player < 2 → (v : ℕ) → v < vertex_count game → priority_of game v % 2 ≢ player →
     Contains (opposing certificate player) (priority_of game v)
 unfolding opposing
 opposing_complete player h k v m n = search rules
 
--- the counts of both ends of an edge, and an ascending list of priorities; from index `start` on, the priorities are at
--- least those of both ends
+-- what is known when the counts of an edge's two ends are compared: in the ascending list `priorities`, the items from
+-- index `start` on are at least the priorities of both ends
 pub record Compared (game : ParityGame) (certificate : CertificateData) (v w : ℕ) (priorities before after : List ℕ)
     (top start : ℕ) : Type 0 where
   pub priorities_are : priorities ≡ opposing certificate (winner_of certificate v)
@@ -43,12 +45,12 @@ pub record Compared (game : ParityGame) (certificate : CertificateData) (v w : �
   pub lower : (j : ℕ) → j < start → slice_index priorities j < top
   pub higher : (j : ℕ) → start ≤ j → j < length priorities → top ≤ slice_index priorities j
 
--- if the vertex has the priority at index `start`, the count at `start` falls along the edge
+-- if the vertex that the edge leaves has the priority at index `start`, the count at this index falls along the edge
 abbrev pub FallsAtStart : ParityGame → ℕ → List ℕ → List ℕ → List ℕ → ℕ → Type 0
 FallsAtStart game v priorities before after start = start < length priorities →
     slice_index priorities start ≡ priority_of game v → slice_index after start < slice_index before start
 
--- for priorities before index `start` the rule requires nothing
+-- for a listed priority less than that of one of the edge's ends, the rule of counts requires nothing
 KeepsCount-lower : {game : ParityGame} {certificate : CertificateData} {v w : ℕ} {priorities before after : List ℕ}
     {top start : ℕ} (k : ℕ) → Compared game certificate v w priorities before after top start → k < start →
     KeepsCount game certificate v w k
@@ -82,7 +84,8 @@ KeepsCount-compared {game} {certificate} {v} {w} {priorities} {before} {after} {
           }
     ]
 
--- if the count at index `start` keeps the rule, the first count that rises along the edge is the first to break it
+-- if the edge obeys the rule of counts at index `start`, the first count from there on that rises along the edge is the
+-- first that breaks the rule
 pub IsFirstBroken-behind : {game : ParityGame} {certificate : CertificateData} {v w : ℕ}
     {priorities before after : List ℕ} {top start : ℕ} (place : ℕ) → Compared game certificate v w priorities before
     after top start → FallsAtStart game v priorities before after start → start ≤ place → place < length priorities →
@@ -103,7 +106,7 @@ IsFirstBroken-behind {game} {certificate} {v} {w} {priorities} {before} {after} 
       earlier = λ k early. KeepsCount-compared k compared strict (omega arith) (λ from_start. grind arith);
     }
 
--- of the priorities for which one edge breaks the rule, the smallest comes first
+-- an edge may break the rule of counts for several priorities; the first in the list is the smallest of them
 same_edge : {game : ParityGame} {certificate : CertificateData} {v w p p' : ℕ} → Fits game certificate →
     IsFirstBroken game certificate v w p → BreaksCount game certificate v w p' →
     (Rank v w p ≡ Rank v w p') ⊎ Precedes game (Rank v w p) (Rank v w p')
@@ -117,8 +120,8 @@ same_edge {certificate} {v} {w} fits first other = elim (cases_order other.place
       inr (inr (refl, refl, omega (arith, less, first.priority, other.priority)))
 ]
 
--- the first flaw of a vertex in its counts is the first edge that breaks the rule, with the first priority for which it
--- does
+-- the first flaw in the counts of a vertex is its first edge that breaks the rule of counts, with the first priority
+-- for which this edge breaks the rule
 pub IsFirstFlawAt-rank : {game : ParityGame} {certificate : CertificateData} {v w p : ℕ} →
     Fits game certificate → Remains game certificate v w → winner_of certificate w ≡ winner_of certificate v →
     IsFirstBroken game certificate v w p → ((w' : ℕ) → Remains game certificate v w' → (w' ≡ w) ⊎ (KeepsCounts
@@ -139,17 +142,18 @@ IsFirstFlawAt-rank {game} {certificate} {v} {w} {p} fits remains same_winner bro
         (Rank v w p ≡ other) ⊎ Precedes game (Rank v w p) other
     others other is_flaw early same = grind (arith, here)
 
--- the winner's move is an edge
+-- if the winner's move at a vertex is right, its edge is one of those that the winner's moves allow
 pub own_edge : {game : ParityGame} {certificate : CertificateData} {v w : ℕ} → HasRightMove game certificate v →
     owner_of game v ≡ winner_of certificate v → choice_of certificate v ≡ Some w → Remains game certificate v w
 own_edge {game} {certificate} {v} {w} right own is = search (rules, Remains-own, IsSomeAnd-at)
 
--- a vertex that its winner owns has only one remaining edge
+-- at a vertex that its winner owns, the winner's moves allow only one edge
 pub own_edges : (game : ParityGame) (certificate : CertificateData) (v : ℕ) {w : ℕ} → owner_of game
     v ≡ winner_of certificate v → choice_of certificate v ≡ Some w → {w' : ℕ} → Remains game certificate v w' → w' ≡ w
 own_edges game certificate v own is {w'} remains = search rules
 
--- if the edges before a given one keep the rule, each other edge keeps the rule or comes later
+-- if all edges of a vertex before the edge to `w` obey the rule of counts, each edge other than this one obeys the rule
+-- or comes later
 pub other_edges : (game : ParityGame) (certificate : CertificateData) (v w number : ℕ) →
     number < length (successors_of game v) → w ≡ slice_index (successors_of game v) number →
     ((k : ℕ) → k < number → KeepsCounts game certificate v (get_or (successors_of game v) k 0)) → (w' : ℕ) → Remains
@@ -165,12 +169,13 @@ KeepsCountsAt-from_all game certificate v each w remains =
     let (j, j_within, j_is) = place_of (successors_of game v) remains.edge.1 in
     grind arith
 
--- a vertex whose edges keep the rule has no flaw in its counts
+-- a vertex whose edges obey the rule of counts has no flaw in its counts
 kept_has_no_flaw : (game : ParityGame) (certificate : CertificateData) (flaw : Flaw) →
     KeepsCountsAt game certificate (vertex_of flaw) → IsFlaw game certificate flaw → stage_of flaw ≡ 1 → ⊥
 kept_has_no_flaw game certificate flaw h k m = search rules
 
--- in a closed certificate, the first flaw in the counts is the first of all flaws
+-- a closed certificate has no wrong move and no edge out of a winner's region, so its first flaw in the counts is the
+-- first of all its flaws
 pub first_unranked : {game : ParityGame} {certificate : CertificateData} {v : ℕ} {flaw : Flaw} →
     IsClosed game certificate → ((u : ℕ) → u < v → KeepsCountsAt game certificate u) →
     IsFirstFlawAt game certificate 1 v flaw → IsFirstFlaw game certificate flaw
@@ -188,7 +193,8 @@ pub valid_has_no_flaw : {game : ParityGame} {certificate : CertificateData} (fla
     IsFlaw game certificate flaw → ⊥
 valid_has_no_flaw flaw h k = search (rules, closed_has_no_flaw)
 
--- a certificate is valid if all its vertices are sound and no flaw was found in its counts
+-- a certificate is valid if all moves are right, no edge leaves the region of its winner, and no flaw was found in the
+-- counts
 pub valid_in_the_end : {game : ParityGame} {certificate : CertificateData} (n : ℕ) {found : Option Flaw} →
     vertex_count game ≤ n → ((v : ℕ) → v < n → IsSoundAt game certificate v) →
     IfNone found (KeepCountsBefore game certificate n) → found ≡ None → IsValid game certificate

@@ -65,7 +65,7 @@ module _ (ids : List ℕ) (old : Stream Seen) where
   choice_reads h {new = new} m e = subst (λ v. Reads (choice ids) old v new) (sym e)
       (reads_as (no_dash h) (reads_mapped (vertex_of ids) m))
 
--- the index of an id is the number of its vertex
+-- the first index at which a list has an id is the same, whichever of the two ids comes first in the comparison
 first_same : (id : ℕ) (ids : List ℕ) → prefix_len (λ other. not (eqb id other)) ids ≡ prefix_len
     (λ other. not (eqb other id)) ids
 first_same id ids = search (rules, nat_tests)
@@ -79,7 +79,7 @@ module _ (compact : Bool) (odd even ids : List ℕ) (id : ℕ) where
   abbrev line : Field EntryData
   line = entry compact odd even ids id
 
-  -- what remains of the line after the fields that were read
+  -- the part of the line's grammar that is still to be parsed, after the fields that were already read
   module _ {old s1 : Stream Seen} {n : ℕ} (m1 : Reads (number (λ n. n ≡ id → ⊥)) old n s1) where
     pub past_id : Left line old (behind_id compact odd even ids) s1
     past_id = past (chain_id compact odd even ids id) unread m1
@@ -178,8 +178,8 @@ module _ (odd even ids : List ℕ) where
       → Stops causes whole old (found_of e) → IsErrAnd r (λ y. y ≡ e) → TellsHead odd even ids old r new
   head_fails old new e r s i = search (rules, err_from_is_err_and)
 
-  -- When what precedes the vertices' lines has been parsed, up to `now`, an error in these lines is an error of the
-  -- whole text, and if the lines are parsed, so is the whole.
+  -- Suppose that the lines before those of the vertices have been parsed. Then an error in the vertices' lines is an
+  -- error of the whole text, and if these lines are parsed, so is the whole text.
   module _ (compact : Bool) (all : List ℕ) (same : all ≡ ids) (start now : Stream Seen)
       (k : Carries causes whole start (all_entries compact odd even ids) now) where
     abbrev with_lists : List EntryData → CertificateData

@@ -1,4 +1,5 @@
--- The first flaw at a vertex is the first of all flaws, if the earlier vertices have no flaw.
+-- The first flaw at a vertex is the first flaw of the certificate, if the earlier vertices have no flaw of the same or
+-- an earlier stage of the check.
 use Rattle.std.proofs.Common.{◌≡◌, ℕ, ◌<◌, ◌⊎◌, inl, inr, arith, Option, refl, rules}
 use Rattle.std.proofs.lemmas.Bool.{cases_order}
 use Rattle.ps_game.specs.Games.{ParityGame, vertex_count}
@@ -9,16 +10,17 @@ use Rattle.ps_certificate.specs.Certificates.{choice_of}
 use Rattle.ps_certificate.specs.Inner.Prefixes.{IsSoundAt, IsFirstFlawAt, stage_of, vertex_of}
 use Rattle.ps_certificate.proofs.Edges.{HasWrongMove-from_not_right, not_wrong_when_right}
 
--- a flaw at a later vertex comes later than a flaw of the same stage at an earlier vertex
+-- of two flaws that the same stage of the check reports, the one at the earlier vertex comes first
 later_vertex : (game : ParityGame) (flaw other : Flaw) → stage_of flaw ≡ stage_of other →
     vertex_of flaw < vertex_of other → Precedes game flaw other
 later_vertex game flaw other h k = search rules
 
--- wrong moves and escapes come before flaws in counts
+-- a flaw of the check's first stage (a wrong move or an escape) comes before a flaw of its second stage (in the counts)
 earlier_stage : (game : ParityGame) (flaw other : Flaw) → stage_of flaw < stage_of other → Precedes game flaw other
 earlier_stage game flaw other h = search rules
 
--- the first flaw at a vertex is the first of its stage, if the earlier vertices have no flaw of that stage
+-- if the earlier vertices have no flaw of the same stage of the check, the first flaw at a vertex is the first of its
+-- stage
 pub first_of_stage : {game : ParityGame} {certificate : CertificateData} {stage v : ℕ} {flaw : Flaw} →
     IsFirstFlawAt game certificate stage v flaw → ((other : Flaw) → IsFlaw game certificate other →
     stage_of other ≡ stage → vertex_of other < v → ⊥) → {other : Flaw} → IsFlaw game certificate other →
@@ -28,12 +30,13 @@ first_of_stage {game} {v} {flaw} at none_before {other} is_flaw at_stage = searc
 pub stage_cases : (flaw : Flaw) → (stage_of flaw ≡ 0) ⊎ (stage_of flaw ≡ 1)
 stage_cases flaw = search rules
 
--- a sound vertex has no flaw in its move or in its remaining edges
+-- a vertex that passes the first stage of the check has no wrong move and no escape
 pub sound_has_no_flaw : {game : ParityGame} {certificate : CertificateData} {v : ℕ} → IsSoundAt game certificate v →
     (flaw : Flaw) → IsFlaw game certificate flaw → stage_of flaw ≡ 0 → vertex_of flaw ≡ v → ⊥
 sound_has_no_flaw h flaw k m n = search (rules, not_wrong_when_right)
 
--- the first flaw at a vertex is the first of all flaws, if the earlier vertices are sound
+-- if the earlier vertices have no wrong move and no escape, the first wrong move or escape at a vertex is the
+-- certificate's first flaw
 pub first_unsound : {game : ParityGame} {certificate : CertificateData} {v : ℕ} {flaw : Flaw} → ((u : ℕ) →
     u < v → IsSoundAt game certificate u) → IsFirstFlawAt game certificate 0 v flaw → IsFirstFlaw game certificate flaw
 first_unsound {game} {flaw} sound at = record {
@@ -52,14 +55,14 @@ IsClosed-from_sound sound = record {
   stays = λ v w remains. (sound v remains.edge.0).inside w remains;
 }
 
--- a closed certificate has no flaw in a move or in a remaining edge
+-- a closed certificate has no wrong move and no escape
 pub closed_has_no_flaw : {game : ParityGame} {certificate : CertificateData} → IsClosed game certificate →
     (flaw : Flaw) → IsFlaw game certificate flaw → stage_of flaw ≡ 0 → ⊥
 closed_has_no_flaw closed (Move v m) is_flaw at_stage = not_wrong_when_right (closed.moves v is_flaw.0) is_flaw.2
 closed_has_no_flaw closed (Escape v w) is_flaw at_stage = is_flaw.1 (closed.stays v w is_flaw.0)
 closed_has_no_flaw closed (Rank _ _ _) is_flaw at_stage = omega arith
 
--- the wrong move of a vertex is its first flaw
+-- if a vertex has a wrong move, this is the first flaw at the vertex
 pub first_move : {game : ParityGame} {certificate : CertificateData} {v : ℕ} {choice : Option ℕ} →
     v < vertex_count game → choice ≡ choice_of certificate v → ¬ HasRightMove game certificate v →
     IsFirstFlawAt game certificate 0 v (Move v choice)

@@ -1,4 +1,4 @@
--- The certificate that a text describes fits the game.
+-- A certificate that is parsed from a text, for a given game, fits this game.
 use Rattle.std.proofs.Common.{◌≡◌, ℕ, zero, suc, ◌<◌, Bool, true, false, List, [], ◌∷◌, length, Option, ap, ◌∙◌, sym}
 use Rattle.std.proofs.Common.{subst, rules}
 use Rattle.std.specs.Prelude.{IfSome, All}

@@ -1,6 +1,7 @@
--- The moves of a valid certificate win every loop of a path that follows them. Suppose that the winner loses a loop.
--- Along the edges of the loop, the count for the loop's priority never rises, and it falls at the vertex that has that
--- priority. But a loop ends at the vertex at which it begins, so the count is the same at both ends of the loop.
+-- A player who follows the moves of a valid certificate wins every loop of the resulting path. Suppose that the player
+-- whom a valid certificate names as the winner loses a loop. Along the edges of a lost loop, the count for the loop's
+-- greatest priority never rises, and it falls at a vertex that has this priority. But the count must be the same at
+-- both ends of a loop, which ends at the vertex at which it begins.
 use Rattle.std.proofs.Common.{◌≡◌, ◌≢◌, ℕ, ◌+◌, ◌-◌, ◌%◌, ◌<◌, ◌≤◌, ◌∙◌, List, length, inl, inr, sym, ap, arith, zero}
 use Rattle.std.proofs.Common.{suc, rules}
 use Rattle.std.specs.Prelude.{slice_index}
@@ -17,14 +18,14 @@ use Rattle.ps_certificate.proofs.Edges.{place_of}
 use Rattle.ps_certificate.proofs.Counts.{opposing_complete}
 use Rattle.ps_certificate.proofs.Keeping.{path_stays, BothKeep-from_closed}
 
--- if numbers never rise from one index to the next, the last number is at most the first
+-- if a sequence of numbers never rises, its last number is at most its first
 pub never_rises_along : (f : ℕ → ℕ) (i d : ℕ) → ((k : ℕ) → i ≤ k → k < i + d → f (k + 1) ≤ f k) → f (i + d) ≤ f i
 never_rises_along f i zero step = (let e : f (i + 0) ≡ f i = ap f (omega arith) in omega arith)
 never_rises_along f i (suc d) step =
     let before : f (i + d) ≤ f i = never_rises_along f i d (λ k after below. step k after (omega arith)) in
     grind arith
 
--- if numbers never rise from one index to the next, and fall once, the last number is less than the first
+-- if a sequence of numbers never rises, and falls once, its last number is less than its first
 pub falls_in_the_end : (f : ℕ → ℕ) (i j m : ℕ) → i ≤ m → m < j → ((k : ℕ) → i ≤ k → k < j → f (k + 1) ≤ f k) →
     f (m + 1) < f m → f j < f i
 falls_in_the_end f i j m after below step falls =
@@ -33,7 +34,8 @@ falls_in_the_end f i j m after below step falls =
     never_rises_along f (m + 1) (j - (m + 1)) (λ k k_after k_below. step k (omega arith) (omega arith)) in
     grind arith
 
--- a loop that the player loses, and the index of the loop's priority among the priorities that oppose the player
+-- an assumed loop that the player loses by following a valid certificate; `place` is the index of the loop's greatest
+-- priority among those that oppose the player
 record LostLoop (game : ParityGame) (certificate : CertificateData) (player : ℕ) (path : List ℕ)
     (i j place : ℕ) : Type 0 where
   pub fits : Fits game certificate
@@ -45,7 +47,7 @@ record LostLoop (game : ParityGame) (certificate : CertificateData) (player : �
   pub within : place < length (opposing certificate player)
   pub is : slice_index (opposing certificate player) place ≡ loop_priority game path i j
 
--- no vertex of the loop, including its end, has a greater priority
+-- no vertex of the loop, including its end, has a priority greater than the loop's priority
 bounded : (game : ParityGame) (certificate : CertificateData) (player : ℕ) (path : List ℕ) (i j place : ℕ) →
     LostLoop game certificate player path i j place → (k : ℕ) → i ≤ k → k ≤ j →
     priority_of game (slice_index path k) ≤ loop_priority game path i j
@@ -59,13 +61,13 @@ winner_along : {game : ParityGame} {certificate : CertificateData} {player : ℕ
     winner_of certificate (slice_index path k) ≡ player
 winner_along {game} {certificate} {player} {path} lost k before = search (rules, path_stays)
 
--- at each vertex of the loop, the opposing priority with the index `place` is the loop's priority
+-- at each vertex of the lost loop, the priority at index `place` of those that oppose the winner is the loop's priority
 at_place : {game : ParityGame} {certificate : CertificateData} {player : ℕ} {path : List ℕ} {i j place : ℕ} →
     LostLoop game certificate player path i j place → (k : ℕ) → k ≤ j →
     opposing_at certificate (slice_index path k) place ≡ loop_priority game path i j
 at_place {certificate} {place} lost k before = grind (arith, winner_along lost k before)
 
--- each step of the loop keeps the rule of counts for the loop's priority
+-- each step of the lost loop obeys the certificate's rule of counts for the loop's priority
 step_keeps : {game : ParityGame} {certificate : CertificateData} {player : ℕ} {path : List ℕ} {i j place : ℕ} →
     LostLoop game certificate player path i j place → (k : ℕ) → i ≤ k → k < j →
     KeepsCount game certificate (slice_index path k) (slice_index path (k + 1)) place
@@ -83,7 +85,7 @@ step_at_most {game} {certificate} {player} {path} {i} {j} {place} lost k after b
   step_keeps lost k after below,
 )
 
--- the player loses no loop
+-- a player who follows the moves of a valid certificate, from a vertex that it gives to the player, loses no loop
 no_lost_loop : {game : ParityGame} {certificate : CertificateData} {player : ℕ} {path : List ℕ} {i j place : ℕ} →
     LostLoop game certificate player path i j place → ⊥
 no_lost_loop {game} {certificate} {player} {path} {i} {j} {place} lost =
@@ -121,7 +123,7 @@ wins_each_loop {game} {certificate} {player} is_player fits valid {path} {i} {j}
           }))
     ]
 
--- with a valid certificate, each player holds the vertices that the certificate gives to the player
+-- each player wins the vertices that a valid certificate gives to the player, by following the certificate's moves
 pub BothHold-from_valid : (game : ParityGame) (certificate : CertificateData) → Fits game certificate →
     IsValid game certificate → BothHold game certificate
 BothHold-from_valid game certificate fits valid player is_player =

@@ -1,4 +1,4 @@
--- Paths that follow the moves of a closed certificate stay in their region.
+-- A path that follows the winner's moves of a closed certificate stays in the region that this player wins.
 use Rattle.std.proofs.Common.{◌≡◌, ℕ, ◌<◌, List, length, arith, zero, suc, rules}
 use Rattle.std.specs.Prelude.{slice_index}
 use Rattle.std.proofs.lemmas.Bool.{eqb-true, eq-eqb}
@@ -7,7 +7,7 @@ use Rattle.ps_game.specs.Plays.{IsPath, Follows}
 use Rattle.ps_certificate.specs.Certificates.{CertificateData, IsClosed, winner_of, choice_of}
 use Rattle.ps_certificate.specs.Regions.{BothKeep}
 
--- each vertex of a path that follows the winner's moves has the same winner
+-- in a closed certificate, all vertices of a path that follows the moves of the first vertex's winner have this winner
 pub path_stays : (game : ParityGame) (certificate : CertificateData) (player : ℕ) (path : List ℕ) → IsClosed
     game certificate → IsPath game path → Follows game player (choice_of certificate) path → winner_of certificate
     (slice_index path 0) ≡ player → (k : ℕ) → k < length path → winner_of certificate (slice_index path k) ≡ player

@@ -1,4 +1,4 @@
--- The lawfulness of the parts of a certificate's text (`ps_text`).
+-- Abbreviations for the laws that ps_text requires of a grammar's parts, here of the parts of a certificate's text.
 --     Lawful, Chain, Left      the definitions of ps_text, for parts of certificates and their errors
 use Rattle.ps_text.specs.Answers.{Stream}
 use Rattle.ps_text.specs.Bytes.{Seen}

@@ -20,7 +20,7 @@ pub rising_near : (xs : List ℕ) → IsStrictlyIncreasing xs → (i j : ℕ) �
     slice_index xs i ≤ slice_index xs j
 rising_near xs rising i j at_most within = search (rules, cases_eq, rising_far)
 
--- what the result of a binary search of an ascending list means
+-- the result of a binary search tells whether, and at which index, an ascending list has the number
 pub search_result : (xs : List ℕ) (x : ℕ) (r : Result ℕ ℕ) → IsStrictlyIncreasing xs →
     IsBinarySearchResult (λ y. nat_cmp y x) xs r → MatchResult r (λ i. (i < length xs) × (get_or xs i 0 ≡ x)) (λ i.
     (i ≤ length xs) × ((k : ℕ) → k < i → get_or xs k 0 < x) × ((k : ℕ) → i ≤ k → k < length xs → x < get_or xs k 0))
@@ -31,7 +31,7 @@ pub not_between : (xs : List ℕ) (x i : ℕ) → ((k : ℕ) → k < i → get_o
     ((k : ℕ) → i ≤ k → k < length xs → x < get_or xs k 0) → Contains xs x → ⊥
 not_between xs x i below above (k, within, is) = grind (arith, get_or_default xs k 0 x within, cases_lt k i)
 
--- a new table has no marks
+-- a new table of marks has only unset marks
 pub nothing_marked : (n k : ℕ) → get_or (replicate n false) k false ≡ true → ⊥
 nothing_marked zero k marked = cc
 nothing_marked (suc n) zero marked = cc

@@ -1,4 +1,4 @@
--- What a loop of the parser has read, and what it has yet to read.
+-- Invariants of the loops of the certificate parser: what a loop has read, and what remains to be read.
 --     fails      at a `?`, the function returns the first error of the part
 --     priorities_fail, priorities_end      a line of priorities has an error, or ends
 --     Listing      the rest of a list is yet to be read, after its front
@@ -42,7 +42,7 @@ module _ (ps : List ℕ) where
   listed_reads {old} {new} m k e = subst (λ xs. Reads (priority ps) old xs new) (sym e)
       (reads_then (chain_listed ps).joint m (reads_mapped (λ _. drop 1 ps) k))
 
-  -- the test of the next number decides whether it is the first of the list
+  -- the parser's test tells correctly whether the number just read is the first of the listed priorities
   pub is_not_next : (n : ℕ) {o : Option ℕ} → o ≡ slice_get ps 0 → true ≡ not (option_eq eqb o (Some n)) → NotNext ps n
   is_not_next n {o} e h is = search (rules, eq-eqb)
 
@@ -73,7 +73,8 @@ abbrev pub behind : {A : Type 0} → List A → Result (List A) (Option (Found C
 behind front (Ok others) = Ok (front ++ others)
 behind front (Err o) = Err o
 
--- reading the rest of a list gives the elements of the whole list that follow those already read
+-- a loop's invariant: parsing the rest of a list from here gives the elements that follow the list `front`, which was
+-- already read
 pub record Listing {A : Type 0} (whole : Field (List A)) (start : Stream Seen) (rest : Field (List A))
     (now : Stream Seen) (front : List A) : Type 0 where
   pub carries : (r : Result (List A) (Option (Found CertCause))) (new : Stream Seen) → Parses causes rest now r new

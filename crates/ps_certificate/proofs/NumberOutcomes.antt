@@ -1,4 +1,5 @@
--- Numbers are lawful. Each condition on a number is decidable, so that a number has an outcome from each list of signs.
+-- The grammar of a number obeys the laws that ps_text requires. Each condition on a number is decidable, so parsing a
+-- number from any bytes has a result: a value or an error.
 --     judged_by, number_by      a number with a condition; a number, some values of which belong to another game
 --     decide_next, judge_priority, judge_zero, judge_missing      the errors of numbers, and of the end of a line
 use Rattle.std.proofs.Common.{◌≡◌, ℕ, ◌^◌, ◌<◌, ◌≤◌, ◌⊎◌, List, [], ◌∷◌, length, drop, refl, inl, inr, arith, rules}
@@ -32,7 +33,7 @@ no_length [] l = refl
 no_length (x ∷ xs) l = absurd (omega (arith, l))
 
 module _ (Wrong : Verdict) (settled : Settled Wrong) where
-  -- if the condition on a number is decidable, the number has an outcome
+  -- if the condition on a number is decidable, parsing the number has a result: a value or an error
   module _ (judge : (more : List ℕ) (n : ℕ) → Judged cause_number (Wrong more n)) where
     here : (all : List Seen) (f : CertCause) → IsFaultAt causes (judged Wrong) [] (first_of all) f →
         Outcome causes (judged Wrong) all

@@ -1,4 +1,4 @@
--- A number as a part of the text: how it is read, and how reading it fails.
+-- Lemmas about parsing a number in a certificate's text: which number is read, and which error is reported.
 use Rattle.std.proofs.Common.{rules, ◌≡◌, ℕ, zero, suc, ◌+◌, ◌^◌, ◌<◌, ◌≤◌, ◌⊎◌, List, [], ◌∷◌, ◌++◌, length, take}
 use Rattle.std.proofs.Common.{drop, refl, sym, ap, subst, inl, inr, ◌∙◌, append_assoc, arith, length-append}
 use Rattle.std.proofs.Math.Seq.{take-append_seam, drop-append_seam}
@@ -41,7 +41,8 @@ dropped (suc n) at (b ∷ bytes) = grind (arith, dropped n (at + 1) bytes)
 abbrev pub run_length : List ℕ → ℕ
 run_length bytes = length (numeral bytes)
 
--- a verdict rejects a number only if the end of a field follows the number, or if the number is 0
+-- the condition `Wrong` rejects a number only if a space, a newline or a colon follows the number, or if the number is
+-- 0
 abbrev pub Settled : Verdict → Type 0
 Settled Wrong = (more : List ℕ) (n : ℕ) (f : CertCause) → Wrong more n f → EndsField more ⊎ (n ≡ 0)
 
@@ -90,7 +91,7 @@ wrong_run_is {bytes} e l w = grind (arith, numeral_split bytes, numeral_plain by
 one_byte : (b : ℕ) (more : List ℕ) → IsPlainNumber (b ∷ more) → IsPlainNumber (b ∷ [])
 one_byte b more h = plain_front (b ∷ []) more (omega arith) h
 
--- the bytes begin with a digit, and their number has no error
+-- in this module, the bytes begin with a digit, and the number that they begin with has no error
 module _ (Wrong : Verdict) (settled : Settled Wrong) (t : Seen) (after : List Seen)
     (long : 0 < run_length (t.byte ∷ t.behind))
     (right : (f : CertCause) → IsWrongRun Wrong (t.byte ∷ t.behind) f → ⊥) where
@@ -161,7 +162,7 @@ read_run {Wrong} settled at (b ∷ more) {n} {rest} long value small behind righ
     none : (f : CertCause) → IsWrongRun Wrong (b ∷ more) f → ⊥
     none f h = grind arith
 
--- the number that was read is the longest one with which the bytes begin
+-- the parser has read the longest number with which the bytes begin
 module _ {old new : Stream Seen} {n : ℕ} (r : IsNumberRead old new n) where
   abbrev pub read_bytes : List ℕ
   read_bytes = r.digits ++ r.rest
@@ -198,7 +199,7 @@ judged_begins Wrong = record {
   is_text = (numeral_plain (48 ∷ []) (omega arith), refl);
 }
 
--- an error of a part at the first sign is the first error of the part
+-- an error that a part of the grammar has at the first byte of the text is the first error of this part
 pub at_front : {V : Type 0} {P : Field V} {all : List Seen} {f : CertCause} →
     IsFaultAt causes P [] (first_of all) f → IsFault causes P all f all
 at_front h = record { front = []; split = refl; clean = λ front more t g e l c. absurd (omega (arith, l)); fault = h }
@@ -214,7 +215,7 @@ stops_there {P = P} {old = old} at ahead {f = f} e h = record {
   offset = refl;
 }
 
--- the bytes don't begin with a number
+-- if the bytes don't begin with a number, the error is `Syntax` at the first byte
 pub nothing_there : (Wrong : Verdict) (at : ℕ) (bytes : List ℕ) → numeral bytes ≡ []
     → IsFaultAt causes (judged Wrong) [] (first_of (signs (pieces_at at bytes))) Syntax
 nothing_there Wrong at [] e = grind (arith, judged_begins Wrong, stops)
@@ -234,7 +235,7 @@ too_large Wrong at [] l h = absurd (omega arith)
 too_large Wrong at (b ∷ bytes) l h = let sign : Seen = record { byte = b; at = at; behind = bytes } in
     is_cause sign refl (refl, wrong_run_is refl l (inl (refl, h))) (λ g c. syntax_least g)
 
--- the function fails at a number that the verdict rejects
+-- if the condition `Wrong` rejects the number, the number's error is reported at its first digit
 pub wrong_number : {Wrong : Verdict} → Settled Wrong → (at : ℕ) (bytes : List ℕ) {n : ℕ} {rest : List ℕ}
     {f : CertCause} → 0 < run_length bytes → decimal_value (numeral bytes) ≡ n → n < 2 ^ 64 → drop (run_length bytes)
     bytes ≡ rest → Wrong rest n f → ((g : CertCause) → Wrong rest n g → cause_number f ≤ cause_number g) →
@@ -252,7 +253,7 @@ pub stops_at_place : {V : Type 0} {P : Field V} {old : Stream Seen} {f : CertCau
     Stops causes P old (found_of e)
 stops_at_place {P = P} {old = old} s is = subst (λ x. Stops causes P old (found_of x)) (sym is) s
 
--- without a digit the part stops at the first byte, with the error `Syntax`
+-- if no number of 64 bits begins here, parsing a number stops at the first byte with the error `Syntax`
 pub judged_fails : (Wrong : Verdict) {old : Stream Seen} {e : CertFault} →
     (e ≡ Text Syntax (stream_offset old)) × HasNoNumber old → Stops causes (judged Wrong) old (found_of e)
 judged_fails Wrong h = stops_at_place (stops_there h.1.at h.1.bytes h.1.old_is (go h.1.none)) h.0
@@ -269,9 +270,9 @@ judged_wrong settled f r wrong first is =
     stops_at_place (stops_there r.at (read_bytes r) r.old_is (wrong_number settled r.at (read_bytes r)
     (read_long r) (read_value r) r.small (read_behind r) wrong first)) is
 
--- a number, if `Wrong` states which numbers are not the game's
+-- the parser has read a number; `Wrong` states which numbers don't belong to the game
 module _ (Wrong : ℕ → Type 0) {old new : Stream Seen} {n : ℕ} (r : IsNumberRead old new n) where
-  -- a number that ends its field and is not wrong is read as that number
+  -- the parser accepts a number unless it fills a whole field and doesn't belong to the game
   pub number_reads : (EndsField r.rest → Wrong n → ⊥) → Reads (number Wrong) old n new
   number_reads right = judged_reads (OfOtherGame Wrong) (settled_other Wrong) r (λ f w. right w.1 w.2)
 

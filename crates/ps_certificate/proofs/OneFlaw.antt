@@ -8,7 +8,7 @@ use Rattle.ps_certificate.specs.declared.flaw.Flaw.{Flaw}
 use Rattle.ps_certificate.specs.Certificates.{CertificateData, IsFlaw, OccursBefore, EdgePrecedes, Precedes}
 use Rattle.ps_certificate.specs.Certificates.{IsFirstFlaw}
 
--- a list of different numbers has each number at only one index
+-- a list without repeated numbers has each of its numbers at only one index
 one_place : (xs : List ℕ) → AllPairs (λ x y. x ≢ y) xs → {i j : ℕ} → i < length xs → j < length xs →
     slice_index xs i ≡ slice_index xs j → i ≡ j
 one_place xs different {i} {j} i_within j_within same = search (rules, cases_order)

@@ -1,4 +1,4 @@
--- A text has exactly one answer for a game.
+-- The text of a certificate has exactly one answer for a given game: a certificate or an error.
 use Rattle.std.proofs.Common.{◌≡◌, ℕ, suc, ◌<◌, ◌≤◌, List, [], ◌∷◌, Result, refl, ap₂, arith, rules}
 use Rattle.std.specs.List.{All, AllPairs, Contains}
 use Rattle.std.proofs.lemmas.List.Elements.{All-contains}
@@ -18,7 +18,7 @@ use Rattle.ps_text.specs.Bytes.{stream_at}
 use Rattle.ps_certificate.specs.Texts.{causes, certificate, ReadsCertificate}
 use Rattle.ps_certificate.proofs.TextLaws.{lawful_certificate}
 
--- each number is less than all the numbers after it
+-- in the list, each number is less than all the numbers after it
 abbrev pub Rises : List ℕ → Type 0
 Rises [] = Unit {0}
 Rises (x ∷ xs) = All (λ y. x < y) xs × Rises xs
@@ -80,7 +80,7 @@ one_reading game text answer other a b =
     other a.answers
     (grind (arith, one_list b.odd_listed a.odd_listed, one_list b.even_listed a.even_listed))
 
--- a text has an answer for a game
+-- each text has an answer for a given game: a certificate or an error
 pub some_reading : (game : NamedGameData) (text : List ℕ) → (answer : Result CertificateData (Found CertCause)) ×
     ReadsCertificate game text answer
 some_reading game text =

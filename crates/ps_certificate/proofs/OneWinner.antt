@@ -1,5 +1,5 @@
 -- Valid certificates of one game have the same winners. Suppose that one certificate gives a vertex to one player, and
--- the other certificate gives it to the other player. If each player moves by the certificate that gives the vertex to
+-- the other certificate gives it to the other player. If each player follows the certificate that gives this vertex to
 -- that player, the play has a loop that both players win, which is impossible.
 use Rattle.std.proofs.Common.{◌≡◌, ◌≢◌, ◌∙◌, ℕ, zero, suc, ◌+◌, ◌%◌, ◌<◌, inl, inr, Bool, true, false, List, [], ◌∷◌}
 use Rattle.std.proofs.Common.{length, Option, Some, refl, sym, ap, subst, arith, eqb, rules}
@@ -14,14 +14,14 @@ use Rattle.ps_certificate.proofs.Holding.{BothHold-from_valid}
 some_and : (P Q : ℕ → Type 0) (o : Option ℕ) → IsSomeAnd o P → IfSome o Q → (w : ℕ) × (o ≡ Some w) × P w × Q w
 some_and P Q o h k = search rules
 
--- the winner's move, if the winner owns the vertex
+-- at a vertex that its winner owns, a valid certificate has a move `w`, which is a successor of the vertex
 given : (game : ParityGame) (certificate : CertificateData) → Fits game certificate → IsValid game certificate →
     (v : ℕ) → v < vertex_count game → owner_of game v ≡ winner_of certificate v
     → (w : ℕ) × (choice_of certificate v ≡ Some w) × HasEdge game v w × (w < vertex_count game)
 given game certificate fits valid v within own = some_and (HasEdge game v) (λ w. w < vertex_count game)
     (choice_of certificate v) ((valid.closed.moves v within).own own) (fits.choices v within)
 
--- the first vertices of the play from a vertex
+-- the first `n` vertices of the play from vertex `v`, if `next` gives the successor that is chosen at each vertex
 steps : (ℕ → ℕ) → ℕ → ℕ → List ℕ
 steps next v zero = []
 steps next v (suc n) = v ∷ steps next (next v) n
@@ -58,7 +58,7 @@ module _ (game : ParityGame) (one other : CertificateData) (owners : (v : ℕ) �
   next_if true v = unwrap_or (choice_of one v) 0
   next_if false v = unwrap_or (choice_of other v) 0
 
-  -- player p moves as the first certificate states, and player q as the second one does
+  -- the next vertex of the play in which player p follows the first certificate, and player q the second one
   next : ℕ → ℕ
   next v = next_if (eqb (owner_of game v) p) v
 

@@ -1,4 +1,4 @@
--- What the loop over the pairs of a line has read, and what it has yet to read.
+-- The invariant of the loop that parses the pairs `priority:count` in a line of a compact certificate.
 use Rattle.std.proofs.Common.{◌≡◌, ℕ, zero, suc, ◌<◌, true, cond, eqb, List, [], ◌∷◌, length, get_or, Option, Some}
 use Rattle.std.proofs.Common.{None, Ok, refl, sym, ap₂, subst, arith, rules}
 use Rattle.std.specs.Prelude.{map, set, slice_index, replicate}
@@ -31,7 +31,7 @@ same_map f g [] h = refl
 same_map f g (p ∷ ps) h = ap₂ (λ (x : ℕ) (xs : List ℕ). x ∷ xs) (All-head (λ p. f p ≡ g p) p ps h)
     (same_map f g ps (All-tail (λ p. f p ≡ g p) p ps h))
 
--- a function that was changed at one number
+-- the function that maps `p` to `m`, and agrees with `f` at all other numbers
 abbrev pub put : (ℕ → ℕ) → ℕ → ℕ → ℕ → ℕ
 put f p m q = cond (eqb q p) m (f q)
 
@@ -46,7 +46,7 @@ set_is_put f m (q ∷ ps) (suc k) r lt = grind (arith, set_is_put f m ps k r.1 (
 
 -- ## The loop
 
--- the pairs that were read so far
+-- the loop's invariant: the pairs `priority:count` that were read so far give the stored counts
 pub record PairsSoFar (ps : List ℕ) (start : Stream Seen) (now : Stream Seen) (last : Option ℕ)
     (counts : List ℕ) : Type 0 where
   pub pairs : Pairs
@@ -63,12 +63,12 @@ no_pairs_yet {ps} {start} {n} e = record {
   carries = carries_start causes (many (pair ps) no_pairs) start;
 }
 
--- after every list of pairs with the given last priority, one more pair was read
+-- one more pair, of priority `p` and count `m`, was read, whatever pairs ending with the priority `last` came before
 abbrev pub ReadsPair : List ℕ → Option ℕ → Stream Seen → ℕ → ℕ → Stream Seen → Type 0
 ReadsPair ps last old p m new = (pairs : Pairs) → pairs.last ≡ last
     → Reads (pair ps pairs) old (with_pair pairs p m) new
 
--- reading a pair leaves fewer bytes
+-- after a pair `priority:count` is parsed, fewer bytes are left than before
 pub pair_shrinks : (ps : List ℕ) (last : Option ℕ) (now next : Stream Seen) (p m : ℕ) → ReadsPair ps last now p m next
     → length next.pieces < length now.pieces
 pair_shrinks ps last now next p m read = let pairs : Pairs = record { last = last; count = λ _. 0 } in

@@ -102,7 +102,7 @@ priority_exits ps pairs old new e r m i = search (rules, err_from_is_err_and)
 
 -- ## The pair
 
--- what remains of the pair after its space, its priority and its colon
+-- the part of the pair's grammar that remains after its space, its priority and its colon
 module _ (ps : List ℕ) (pairs : Pairs) {old mid : Stream Seen} (m : Reads {F = CertCause} (byte 32) old tt mid) where
   past_space : Left (pair ps pairs) old (behind_space ps pairs) mid
   past_space = past (chain_pair ps pairs) unread m

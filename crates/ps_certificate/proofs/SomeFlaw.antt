@@ -1,5 +1,6 @@
--- A certificate is closed or has a first flaw, and a certificate that fits is valid or has a first flaw. The flaw is
--- found by vertex, then by successor, then by priority.
+-- A certificate is closed or has a first flaw, and a certificate that fits its game is valid or has a first flaw. The
+-- first flaw is found by searching the vertices in order, at each vertex the successors, and for each edge the
+-- priorities.
 --     IsFirstPlace, first_place      the first place at which one of two facts holds, if there is one
 --     decide_move, decide_rule      decisions about the move of a vertex, and about the rule of counts
 --     sound_or_flawed, kept_or_flawed      a vertex has no flaw of a stage, or has a first one
@@ -25,7 +26,7 @@ use Rattle.ps_certificate.proofs.FirstFlaws.{IsClosed-from_sound, closed_has_no_
 
 -- ## The first place
 
--- Q holds at a place below n, and P at each earlier one
+-- k is less than n, Q holds for k, and P holds for each number less than k
 pub record IsFirstPlace (P Q : ℕ → Type 0) (n k : ℕ) : Type 0 where
   pub within : k < n
   pub before : (j : ℕ) → j < k → P j
@@ -81,7 +82,8 @@ module _ (game : ParityGame) (certificate : CertificateData) (v : ℕ) (in_range
     | inr other ↦ decide_other other (choice_of certificate v) refl
   ]
 
-  -- the first escape is the first flaw of the vertex, if the move is right
+  -- if the move of a vertex is right, the first edge out of its winner's region (the first escape) is the vertex's
+  -- first flaw
   escape_first : HasRightMove game certificate v → {w : ℕ} → IsFirstEscape game certificate v w →
       IsFirstFlawAt game certificate 0 v (Escape v w)
   escape_first right {w} escape = search (rules, not_wrong_when_right)
@@ -120,7 +122,7 @@ module _ (game : ParityGame) (certificate : CertificateData) (v : ℕ) (in_range
             )
           ]
 
-  -- the vertex is sound, or has a first wrong move or escape
+  -- either the vertex has neither a wrong move nor an escape, or one of these is its first flaw
   sound_or_flawed : IsSoundAt game certificate v ⊎ ((flaw : Flaw) × IsFirstFlawAt game certificate 0 v flaw)
   sound_or_flawed = elim decide_move [
     | inl right ↦ elim (stays_or_escapes right) [
@@ -150,7 +152,7 @@ decide_rule p from to before after = elim (cases_lt p from) [
     decide_counts low less (inr kept) (inr stays) (inr other) =
         inl (record { never_rises = λ l m. kept; falls = λ e m. absurd (other e) })
 
--- an edge keeps the rule for each priority, or breaks it first for one
+-- an edge obeys the rule of counts for every priority, or there is a first priority for which the edge breaks the rule
 keeps_or_breaks : (game : ParityGame) (certificate : CertificateData) (v w : ℕ) →
     KeepsCounts game certificate v w ⊎ ((p : ℕ) × IsFirstBroken game certificate v w p)
 keeps_or_breaks game certificate v w = elim (first_place (λ k. KeepsCount game certificate v w k)
@@ -204,7 +206,7 @@ module _ (game : ParityGame) (certificate : CertificateData) (fits : Fits game c
             )
       ]
 
-  -- the edges of a sound vertex keep the rule, or one of them is the first to break it
+  -- either all edges of the vertex obey the rule of counts, or one of them is the first to break the rule
   kept_or_flawed : KeptOrFlawed
   kept_or_flawed = elim (cases_eq (owner_of game v) (winner_of certificate v)) [
     | inl own ↦ kept_by_owner own
@@ -217,7 +219,7 @@ module _ (game : ParityGame) (certificate : CertificateData) where
   abbrev HasFirst : Type 0
   HasFirst = (flaw : Flaw) × IsFirstFlaw game certificate flaw
 
-  -- all vertices are sound, or the first flaw is a wrong move or an escape
+  -- either no vertex has a wrong move or an escape, or the certificate's first flaw is a wrong move or an escape
   all_sound : ((v : ℕ) → v < vertex_count game → IsSoundAt game certificate v) ⊎
       (¬ IsClosed game certificate × HasFirst)
   all_sound = elim (first_place (IsSoundAt game certificate)

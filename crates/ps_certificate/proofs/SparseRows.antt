@@ -1,4 +1,4 @@
--- Rows that store only their nonzero counts.
+-- Lemmas about rows of counts of which only the nonzero counts are stored.
 
 pub mod Sparse
 pub mod Lines

@@ -82,7 +82,7 @@ module _ {old new : Stream Seen} {digits : List ℕ} (other : next_byte old ≡ 
   no_zero at [] e = refl
   no_zero at (b ∷ more) e = ne_eqb b 48 (λ z. other (next_at old at (b ∷ more) e ∙ ap Some z))
 
-  -- a maximal run of digits that doesn't begin with 0 is the longest number
+  -- a maximal run of digits that doesn't begin with 0 is the longest number with which the bytes begin
   whole_run : numeral (digits ++ x.rest) ≡ digits
   whole_run = rw (no_zero x.at (digits ++ x.rest) x.old_is)
       (ap (λ n. take n (digits ++ x.rest)) (run_len is_ascii_digit digits x.rest x.all x.longest) ∙

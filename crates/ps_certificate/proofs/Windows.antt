@@ -1,4 +1,4 @@
--- Which numbers of a list are priorities of a game, determined by marks.
+-- How the check marks the numbers of a list that are priorities of a game, in one pass over the vertices.
 use Rattle.std.proofs.Common.{◌≡◌, ℕ, ◌%◌, below_more, ◌+◌, ◌-◌, ◌<◌, ◌≤◌, ◌∙◌, List, length, get_or, set, inl, inr}
 use Rattle.std.proofs.Common.{sym, arith, Bool, true, false, Option, take, drop, subst, length-take, length-drop, rules}
 use Rattle.std.specs.Prelude.{slice_index, IfSome, is_some}
@@ -13,52 +13,54 @@ use Rattle.ps_certificate.specs.Inner.Prefixes.{IsAt}
 use Rattle.ps_certificate.proofs.Lists.{rising_far}
 use Rattle.ps_certificate.proofs.Edges.{Contains-at}
 
--- a number that a search located is in the list
+-- if a search of a list returned an index of a number, the list contains this number
 pub Contains-found : (list : List ℕ) (number : ℕ) (found : Option ℕ) → IfSome found (IsAt list number) →
     is_some found ≡ true → Contains list number
 Contains-found list number found h k = search (rules, Contains-at)
 
--- in an ascending list, a number has only one index
+-- an ascending list has each of its numbers at only one index
 pub same_place : (list : List ℕ) → IsStrictlyIncreasing list → {i j : ℕ} → i < length list → j < length list →
     slice_index list i ≡ slice_index list j → i ≡ j
 same_place list rising {i} {j} i_within j_within same = search (rules, cases_order, rising_far)
 
--- only priorities of the game are marked, and the priorities of the vertices before `vertex` are marked
+-- each marked number of the window is a priority of the game, and the window's numbers that are priorities of vertices
+-- before `vertex` are marked
 pub record AreMarks (game : ParityGame) (window : List ℕ) (seen : List Bool) (vertex : ℕ) : Type 0 where
   pub room : length window ≤ length seen
   pub marked : (k : ℕ) → k < length window → get_or seen k false ≡ true → HasPriority game (get_or window k 0)
   pub passed : (k v : ℕ) → k < length window → v < vertex → priority_of game v ≡ get_or window k 0 →
       get_or seen k false ≡ true
 
--- the marks after one more vertex, whose priority is in the window
+-- the marks are still right after one more vertex, if its priority is in the window of numbers and is marked
 pub AreMarks-found : {game : ParityGame} {window : List ℕ} {seen : List Bool} {vertex place priority : ℕ} →
     IsStrictlyIncreasing window → vertex < vertex_count game → priority ≡ priority_of game vertex → IsAt
     window priority place → AreMarks game window seen vertex → AreMarks game window (set seen place true) (vertex + 1)
 AreMarks-found {game} {window} {seen} {vertex} {place} rising in_range is at marks =
     search (rules, cases_eq, same_place)
 
--- the marks after one more vertex, whose priority is not in the window
+-- the marks are still right after one more vertex, if its priority is not in the window of numbers
 pub AreMarks-missing : {game : ParityGame} {window : List ℕ} {seen : List Bool} {vertex priority : ℕ} →
     priority ≡ priority_of game vertex → ¬ Contains window priority → AreMarks game window seen vertex →
     AreMarks game window seen (vertex + 1)
 AreMarks-missing {game} {window} {vertex} is missing marks = search (rules, cases_eq, Contains-at)
 
--- if all numbers of the window are marked, all are priorities of the game
+-- if all numbers of the window are marked, all of them are priorities of the game
 pub All-from_marks : {game : ParityGame} {window : List ℕ} {seen : List Bool} {vertex : ℕ} → AreMarks
     game window seen vertex → ((k : ℕ) → k < length window → get_or seen k false ≡ true) → All (HasPriority game) window
 All-from_marks {game} {window} marks each = All-from_get_or (HasPriority game) window 0 (λ k within. grind arith)
 
--- after the last vertex, a number of the window that is a priority is marked
+-- after the last vertex, each number of the window is marked if all of them are priorities of the game
 pub marked_in_the_end : {game : ParityGame} {window : List ℕ} {seen : List Bool} (k : ℕ) → AreMarks game window seen
     (vertex_count game) → All (HasPriority game) window → k < length window → get_or seen k false ≡ true
 marked_in_the_end k marks all within = let (v, below, has) = all k 0 within in marks.passed k v within below has
 
--- an element of a part of a list, as an element of the whole list
+-- the element at index `k` of the items from index `start` on is the whole list's element at index `start + k`
 pub part-at : (list : List ℕ) (start end k : ℕ) → k < end - start →
     get_or (take (end - start) (drop start list)) k 0 ≡ get_or list (start + k) 0
 part-at list start end k below = get_or-take (end - start) (drop start list) k 0 below ∙ get_or-drop start list k 0
 
--- if one more part of a list contains only priorities of the game, so does the list up to the end of that part
+-- if a list has only priorities of the game up to `start`, and from there to `end`, it has only priorities of the game
+-- up to `end`
 pub present_more : (game : ParityGame) (list : List ℕ) (start end : ℕ) →
     end ≤ length list → ((k : ℕ) → k < start → HasPriority game (get_or list k 0)) → All
     (HasPriority game) (take (end - start) (drop start list)) → (k : ℕ) → k < end → HasPriority game (get_or list k 0)
@@ -74,12 +76,13 @@ present_more game list start end within before part k below = elim (cases_lt k s
       subst P is (part (k - start) 0 (omega (arith, long)))
 ]
 
--- the marks of a list that contains the priority of each vertex before `vertex`, if that priority has the given parity
+-- the marks are right, and the list contains the priority of each vertex before `vertex` whose priority has the given
+-- parity
 pub record AreJust (game : ParityGame) (parity : ℕ) (list : List ℕ) (seen : List Bool) (vertex : ℕ) : Type 0 where
   pub marks : AreMarks game list seen vertex
   pub complete : (v : ℕ) → v < vertex → priority_of game v % 2 ≡ parity → Contains list (priority_of game v)
 
--- the marks after one more vertex, whose priority is in the list
+-- the marks are still right after one more vertex, if its priority is in the list and is marked
 pub AreJust-found : {game : ParityGame} {parity : ℕ} {list : List ℕ} {seen : List Bool} {vertex place priority : ℕ} →
     IsStrictlyIncreasing list → vertex < vertex_count game → priority ≡ priority_of game vertex → IsAt list
     priority place → AreJust game parity list seen vertex → AreJust game parity list (set seen place true) (vertex + 1)

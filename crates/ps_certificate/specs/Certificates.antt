@@ -18,7 +18,7 @@ pub record CertificateData : Type 0 where
   pub even : List ℕ
   pub entries : List EntryData
 
--- the default entry for an index past the last one; its winner, 2, is not a player
+-- the entry that stands for a missing one, at an index past the last entry; its winner is 2, which is not a player
 abbrev pub no_entry : EntryData
 no_entry = record { winner = 2; choice = None; counts = [] }
 
@@ -31,13 +31,13 @@ choice_of certificate v = (slice_index_or certificate.entries v no_entry).choice
 unfoldable pub counts_of : CertificateData → ℕ → List ℕ
 counts_of certificate v = (slice_index_or certificate.entries v no_entry).counts
 
--- the priorities that oppose a player, who would lose a loop by them: the odd ones for player 0, the even ones for
--- player 1
+-- the priorities that oppose a player, who loses a loop if its greatest priority is one of them: the odd ones for
+-- player 0, the even ones for player 1
 unfoldable pub opposing : CertificateData → ℕ → List ℕ
 opposing certificate player = if player == 0 then certificate.odd else certificate.even
 
--- one entry for each vertex, winners 0 or 1, moves that are vertices, exactly the priorities of the game, and one count
--- for each priority that opposes the winner
+-- a certificate fits a game: it has one entry for each vertex, winners 0 or 1, moves that are vertices, the game's
+-- priorities, and a count for each priority that opposes the winner
 pub record Fits (game : ParityGame) (certificate : CertificateData) : Type 0 where
   pub entry_each : length certificate.entries ≡ vertex_count game
   pub winners : (v : ℕ) → v < vertex_count game → winner_of certificate v < 2
@@ -47,44 +47,47 @@ pub record Fits (game : ParityGame) (certificate : CertificateData) : Type 0 whe
   pub count_each : (v : ℕ) → v < vertex_count game → length (counts_of certificate v) ≡ length
       (opposing certificate (winner_of certificate v))
 
--- an edge remains if it leaves a vertex that the loser owns, or is the winner's move
+-- an edge remains (the winner's moves allow it) if it leaves a vertex that its loser owns, or is the winner's move
 abbrev pub Remains : ParityGame → CertificateData → ℕ → ℕ → Type 0
 Remains game certificate v w = RemainsFor game (winner_of certificate v) (choice_of certificate) v w
 
--- a vertex that its winner owns has a move, which is a successor; a vertex that its loser owns has no move
+-- the move of a vertex is right: a successor if the vertex's winner owns it, and none if its loser owns it
 pub record HasRightMove (game : ParityGame) (certificate : CertificateData) (v : ℕ) : Type 0 where
   pub own : owner_of game v ≡ winner_of certificate v → IsSomeAnd (choice_of certificate v) (HasEdge game v)
   pub other : owner_of game v ≢ winner_of certificate v → choice_of certificate v ≡ None
 
--- no move is wrong, and each remaining edge leads to a vertex with the same winner
+-- a certificate is closed if no move is wrong, and each edge that the winner's moves allow leads to a vertex with the
+-- same winner
 pub record IsClosed (game : ParityGame) (certificate : CertificateData) : Type 0 where
   pub moves : (v : ℕ) → v < vertex_count game → HasRightMove game certificate v
   pub stays : (v w : ℕ) → Remains game certificate v w → winner_of certificate w ≡ winner_of certificate v
 
--- the priority at an index of the list of all priorities that oppose the winner of the vertex
+-- the priority at index `k` of the list of all priorities that oppose the winner of vertex `v`
 abbrev pub opposing_at : CertificateData → ℕ → ℕ → ℕ
 opposing_at certificate v k = slice_index (opposing certificate (winner_of certificate v)) k
 
--- an edge keeps the rule of counts for the opposing priority with a given index
+-- an edge obeys the rule of counts for the priority at index `k` of those that oppose the winner
 abbrev pub KeepsCount : ParityGame → CertificateData → ℕ → ℕ → ℕ → Type 0
 KeepsCount game certificate v w k =
     KeepsRule (opposing_at certificate v k) (priority_of game v) (priority_of game w)
     (slice_index (counts_of certificate v) k) (slice_index (counts_of certificate w) k)
 
--- a valid certificate is closed, and each remaining edge between two vertices with the same winner keeps the rule of
--- counts for each opposing priority
+-- a certificate is valid if it is closed, and each edge that the winner's moves allow obeys the rule of counts for each
+-- priority that opposes the winner
 pub record IsValid (game : ParityGame) (certificate : CertificateData) : Type 0 where
   pub closed : IsClosed game certificate
   pub counts : (v w k : ℕ) → Remains game certificate v w → winner_of certificate w ≡ winner_of certificate v →
       k < length (opposing certificate (winner_of certificate v)) → KeepsCount game certificate v w k
 
--- the winner owns the vertex, and its move is missing or is not a successor; or the loser owns it, and it has a move
+-- the move of a vertex is wrong: the winner owns the vertex, whose move is missing or is not a successor, or the loser
+-- owns the vertex, which has a move
 abbrev pub HasWrongMove : ParityGame → CertificateData → ℕ → Type 0
 HasWrongMove game certificate v =
     ((owner_of game v ≡ winner_of certificate v) × ¬ IsSomeAnd (choice_of certificate v) (HasEdge game v))
     ⊎ ((owner_of game v ≢ winner_of certificate v) × IsSome (choice_of certificate v))
 
--- a remaining edge between two vertices with the same winner breaks the rule of counts for a priority
+-- an edge that the winner's moves allow, between two vertices with the same winner, breaks the rule of counts for
+-- priority `p`
 pub record BreaksCount (game : ParityGame) (certificate : CertificateData) (v w p : ℕ) : Type 0 where
   pub remains : Remains game certificate v w
   pub same_winner : winner_of certificate w ≡ winner_of certificate v
@@ -93,7 +96,8 @@ pub record BreaksCount (game : ParityGame) (certificate : CertificateData) (v w 
   pub priority : opposing_at certificate v place ≡ p
   pub broken : ¬ KeepsCount game certificate v w place
 
--- a certificate has a given flaw
+-- the certificate has the given flaw: a wrong move, an escape (an edge out of the winner's region), or an edge that
+-- breaks the rule of counts
 abbrev pub IsFlaw : ParityGame → CertificateData → Flaw → Type 0
 IsFlaw game certificate (Move v choice) =
     (v < vertex_count game) × (choice_of certificate v ≡ choice) × HasWrongMove game certificate v
@@ -106,13 +110,14 @@ abbrev pub OccursBefore : List ℕ → ℕ → ℕ → Type 0
 OccursBefore xs x y =
     (i : ℕ) × (j : ℕ) × (i < j) × (j < length xs) × (slice_index xs i ≡ x) × (slice_index xs j ≡ y)
 
--- the edge from v to w comes before the edge from v' to w': edges are ordered by vertex, then as in the list of
--- successors
+-- the edge from v to w comes before the edge from v' to w': edges are ordered by the vertex that they leave, then as in
+-- its list of successors
 abbrev pub EdgePrecedes : ParityGame → ℕ → ℕ → ℕ → ℕ → Type 0
 EdgePrecedes game v w v' w' = (v < v') ⊎ ((v ≡ v') × OccursBefore (successors_of game v) w w')
 
--- The order of flaws: wrong moves and escapes come first, by vertex. At the same vertex, a wrong move precedes the
--- escapes, which are in the order of successors. Flaws in counts follow, by vertex, successor and priority.
+-- The order of a certificate's flaws: wrong moves and escapes (edges out of a winner's region) come first, in the order
+-- of the vertices. At the same vertex, a wrong move comes before the escapes, which are in the order of the vertex's
+-- successors. The edges that break the rule of counts follow, ordered by vertex, then successor, then priority.
 abbrev pub Precedes : ParityGame → Flaw → Flaw → Type 0
 Precedes game (Move v _) (Move v' _) = v < v'
 Precedes game (Move v _) (Escape v' _) = v ≤ v'
@@ -124,7 +129,7 @@ Precedes game (Escape _ _) (Rank _ _ _) = Unit {0}
 Precedes game (Rank _ _ _) (Move _ _) = ⊥
 Precedes game (Rank _ _ _) (Escape _ _) = ⊥
 
--- a flaw that comes before every other flaw
+-- the certificate's first flaw, which comes before every other flaw
 pub record IsFirstFlaw (game : ParityGame) (certificate : CertificateData) (flaw : Flaw) : Type 0 where
   pub is_flaw : IsFlaw game certificate flaw
   pub first : (other : Flaw) → IsFlaw game certificate other → (flaw ≡ other) ⊎ Precedes game flaw other

@@ -1,4 +1,4 @@
--- Certificates that have the same winners and moves, and the one among them that has the least counts.
+-- Certificates that have the same winners and moves, and which of them has the least counts.
 --     SaysTheSame game c d      both certificates have the same winners and moves
 --     DiffersInCounts game c d      both certificates have the same winners, moves and priorities
 --     HasLeastCounts game c      no valid certificate with its winners and moves has a smaller count
@@ -18,8 +18,8 @@ pub record DiffersInCounts (game : ParityGame) (one other : CertificateData) : T
   pub even : one.even ≡ other.even
   pub same : SaysTheSame game one other
 
--- each count is the least among the valid certificates that differ only in counts; for a priority less than the
--- vertex's own, a count has no meaning and is 0
+-- each count is the least of all valid certificates that differ only in counts; the counts for priorities less than the
+-- vertex's own are without meaning, and are 0
 pub record HasLeastCounts (game : ParityGame) (certificate : CertificateData) : Type 0 where
   pub least : (other : CertificateData) → Fits game other → IsValid game other →
       DiffersInCounts game certificate other →

@@ -1,7 +1,7 @@
--- The counts that were read so far in a line of a compact text, as pairs of a priority and its count.
+-- The counts that were read so far in a line of a certificate's compact text, as pairs of a priority and its count.
 use Rattle.std.specs.Prelude.{ℕ, ◌≤◌, Option, Some, None, IsSomeAnd, ◌==◌, if◌then◌else◌}
 
--- the priority of the last pair, and the count for each priority: 0 if no pair gave one
+-- the priority of the last pair that was read, and the count for each priority, which is 0 if no pair gave one
 pub record Pairs : Type 0 where
   pub last : Option ℕ
   pub count : ℕ → ℕ
@@ -12,6 +12,6 @@ no_pairs = record { last = None; count = λ _. 0 }
 abbrev pub with_pair : Pairs → ℕ → ℕ → Pairs
 with_pair pairs p m = record { last = Some p; count = λ q. if q == p then m else pairs.count q }
 
--- the priority is not greater than that of the last pair
+-- the priority of the next pair is not greater than that of the pair before it
 abbrev pub DoesNotRise : Pairs → ℕ → Type 0
 DoesNotRise pairs p = IsSomeAnd pairs.last (λ last. p ≤ last)

@@ -8,16 +8,16 @@ abbrev pub count_at : List PlacedCount → ℕ → ℕ
 count_at [] place = 0
 count_at (p ∷ ps) place = if p.place == place then p.count else count_at ps place
 
--- a given number of counts, from a given index on
+-- the list of `n` counts from index `place` on, including the counts that are not stored because they are 0
 abbrev pub counts_from : List PlacedCount → ℕ → ℕ → List ℕ
 counts_from placed zero place = []
 counts_from placed (suc n) place = count_at placed place ∷ counts_from placed n (suc place)
 
--- a list of counts of a given length
+-- the full list of `width` counts, including those that are not stored because they are 0
 abbrev pub dense_row : ℕ → List PlacedCount → List ℕ
 dense_row width placed = counts_from placed width 0
 
--- indices ascend, are at least `from`, and are less than the number of counts
+-- the indices of the stored counts ascend, are at least `from`, and are less than the number `width` of counts
 abbrev pub Rises : ℕ → ℕ → List PlacedCount → Type 0
 Rises from width [] = Unit {0}
 Rises from width (p ∷ ps) = (from ≤ p.place) × (p.place < width) × Rises (suc p.place) width ps
@@ -25,7 +25,7 @@ Rises from width (p ∷ ps) = (from ≤ p.place) × (p.place < width) × Rises (
 abbrev pub IsRow : ℕ → List PlacedCount → Type 0
 IsRow width placed = Rises 0 width placed
 
--- the nonzero counts of a list with their indices, if the first count of the list has a given index
+-- the nonzero counts of a list, each with its index, if the first count of the list has the index `place`
 abbrev pub gathered : ℕ → List ℕ → List PlacedCount
 gathered place [] = []
 gathered place (c ∷ cs) =
@@ -35,7 +35,7 @@ gathered place (c ∷ cs) =
 abbrev pub place_at : List PlacedCount → ℕ → ℕ
 place_at placed i = (slice_index_or placed i (record { place = 0; count = 0 })).place
 
--- the indices ascend
+-- the indices of the stored counts ascend
 abbrev pub AreRising : List PlacedCount → Type 0
 AreRising placed = (i j : ℕ) → i < j → j < length placed → place_at placed i < place_at placed j
 
@@ -54,7 +54,7 @@ pub record IsFirstFrom (placed : List PlacedCount) (place number : ℕ) : Type 0
 abbrev pub AreAtMost : List ℕ → List ℕ → ℕ → ℕ → Type 0
 AreAtMost counts others from end = (k : ℕ) → from ≤ k → k < end → slice_index counts k ≤ slice_index others k
 
--- the first index, from `from` on, at which the count of the first list is greater than that of the second
+-- the first index that is at least `from` and at which the count of the first list is greater than that of the second
 pub record IsFirstAbove (counts others : List ℕ) (from place : ℕ) : Type 0 where
   pub from_there : from ≤ place
   pub within : place < length counts

@@ -6,17 +6,18 @@
 --     id winner move m m ..           id winner move p:m p:m ..
 --
 -- Each line ends with one newline, fields are separated by one space, and numbers have no leading zeros. The second
--- line gives the number of vertices, and the next two list the priorities of the game in ascending order. One line for
--- each vertex follows, in the game's order: its id, the winner (0 or 1), the winner's move, and one count for each
--- priority that opposes the winner: odd ones if player 0 wins, even ones if player 1 wins. The move is the id of a
--- vertex or `-`. The compact text, on the right, has only the nonzero counts, each after its priority, with ascending
--- priorities. A text that does not have this form is rejected with fault 53 (`Syntax`). The form allows any number as
--- the number of vertices, as a priority, as an id and as a move, and any number of listed priorities. A number is
--- rejected with fault 53 at its first digit if it does not fit in 64 bits, or is a count of 0 after its priority. So is
--- the priority of a count if it is not greater than the previous priority in the line, and a space, a newline or a
--- colon follows it. A text is rejected with fault 54 (`OtherGame`) at a number that does not fit the game, if a space,
--- a newline or a colon follows the number. The fault is also 54 at a newline that comes before all priorities were
--- given.
+-- line of a certificate gives the number of vertices, and the next two lines list the game's odd and even priorities in
+-- ascending order. One line for each vertex follows, in the game's order: its id, the winner (0 or 1), the winner's
+-- move, and one count for each priority that opposes the winner: odd ones if player 0 wins, even ones if player 1 wins.
+-- In the line of a vertex, the move is the id of a vertex, or `-` for no move. The compact text of a certificate, on
+-- the right, has only the nonzero counts, each after its priority, in ascending order of priorities. A text that does
+-- not have the form of a certificate is rejected with fault 53 (`Syntax`). As far as this form is concerned, the number
+-- of vertices, the priorities, ids and moves may be any numbers, and a list may have any number of priorities. A number
+-- is also rejected with fault 53, at its first digit, if it does not fit in 64 bits, or if it is a count of 0 in a
+-- compact text. In a compact text, fault 53 also rejects a priority that is not greater than the previous one in the
+-- line, if a space, a newline or a colon follows this priority. A text is rejected with fault 54 (`OtherGame`) at a
+-- number that disagrees with the given game, if a space, a newline or a colon follows the number. Fault 54 is also
+-- reported at a newline that ends a list of priorities before all priorities of the game were given.
 use Rattle.std.specs.Prelude.{◌≡◌, ◌≢◌, ℕ, zero, suc, ◌^◌, ◌<◌, ◌≤◌, ◌⊎◌, List, [], ◌∷◌, ◌++◌, length, map, drop}
 use Rattle.std.specs.Prelude.{Option, Some, None, Result, Bool, true, false, ◌==◌, if◌then◌else◌, slice_get, position}
 use Rattle.std.specs.List.{Contains}
@@ -42,7 +43,7 @@ Field V = Part Seen V CertCause
 
 -- ## Bytes
 
--- one of two bytes, each with its own value
+-- the value for a byte, if it is one of two allowed bytes, each of which has its own value
 abbrev pub take_two : {V : Type 0} → ℕ → ℕ → V → V → Seen → Option V
 take_two a b v w s = if s.byte == a then Some v else if s.byte == b then Some w else None
 
@@ -56,11 +57,12 @@ abbrev pub EndsField : List ℕ → Type 0
 EndsField [] = ⊥
 EndsField (b ∷ bytes) = (b ≡ 32) ⊎ (b ≡ 10) ⊎ (b ≡ 58)
 
--- the errors that a number may have at its first digit, given the bytes after the number and its value
+-- a condition that tells, from the bytes after a number and from the number's value, which error the number has at its
+-- first digit
 abbrev pub Verdict : Type 1
 Verdict = List ℕ → ℕ → CertCause → Type 0
 
--- the digits from this byte on are a number that is too large, or one that `Wrong` rejects
+-- the digits from this byte on are a number that does not fit in 64 bits, or one that the condition `Wrong` rejects
 pub record IsBadNumber (Wrong : Verdict) (s : Seen) (f : CertCause) : Type 0 where
   pub digits : List ℕ
   pub more : List ℕ
@@ -75,11 +77,11 @@ judged Wrong = record {
   IsCause = λ front s f. (front ≡ []) × IsBadNumber Wrong s f;
 }
 
--- a space, a newline or a colon follows the number, and the number does not fit the game
+-- a space, a newline or a colon follows the number, and the number disagrees with the game
 abbrev pub OfOtherGame : (ℕ → Type 0) → Verdict
 OfOtherGame Wrong more n f = (f ≡ OtherGame) × EndsField more × Wrong n
 
--- a number; `Wrong` states which numbers do not fit the game
+-- the grammar of a number; `Wrong` states which numbers disagree with the game
 abbrev pub number : (ℕ → Type 0) → Field ℕ
 number Wrong = judged (OfOtherGame Wrong)
 
@@ -88,11 +90,11 @@ Never n = ⊥
 
 -- ## Lines of priorities
 
--- the number is not the first of the list
+-- the number is not the first of the priorities that are still to be listed
 abbrev pub NotNext : List ℕ → ℕ → Type 0
 NotNext ps n = slice_get ps 0 ≢ Some n
 
--- a number after a space; the value is the list without its first number
+-- a space and the next priority of the list `ps`; the value is the list without this priority
 abbrev pub priority : List ℕ → Field (List ℕ)
 priority ps = then_by (byte 32) (λ _. mapped (λ _. drop 1 ps) (number (NotNext ps)))
 
@@ -100,7 +102,7 @@ priority ps = then_by (byte 32) (λ _. mapped (λ _. drop 1 ps) (number (NotNext
 abbrev pub IsMissing : List ℕ → Seen → CertCause → Type 0
 IsMissing ps s f = (s.byte ≡ 10) × (0 < length ps) × (f ≡ OtherGame)
 
--- the rest of a line that must list the given priorities
+-- the rest of a line that must list exactly the given priorities, each after a space
 abbrev pub priorities : List ℕ → Field (Unit {0})
 priorities ps = then_by (many priority ps) (λ left. one (take_byte 10) (IsMissing left))
 
@@ -109,11 +111,11 @@ priorities ps = then_by (many priority ps) (λ left. one (take_byte 10) (IsMissi
 abbrev pub winner : Field ℕ
 winner = two 48 49 0 1
 
--- the vertex that has a given id
+-- the index of the vertex that has a given id
 abbrev pub vertex_of : List ℕ → ℕ → Option ℕ
 vertex_of ids id = position (λ other. other == id) ids
 
--- `-`, or the id of a vertex
+-- the move in the line of a vertex: `-` for none, or the id of a vertex
 abbrev pub choice : List ℕ → Field (Option ℕ)
 choice ids = either (mapped (λ _. None) (byte 45)) (mapped (vertex_of ids) (number (λ id. ¬ Contains ids id)))
 
@@ -122,28 +124,29 @@ abbrev pub counts : ℕ → Field (List ℕ)
 counts zero = mapped (λ _. []) (byte 10)
 counts (suc n) = then_by (byte 32) (λ _. then_by (number Never) (λ count. mapped (λ others. count ∷ others) (counts n)))
 
--- the priority of a count is complete, but is not greater than the previous one, or is not a priority that opposes the
--- winner
+-- a space, a newline or a colon ends a count's priority, which is not greater than the previous one, or is not a
+-- priority that opposes the winner
 abbrev pub WrongPriority : List ℕ → Pairs → Verdict
 WrongPriority ps pairs more n f =
     EndsField more × (((f ≡ Syntax) × DoesNotRise pairs n) ⊎ ((f ≡ OtherGame) × ¬ Contains ps n))
 
--- a count of 0 is an error
+-- in a compact text, a count of 0 is an error
 abbrev pub IsZero : Verdict
 IsZero more n f = (f ≡ Syntax) × (n ≡ 0)
 
--- a space, a priority, a colon and the count of the priority
+-- in a compact text: a space, a priority, a colon and the priority's count
 abbrev pub pair : List ℕ → Pairs → Field Pairs
 pair ps pairs =
     then_by (byte 32) (λ _. then_by (judged (WrongPriority ps pairs)) (λ p.
     then_by (byte 58) (λ _. mapped (λ m. with_pair pairs p m) (judged IsZero))))
 
--- the counts for the given priorities, and the end of the line: all counts, or the nonzero ones after their priorities
+-- the counts for the given priorities, and the end of the line: all counts, or in a compact text the nonzero ones, each
+-- after its priority
 abbrev pub counts_in : Bool → List ℕ → Field (List ℕ)
 counts_in false ps = counts (length ps)
 counts_in true ps = then_by (many (pair ps) no_pairs) (λ pairs. mapped (λ _. map pairs.count ps) (byte 10))
 
--- the priorities that oppose the winner
+-- the priorities that oppose the winner: the odd ones for player 0, the even ones for player 1
 abbrev pub lost_by : List ℕ → List ℕ → ℕ → List ℕ
 lost_by odd even winner = if winner == 0 then odd else even
 
@@ -155,7 +158,7 @@ entry compact odd even ids id =
     then_by (choice ids) (λ c. mapped (λ cs. record { winner = w; choice = c; counts = cs })
     (counts_in compact (lost_by odd even w)))))))
 
--- a line for each of the given ids
+-- a line for each vertex, given the vertices' ids
 abbrev pub entries : Bool → List ℕ → List ℕ → List ℕ → List ℕ → Field (List EntryData)
 entries compact odd even all [] = give []
 entries compact odd even all (id ∷ ids) =
@@ -164,7 +167,7 @@ entries compact odd even all (id ∷ ids) =
 
 -- ## The text
 
--- the version: 1, or 2 for a compact text
+-- the version in the first line: 1, or 2 for a compact text
 abbrev pub version : Field Bool
 version = two 49 50 false true
 

@@ -1,4 +1,4 @@
--- The words of certificate texts.
+-- The fixed words of a certificate's text, such as `vertices`.
 use Rattle.std.specs.Prelude.{ℕ, List, codes}
 
 abbrev pub first_word : List ℕ

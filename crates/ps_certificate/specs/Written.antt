@@ -18,7 +18,7 @@ abbrev pub fields : List ℕ → List ℕ
 fields [] = []
 fields (x ∷ xs) = 32 ∷ decimal x ++ fields xs
 
--- the nonzero counts of the given priorities
+-- the text of the nonzero counts of the given priorities, each after a space, its priority and a colon
 abbrev pub pairs : List ℕ → List ℕ → List ℕ
 pairs [] cs = []
 pairs (p ∷ ps) [] = []
@@ -32,18 +32,19 @@ counts_text true ps cs = pairs ps cs
 abbrev pub IsWord : ℕ → Type 0
 IsWord n = n < 2 ^ 64
 
--- the winner is 0 or 1, the move is less than `count`, and there is a count for each priority that opposes the winner
+-- the entry has a winner 0 or 1, a move less than the number `count` of vertices or none, and a count for each priority
+-- that opposes the winner
 pub record IsWritable (count : ℕ) (odd even : List ℕ) (entry : EntryData) : Type 0 where
   pub winner : entry.winner < 2
   pub choice : IfSome entry.choice (λ w. w < count)
   pub counts : length entry.counts ≡ length (lost_by odd even entry.winner)
 
--- the id of the successor, or `-`
+-- the text of a move: the id of the chosen successor, or `-` for none
 abbrev pub move_text : List ℕ → Option ℕ → List ℕ
 move_text ids None = 45 ∷ []
 move_text ids (Some v) = decimal (slice_index ids v)
 
--- the id, the winner (0 or 1), the move, and the counts for the given priorities
+-- the line of a vertex: its id, its winner (0 or 1), its move, and the counts for the given priorities
 abbrev pub line_with : Bool → List ℕ → List ℕ → ℕ → EntryData → List ℕ
 line_with compact ps ids id entry =
     decimal id ++ 32 ∷ (48 + entry.winner) ∷ 32 ∷ move_text ids entry.choice ++
@@ -52,13 +53,13 @@ line_with compact ps ids id entry =
 abbrev pub entry_line : Bool → List ℕ → List ℕ → List ℕ → ℕ → EntryData → List ℕ
 entry_line compact odd even ids id entry = line_with compact (lost_by odd even entry.winner) ids id entry
 
--- the lines of the vertices from `v` on
+-- the text of the lines of all vertices from vertex `v` on
 abbrev pub entry_lines : Bool → List ℕ → List ℕ → List ℕ → ℕ → List EntryData → List ℕ
 entry_lines compact odd even ids v [] = []
 entry_lines compact odd even ids v (entry ∷ entries) =
     entry_line compact odd even ids (slice_index ids v) entry ++ entry_lines compact odd even ids (v + 1) entries
 
--- the digit of the version
+-- the digit of the version: 1 for a plain text, 2 for a compact text
 abbrev pub version_digit : Bool → ℕ
 version_digit compact = if compact then 50 else 49
 
@@ -72,7 +73,7 @@ text_in compact game certificate =
     head_text compact (length game.ids) certificate.odd certificate.even ++
     entry_lines compact certificate.odd certificate.even game.ids 0 certificate.entries
 
--- the text with all counts, and the text with the nonzero counts
+-- the two texts of a certificate: the plain one with all counts, and the compact one with the nonzero counts
 abbrev pub certificate_text : NamedGameData → CertificateData → List ℕ
 certificate_text game certificate = text_in false game certificate
 

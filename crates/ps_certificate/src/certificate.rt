@@ -10,11 +10,11 @@ use std::marker::Model;
 /// Who wins each vertex of a game, by which moves, and the counts that prove it.
 #[derive(Debug, Drop)]
 pub struct Certificate {
-    /// The odd priorities of the game, ascending. Player 0 loses by them.
+    /// The odd priorities of the game, ascending. Player 0 loses a loop whose greatest priority is odd.
     pub odd: Vec<u64>,
-    /// The even priorities of the game, ascending. Player 1 loses by them.
+    /// The even priorities of the game, ascending. Player 1 loses a loop whose greatest priority is even.
     pub even: Vec<u64>,
-    /// One entry for each vertex.
+    /// One entry for each vertex of the game.
     pub entries: Entries,
 }
 
@@ -38,7 +38,7 @@ impl Certificate {
         self.entries.winner(vertex)
     }
 
-    /// The move given for a vertex.
+    /// The move that the certificate gives for a vertex.
     pub fn choice(&self, vertex: usize) -> Option<usize>
         requires { vertex < length self.now.entries }
         ensures { result ≡ choice_of self.now vertex }

@@ -1,4 +1,5 @@
-//! The whole check: the certificate is closed, and each remaining edge keeps the rule of counts.
+//! The whole check of a certificate: it is closed, and each edge that the winner's moves allow obeys the rule of
+//! counts.
 
 ghost use Rattle.std.specs.Prelude.{◌≡◌, ℕ, ◌+◌, ◌<◌, ◌↔◌, IsTrue, IsOk, IfErr, OnOk, IfNone, IfSome};
 ghost use Rattle.ps_game.specs.Games.{vertex_count};
@@ -15,9 +16,9 @@ use crate::flaw::Flaw;
 use crate::rising::Rising;
 use ps_game::Arena;
 
-/// The first opposing priority for which an edge breaks the rule of counts. A search finds the first opposing priority
-/// that is not less than the priority of either end of the edge; from that priority on, only nonzero counts are
-/// compared.
+/// The first of the priorities that oppose the winner for which an edge breaks the rule of counts. A search finds the
+/// first of these priorities that is not less than the priority of either end of the edge; from there on, only nonzero
+/// counts are compared.
 fn broken_priority<A: Arena>(
     arena: &A,
     certificate: &Certificate,
@@ -49,7 +50,8 @@ fn broken_priority<A: Arena>(
     }
 }
 
-/// The first remaining edge of a vertex that breaks the rule of counts, as a flaw.
+/// The first edge of a vertex that breaks the rule of counts, as a flaw; only edges that the winner's moves allow are
+/// considered.
 fn unranked_at<A: Arena>(arena: &A, certificate: &Certificate, vertex: usize) -> Option<Flaw>
     requires { IsRankable (A.game arena.now) certificate.now vertex }
     ensures none { IfNone result (KeepsCountsAt (A.game arena.now) certificate.now vertex) }
@@ -82,7 +84,8 @@ fn unranked_at<A: Arena>(arena: &A, certificate: &Certificate, vertex: usize) ->
     None
 }
 
-/// The first flaw in the counts of the vertices up to and including `vertex`, given the first flaw of the earlier ones.
+/// The first flaw in the counts of the vertices up to and including `vertex`, given the first flaw in the counts of the
+/// earlier vertices.
 fn unranked_through<A: Arena>(
     arena: &A,
     certificate: &Certificate,
@@ -101,9 +104,10 @@ fn unranked_through<A: Arena>(
     }
 }
 
-/// Checks whether a certificate is valid: it is closed, and each remaining edge keeps the rule of counts. The error is
-/// the first flaw of a certificate that is not valid: the flaw that [`crate::closed`] returns, if there is one, or else
-/// the first edge that breaks the rule, ordered by vertex, then successor, then priority. Allocates no memory.
+/// Checks whether a certificate is valid: it is closed, and each edge that the winner's moves allow obeys the rule of
+/// counts. The error is the first flaw of a certificate that is not valid: the flaw that [`crate::closed`] returns, if
+/// there is one, or else the first edge that breaks the rule, ordered by vertex, then successor, then priority.
+/// Allocates no memory.
 ///
 /// # Errors
 ///

@@ -1,4 +1,5 @@
-//! The first half of the check: no move is wrong, and each remaining edge leads to a vertex with the same winner.
+//! The first half of a certificate's check: no move is wrong, and each edge that the winner's moves allow leads to a
+//! vertex with the same winner.
 
 ghost use Rattle.std.specs.Prelude.{◌≡◌, ◌≢◌, ℕ, ◌<◌, ◌↔◌, IsTrue, IsOk, IfErr, OnOk, IfNone, IfSome, length};
 ghost use Rattle.ps_game.specs.Games.{vertex_count, owner_of, successors_of, HasEdge};
@@ -39,7 +40,7 @@ fn has_right_move<A: Arena>(arena: &A, certificate: &Certificate, vertex: usize)
     }
 }
 
-/// The first remaining edge of a vertex that leads to a vertex with the other winner.
+/// The end of a vertex's first edge that the winner's moves allow and that leads to a vertex with the other winner.
 fn first_escape<A: Arena>(arena: &A, certificate: &Certificate, vertex: usize) -> Option<usize>
     requires entry { HasEntry (A.game arena.now) certificate.now vertex }
     requires right_move { HasRightMove (A.game arena.now) certificate.now vertex }
@@ -63,7 +64,7 @@ fn first_escape<A: Arena>(arena: &A, certificate: &Certificate, vertex: usize) -
     None
 }
 
-/// The first flaw of a vertex in its move or in its remaining edges.
+/// The first flaw of a vertex that concerns its move, or an edge to a vertex with the other winner.
 pub(crate) fn unsound_at<A: Arena>(
     arena: &A,
     certificate: &Certificate,
@@ -83,9 +84,10 @@ pub(crate) fn unsound_at<A: Arena>(
     }
 }
 
-/// Checks that no move is wrong, and that each remaining edge leads to a vertex with the same winner. The error is the
-/// flaw of the first vertex that has one. At the same vertex, a wrong move precedes the edges to the other winner,
-/// which are in the order of successors. Ignores priorities and counts. Allocates no memory.
+/// Checks that no move is wrong, and that each edge that the winner's moves allow leads to a vertex with the same
+/// winner. The error is the first flaw of the first vertex that has a wrong move, or an edge to a vertex with the other
+/// winner. At the same vertex, a wrong move comes before the edges to vertices with the other winner, which are in the
+/// order of the successors. The check ignores the certificate's priorities and counts. Allocates no memory.
 ///
 /// # Errors
 ///

@@ -9,11 +9,11 @@ use ps_text::faults::{Cause, Fault};
 pub enum CertCause {
     /// The text does not have the form of a certificate, or a number in it is too large.
     Syntax,
-    /// The text has the form of a certificate, but of another game.
+    /// The text has the form of a certificate, but disagrees with the given game.
     OtherGame,
 }
 
-/// Why the parser returned no certificate.
+/// Why the parser returned no certificate: an error of the text with its offset, or out of memory.
 pub type CertFault = Fault<CertCause>;
 
 impl Cause for CertCause {

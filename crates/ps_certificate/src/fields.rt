@@ -1,4 +1,4 @@
-//! The fields of the text of a certificate.
+//! The functions that parse single fields in the text of a certificate.
 
 ghost use Rattle.std.specs.Prelude.{◌≡◌, ◌≢◌, ◌<◌, drop};
 ghost use Rattle.std.specs.List.{Contains};
@@ -39,7 +39,7 @@ pub(crate) fn number(cursor: &mut Cursor) -> Result<u64, CertFault>
     }
 }
 
-/// Parses the next number, which must equal `wanted` if a space, a newline or a colon follows it.
+/// Parses the next number; if a space, a newline or a colon follows the number, it must equal `wanted`.
 pub(crate) fn exactly(cursor: &mut Cursor, wanted: u64) -> Result<u64, CertFault>
     ensures { Tells (λ n. n) (parts.number (λ n. n ≢ wanted)) cursor.old result cursor.new }
 {
@@ -62,7 +62,8 @@ pub(crate) fn priorities(cursor: &mut Cursor, priorities: &[u64]) -> Result<(), 
     line_end(cursor, left)
 }
 
-/// Moves past a space and a number, which must be the first of the list. Returns the rest of the list.
+/// Moves past a space and a number, which must be the first of the listed priorities. Returns the list of priorities
+/// without the one that was read.
 fn listed<'p>(cursor: &mut Cursor, priorities: &'p [u64]) -> Result<&'p [u64], CertFault>
     ensures { Tells (λ left. left.now) (parts.priority priorities.now) cursor.old result cursor.new }
 {
@@ -75,7 +76,7 @@ fn listed<'p>(cursor: &mut Cursor, priorities: &'p [u64]) -> Result<&'p [u64], C
     Ok(without_first(priorities))
 }
 
-/// Moves past the end of a line; no number of the list may be left.
+/// Moves past the end of a line that lists priorities, none of which may be missing.
 fn line_end(cursor: &mut Cursor, left: &[u64]) -> Result<(), CertFault>
     ensures { Tells (λ u. u) (one (take_byte 10) (IsMissing left.now)) cursor.old result cursor.new }
 {
@@ -89,7 +90,7 @@ fn line_end(cursor: &mut Cursor, left: &[u64]) -> Result<(), CertFault>
     Ok(())
 }
 
-/// Parses the version, 1 or 2. Returns whether the text is compact.
+/// Parses the version of a certificate's text, 1 or 2. Returns whether the certificate's text is compact.
 pub(crate) fn version(cursor: &mut Cursor) -> Result<bool, CertFault>
     ensures { Tells (λ v. v) parts.version cursor.old result cursor.new }
 {

@@ -11,7 +11,7 @@ use crate::certificate::Certificate;
 use crate::rising::{Rising, is_rising};
 use ps_game::Arena;
 
-/// How many listed priorities are searched for in one pass over the vertices.
+/// How many of the certificate's listed priorities are searched for in one pass over the vertices.
 const WINDOW: usize = 1024;
 
 /// Whether an ascending list contains the priority of every vertex whose priority has a given parity.
@@ -27,8 +27,8 @@ fn is_complete<A: Arena>(arena: &A, parity: u64, rising: Rising<'_>) -> bool
     true
 }
 
-/// Whether each number of a short ascending list is the priority of some vertex. Makes one pass over the vertices, and
-/// searches the list at each vertex.
+/// Whether each number of a short ascending list is the priority of some vertex. The function makes one pass over the
+/// vertices, and searches the list for each vertex's priority.
 fn window_present<A: Arena>(arena: &A, window: Rising<'_>) -> bool
     requires { length window.list.now ≤ 1024 }
     ensures { IsTrue result ↔ All (HasPriority (A.game arena.now)) window.entry.list.now }
@@ -47,8 +47,8 @@ fn window_present<A: Arena>(arena: &A, window: Rising<'_>) -> bool
     true
 }
 
-/// Whether a short ascending list of one parity has exactly the priorities of that parity. Makes one pass over the
-/// vertices, and searches the list at each vertex whose priority has that parity.
+/// Whether a short ascending list has exactly the game's priorities of one parity. The function makes one pass over the
+/// vertices, and searches the list for each vertex's priority that has this parity.
 fn is_just<A: Arena>(arena: &A, parity: u64, rising: Rising<'_>) -> bool
     requires right_parity { All (λ p. p % 2 ≡ parity) rising.list.now }
     requires short { length rising.list.now ≤ 1024 }
@@ -74,8 +74,8 @@ fn is_just<A: Arena>(arena: &A, parity: u64, rising: Rising<'_>) -> bool
     true
 }
 
-/// Whether each number of an ascending list is the priority of some vertex. Makes one pass over the vertices for every
-/// 1024 numbers, so that no memory is allocated.
+/// Whether each number of an ascending list is the priority of some vertex. The function makes one pass over the
+/// vertices for every 1024 numbers of the list, and allocates no memory.
 fn all_present<A: Arena>(arena: &A, rising: Rising<'_>) -> bool
     ensures { IsTrue result ↔ All (HasPriority (A.game arena.now)) rising.entry.list.now }
 {

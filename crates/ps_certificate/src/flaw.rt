@@ -5,26 +5,26 @@ ghost use Rattle.std.specs.Prelude.{◌≡◌};
 /// The first thing that is wrong with a certificate. Vertices are given by their indices, from 0.
 #[derive(Clone, Copy, Debug, PartialEq, Eq)]
 pub enum Flaw {
-    /// The winner owns the vertex, and the move is missing or is not a successor; or the loser owns the vertex, and it
-    /// has a move.
+    /// The move of a vertex is wrong: the winner owns the vertex, whose move is missing or is not a successor, or the
+    /// loser owns the vertex, which has a move.
     Move {
         /// The vertex.
         vertex: usize,
-        /// The move of the vertex.
+        /// The wrong move that the certificate gives for the vertex, or none if the move is missing.
         choice: Option<usize>,
     },
     /// The winner's move, or an edge of a vertex that the loser owns, leads to a vertex with the other winner.
     Escape {
         /// The vertex.
         vertex: usize,
-        /// The successor that the other player wins.
+        /// The successor to which the edge leads, and which the other player wins.
         successor: usize,
     },
-    /// A remaining edge breaks the rule of counts for an opposing priority.
+    /// An edge that the winner's moves allow breaks the rule of counts for a priority that opposes the winner.
     Rank {
-        /// The vertex that the edge leaves.
+        /// The vertex that the faulty edge leaves.
         vertex: usize,
-        /// The vertex that the edge enters.
+        /// The vertex that the faulty edge enters.
         successor: usize,
         /// The opposing priority.
         priority: u64,
@@ -34,7 +34,7 @@ pub enum Flaw {
 impl Flaw {
     ghost use Rattle.ps_certificate.specs.Faults.{flaw_number, flaw_name};
 
-    /// The flaw's number in psyn's list of faults.
+    /// The number of this flaw in psyn's list of faults, docs/FAULTS.md.
     pub fn number(self) -> u8
         ensures { result ≡ flaw_number self }
     {

@@ -1,4 +1,4 @@
-//! Laws about certificates. Each law is the contract of a function with an empty body.
+//! Laws about certificates. Laws about certificates: each law is the contract of a function with an empty body.
 
 ghost use Rattle.std.specs.Prelude.{◌≡◌, ◌<◌, ◌⊎◌, ℕ, List, Ok, length};
 ghost use Rattle.ps_game.specs.Games.{NamedGameData, ParityGame, IsGame, owner_of, vertex_count};
@@ -7,25 +7,29 @@ ghost use Rattle.ps_certificate.specs.declared.flaw.Flaw.{Flaw};
 ghost use Rattle.ps_certificate.specs.Regions.{BothKeep, BothHold, NoneWinsOutside};
 ghost use Rattle.ps_certificate.specs.Texts.{ReadsCertificate};
 
-/// Paths that follow the moves of a closed certificate stay in the region in which they begin.
+/// In a closed certificate, a path that begins in a player's region and follows that player's moves stays in this
+/// region.
 pub fn closed_regions_are_kept()
     ensures { (game : ParityGame) (certificate : CertificateData) → IsClosed game certificate →
         BothKeep game certificate }
 {}
 
-/// By the moves of a valid certificate, each player holds the region that the certificate gives that player.
+/// A player who follows the moves of a valid certificate stays in, and wins, the region that the certificate gives the
+/// player.
 pub fn valid_regions_are_held()
     ensures { (game : ParityGame) (certificate : CertificateData) → Fits game certificate → IsValid game certificate →
         BothHold game certificate }
 {}
 
-/// No strategy of a player wins outside the region that a valid certificate gives that player.
+/// Outside the region that a valid certificate gives a player, neither a strategy of finite memory nor a history table
+/// wins for that player.
 pub fn no_strategy_wins_outside()
     ensures { (game : ParityGame) (certificate : CertificateData) → IsGame game → Fits game certificate →
         IsValid game certificate → NoneWinsOutside game certificate }
 {}
 
-/// If each vertex of a game belongs to one of the two players, its valid certificates give each vertex the same winner.
+/// If each vertex of a game belongs to one of the two players, any two valid certificates of the game give each vertex
+/// the same winner.
 pub fn winners_are_one()
     ensures { (game : ParityGame) (one other : CertificateData) →
         ((v : ℕ) → v < vertex_count game → owner_of game v < 2) →
@@ -39,7 +43,8 @@ pub fn first_flaw_is_one()
         IsFirstFlaw game certificate flaw → IsFirstFlaw game certificate other → flaw ≡ other }
 {}
 
-/// A certificate is closed, or has a first flaw. A certificate that fits is valid, or has a first flaw.
+/// A certificate is closed (it has no wrong move and no edge out of a winner's region), or it has a first flaw. A
+/// certificate that fits its game is valid, or has a first flaw.
 pub fn first_flaw_is_there()
     ensures closed { (game : ParityGame) (certificate : CertificateData) → IsClosed game certificate ⊎
         (¬ IsClosed game certificate × ((flaw : Flaw) × IsFirstFlaw game certificate flaw)) }

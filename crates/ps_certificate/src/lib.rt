@@ -1,10 +1,11 @@
 //! Certificates of parity games, which state who wins each vertex, by which move, and why.
 //!
-//! The reason is given by counts: each vertex has one count for each priority that opposes its winner, that is, for
-//! each priority of the other player's parity. An edge remains if it is the winner's move in the certificate, or leaves
-//! a vertex that the loser owns. For each priority, the count does not rise along a remaining edge whose two ends have
-//! no greater priority, and it falls if the edge also leaves a vertex of that priority. docs/CERTIFICATES.md describes
-//! the format and the rule, for those who write another checker.
+//! A certificate proves its winners by counts: each vertex has one count for each priority that opposes its winner,
+//! that is, for each priority of the other player's parity. The winner's moves allow an edge, which is then called a
+//! remaining edge, if it is one of these moves, or if it leaves a vertex that the loser owns. The rule of counts: for
+//! each priority, the count does not rise along a remaining edge whose two ends have no greater priority, and it falls
+//! if the edge also leaves a vertex of this priority. The file docs/CERTIFICATES.md describes the format and the rule,
+//! for those who write another checker of certificates.
 //!
 //! | Call | What it gives |
 //! |---|---|
@@ -19,8 +20,9 @@
 //! | `Row::at`, `len`, `copy_into` | the counts of a vertex as a list, of which only the nonzero counts are stored |
 //! | `Flaw::number`, `name` | the number and name of a flaw in psyn's list of faults |
 //!
-//! `fits`, `closed` and `check` allocate no memory. `closed` ignores priorities and counts, and takes time proportional
-//! to the number of edges. For each priority, `check` takes time proportional to the number of edges.
+//! The checks `fits`, `closed` and `check` allocate no memory. The check `closed` ignores priorities and counts, and
+//! takes time proportional to the number of edges. The whole check, `check`, takes time proportional to the number of
+//! edges, times the number of priorities.
 //!
 //! | Law | What it says |
 //! |---|---|

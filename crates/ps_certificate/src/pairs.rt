@@ -1,4 +1,4 @@
-//! The nonzero counts in a line of a compact text, each after its priority.
+//! The parser of the nonzero counts in a line of a certificate's compact text, each after its priority.
 
 ghost use Rattle.std.specs.Prelude.{◌≡◌, ◌<◌, IfOk, length, slice_index, true};
 ghost use Rattle.ps_certificate.specs.Pairs.{Pairs, with_pair};
@@ -12,7 +12,7 @@ use crate::rising::Rising;
 use ps_text::cursor::Cursor;
 
 /// Parses the counts for the given priorities, and the end of the line: all counts, or the nonzero ones in a compact
-/// text. The counts replace the contents of the list `counts`.
+/// text. The counts that were parsed replace the contents of the list `counts`.
 pub(crate) fn counts_for(
     cursor: &mut Cursor,
     priorities: Rising<'_>,
@@ -29,7 +29,8 @@ pub(crate) fn counts_for(
     }
 }
 
-/// Parses pairs of a priority and its count, each after a space, and the end of the line. An omitted count is 0.
+/// Parses pairs of a priority and its count, each after a space, and the end of the line. A count that the compact text
+/// leaves out is 0.
 fn pairs(
     cursor: &mut Cursor,
     priorities: Rising<'_>,
@@ -50,7 +51,8 @@ fn pairs(
     Ok(())
 }
 
-/// Parses a pair. Returns the index of the priority, which must be greater than `last`, and the count.
+/// Parses a pair. Returns the index of the pair's priority, and the pair's count; the priority must be greater than
+/// `last`.
 fn pair(
     cursor: &mut Cursor,
     priorities: Rising<'_>,
@@ -94,7 +96,7 @@ fn priority(
     }
 }
 
-/// Parses a count, which must not be 0.
+/// Parses a count of a compact text, which must not be 0.
 fn positive(cursor: &mut Cursor) -> Result<u64, CertFault>
     ensures { Tells (λ n. n) (parts.judged IsZero) cursor.old result cursor.new }
 {
@@ -106,7 +108,7 @@ fn positive(cursor: &mut Cursor) -> Result<u64, CertFault>
     Ok(count)
 }
 
-/// Whether a number is greater than `last`, if there is a last number.
+/// Whether a number is greater than `last`; true if there is no last number.
 fn is_above(number: u64, last: Option<u64>) -> bool
     ensures { result ≡ rises last number }
 {

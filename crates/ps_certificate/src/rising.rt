@@ -5,7 +5,7 @@ ghost use Rattle.std.specs.List.{Contains};
 ghost use Rattle.std.specs.List.Sorted.{IsStrictlyIncreasing};
 ghost use Rattle.ps_certificate.specs.Inner.Prefixes.{IsAt};
 
-/// Whether each number is less than the number after it.
+/// Whether each number of a list is less than the number after it.
 pub(crate) fn is_rising(list: &[u64]) -> bool
     ensures { IsTrue result ↔ IsStrictlyIncreasing list.now }
 {
@@ -28,7 +28,7 @@ pub(crate) struct Rising<'a> {
 }
 
 impl<'a> Rising<'a> {
-    /// The index of a number.
+    /// The index of a number in the ascending list, or `None` if the list doesn't have it.
     pub(crate) fn place_of(self, number: u64) -> Option<usize>
         ensures none { IfNone result (¬ Contains self.entry.list.now number) }
         ensures some { IfSome result (IsAt self.entry.list.now number) }
@@ -39,7 +39,7 @@ impl<'a> Rising<'a> {
         }
     }
 
-    /// The index of the first number that is at least `number`.
+    /// The index of the first number of the list that is at least `number`.
     pub(crate) fn first_at_least(self, number: u64) -> usize
         ensures within { result ≤ length self.entry.list.now }
         ensures before { (k : ℕ) → k < result → slice_index self.entry.list.now k < number }

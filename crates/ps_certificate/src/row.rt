@@ -1,4 +1,5 @@
-//! The counts of an entry. Most counts are 0; only the nonzero counts are stored, each with its index.
+//! The counts of one vertex's entry in a certificate. Most counts of a certificate are 0; only the nonzero counts are
+//! stored, each with its index.
 
 ghost use Rattle.std.specs.Bool.{OnTrue};
 ghost use Rattle.std.specs.Prelude.{◌≡◌, ◌==◌, ◌<◌, length, slice_index, IfNone, IfSome, OnOk};
@@ -33,21 +34,21 @@ impl<'a> Model for Row<'a> {
 }
 
 impl<'a> Row<'a> {
-    /// The number of counts.
+    /// The number of counts in the row, including those that are 0.
     pub fn len(&self) -> usize
         ensures { result ≡ length self.now }
     {
         self.width
     }
 
-    /// Whether there are no counts.
+    /// Whether the row has no counts.
     pub fn is_empty(&self) -> bool
         ensures { result ≡ (length self.now == 0) }
     {
         self.width == 0
     }
 
-    /// The count at an index.
+    /// The count at an index of the row.
     pub fn at(&self, place: usize) -> u64
         requires { place < length self.now }
         ensures { result ≡ slice_index self.now place }
@@ -90,8 +91,8 @@ impl<'a> Row<'a> {
     }
 }
 
-/// The number of stored counts whose index is less than `place`. The search starts at `hint`, unless the result is less
-/// than `hint`.
+/// The number of stored counts whose index is less than `place`. The search begins after the first `hint` stored
+/// counts, or at the first stored count if the result is less than `hint`.
 fn first_from(placed: &[PlacedCount], hint: usize, place: usize) -> usize
     requires { AreRising placed.now }
     ensures { IsFirstFrom placed.now place result }

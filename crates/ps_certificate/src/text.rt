@@ -60,7 +60,7 @@ pub fn ids_of(alloc: Global, game: &NamedGame) -> Result<Ids, AllocError>
     Ok(ids)
 }
 
-/// Moves past the lines before those of the vertices, and returns whether the text is compact.
+/// Parses the lines of a certificate's text before those of the vertices, and returns whether the text is compact.
 fn head(cursor: &mut Cursor, known: &Known, count: usize) -> Result<bool, CertFault>
     ensures { (ids : List ℕ) → count ≡ length ids → TellsHead known.now.odd.items known.now.even.items ids cursor.old
         result cursor.new }
@@ -76,7 +76,7 @@ fn head(cursor: &mut Cursor, known: &Known, count: usize) -> Result<bool, CertFa
     Ok(compact)
 }
 
-/// Who wins a vertex, and by which move.
+/// The winner of a vertex, and the winner's move.
 #[derive(Clone, Copy)]
 struct Won {
     winner: u8,
@@ -105,7 +105,7 @@ fn entry(
     Ok(Won { winner, choice })
 }
 
-/// Parses the entries of all vertices, one line each.
+/// Parses the certificate's entries of all vertices, one line each.
 fn entries(
     alloc: Global,
     cursor: &mut Cursor,
@@ -130,7 +130,7 @@ fn entries(
     Ok(entries)
 }
 
-/// Parses the entries from a whole text.
+/// Parses the whole text of a certificate, and returns the entries of its vertices.
 fn entries_of(
     alloc: Global,
     text: &[u8],
@@ -150,12 +150,12 @@ fn entries_of(
     }
 }
 
-/// Parses the text of a certificate of a game, plain or compact. Winners are 0 or 1. The text gives each move by the id
-/// of a vertex, and the certificate stores the vertex's index.
+/// Parses the text of a certificate of a game, plain or compact. Each winner in the text is 0 or 1. In the text a move
+/// is the id of a vertex; the parsed certificate stores the index of this vertex.
 ///
 /// # Errors
 ///
-/// [`CertFault::Text`] with the first error of the text and its offset; out of memory.
+/// [`CertFault::Text`] with the first error of the text and its offset, or out of memory.
 pub fn read(alloc: Global, text: &[u8], game: &NamedGame) -> Result<Certificate, CertFault>
     // The certificate of the text, or the first error of the text.
     ensures exact { IsCertificateAnswer game.now text.now result }
@@ -171,14 +171,14 @@ pub fn read(alloc: Global, text: &[u8], game: &NamedGame) -> Result<Certificate,
     Ok(Certificate { odd, even, entries })
 }
 
-/// The text of a certificate has at most one answer for a given game.
+/// The text of a certificate has at most one answer, a certificate or an error, for a given game.
 pub fn certificate_text_has_one_answer()
     ensures { (game : NamedGameData) (text : List ℕ) (answer other : Result CertificateData (Found CertCause)) →
         ReadsCertificate game text answer → ReadsCertificate game text other → answer ≡ other }
 {}
 
-/// The text of a certificate has an answer for a given game. The law concerns texts and not calls, so out of memory is
-/// not one of the answers.
+/// The text of a certificate has an answer, a certificate or an error, for a given game. This law is about texts, not
+/// about calls of the parser, so out of memory is not one of the answers.
 pub fn certificate_text_has_some_answer()
     ensures { (game : NamedGameData) (text : List ℕ) → (answer : Result CertificateData (Found CertCause)) ×
         ReadsCertificate game text answer }

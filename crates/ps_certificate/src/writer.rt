@@ -16,11 +16,11 @@ use ps_game::{Arena, NamedGame};
 use ps_text::numbers::write_number;
 use std::alloc::{AllocError, Global};
 
-/// Forty zeros, each after a space.
+/// The text of forty zeros, each after a space.
 const ZEROS: &[u8; 80] =
     b" 0 0 0 0 0 0 0 0 0 0 0 0 0 0 0 0 0 0 0 0 0 0 0 0 0 0 0 0 0 0 0 0 0 0 0 0 0 0 0 0";
 
-/// The number of bytes of a line apart from its counts, if ids have six digits.
+/// How many bytes a vertex's line has apart from its counts, if ids have six digits.
 const LINE: usize = 18;
 
 /// Writes a certificate of a game: the first line, the number of vertices, the odd and the even priorities, and a line
@@ -51,7 +51,7 @@ pub fn write_compact(
     write_text(alloc, certificate, game, true)
 }
 
-/// Writes the plain or the compact text.
+/// Writes the plain or the compact text of a certificate.
 fn write_text(
     alloc: Global,
     certificate: &Certificate,
@@ -70,7 +70,7 @@ fn write_text(
     Ok(out)
 }
 
-/// A number of bytes that suffices for most texts, so that the buffer need not be moved.
+/// An estimate of the length of a certificate's text in bytes, which often suffices, so that the buffer need not grow.
 fn room_for(entries: &Entries, compact: bool) -> usize {
     let mut room: usize = 0;
     for vertex in 0..entries.len() {
@@ -86,7 +86,7 @@ fn room_for(entries: &Entries, compact: bool) -> usize {
     room
 }
 
-/// Writes the lines before those of the vertices.
+/// Writes the lines of a certificate's text that come before those of the vertices.
 fn write_head(
     out: &mut Vec<u8>,
     count: usize,
@@ -109,14 +109,14 @@ fn write_head(
     Ok(())
 }
 
-/// The digit of the version.
+/// The digit of the version: 1 for a plain text, 2 for a compact text.
 fn version_digit(compact: bool) -> u8
     ensures { result ≡ version_digit compact }
 {
     if compact { b'2' } else { b'1' }
 }
 
-/// Writes a line for each vertex. The contents of `row` are overwritten.
+/// Writes the line of each vertex of a certificate. The contents of `row` are overwritten.
 fn write_entries(
     out: &mut Vec<u8>,
     row: &mut Vec<u64>,
@@ -225,7 +225,7 @@ fn write_pair(out: &mut Vec<u8>, priority: u64, count: u64) -> Result<(), AllocE
     write_number(out, count)
 }
 
-/// Writes numbers, each after a space. Most counts are 0, so a run of zeros is written at once.
+/// Writes numbers, each after a space. Most of these numbers are counts of 0, so a run of zeros is written at once.
 fn write_fields(out: &mut Vec<u8>, numbers: &[u64]) -> Result<(), AllocError>
     ensures bytes { OnOk result (out.new.items ≡ out.old.items ++ fields numbers.now) }
     ensures words { OnOk result (All IsWord numbers.now) }

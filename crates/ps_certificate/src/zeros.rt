@@ -17,7 +17,7 @@ pub(crate) fn leading_zeros(numbers: &[u64], most: usize) -> usize
     zeros
 }
 
-/// The number of leading zeros of a list before index `end`, counted in whole blocks of eight.
+/// The number of leading zeros in whole blocks of eight numbers, before index `end` of a list.
 fn zero_blocks(numbers: &[u64], end: usize) -> usize
     requires { end ≤ length numbers.now }
     ensures within { result ≤ end }

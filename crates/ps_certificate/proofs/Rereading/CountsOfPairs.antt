@@ -8,7 +8,7 @@ use Rattle.std.proofs.lemmas.List.Elements.{All-head, All-tail}
 use Rattle.ps_certificate.specs.Pairs.{Pairs, with_pair}
 use Rattle.ps_certificate.proofs.OneReading.{Rises}
 
--- the counts that are known after the pairs of `ps` and `cs` were read
+-- the counts known after the pairs of the priorities `ps` and their counts `cs` were read
 abbrev pub after : List ℕ → List ℕ → Pairs → Pairs
 after [] cs so_far = so_far
 after (p ∷ ps) [] so_far = so_far

@@ -58,7 +58,7 @@ use Rattle.ps_text.proofs.Bytes.Single.{At, byte_taken}
 abbrev seen : ℕ → List ℕ → List Seen
 seen at bytes = signs (pieces_at at bytes)
 
--- a part is read from the given bytes at every offset
+-- the bytes `text` are parsed as the part P of the grammar, at whatever offset they stand
 record IsReadFrom {V : Type 0} (P : Field V) (text : List ℕ) (v : V) (rest : List ℕ) : Type 0 where
   read : (at : ℕ) → (to : ℕ) × IsRead P (seen at text) v (seen to rest)
 
@@ -73,7 +73,7 @@ with_value : {A B : Type 0} (h : A → B) {P : Field A} {a : A} {text rest : Lis
     IsReadFrom (mapped h P) text (h a) rest
 with_value h {P} p = record { read = λ at. let r = p.read at in (r.0, read_mapped h P r.1) }
 
--- a part that has several forms is read in one of these forms
+-- if one alternative of a grammar's part parses the bytes, the part parses them with the same value
 as_form : {V : Type 0} {P Q : Field V} {v : V} {text rest : List ℕ} →
     ((at : ℕ) → Covers (first_of (seen at text)) P Q) → IsReadFrom P text v rest → IsReadFrom Q text v rest
 as_form {P = P} {Q = Q} covers p = record { read = λ at. let r = p.read at in (r.0, read_as P Q (covers at) r.1) }
@@ -90,11 +90,11 @@ one_byte {take = take} {Bad = Bad} {b = b} {rest = rest} takes good = record {
       (at + 1, read_one take Bad (takes s refl) (λ f x. good s f refl x));
 }
 
--- the next sign is not in a given set
+-- the next byte is not in a given set
 avoids : (A : Seen → Type 0) (s : Seen) → (A s → ⊥) → Avoids A (Some s)
 avoids A s none t e h = none (subst A (sym (same_some s t e)) h)
 
--- a list of items, each after a space: the list ends, or one more item follows
+-- in a list of items, each after a space, either the list ends or one more item follows
 module _ {C : Type 0} (item : C → Field C) (l : (c : C) → Laws Odd (item c) (At 32) AtDigit ⊥) where
   no_item : (c : C) (rest : List ℕ) → IsReadFrom (many item c) (10 ∷ rest) c (10 ∷ rest)
   no_item c rest = record {
@@ -214,7 +214,7 @@ read_pair ps so_far p c above there small some fits end = then (chain_pair ps so
     right : (f : CertCause) → ((f ≡ Syntax) × DoesNotRise so_far p) ⊎ ((f ≡ OtherGame) × ¬ Contains ps p) → ⊥
     right f h = grind arith
 
--- the priorities are greater than the last one that was read, and each of them is in the list of all priorities
+-- the priorities still to be written are greater than the last one that was read, and are among the listed priorities
 abbrev AllAbove : Pairs → List ℕ → Type 0
 AllAbove so_far ps = All (λ p. DoesNotRise so_far p → ⊥) ps
 
@@ -262,8 +262,8 @@ read_counts_in true ps {cs} {rest} r same small fits = subst (λ xs. IsReadFrom 
 
 module _ (compact : Bool) (ids odd even : List ℕ) (ids_small : All IsWord ids) (odd_rises : Rises odd)
     (even_rises : Rises even) (odd_small : All IsWord odd) (even_small : All IsWord even) where
-  -- the entry can be written; it has one count for each priority that opposes the winner, and the id of its move is the
-  -- id of a vertex
+  -- the entry of a vertex can be parsed again: it has one count for each priority that opposes the winner, and its
+  -- move, if it has one, is a vertex
   record IsReadable (entry : EntryData) : Type 0 where
     winner : entry.winner < 2
     counts : length entry.counts ≡ length (lost_by odd even entry.winner)
@@ -332,7 +332,7 @@ module _ (ids : List ℕ) (differ : AllPairs (λ x y. x ≢ y) ids) where
       (omega (arith, within)) (λ k lt. ne_eqb (get_or ids k 0) id (differ k v 0 lt within)) (λ _. eq-eqb id id refl) in
       grind (arith, lt-ltb)
 
--- a property of the entry at each index of a list is a property of all entries
+-- if the entry at each index of a list has a property, all entries of the list have it
 each_entry : (P : EntryData → Type 0) (entries : List EntryData)
     → ((v : ℕ) → v < length entries → P (get_or entries v no_entry)) → All P entries
 each_entry P entries h k d lt = subst P (get_or_default entries k no_entry d lt) (h k lt)

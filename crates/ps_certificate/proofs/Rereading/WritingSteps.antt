@@ -29,7 +29,7 @@ pub head_joined : (o w : List ℕ) (v : ℕ) (a b c d e f : List ℕ) → ((((((
     ++ 10 ∷ e) ++ f) ++ 10 ∷ [] ≡ o ++ (((((((w ++ v ∷ a) ++ b) ++ c) ++ d) ++ 10 ∷ e) ++ f) ++ 10 ∷ [])
 head_joined o w v a b c d e f = grind (arith, append_assoc, eight_joined)
 
--- the pairs from an index on, in terms of those from the next index on
+-- the written pairs `priority:count` from an index on begin with the pair at this index, unless its count is 0
 pairs_next : (ps cs : List ℕ) (i : ℕ) → i < length cs → length cs ≡ length ps
     → pairs (drop i ps) (drop i cs) ≡ cond (eqb (get_or cs i 0) 0) (pairs (drop (i + 1) ps) (drop (i + 1) cs))
     (32 ∷ decimal (get_or ps i 0) ++ 58 ∷ decimal (get_or cs i 0) ++ pairs (drop (i + 1) ps) (drop (i + 1) cs))

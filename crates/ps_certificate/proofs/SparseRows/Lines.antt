@@ -1,4 +1,5 @@
--- Entries that are stored as winners, lines and one shared list of counts with their indices.
+-- Lemmas about a certificate's stored entries: a list of winners, a list of lines, and one shared list of nonzero
+-- counts with their indices.
 use Rattle.std.proofs.Common.{◌≡◌, ℕ, ◌<◌, ◌≤◌, List, [], ◌∷◌, ◌++◌, length, get_or, take, drop, refl}
 use Rattle.std.proofs.Common.{ap, sym, subst, ◌∙◌, arith, rules}
 use Rattle.std.specs.List.{All, slice_range, zip}
@@ -12,7 +13,7 @@ use Rattle.ps_certificate.specs.Sparse.{dense_row}
 use Rattle.ps_certificate.specs.declared.entries.Line.{Line}
 use Rattle.ps_certificate.specs.declared.row.PlacedCount.{PlacedCount}
 
--- a part of a list does not change when more is appended
+-- the items between two indices of a list do not change when more items are appended
 range_kept : {X : Type 0} (xs ys : List X) (i j : ℕ) → j ≤ length xs → slice_range (xs ++ ys) i j ≡ slice_range xs i j
 range_kept xs ys i j h = grind (arith, common_steps)
 
@@ -23,7 +24,7 @@ zip_push [] (b ∷ ls) w l h = absurd (omega arith)
 zip_push (a ∷ ws) [] w l h = absurd (omega arith)
 zip_push (a ∷ ws) (b ∷ ls) w l h = ap (λ rest. (a, b) ∷ rest) (zip_push ws ls w l (omega arith))
 
--- entries and lines do not change when more is appended to the shared list
+-- the entries that are stored as lines do not change when more counts are appended to the shared list
 entries_kept : (ws : List ℕ) (ls : List Line) {cs : List PlacedCount} (more : List PlacedCount) →
     All (IsRowWithin cs) ls
     → entries_in ws ls (cs ++ more) ≡ entries_in ws ls cs
@@ -42,7 +43,7 @@ all_kept [] {cs} more h = All-nil (IsRowWithin (cs ++ more))
 all_kept (a ∷ ls) {cs} more h = All-cons (IsRowWithin (cs ++ more)) a ls
     (within_kept more (All-head (IsRowWithin cs) a ls h)) (all_kept ls more (All-tail (IsRowWithin cs) a ls h))
 
--- one list begins with another
+-- if `xs` is a prefix of the list `ys`, `ys` is `xs` followed by some list
 begins : {X : Type 0} (xs ys : List X) → take (length xs) ys ≡ xs → (more : List X) × (ys ≡ xs ++ more)
 begins xs ys h = (drop (length xs) ys, grind (arith, common_steps))
 
@@ -63,7 +64,7 @@ module _ (ws : List ℕ) (ls : List Line) (cs new : List PlacedCount) (are : Are
         (ls ++ line ∷ []) new ≡ entries_in ws ls cs ++ record { winner = w; choice = line.choice; counts = row } ∷ []
     entries_push is = search (rules, zip_push, map-append, entries_same)
 
-    -- one more line, whose counts are in the list
+    -- the stored lines stay correct when one more line is appended whose counts are in the shared list
     pub lines_push : IsRowWithin new line → AreLines (ws ++ w ∷ []) (ls ++ line ∷ []) new
     lines_push is = grind (
       arith,

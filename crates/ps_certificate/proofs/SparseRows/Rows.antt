@@ -1,4 +1,4 @@
--- How a row is compared with another row, and copied.
+-- Lemmas about two operations on a vertex's row of counts: comparing it with another row, and copying it.
 use Rattle.std.proofs.Common.{◌≡◌, ℕ, ◌+◌, ◌-◌, ◌<◌, ◌≤◌, List, [], ◌∷◌, ◌++◌, length, replicate, ap, arith}
 use Rattle.std.proofs.Common.{take, inl, inr, rules}
 use Rattle.std.proofs.lemmas.Bool.{cases_order, cases_lt}
@@ -11,8 +11,8 @@ use Rattle.ps_certificate.proofs.SparseRows.Sparse.{place_within, rising, length
 
 -- ## Comparing
 
--- the first `number` stored counts, as far as their indices are at least `from`, are not greater than the counts of the
--- other list; all later stored counts have indices of at least `from`
+-- of the first `number` stored counts, those with an index of at least `from` are at most the other list's counts; all
+-- later stored counts have such indices
 pub record AreNotAbove (own other : List PlacedCount) (from number : ℕ) : Type 0 where
   pub within : number ≤ length own
   pub late : (j : ℕ) → number ≤ j → j < length own → from ≤ place_at own j
@@ -39,14 +39,14 @@ module _ (own other : List PlacedCount) (from number : ℕ) where
 
 -- ## Copying
 
--- the list has the counts up to its length, among them the first `number` stored counts
+-- the list is the beginning of the full list of counts, up to and including the first `number` stored counts
 pub record IsFilled (width : ℕ) (placed : List PlacedCount) (list : List ℕ) (number : ℕ) : Type 0 where
   pub list_is : list ≡ dense_row (length list) placed
   pub long : length list ≤ width
   pub before : (i : ℕ) → i < number → place_at placed i < length list
   pub behind : (i : ℕ) → number ≤ i → i < length placed → length list ≤ place_at placed i
 
--- how a list changes when it is extended with zeros
+-- the code that extends a list with zeros to length n appends exactly the missing zeros
 pub resized : (list : List ℕ) (n long : ℕ) → long ≡ length list → length list ≤ n →
     take n list ++ replicate (n - long) 0 ≡ list ++ replicate (n - length list) 0
 resized list n long is more = search (rules, take_all)

@@ -11,7 +11,7 @@ use Rattle.ps_certificate.specs.declared.row.PlacedCount.{PlacedCount}
 
 -- ## The counts of a row
 
--- the list has n counts
+-- the full list of counts that is made for a length n has n counts
 pub length-counts_from : (ps : List PlacedCount) (n k : ℕ) → length (counts_from ps n k) ≡ n
 length-counts_from ps zero k = refl
 length-counts_from ps (suc n) k = ap suc (length-counts_from ps n (suc k))
@@ -59,7 +59,7 @@ same_place p ps {k} h = ap (λ b. cond b p.count (count_at ps k)) (eq-eqb p.plac
 other_place : (p : PlacedCount) (ps : List PlacedCount) (k : ℕ) → p.place ≢ k → count_at (p ∷ ps) k ≡ count_at ps k
 other_place p ps k h = ap (λ b. cond b p.count (count_at ps k)) (ne_eqb p.place k h)
 
--- if no stored count has an index, the count at that index is 0
+-- the count at an index that no stored count has is 0
 pub count_missing : (ps : List PlacedCount) (k : ℕ) → ((i : ℕ) → i < length ps → place_at ps i ≢ k) → count_at ps k ≡ 0
 count_missing [] k h = refl
 count_missing (p ∷ ps) k h =
@@ -92,7 +92,7 @@ zeros_from ps zero k h = refl
 zeros_from ps (suc n) k h = ap (λ c. c ∷ counts_from ps n (suc k)) (grind (arith, count_missing))
     ∙ ap (λ rest. 0 ∷ rest) (zeros_from ps n (suc k) (λ i within late. omega (arith, h i within (omega (arith, late)))))
 
--- a row up to the next stored index is the row so far with zeros appended
+-- if no stored count has an index from `from` to `to` - 1, extending the counts to length `to` appends zeros
 pub row_to : (ps : List PlacedCount) (from to : ℕ) → from ≤ to → ((i : ℕ) → i < length ps →
     from ≤ place_at ps i → to ≤ place_at ps i) → dense_row to ps ≡ dense_row from ps ++ replicate (to - from) 0
 row_to ps from to h next = let long : to ≡ from + (to - from) = omega (arith, h) in
@@ -111,7 +111,7 @@ pub gathered_zeros : (n k : ℕ) (cs : List ℕ) → gathered k (replicate n 0 +
 gathered_zeros zero k cs = let same : k ≡ k + 0 = omega arith in ap (λ j. gathered j cs) same
 gathered_zeros (suc n) k cs = search (rules, gathered_zero, replicate, gathered_zeros n (suc k) cs)
 
--- the rest of a list as its first number and the numbers after it
+-- the rest of a list from index k on is the number at index k, followed by the rest from index k + 1 on
 rest_at : (cs : List ℕ) (k : ℕ) → k < length cs → drop k cs ≡ get_or cs k 0 ∷ drop (k + 1) cs
 rest_at cs k within = search (rules, drop-cons)
 

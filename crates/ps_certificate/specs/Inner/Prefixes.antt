@@ -1,5 +1,5 @@
--- Intermediate facts that the checks establish. Only private contracts use these facts; the public contracts use
--- `IsClosed`, `IsValid` and `IsFirstFlaw`.
+-- Facts about single vertices and edges that the steps of a certificate's check establish. Only contracts of private
+-- functions use these facts; the public contracts use `IsClosed`, `IsValid` and `IsFirstFlaw`.
 use Rattle.std.specs.Prelude.{◌≡◌, ◌≢◌, ℕ, ◌%◌, ◌<◌, ◌⊎◌, List, length, IfSome, slice_index}
 use Rattle.std.specs.List.{Contains}
 use Rattle.ps_game.specs.Games.{ParityGame, vertex_count, priority_of, successors_of}
@@ -9,34 +9,36 @@ use Rattle.ps_certificate.specs.Certificates.{CertificateData, Fits, Remains, Ha
 use Rattle.ps_certificate.specs.Certificates.{OccursBefore}
 use Rattle.ps_certificate.specs.Certificates.{winner_of, choice_of, counts_of, opposing, KeepsCount, opposing_at}
 
--- each remaining edge of a vertex leads to a vertex with the same winner
+-- each edge of a vertex that the winner's moves allow leads to a vertex with the same winner
 abbrev pub StaysInside : ParityGame → CertificateData → ℕ → Type 0
 StaysInside game certificate v =
     (w : ℕ) → Remains game certificate v w → winner_of certificate w ≡ winner_of certificate v
 
--- the move of a vertex is right, and its remaining edges lead to vertices with the same winner
+-- the move of a vertex is right, and each edge of the vertex that the winner's moves allow leads to a vertex with the
+-- same winner
 pub record IsSoundAt (game : ParityGame) (certificate : CertificateData) (v : ℕ) : Type 0 where
   pub right_move : HasRightMove game certificate v
   pub inside : StaysInside game certificate v
 
--- there is an entry for each vertex, and v is a vertex
+-- the certificate has one entry for each vertex of the game, and v is a vertex
 pub record HasEntry (game : ParityGame) (certificate : CertificateData) (v : ℕ) : Type 0 where
   pub entry_each : length certificate.entries ≡ vertex_count game
   pub vertex : v < vertex_count game
 
--- the certificate fits the game, and its entry for the vertex v is sound, so the counts of the remaining edges of v can
--- be compared
+-- the counts at the ends of v's edges can be compared: the certificate fits the game, and vertex v has neither a wrong
+-- move nor an edge out of its winner's region
 pub record IsRankable (game : ParityGame) (certificate : CertificateData) (v : ℕ) : Type 0 where
   pub fits : Fits game certificate
   pub vertex : v < vertex_count game
   pub sound : IsSoundAt game certificate v
 
--- a remaining edge that leads to a vertex with the other winner
+-- an edge that the winner's moves allow, but that leads to a vertex with the other winner
 pub record Leaves (game : ParityGame) (certificate : CertificateData) (v w : ℕ) : Type 0 where
   pub remains : Remains game certificate v w
   pub other_winner : winner_of certificate w ≢ winner_of certificate v
 
--- the vertex's first remaining edge that leaves its winner's region
+-- the vertex's first escape: of the edges that the winner's moves allow, the first that leads to a vertex with the
+-- other winner
 pub record IsFirstEscape (game : ParityGame) (certificate : CertificateData) (v w : ℕ) : Type 0 where
   pub leaves : Leaves game certificate v w
   pub first : (other : ℕ) → Leaves game certificate v other → (w ≡ other) ⊎ OccursBefore (successors_of game v) w other
@@ -53,7 +55,7 @@ vertex_of (Move v _) = v
 vertex_of (Escape v _) = v
 vertex_of (Rank v _ _) = v
 
--- the first flaw at a vertex among those of one stage
+-- the first of the flaws that one stage of the check reports at a vertex
 pub record IsFirstFlawAt (game : ParityGame) (certificate : CertificateData) (stage v : ℕ) (flaw : Flaw) : Type 0 where
   pub is_flaw : IsFlaw game certificate flaw
   pub at_stage : stage_of flaw ≡ stage
@@ -77,26 +79,27 @@ pub record IsAt (list : List ℕ) (number place : ℕ) : Type 0 where
   pub within : place < length list
   pub is : slice_index list place ≡ number
 
--- an edge keeps the rule of counts for each opposing priority
+-- an edge obeys the rule of counts for each priority that opposes the winner
 abbrev pub KeepsCounts : ParityGame → CertificateData → ℕ → ℕ → Type 0
 KeepsCounts game certificate v w =
     (k : ℕ) → k < length (opposing certificate (winner_of certificate v)) → KeepsCount game certificate v w k
 
--- each remaining edge of a vertex keeps the rule of counts for each opposing priority
+-- each edge of a vertex that the winner's moves allow obeys the rule of counts for each priority that opposes the
+-- winner
 abbrev pub KeepsCountsAt : ParityGame → CertificateData → ℕ → Type 0
 KeepsCountsAt game certificate v = (w : ℕ) → Remains game certificate v w → KeepsCounts game certificate v w
 
--- the vertices before a given one keep the rule of counts
+-- the edges of each vertex before vertex `n` obey the rule of counts, as far as the winner's moves allow these edges
 abbrev pub KeepCountsBefore : ParityGame → CertificateData → ℕ → Type 0
 KeepCountsBefore game certificate n = (v : ℕ) → v < n → KeepsCountsAt game certificate v
 
--- the first flaw in counts at a vertex, if each earlier vertex keeps the rule
+-- the first edge that breaks the rule of counts, as a flaw: no earlier vertex has such an edge
 pub record IsFirstUnranked (game : ParityGame) (certificate : CertificateData) (flaw : Flaw) : Type 0 where
   pub vertex : ℕ
   pub at_vertex : IsFirstFlawAt game certificate 1 vertex flaw
   pub before : KeepCountsBefore game certificate vertex
 
--- the first opposing priority for which an edge breaks the rule
+-- the first of the priorities that oppose the winner for which an edge breaks the rule of counts
 pub record IsFirstBroken (game : ParityGame) (certificate : CertificateData) (v w p : ℕ) : Type 0 where
   pub place : ℕ
   pub within : place < length (opposing certificate (winner_of certificate v))

@@ -40,7 +40,7 @@ comes byte (b ∷ bytes) = b == byte
 abbrev pub numeral : List ℕ → List ℕ
 numeral bytes = if comes 48 bytes then 48 ∷ [] else take_while is_ascii_digit bytes
 
--- the function moved past the next run of digits, which denotes the given number
+-- the parsing function moved past the next run of digits, which denotes the number `n`
 pub record IsNumberRead (old new : Stream Seen) (n : ℕ) : Type 0 where
   pub at : ℕ
   pub digits : List ℕ
@@ -65,13 +65,13 @@ abbrev pub TellsNumber : Stream Seen → Result ℕ CertFault → Stream Seen �
 TellsNumber old (Ok n) new = IsNumberRead old new n
 TellsNumber old (Err e) new = (e ≡ Text Syntax (stream_offset old)) × HasNoNumber old
 
--- the number is greater than the last priority, if there is one
+-- the number is greater than the last priority that was read, or no priority was read before
 abbrev pub rises : Option ℕ → ℕ → Bool
 rises None n = true
 rises (Some last) n = nat_lt last n
 
--- the function read the priority of a count, which is at the given index of the list; or it located the first error,
--- which is in the priority or is a missing colon after it
+-- the function read a count's priority, and returned its index in the list; or it located the first error, which is in
+-- the priority or is a missing colon
 abbrev pub TellsPriority : List ℕ → Pairs → Stream Seen → Result ℕ CertFault → Stream Seen → Type 0
 TellsPriority ps pairs old (Ok place) new = ReadsPart (judged (WrongPriority ps pairs)) old
     (slice_index ps place) new
@@ -82,7 +82,7 @@ TellsPriority ps pairs old (Err e) new =
 
 -- ## The text
 
--- the lines of the vertices, which end the text
+-- the grammar of the lines of all vertices, with which the text of a certificate ends
 abbrev pub all_entries : Bool → List ℕ → List ℕ → List ℕ → Field CertificateData
 all_entries compact odd even ids = mapped (λ es. record { odd = odd; even = even; entries = es })
     (entries compact odd even ids ids)

@@ -7,6 +7,6 @@ use Rattle.ps_certificate.proofs.fitted.is_just.Given as goal
 abbrev pub invariant-loop-vertex : goal.invariant-loop-vertex
 invariant-loop-vertex g l = AreJust (g.A.Arena.game l.arena) l.parity l.rising.list.now l.seen l.vertex
 
--- each number before the loop's index is marked
+-- each listed number before the loop's index is marked
 abbrev pub invariant-loop-place : goal.invariant-loop-place
 invariant-loop-place g l = (k : ℕ) → k < l.place → get_or l.seen k false ≡ true
