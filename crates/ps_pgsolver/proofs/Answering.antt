@@ -1,4 +1,5 @@
--- The answer to a text follows from reading it once or twice.
+-- How the answer to a game text follows from parsing the text once or twice; the second time checks that each successor
+-- is a node's id.
 use Rattle.std.proofs.Common.{◌≡◌, ℕ, ◌≤◌, List, length, Option, None, Some, Result, Ok, Err, IsErrAnd, IfOk, refl, sym}
 use Rattle.std.proofs.Common.{rules, ap, subst, zero, suc, ◌+◌, ◌-◌, Bool, cond, [], ◌∷◌, ◌++◌, arith, length-append}
 use Rattle.std.specs.Result.{IfErr}
@@ -44,7 +45,8 @@ module _ (text : List ℕ) (short : length text ≤ text_limit) where
     answer second (Ok named) v m = meaning (stream_of text) nodes (tokens text short) first second (ap Ok v)
     answer second (Err fault) v m = subst (λ f. IsGameAnswer text (Err f)) (sym m) tt
 
--- if the text is read again with its ids as the known ones and has no error, each successor is an id
+-- if the text is parsed a second time, now knowing the ids of its nodes, and has no error, each successor is one of
+-- these ids
 pub none_unknown : (text : List ℕ) (nodes other : List NodeData) →
     PartAnswers pg_causes (game None) (stream_of text) (Ok nodes) →
     PartAnswers pg_causes (game (Some (ids_of nodes))) (stream_of text) (Ok other) → KnowsAll (ids_of nodes) nodes

@@ -1,4 +1,5 @@
--- The parts that may be missing, namely settings and names; and the tests by which loops continue.
+-- Lemmas about what may be missing in a game text (lines such as `parity 7;`, and names), and about the tests that keep
+-- the parser's loops going.
 use Rattle.std.proofs.Common.{◌≡◌, ℕ, ◌<◌, true, false, List, length, Option, None, Some, Ok, Err, refl}
 use Rattle.std.proofs.Common.{sym, ap, subst, inl, ◌∙◌, rules}
 use Rattle.ps_text.specs.Answers.{Stream, next_of}
@@ -113,7 +114,7 @@ number_entered known nodes old e = let is = number_is (next_of old) e in
     subst (λ there. Enters (entry known nodes) there) (sym is.1)
     (search (rules, enters_mapped, enters_then, joint_id, id_entered))
 
--- after one more successor, fewer pieces are left
+-- after one more successor is parsed, fewer tokens are left
 pub more_shrinks : (known : Option (List ℕ)) (list v : List ℕ) (old new : Stream Sign) →
     Done (more_successor known list) old v new → length new.pieces < length old.pieces
 more_shrinks known list v old new d = meets_shrinks found_of pg_causes

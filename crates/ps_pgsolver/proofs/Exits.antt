@@ -1,4 +1,4 @@
--- The exits of the parser's functions: a part was read, or a part has an error.
+-- How the functions of the game parser return: a part of the grammar was parsed, or it has an error.
 --     Done part old v new      the part was read from old with the value v, and new is left
 --     done_then, stops_left, stops_right      two parts: both are read, or the first has an error, or the second
 --     done_mapped, stops_mapped      a part whose value is mapped is read, or has an error
@@ -47,12 +47,12 @@ pub exit : {V X : Type 0} (view : X → V) (P : Part Sign V PgCause) (old new : 
     (r : Result X PgFault) → Halts P old e → IsErrAnd r (λ y. y ≡ e) → ReadsAs view P old r new
 exit view P old new e r m i = exits found_of pg_causes view P old new e r m i
 
--- the value of a part that was read may be replaced by an equal value
+-- if a part of the grammar was parsed with some value, it was parsed with any equal value
 pub done_value : {V : Type 0} (P : Part Sign V PgCause) (old new : Stream Sign) {v w : V} → v ≡ w → Done P old v new →
     Done P old w new
 done_value P old new e m = (m.0, subst (λ x. IsRead P (signs old.pieces) x (signs new.pieces)) e m.1)
 
--- if `rest` is read from `now` on, `whole` is read from `start` on
+-- whatever parsing `rest` from `now` on gives, a value or an error, parsing `whole` from `start` on gives too
 pub record Continues {V : Type 0} (whole rest : Part Sign V PgCause) (start now : Stream Sign) : Type 0 where
   pub done : (v : V) (new : Stream Sign) → Done rest now v new → Done whole start v new
   pub stops : (e : PgFault) → Halts rest now e → Halts whole start e

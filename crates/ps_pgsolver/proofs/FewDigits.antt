@@ -1,4 +1,4 @@
--- Numbers with few digits fit in 64 bits.
+-- Numbers with fewer than 18 digits fit in 64 bits.
 use Rattle.std.proofs.Common.{◌≡◌, ℕ, ◌+◌, ◌-◌, ◌*◌, ◌^◌, ◌<◌, ◌≤◌, true, add-one, arith, rules}
 use Rattle.std.proofs.Math.Nat.{pow-suc, pow-le-pow_right}
 use Rattle.std.specs.Char.{is_ascii_digit}

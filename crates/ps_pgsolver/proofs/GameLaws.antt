@@ -1,4 +1,5 @@
--- The laws of the whole text of a game: how its nodes follow one another, and what follows the last node.
+-- The grammar of a whole game text obeys the laws of ps_text: what can follow each node, and what can follow the last
+-- one.
 use Rattle.std.proofs.Common.{◌≡◌, ℕ, cond, List, [], Option, None, Some, refl, ap, arith, rules}
 use Rattle.std.proofs.lemmas.Slice.Eq.{bytes_eq-Decides}
 use Rattle.std.proofs.lemmas.Bool.{cases_Bool}
@@ -21,7 +22,7 @@ use Rattle.ps_pgsolver.proofs.PartLaws.{laws_semicolon, laws_node}
 -- ## The whole text
 
 module _ (known : Option (List ℕ)) where
-  -- the laws of the grammar of an entry
+  -- the grammar of one more node obeys the laws of ps_text
   pub laws_entry : (nodes : List NodeData) → Laws Odd (entry known nodes) (IsKind 0) Nothing ⊥
   unfolding entry
   laws_entry nodes = laws_mapped _ (node known (ids_of nodes)) (laws_node known (ids_of nodes))
@@ -54,7 +55,7 @@ IsWord word t = t ≡ Word word
 pub same_word : {word letters : List ℕ} {v : Unit {0}} → keyword_in word (Word letters) ≡ Some v → letters ≡ word
 same_word {word} {letters} {v} e = search (rules, bytes_eq-Decides, none_is_some, cases_Bool)
 
--- the part of a keyword takes this word if it is next
+-- the grammar of a keyword accepts the token of that word
 pub takes_word : (word : List ℕ) → keyword_in word (Word word) ≡ Some tt
 takes_word word = ap (λ b. cond b (Some tt) None) ((bytes_eq-Decides word word).1 refl)
 
@@ -111,7 +112,7 @@ module _ (known : Option (List ℕ)) where
   pub joint_parity : Joint (setting (codes "parity")) (λ _. from_start)
   joint_parity = joint (laws_setting (codes "parity")) (λ _. laws_start) parity_apart
 
-  -- the laws of the grammar of a whole game
+  -- the grammar of a whole game obeys the laws of ps_text
   pub laws_game : Laws Odd (game known) Anything (IsKind 0) ⊥
   unfolding game
   laws_game = weaker

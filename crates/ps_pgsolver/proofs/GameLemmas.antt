@@ -1,4 +1,4 @@
--- The nodes of a text make a draft of a game, and this draft is a game.
+-- The nodes that are parsed from a game text make a well-formed game.
 use Rattle.std.proofs.Common.{◌≡◌, ℕ, zero, suc, ◌<◌, List, [], ◌∷◌, length, map, refl, arith, rules}
 use Rattle.std.proofs.lemmas.List.{length-map}
 use Rattle.std.proofs.lemmas.List.Elements.{All-map}
@@ -17,14 +17,14 @@ all_head P x xs h = h 0 x (omega arith)
 all_tail : {X : Type 0} (P : X → Type 0) (x : X) (xs : List X) → All P (x ∷ xs) → All P xs
 all_tail P x xs h = λ k d l. h (suc k) d (omega (arith, l))
 
--- the index of an id is within the list of ids
+-- the index of an id that a list contains is less than the length of the list
 place-within : (ids : List ℕ) (id : ℕ) → Contains ids id → place_of ids id < length ids
 place-within ids id h = search (rules, position-Some)
 
 places_within : (ids xs : List ℕ) → All (λ id. Contains ids id) xs → All (λ s. s < length ids) (map (place_of ids) xs)
 places_within ids xs h = search (rules, All-map, place-within)
 
--- each vertex of the draft belongs to a node
+-- each vertex of the game that is made from nodes belongs to one of the nodes
 pub draft_at : (ids : List ℕ) (nodes : List NodeData) (v : ℕ) → v < vertex_count (draft_of ids nodes) →
     (node : NodeData) × (successors_of (draft_of ids nodes) v ≡ map (place_of ids) node.successors) ×
     ((P : NodeData → Type 0) → All P nodes → P node)

@@ -218,7 +218,7 @@ all_blank w e = subst (AllOf is_blank) (grind (arith, take-append-drop))
 abbrev IsLexed : List ℕ → List ℕ → Type 0
 IsLexed before w = TokensFrom (λ b. is_blank b ≡ true) IsToken before w (lex 0 before w)
 
--- the first token, and the tokens that the lexer produces after it
+-- the tokens of a text are its first token and the tokens that the lexer produces after it
 step : (before w : List ℕ) → ((before' w' : List ℕ) → length w' < length w → IsLexed before' w') → IsLexed before w
 step before w ih = go (drop n w) refl
   where
@@ -265,6 +265,6 @@ lexed (suc k) before w l = step before w (λ before' w' m. lexed k before' w' (o
 pub tokens_found : (text : List ℕ) → AreGameTokens text (stream_of text)
 tokens_found text = (lexed (suc (length text)) [] text (omega arith), refl)
 
--- each list of tokens of a text is the stream of the text
+-- any list that is specified as the tokens of a text equals the list that the lexer produces
 pub only_tokens : (text : List ℕ) (s : Stream Sign) → AreGameTokens text s → s ≡ stream_of text
 only_tokens text s h = search (rules, has_one_tokenisation, tokens_differ, tokens_found)

@@ -1,4 +1,4 @@
--- Nodes that are stored in lists.
+-- Lemmas about the parsed nodes, which are stored as a list of ids, a list of vertices and a list of names.
 use Rattle.std.proofs.Common.{◌≡◌, ℕ, zero, suc, ◌+◌, ◌-◌, ◌<◌, ◌≤◌, true, List, [], ◌∷◌, ◌++◌, Option, None}
 use Rattle.std.proofs.Common.{length, map, refl, sym, ap, ap₂, subst, ◌∙◌, arith, length-append, append_assoc, rules}
 use Rattle.std.specs.Prelude.{Vec, replicate}
@@ -47,7 +47,7 @@ kept_vertices (id ∷ ids) (v ∷ vertices) [] i n = absurd (omega (arith, n))
 kept_vertices (id ∷ ids) (v ∷ vertices) (name ∷ names) i n =
     ap (λ xs. v ∷ xs) (kept_vertices ids vertices names (omega (arith, i)) (omega (arith, n)))
 
--- storing one more node
+-- appending to each of the three lists stores one more node
 kept_push : (ids : List ℕ) (vertices : ParityGame) (names : List (Option (List ℕ))) (id : ℕ) (v : VertexData)
     (name : Option (List ℕ)) → length ids ≡ length vertices → length names ≡ length ids → nodes_kept (ids ++ id ∷ [])
     (vertices ++ v ∷ []) (names ++ name ∷ []) ≡ nodes_kept ids vertices names ++ node_kept id v name ∷ []
@@ -120,7 +120,7 @@ pub few_names : {count : ℕ} (names : List (Option (List ℕ))) → length (wit
     length names ≤ count
 few_names {count} names e = search (rules, length-replicate)
 
--- appending an empty item to the names changes no name
+-- an empty item at the end of the list of names gives no node a name
 pub none_kept : (count : ℕ) (names : List (Option (List ℕ))) → length names < count →
     with_none count (names ++ None ∷ []) ≡ with_none count names
 none_kept count names room = grind (

@@ -1,4 +1,4 @@
--- The next sign is determined by the first byte that is not a blank.
+-- Lemmas about how the first byte of the next token, and the byte before it, determine the token's kind.
 use Rattle.std.proofs.Common.{◌≡◌, ℕ, ◌+◌, Bool, true, false, eqb, List, [], ◌∷◌, take, drop, Option, Some, None, refl}
 use Rattle.std.proofs.Common.{cond, sym, ap, ◌∙◌, rules}
 use Rattle.std.proofs.lemmas.List.{drop-drop}
@@ -14,7 +14,7 @@ use Rattle.ps_pgsolver.specs.Lexer.{stream_from}
 use Rattle.ps_pgsolver.specs.Signs.{Sign, Number, Comma, Semicolon, Wrong}
 use Rattle.ps_pgsolver.proofs.TokenLemmas.{stream_from-blanks, prefix_len-behind, lex-first, lex-end}
 
--- the sign with which a text begins, if the text is not empty
+-- the token with which a text begins, if the text is not empty
 abbrev pub head_sign : List ℕ → List ℕ → Option Sign
 head_sign before [] = None
 head_sign before (b ∷ bs) = Some (first_sign before (b ∷ bs))
@@ -52,7 +52,8 @@ sign_punctuation : (before : List ℕ) (b : ℕ) (bs : List ℕ) → is_digit b 
 unfolding first_sign
 sign_punctuation before b bs d l q = rw (d, l, q) refl
 
--- a property of the first sign, by the class of the first byte
+-- a property holds for the first token if it holds in each case of the first byte: a digit, a letter, a quote, or any
+-- other byte
 by_class : (P : Sign → Type 0) (before : List ℕ) (b : ℕ) (bs : List ℕ) →
     (is_digit b ≡ true → P (number_sign before (b ∷ bs))) →
     (is_digit b ≡ false → is_letter b ≡ true → P (word_sign before (b ∷ bs))) → (is_digit b ≡ false → eqb b 34 ≡ true →
@@ -61,7 +62,7 @@ by_class : (P : Sign → Type 0) (before : List ℕ) (b : ℕ) (bs : List ℕ) �
 by_class P before b bs number word name punctuation =
     search (rules, sign_digit, sign_letter, sign_quote, sign_punctuation, cases_Bool)
 
--- if f has the same value for two signs, f has that value for the sign that a test selects
+-- if a function has the same value for two tokens, it has that value for the one that a test selects
 of_both : {X : Type 0} {x : X} {a b : Sign} (f : Sign → X) (t : Bool) → f a ≡ x → f b ≡ x → f (cond t a b) ≡ x
 of_both f t h k = search rules
 
@@ -75,7 +76,7 @@ number_number t n = search rules
 punctuation_comma : (s t : Bool) → is_comma (Some (cond s Comma (cond t Semicolon Wrong))) ≡ s
 punctuation_comma s t = search (rules, of_both)
 
--- the next sign is a number exactly if the next byte is a digit and the byte before it is not a letter
+-- the next token is a number exactly if the next byte is a digit and the byte before it is not a letter
 pub at_number : (before rest : List ℕ) →
     is_number (head_sign before rest) ≡ begins_in is_digit rest && not (ends_in is_letter before)
 at_number before [] = refl
@@ -93,7 +94,7 @@ at_number before (b ∷ bs) = by_class (λ sign. is_number (Some sign) ≡ is_di
 no_comma_where : (b : ℕ) (p : ℕ → Bool) → p 44 ≡ false → p b ≡ true → eqb b 44 ≡ false
 no_comma_where b p fails passes = search (rules, eqb-true, cases_Bool)
 
--- the next sign is a comma exactly if the next byte is a comma
+-- the next token is a comma exactly if the next byte is a comma
 pub at_comma : (before rest : List ℕ) → is_comma (head_sign before rest) ≡ begins_in (λ b. eqb b 44) rest
 at_comma before [] = refl
 at_comma before (b ∷ bs) = by_class (λ sign. is_comma (Some sign) ≡ eqb b 44) before b bs
@@ -104,7 +105,7 @@ at_comma before (b ∷ bs) = by_class (λ sign. is_comma (Some sign) ≡ eqb b 4
     is : Sign → Bool
     is sign = is_comma (Some sign)
 
--- the next sign is not a name if the next byte is not a quote
+-- the next token is not a name if the next byte is not a quote
 pub at_no_name : (before rest : List ℕ) → begins_in (λ b. eqb b 34) rest ≡ false →
     name_of (head_sign before rest) ≡ None
 at_no_name before [] none = refl

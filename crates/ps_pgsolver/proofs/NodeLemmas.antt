@@ -1,4 +1,4 @@
--- Nodes with a table of their ids.
+-- Lemmas about the parsed nodes of a game text, which are stored with a table of their ids.
 use Rattle.std.proofs.Common.{rules, ◌≡◌, ◌≢◌, ℕ, List, [], ◌∷◌, ◌++◌, Option, true, length, arith, length-append, sym}
 use Rattle.std.proofs.Common.{subst}
 use Rattle.std.proofs.lemmas.List.{get_or_append_left, map-append}

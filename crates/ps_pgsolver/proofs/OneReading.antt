@@ -1,4 +1,4 @@
--- A game text has at most one answer.
+-- A game text has at most one answer: a game, or its first error.
 use Rattle.std.proofs.Common.{◌≡◌, ℕ, ◌<◌, ◌≤◌, eqb, List, length, Option, None, Some, Result, Ok, Err, sym, ap, subst}
 use Rattle.std.proofs.Common.{◌∙◌, arith, rules, if◌then◌else◌}
 use Rattle.ps_text.specs.Answers.{Stream, Found, AreNumbered}
@@ -51,7 +51,8 @@ IsOkNodes (Err f) = ⊥
 abbrev GameAnswer : Type 0
 GameAnswer = Result NamedGameData (Found PgCause)
 
--- the answer that follows from reading the text a second time
+-- the answer that follows from parsing the text a second time: the game of its nodes, or the error at an unknown
+-- successor
 abbrev result_of : List NodeData → Nodes → GameAnswer
 result_of ns (Ok ms) = Ok (named_game_of ns)
 result_of ns (Err f) = Err f
@@ -68,7 +69,7 @@ nodes_ok ns = Ok ns
 abbrev nodes_err : Found PgCause → Nodes
 nodes_err f = Err f
 
--- the answer to a text, given the tokens that the lexer produces
+-- the cases of the answer to a text, in terms of the tokens that the lexer produces
 data Over (text : List ℕ) (answer : GameAnswer) : Type 0 where
   long : text_limit < length text → answer ≡ limit → Over text answer
   first : length text ≤ text_limit → (f : Found PgCause) → PartAnswers pg_causes (game None) (stream_of text)

@@ -1,5 +1,5 @@
--- A parser's function for one sign. If the function's result agrees with the grammar for each sign, the function reads
--- the part correctly, for every type of errors.
+-- A parsing function that reads one token. If the function's result agrees with the grammar for each token, the
+-- function parses that part of the grammar correctly, whatever the type of errors is.
 use Rattle.std.proofs.Common.{◌≡◌, ℕ, ◌≤◌, Option, None, Some, Result, Ok, Err, refl, sym, ap, rules, subst, ◌∙◌, arith}
 use Rattle.ps_text.specs.Answers.{Stream, next_of, offset_of}
 use Rattle.ps_text.specs.Parts.{Causes, one, refusal_of}
@@ -11,7 +11,7 @@ use Rattle.ps_text.proofs.Simple.{same_some, none_is_some}
 use Rattle.ps_text.proofs.Meeting.{meets_next, meets_bad_next, meets_refusal}
 use Rattle.ps_pgsolver.specs.Signs.{Sign}
 
--- a result agrees with the grammar for a sign at an offset
+-- the result of a parsing function for a token at an offset agrees with what the grammar says
 pub data Fits {F V : Type 0} (number : F → ℕ) (syntax : F) (take : Sign → Option V) (Bad : Sign → F → Type 0) (t : Sign)
     (at : ℕ) (r : Result V (Fault F)) : Type 0 where
   taken : (v : V) → take t ≡ Some v → ((f : F) → Bad t f → ⊥) → r ≡ Ok v → Fits number syntax take Bad t at r
@@ -20,11 +20,12 @@ pub data Fits {F V : Type 0} (number : F → ℕ) (syntax : F) (take : Sign → 
   refused : take t ≡ None → ((f : F) → Bad t f → ⊥) → r ≡ Err (faults.Text syntax at) →
       Fits number syntax take Bad t at r
 
--- no sign is an error by itself
+-- no token is an error by itself: it is an error only where the grammar does not allow it
 abbrev pub sign_causes : {F : Type 0} → (F → ℕ) → F → Causes Sign F
 sign_causes number syntax = record { number = number; own = λ _. None; syntax = syntax }
 
--- if the results of a function agree with the grammar at every sign, the function reads the part `one take Bad`
+-- if a function's result agrees with the grammar for every token, the function parses the part `one take Bad` of the
+-- grammar
 pub one_reads : {F V : Type 0} (number : F → ℕ) (syntax : F) {take : Sign → Option V} {Bad : Sign → F → Type 0}
     (s : Sign) {w : V} → take s ≡ Some w → (answer : Option Sign → ℕ → Result V (Fault F)) →
     ((t : Sign) (at : ℕ) → Fits number syntax take Bad t at (answer (Some t) at)) →

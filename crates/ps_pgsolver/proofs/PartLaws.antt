@@ -1,4 +1,4 @@
--- The laws of the parts of the grammar, and how parts are joined.
+-- The parts of the grammar of game texts obey the laws of ps_text, and so do the parts that are joined from them.
 --     laws_sign      the laws of a part that consists of one sign
 --     laws_number, .., laws_node, joint_more, .., joint_id      the laws and joints, in the grammar's order
 use Rattle.std.proofs.Common.{◌≡◌, ℕ, List, [], ◌∷◌, ◌++◌, Option, None, Some, refl, sym, ◌∙◌, arith, rules}
@@ -17,7 +17,7 @@ use Rattle.ps_pgsolver.specs.Nodes.{NodeData}
 use Rattle.ps_pgsolver.specs.Signs.{Sign, Number, Word, Name, Comma, Semicolon, OpenName, Wrong}
 use Rattle.ps_pgsolver.specs.declared.fault.PgCause.{PgCause}
 
--- the kind of a sign, without its value
+-- the kind of a token as a number, without the token's value
 unfoldable pub kind_of : Sign → ℕ
 kind_of (Number x) = 0
 kind_of (Word x) = 1
@@ -48,7 +48,8 @@ kinds_apart i j d t h k = d (sym h ∙ k)
 pub same : (A : Sign → Type 0) → Within A A
 same A t h = h
 
--- a part of one sign is lawful if `First` contains each sign that the part accepts or rejects as an error
+-- a part of the grammar that reads one token obeys the laws if `First` contains each token that the part accepts or
+-- reports as an error
 pub laws_sign : {V : Type 0} (take : Sign → Option V) (Bad : Sign → PgCause → Type 0) (t : Sign) (v : V) (First : Sign →
     Type 0) → take t ≡ Some v → Within (Or (Taken take) (BadSign Bad)) First → Laws Odd (one take Bad) First Nothing ⊥
 laws_sign take Bad t v First e first = weaker (search (rules, laws_one, no_odd)) first (same Nothing) (λ h. h)

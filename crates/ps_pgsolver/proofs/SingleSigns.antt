@@ -1,4 +1,4 @@
--- The results of the parser's functions for a token agree with the grammar's parts of one sign.
+-- The parsing functions that read one token give the results that the grammar states for this token.
 use Rattle.std.proofs.Common.{◌≡◌, ℕ, ◌≤◌, true, false, ltb, List, Option, None, Some, Result, Ok, Err, refl, sym, ap}
 use Rattle.std.proofs.Common.{rules, subst, inl, inr, ⊎_elim, ◌∙◌, arith}
 use Rattle.std.proofs.lemmas.Bool.{cases_Bool, ltb-true, ltb-false, lt-ltb}

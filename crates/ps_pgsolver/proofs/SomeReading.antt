@@ -1,4 +1,4 @@
--- Each game text has an answer.
+-- Each game text has an answer: a game, or its first error.
 use Rattle.std.proofs.Common.{◌≡◌, ℕ, ◌<◌, ◌≤◌, ◌⊎◌, List, [], ◌∷◌, ◌++◌, length, Option, None, Some, rules}
 use Rattle.std.proofs.Common.{Result, Ok, Err, refl, sym, inl, inr}
 use Rattle.std.specs.List.{Contains}
@@ -46,7 +46,7 @@ judge_owner : Judges BadOwner
 judge_owner (Number n) = judge_cause cause_number causes.Number (decide_below 2 n)
 judge_owner _ = good (λ f b. b)
 
--- the errors of a number: it is too large, or has the error `cause` if `A` holds
+-- the possible errors of a number: it does not fit in 64 bits, or it has the error `cause` if the condition `A` holds
 module _ (A : Type 0) (cause : PgCause) (n : ℕ) where
   abbrev pub OneOf : PgCause → Type 0
   OneOf f = ((too_large ≤ n) × (f ≡ causes.Number)) ⊎ ((n < too_large) × A × (f ≡ cause))
@@ -174,7 +174,7 @@ module _ (text : List ℕ) (short : length text ≤ text_limit) where
   has_tokens : HasTokens text stream
   has_tokens = record { short = short; tokens = tokens_found text }
 
-  -- the text is read again, with the ids of its nodes as the known ones
+  -- an answer exists if the text is parsed a second time, now knowing the ids of its nodes
   again : (nodes : List NodeData) → PartAnswers pg_causes (game None) stream (Ok nodes) →
       (second : Result (List NodeData) (Found PgCause)) →
       PartAnswers pg_causes (game (Some (ids_of nodes))) stream second →

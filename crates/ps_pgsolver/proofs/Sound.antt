@@ -1,5 +1,5 @@
--- In a text without errors, the successors of all nodes are known ids. The game that a text describes does not depend
--- on which ids are known.
+-- In a game text that has no error for a list of known ids, all successors are in this list. The nodes that a text
+-- describes do not depend on the list of known ids.
 use Rattle.std.proofs.Common.{◌≡◌, ℕ, zero, suc, true, false, ltb, List, [], ◌∷◌, ◌++◌, Option, None, Some, refl, sym}
 use Rattle.std.proofs.Common.{rules, ap, subst, inl, inr, ⊎_elim, ◌∙◌, append_assoc, arith}
 use Rattle.std.proofs.lemmas.Bool.{cases_Bool, ltb-true, ltb-false}
@@ -21,7 +21,7 @@ abbrev pub Quiet : {V : Type 0} → Part Sign V PgCause → List Sign → Type 0
 Quiet part text =
     (front rest : List Sign) (t : Sign) (f : PgCause) → text ≡ front ++ t ∷ rest → part.IsCause front t f → ⊥
 
--- the value of each text without an error has the property `Good`
+-- whatever a part of the grammar parses without an error has a value with the property `Good`
 pub record Sound {V : Type 0} (part : Part Sign V PgCause) (Good : V → Type 0) : Type 0 where
   pub good : (text : List Sign) (v : V) → part.IsText text v → Quiet part text → Good v
 

@@ -1,4 +1,5 @@
--- A text without errors describes a game: each node has an owner 0 or 1 and a successor, and each successor is an id.
+-- A game text without errors describes a well-formed game: each node has an owner 0 or 1 and a successor, and each
+-- successor is a node's id.
 --     sound_nodes      a text of the grammar without errors has only nodes with an owner 0 or 1 and a successor
 --     game_is_sound      the law `read_game_is_game`
 use Rattle.std.proofs.Common.{◌≡◌, ℕ, ◌<◌, List, [], ◌∷◌, ◌++◌, length, Option, None, Some, Ok, refl}

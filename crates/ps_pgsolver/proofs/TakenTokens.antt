@@ -1,4 +1,5 @@
--- Tokens that are read without building a token: a number with few digits, a comma, a semicolon.
+-- Lemmas about tokens that the lexer reads without building a value of type `Token`: numbers with few digits, commas
+-- and semicolons.
 use Rattle.std.proofs.Common.{◌≡◌, ℕ, ◌+◌, ◌<◌, ◌≤◌, true, false, eqb, List, [], ◌∷◌, length, take, drop, Some, refl}
 use Rattle.std.proofs.Common.{sym, ap, ◌∙◌, ⊎_elim, arith}
 use Rattle.std.proofs.lemmas.Bool.{cases_Bool, eqb-true}
@@ -14,7 +15,8 @@ use Rattle.ps_pgsolver.specs.Signs.{Sign, Number, Comma, Semicolon}
 use Rattle.ps_pgsolver.specs.declared.token.Kind.{Kind}
 use Rattle.ps_pgsolver.proofs.TokenLemmas.{at_digit, at_punctuation, reads_split}
 
--- the sign with which a text begins, and its size
+-- `sign` is the first token of the text `rest`, which follows the bytes `before`, and `size` is the token's length in
+-- bytes
 pub record Begins (before rest : List ℕ) (sign : Sign) (size : ℕ) : Type 0 where
   pub some : 0 < length rest
   pub is : sign ≡ first_sign before rest
@@ -39,7 +41,7 @@ pub begins_semicolon : {before : List ℕ} (rest : List ℕ) → begins_in (λ b
 begins_semicolon [] e = let x : false ≡ true = e in cc
 begins_semicolon {before} (b ∷ bs) e = grind (arith, at_punctuation before 59 bs refl refl refl refl, eqb-true b 59 e)
 
--- the sign was read, and the tokens after it begin at the offset `behind`
+-- the next token is `sign`, and the tokens after it are those of the text from the offset `behind` on
 pub record Leaves (text : List ℕ) (behind : ℕ) (sign : Sign) (stream : Stream Sign) : Type 0 where
   pub sign_is : next_of stream ≡ Some sign
   pub rest : stream_from text behind ≡ tail stream

@@ -1,4 +1,4 @@
--- The lexer, token by token.
+-- Lemmas about what the lexer of game texts produces, token by token.
 use Rattle.std.proofs.Common.{◌≡◌, ℕ, zero, suc, ◌+◌, ◌-◌, ◌<◌, ◌≤◌, Bool, true, false, eqb, List, [], ◌∷◌, ◌++◌, rules}
 use Rattle.std.proofs.Common.{length, get_or, take, drop, Some, None, refl, sym, ap, subst, ◌∙◌, ⊎_elim, arith}
 use Rattle.std.proofs.Common.{append_assoc}
@@ -50,7 +50,7 @@ pub at_punctuation : (before : List ℕ) (b : ℕ) (bs : List ℕ) {rest : List 
 unfolding first_sign first_size
 at_punctuation before b bs e d l q = rw e (rw (d, l, q) refl, rw (d, l, q) refl)
 
--- the lexer skips the bytes of a token that was read
+-- the lexer skips the remaining bytes of a token that it has already produced
 pub lex-skip : (skip : ℕ) (before bs : List ℕ) → lex skip before bs ≡ lex 0 (before ++ take skip bs) (drop skip bs)
 unfolding lex
 lex-skip zero before bs = ap (λ front. lex 0 front bs) (sym (append-nil before))
@@ -76,7 +76,7 @@ lex-blanks before (b ∷ bs) = ⊎_elim (λ yes.
     search (rules, lex-blank, append_assoc, lex-blanks (before ++ b ∷ []) bs)) (λ no.
     grind (arith, append-nil)) (cases_Bool (is_blank b))
 
--- after the longest prefix of items that pass, the next item does not pass
+-- after the longest prefix of items that pass a test, the next item does not pass the test
 pub prefix_len-behind : (p : ℕ → Bool) (xs : List ℕ) → prefix_len p (drop (prefix_len p xs) xs) ≡ 0
 prefix_len-behind p xs = run_len p [] (drop (prefix_len p xs) xs) tt (run_ends p xs)
 
@@ -95,7 +95,8 @@ pub first_size-none : (rest : List ℕ) → length rest ≡ 0 → first_size res
 unfolding first_size
 first_size-none rest h = search rules
 
--- the first token of a text that does not begin with a blank
+-- for a nonempty text that does not begin with a blank, the lexer produces the first token, and then the tokens after
+-- its bytes
 pub lex-first : (before rest : List ℕ) → prefix_len is_blank rest ≡ 0 → 0 < length rest →
     lex 0 before rest ≡ (record { sign = first_sign before rest; start = length before }) ∷ lex 0
     (before ++ take (first_size rest) rest) (drop (first_size rest) rest)
@@ -109,7 +110,8 @@ pub lex-end : (before : List ℕ) → lex 0 before [] ≡ []
 unfolding lex
 lex-end before = refl
 
--- the parser's token is the next one of the stream, and the rest of the stream follows it
+-- the token that the parser has read is the next one of the text, and the text's remaining tokens come after its `size`
+-- bytes
 pub record Reads (text : List ℕ) (start size : ℕ) (kind : Kind) (stream : Stream Sign) : Type 0 where
   pub head : IsHead (record { kind = kind; start = start }) stream
   pub rest : stream_from text (start + size) ≡ tail stream
@@ -137,7 +139,7 @@ reads text at start size kind begins within ended some sized =
     (some some_left) sized) (λ (none_left : length (drop start text) ≤ 0). let empty : drop start text ≡ [] =
     search (rules, nil_of) in reads_end within empty (ended empty) sized) (cases_lt 0 (length (drop start text))))
 
--- if a text was split at the start of a token, this token is the next one of the stream
+-- if a text is split where its next token begins, the first token of the second half is the next token of the text
 pub reads_split : {text before rest : List ℕ} (at : ℕ) {start size : ℕ} {kind : Kind} {stream : Stream Sign} →
     start ≡ at + prefix_len is_blank (drop at text) → start ≤ length text → before ≡ take start text → rest ≡ drop
     start text → (rest ≡ [] → sign_of kind ≡ None) → (0 < length rest → sign_of kind ≡ Some (first_sign before rest)) →
@@ -147,7 +149,7 @@ reads_split {text} {rest} at {start} {size} {kind} begins within front back ende
     subst P is (reads text at start size kind begins within (λ empty. ended (back ∙ empty))
     (λ left. grind arith) (sized ∙ ap first_size back))
 
--- the offset of the next sign is the offset at which the next token begins
+-- the offset of the next token is that of the first byte that is not a blank
 pub offset_ahead : (text : List ℕ) (at : ℕ) {start : ℕ} → start ≡ at + prefix_len is_blank (drop at text) →
     start ≤ length text → start ≡ offset_of (stream_from text at).pieces (length text)
 offset_ahead text at {start} begins within = let e : stream_from text at ≡ stream_from text start =

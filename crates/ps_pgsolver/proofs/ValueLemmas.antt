@@ -1,4 +1,4 @@
--- The result for a number token, by the value of the number.
+-- How the result of parsing a number token depends on the value of the number.
 use Rattle.std.proofs.Common.{◌≡◌, ℕ, ◌<◌, ◌≤◌, Some, Ok, Err, refl}
 use Rattle.std.proofs.lemmas.Bool.{lt-ltb, le-ltb}
 use Rattle.ps_text.specs.declared.faults.Fault.TheVariants as faults

@@ -64,7 +64,7 @@ module _ (ids : List ℕ) (names : List (Option (List ℕ))) where
   made_count v [] = refl
   made_count v (x ∷ vertices) = ap suc (made_count (v + 1) vertices)
 
--- the successors are distinct vertices
+-- the successors of the vertex are distinct vertices of the game
 record IsKept (count : ℕ) (vertex : VertexData) : Type 0 where
   within : All (λ w. w < count) vertex.successors
   different : IsDistinct vertex.successors

@@ -1,4 +1,4 @@
--- The text that is written for a game, as a list of signs, belongs to the grammar and has no error.
+-- The text that is written for a game, as a list of tokens, belongs to the grammar and has no error.
 --     IsReadable known ids node      the node can be read after nodes with these ids
 --     AreReadable known before nodes      each node can be read after `before` and the nodes in front of it
 --     written_answers      the answer to the signs of a whole text
@@ -63,7 +63,7 @@ read_semicolon : {rest : List Sign} → IsRead semicolon (Semicolon ∷ rest) tt
 unfolding semicolon
 read_semicolon = read_one semicolon_in NoBad refl (λ f b. b)
 
--- the next sign is of another kind
+-- a token of another kind is not one of kind `k`
 kind_avoided : (k : ℕ) (t : Sign) → (kind_of t ≡ k → ⊥) → Avoids (IsKind k) (Some t)
 kind_avoided k t differs u e h = differs (ap kind_of (same_some t u e) ∙ h)
 

@@ -31,7 +31,7 @@ record Lexed (before bytes : List ℕ) (ss : List Sign) : Type 0 where
   are : signs pieces ≡ ss
   tokens : TokensFrom Blank IsToken before bytes pieces
 
--- after any bytes, the tokens of `bytes` are the given signs
+-- whatever bytes come before `bytes`, its tokens are those of the list `ss`
 abbrev Lexes : List ℕ → List Sign → Type 0
 Lexes bytes ss = (before : List ℕ) → Lexed before bytes ss
 
@@ -147,12 +147,13 @@ node_made ids names v vertex =
       name = get_or names v None;
     }
 
--- the nodes of the vertices from v on
+-- the nodes that are written for the vertices from vertex v on
 abbrev pub nodes_made : List ℕ → List (Option (List ℕ)) → ℕ → ParityGame → List NodeData
 nodes_made ids names v [] = []
 nodes_made ids names v (vertex ∷ vertices) = node_made ids names v vertex ∷ nodes_made ids names (v + 1) vertices
 
--- the parser can read the line of the vertex
+-- the parser can read the line that is written for the vertex: its priority fits in 64 bits, its owner is 0 or 1, and
+-- it has a successor
 pub record IsPlainVertex (vertex : VertexData) : Type 0 where
   pub priority : IsWord vertex.priority
   pub owner : vertex.owner < 2

@@ -2,9 +2,9 @@
 --     game ::= ("parity" N ";")? ("start" N ";")? node+
 --     node ::= N N N N ("," N)* name? ";"
 --
--- The fields of a node are its id, priority, owner and successors. The value of a text is the list of its nodes.
--- `known` is the list of the ids of the text's nodes, or none if these ids are not known yet. If the ids are known,
--- each successor must be one of them.
+-- The fields of a node are its id, priority, owner and successors. The value of a game text is the list of its nodes.
+-- In these definitions, `known` is the list of the ids of the text's nodes, or `None` if these ids are not known yet.
+-- If the ids of the nodes are known, each successor must be one of them.
 use Rattle.std.specs.Prelude.{◌≡◌, ℕ, ◌<◌, ◌≤◌, ◌⊎◌, List, [], ◌∷◌, ◌++◌, Option, None, Some, codes, if◌then◌else◌}
 use Rattle.std.specs.Str.{bytes_eq}
 use Rattle.std.specs.List.{Contains}
@@ -15,7 +15,7 @@ use Rattle.ps_pgsolver.specs.Signs.{Sign, Number, Word, Name, Comma, Semicolon, 
 use Rattle.ps_pgsolver.specs.declared.fault.PgCause.{PgCause}
 use Rattle.ps_pgsolver.specs.declared.fault.PgCause.TheVariants as causes
 
--- no sign is an error by itself; what the grammar does not allow is a syntax error
+-- no token is an error by itself; a token where the grammar does not allow it is a syntax error
 abbrev pub pg_causes : Causes Sign PgCause
 pg_causes = record { number = cause_number; own = λ _. None; syntax = causes.Syntax }
 
@@ -25,7 +25,7 @@ abbrev pub number_in : Sign → Option ℕ
 number_in (Number n) = Some n
 number_in _ = None
 
--- the smallest number that is too large
+-- the smallest number that does not fit in 64 bits
 abbrev pub too_large : ℕ
 too_large = 18446744073709551616
 
@@ -33,7 +33,7 @@ abbrev pub BadNumber : Sign → PgCause → Type 0
 BadNumber (Number n) cause = (too_large ≤ n) × (cause ≡ causes.Number)
 BadNumber _ cause = ⊥
 
--- an id is an error if an earlier node has it
+-- a node's id is an error if an earlier node has the same id
 abbrev pub BadId : List ℕ → Sign → PgCause → Type 0
 BadId ids (Number n) cause =
     ((too_large ≤ n) × (cause ≡ causes.Number)) ⊎ ((n < too_large) × Contains ids n × (cause ≡ causes.NodeTwice))
@@ -44,7 +44,7 @@ abbrev pub BadOwner : Sign → PgCause → Type 0
 BadOwner (Number n) cause = (2 ≤ n) × (cause ≡ causes.Number)
 BadOwner _ cause = ⊥
 
--- a successor that is not one of the known ids
+-- the ids of the nodes are known, and the successor is not one of them
 abbrev pub IsUnknown : Option (List ℕ) → ℕ → Type 0
 IsUnknown None n = ⊥
 IsUnknown (Some ids) n = ¬ Contains ids n
@@ -55,8 +55,8 @@ BadSuccessor known (Number n) cause =
     (cause ≡ causes.UnknownSuccessor))
 BadSuccessor known _ cause = ⊥
 
--- an error at the sign that should be the first successor: a semicolon, a name (with or without its closing quote), or
--- a wrong successor
+-- an error at the token that should be a node's first successor: a semicolon, a name (with or without its closing
+-- quote), or a wrong successor
 abbrev pub BadFirst : Option (List ℕ) → Sign → PgCause → Type 0
 BadFirst known Semicolon cause = cause ≡ causes.NoSuccessor
 BadFirst known (Name inner) cause = cause ≡ causes.NoSuccessor
@@ -102,7 +102,7 @@ word_in _ = None
 
 -- ## The grammar
 
--- a comma and one more successor
+-- the grammar of a comma and one more successor
 unfoldable pub more_successor : Option (List ℕ) → List ℕ → Part Sign (List ℕ) PgCause
 more_successor known list = then_by comma (λ _. mapped (λ n. list ++ n ∷ []) (successor known))
 
@@ -122,14 +122,14 @@ node known ids =
     mapped (λ _. record { id = id; priority = priority; owner = owner'; successors = list; name = name' })
     semicolon)))))
 
--- the nodes that were read, and one more node
+-- one more node, which is appended to the nodes that were parsed before
 unfoldable pub entry : Option (List ℕ) → List NodeData → Part Sign (List NodeData) PgCause
 entry known nodes = mapped (λ n. nodes ++ n ∷ []) (node known (ids_of nodes))
 
 unfoldable pub entries : Option (List ℕ) → Part Sign (List NodeData) PgCause
 entries known = then_by (entry known []) (λ nodes. many (entry known) nodes)
 
--- a given word
+-- the token is the given word
 abbrev pub keyword_in : List ℕ → Sign → Option (Unit {0})
 keyword_in word (Word letters) = if bytes_eq letters word then Some tt else None
 keyword_in word _ = None
@@ -140,7 +140,7 @@ keyword word = one (keyword_in word) NoBad
 unfoldable pub value_line : Part Sign (Unit {0}) PgCause
 value_line = then_by number (λ _. semicolon)
 
--- a line such as `parity 7;`, or nothing; its number has no meaning
+-- a line such as `parity 7;`, or nothing; the number in the line has no meaning
 unfoldable pub setting : List ℕ → Part Sign (Unit {0}) PgCause
 setting word = either (then_by (keyword word) (λ _. value_line)) (give tt)
 

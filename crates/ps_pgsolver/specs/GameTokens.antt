@@ -1,4 +1,4 @@
--- The tokens of a game text, as a relation between its bytes and its pieces.
+-- The tokens of a game text, as a relation between the text's bytes and a list of tokens with offsets.
 --     IsByteRun p text rest      text is a run of bytes that pass p, and rest does not begin with such a byte
 --     IsToken before sign text rest      text is the token `sign`, between the bytes `before` and `rest`
 --     AreGameTokens text stream      the tokens of a whole text, with blanks between them

@@ -1,4 +1,4 @@
--- The signs of the grammar that the parser's tokens stand for.
+-- How the tokens of the parser's code correspond to the tokens of the grammar.
 use Rattle.std.specs.Prelude.{◌≡◌, ◌<◌, ◌≤◌, ℕ, Bool, true, false, List, Option, None, Some, length}
 use Rattle.std.specs.List.{AllPass}
 use Rattle.ps_text.specs.Answers.{Stream, next_of, offset_of}
@@ -12,7 +12,7 @@ use Rattle.ps_pgsolver.specs.declared.token.Kind.{Kind}
 use Rattle.ps_pgsolver.specs.declared.token.Kind.TheVariants as kinds
 use Rattle.ps_pgsolver.specs.declared.token.Token.{Token}
 
--- the sign of a token; none at the end of the text
+-- the grammar's token for a token of the code; `None` for the end of the text
 abbrev pub sign_of : Kind → Option Sign
 sign_of (kinds.Number value) = Some (Number value)
 sign_of (kinds.LargeNumber digits) = Some (Number (decimal_value digits.now))
@@ -24,7 +24,7 @@ sign_of kinds.OpenName = Some OpenName
 sign_of kinds.Wrong = Some Wrong
 sign_of kinds.End = None
 
--- the token is the first of the stream
+-- the code's token is the next one of the grammar, at the same offset
 pub record IsHead (token : Token) (stream : Stream Sign) : Type 0 where
   pub sign : sign_of token.kind ≡ next_of stream
   pub start : token.start ≡ offset_of stream.pieces stream.end
@@ -41,32 +41,33 @@ abbrev pub name_of : Option Sign → Option (List ℕ)
 name_of (Some (Name inner)) = Some inner
 name_of _ = None
 
--- a number fits in 64 bits or is marked as too large, and a name has no quote
+-- a number token has a value that fits in 64 bits or is marked as too large, and a name token has no quote in the name
 abbrev pub IsPlain : Kind → Type 0
 IsPlain (kinds.Number value) = value < too_large
 IsPlain (kinds.LargeNumber digits) = too_large ≤ decimal_value digits.now
 IsPlain (kinds.Name inner) = AllPass is_unquoted inner.now
 IsPlain _ = Unit {0}
 
--- a token and its length in bytes: the token has that sign, and the length is `size`, at most `most`
+-- a token of the code and its length in bytes: the token corresponds to the grammar's token `sign`, and its length is
+-- `size`, which is at most `most`
 pub record IsLexed (lexed : Kind × ℕ) (sign : Sign) (size most : ℕ) : Type 0 where
   pub sign_is : sign_of lexed.0 ≡ Some sign
   pub size_is : lexed.1 ≡ size
   pub plain : IsPlain lexed.0
   pub within : lexed.1 ≤ most
 
--- the next sign was a number that fits in 64 bits, and was read
+-- the next token was a number that fits in 64 bits, and the parser moved past it
 pub record IsNumberTaken (number : ℕ) (old new : Stream Sign) : Type 0 where
   pub sign : next_of old ≡ Some (Number number)
   pub small : number < too_large
   pub rest : new ≡ tail old
 
--- either the next sign was the given one and was read, or nothing was read
+-- either the next token was the given one and the parser moved past it, or the parser did not move
 abbrev pub TakesIfNext : Sign → Stream Sign → Bool → Stream Sign → Type 0
 TakesIfNext sign old true new = (next_of old ≡ Some sign) × (new ≡ tail old)
 TakesIfNext sign old false new = new ≡ old
 
--- the token was read from a text, and the tokens after it begin at the offset `behind`
+-- the token is the text's next one at its offset, and the tokens after it are those from the offset `behind` on
 pub record IsNextToken (text : List ℕ) (token : Token) (behind : ℕ) : Type 0 where
   pub head : IsHead token (stream_from text token.start)
   pub plain : IsPlain token.kind

@@ -8,7 +8,7 @@ use Rattle.ps_text.specs.Bytes.{is_blank, is_digit, is_letter, is_unquoted}
 use Rattle.ps_pgsolver.specs.Ends.{ends_in}
 use Rattle.ps_pgsolver.specs.Signs.{Sign, Number, Word, Name, Comma, Semicolon, OpenName, Wrong}
 
--- the sign of a run of digits after the bytes `before`
+-- the token of a run of digits after the bytes `before`: a number, or a wrong token if a letter precedes it
 abbrev pub number_sign : List ℕ → List ℕ → Sign
 number_sign before text = if ends_in is_letter before then Wrong else Number (decimal_value (take_while is_digit text))
 
@@ -28,7 +28,7 @@ name_size behind = if is_closed behind then prefix_len is_unquoted behind + 2 el
 abbrev pub punctuation_sign : ℕ → Sign
 punctuation_sign b = if b == 44 then Comma else (if b == 59 then Semicolon else Wrong)
 
--- the first sign of a text that follows the bytes `before`
+-- the first token of a text that follows the bytes `before`
 unfoldable pub first_sign : List ℕ → List ℕ → Sign
 first_sign before [] = Wrong
 first_sign before (b ∷ bs) =
@@ -37,7 +37,7 @@ first_sign before (b ∷ bs) =
     else (if b == 34 then name_sign bs
     else punctuation_sign b))
 
--- the number of bytes of the first sign
+-- the length of a text's first token in bytes
 unfoldable pub first_size : List ℕ → ℕ
 first_size [] = 0
 first_size (b ∷ bs) =
@@ -46,7 +46,8 @@ first_size (b ∷ bs) =
     else (if b == 34 then name_size bs
     else 1))
 
--- the pieces of a text that follows the bytes `before`; its first `skip` bytes belong to a token that was read already
+-- the tokens of a text that follows the bytes `before`; the text's first `skip` bytes belong to a token that was
+-- already produced
 unfoldable pub lex : ℕ → List ℕ → List ℕ → List (Piece Sign)
 lex skip before [] = []
 lex (suc skip) before (b ∷ bs) = lex skip (before ++ b ∷ []) bs
@@ -55,10 +56,10 @@ lex zero before (b ∷ bs) =
     else ((record { sign = first_sign before (b ∷ bs); start = length before }) ∷ lex (first_size (b ∷ bs) - 1)
     (before ++ b ∷ []) bs)
 
--- the stream of a whole text: its tokens with their offsets
+-- the tokens of a whole text, with their offsets
 abbrev pub stream_of : List ℕ → Stream Sign
 stream_of text = record { pieces = lex 0 [] text; end = length text }
 
--- the stream of the part of a text from an offset on
+-- the tokens of a text from an offset on
 abbrev pub stream_from : List ℕ → ℕ → Stream Sign
 stream_from text at = record { pieces = lex 0 (take at text) (drop at text); end = length text }

@@ -1,4 +1,4 @@
--- A sign is a token of a game text as the grammar sees it.
+-- The tokens of a game text as the grammar sees them, here called signs.
 use Rattle.std.specs.Prelude.{ℕ, List}
 
 pub data Sign : Type 0 where

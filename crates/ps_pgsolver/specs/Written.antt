@@ -37,7 +37,7 @@ vertex_lines ids names v [] = []
 vertex_lines ids names v (vertex ∷ vertices) =
     vertex_line ids (slice_index ids v) vertex (slice_index_or names v None) ++ vertex_lines ids names (v + 1) vertices
 
--- `parity K;`, where K is the greatest id
+-- the first line that is written for a game: `parity K;`, where K is the greatest id
 abbrev pub head_text : ℕ → List ℕ
 head_text id = codes "parity " ++ decimal id ++ codes ";\n"
 

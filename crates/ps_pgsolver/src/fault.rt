@@ -13,7 +13,7 @@ pub enum PgCause {
     NoSuccessor,
     /// A successor that is not the id of a node.
     UnknownSuccessor,
-    /// The id of an earlier node, used again.
+    /// A node's id that an earlier node already has.
     NodeTwice,
     /// A number of 2^64 or more, or an owner other than 0 and 1.
     Number,
@@ -21,7 +21,7 @@ pub enum PgCause {
     Limit,
 }
 
-/// Why the parser returned no game.
+/// Why the parser returned no game: an error of the text with its offset, or out of memory.
 pub type PgFault = Fault<PgCause>;
 
 impl Cause for PgCause {

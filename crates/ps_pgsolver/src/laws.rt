@@ -8,23 +8,24 @@ ghost use Rattle.ps_pgsolver.specs.declared.fault.PgCause.{PgCause};
 ghost use Rattle.ps_pgsolver.specs.GameTokens.{AreGameTokens};
 ghost use Rattle.ps_pgsolver.specs.Signs.{Sign};
 
-/// A text has exactly one list of tokens.
+/// A game text has exactly one list of tokens.
 pub fn one_list_of_tokens()
     ensures { (text : List ℕ) → (tokens : Stream Sign) × AreGameTokens text tokens ×
         ((others : Stream Sign) → AreGameTokens text others → others ≡ tokens) }
 {}
 
-/// A text has at most one answer: its game, or its first error with the offset.
+/// A game text has at most one answer: its game, or its first error with the error's offset.
 pub fn one_answer()
     ensures { (text : List ℕ) (a b : Result NamedGameData (Found PgCause)) → Answer text a → Answer text b → a ≡ b }
 {}
 
-/// A text has an answer. The law concerns texts and not calls, so out of memory is not one of the answers.
+/// Every game text has an answer: its game, or its first error. The law concerns texts and not calls, so out of memory
+/// is not one of the answers.
 pub fn some_answer()
     ensures { (text : List ℕ) → (answer : Result NamedGameData (Found PgCause)) × Answer text answer }
 {}
 
-/// The value of a text without errors is a game, with an id for each vertex.
+/// A game text without errors describes a well-formed game, with an id for each vertex.
 pub fn read_game_is_game()
     ensures { (text : List ℕ) (named : NamedGameData) → Answer text (Ok named) →
         IsGame named.game × (length named.ids ≡ vertex_count named.game) }

@@ -1,5 +1,5 @@
-//! Game texts in PGSolver's format. A text may begin with `parity N;` and `start N;`. For each vertex the text has the
-//! id, the priority, the owner, the successors, an optional name, and a semicolon.
+//! Game texts in PGSolver's format. A game text may begin with `parity N;` and `start N;`. For each vertex the text
+//! states the id, the priority, the owner, the successors and an optional name, followed by a semicolon.
 //!
 //! | Call | What it gives |
 //! |---|---|
@@ -13,9 +13,9 @@
 //! | `one_answer`, `some_answer` | laws: a text has exactly one answer, its game or its first error |
 //! | `read_game_is_game` | law: what a text describes is a game, with an id for each vertex |
 //!
-//! Vertices are in the order of the text, and keep their ids and names. Parsing takes time proportional to the length
-//! of the text, except that each id that is not the next one in order is looked up in a tree. If a successor is not the
-//! id of a node, the text is read a second time to locate the first such successor.
+//! The vertices of the parsed game are in the order of the text, and keep their ids and names. Parsing takes time
+//! proportional to the length of the text, except that ids much greater than their index are looked up in a B-tree. If
+//! a successor is not the id of a node, the text is read a second time to locate the first such successor.
 #![tactic(auto)]
 
 mod fault;

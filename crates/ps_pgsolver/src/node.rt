@@ -12,16 +12,16 @@ use ps_ids::Ids;
 use std::alloc::{AllocError, Global};
 use std::marker::Model;
 
-/// A node of the text, without its successors.
+/// A node of a game text, without its successors.
 #[derive(Drop)]
 pub struct Node {
-    /// The id, which no other node has.
+    /// The id of the node, which no other node has.
     pub id: u64,
     /// The priority.
     pub priority: u64,
-    /// The owner, 0 or 1.
+    /// The player who owns the node, 0 or 1.
     pub owner: u8,
-    /// The bytes between the quotes, if there is a name.
+    /// The bytes between the quotes of the node's name, if it has one.
     pub name: Option<Vec<u8>>,
 }
 
@@ -55,7 +55,7 @@ impl Nodes {
         })
     }
 
-    /// The ids of the nodes, in order.
+    /// The ids of the nodes, in the order of the nodes.
     pub fn ids(&self) -> &Ids
         ensures ids { result.now ≡ ids_of self.now }
         ensures well_formed { AreNodes self.now }
@@ -70,7 +70,7 @@ impl Nodes {
         self.ids.has(id)
     }
 
-    /// Whether each successor is the id of a node.
+    /// Whether each successor of each node is the id of a node.
     pub fn know_successors(&self) -> bool
         ensures { result ≡ knows_all (ids_of self.now) self.now }
     {
@@ -94,7 +94,7 @@ impl Nodes {
         Ok(())
     }
 
-    /// The game of the nodes, with their ids and names.
+    /// The game that these nodes describe, with their ids and names.
     pub fn into_game(self, alloc: Global) -> Result<NamedGame, AllocError>
         requires { KnowsAll (ids_of self) self }
         ensures { IfOk result (λ named. named ≡ named_game_of self) }
@@ -110,7 +110,8 @@ impl Nodes {
     }
 }
 
-/// Makes room for the name of the next node, if it has one; each earlier node without a name gets an empty item.
+/// Reserves memory for the name of the next node, if it has a name; earlier nodes that have no item in the list get an
+/// empty one.
 fn make_room(
     names: &mut Vec<Option<Vec<u8>>>,
     count: usize,
@@ -131,7 +132,7 @@ fn make_room(
     names.reserve(1)
 }
 
-/// Appends a name, if there is one; there must be room for it.
+/// Appends a node's name to the list of names, if the node has one; memory for it must be reserved.
 fn keep_name(names: &mut Vec<Option<Vec<u8>>>, name: Option<Vec<u8>>)
     requires { is_some name ≡ true → vec_len names.old < vec_capacity names.old }
     ensures { names.new.items ≡ names_with names.old.items name }

@@ -28,15 +28,15 @@ use ps_game::NamedGame;
 use ps_ids::Ids;
 use std::alloc::Global;
 
-/// The maximal length of a text, in bytes.
+/// The maximal length of a game text, in bytes.
 const TEXT_LIMIT: usize = 16_777_216;
 
-/// Parses a game text. Vertices are numbered in the order of the nodes. A successor may come before its node, so all
-/// ids are known only at the end of the text.
+/// Parses a game text. Vertices are numbered in the order of the nodes. The text may use a node's id as a successor
+/// before it describes that node, so all ids are known only at the end of the text.
 ///
 /// # Errors
 ///
-/// [`PgFault::Text`] with the first error of the text and the offset of its token; out of memory.
+/// [`PgFault::Text`] with the first error of the text and the offset of the wrong token, or out of memory.
 pub fn read(alloc: Global, text: &[u8]) -> Result<NamedGame, PgFault>
     ensures answer { IsGameAnswer text.now result }
     ensures within { IfErr result (StandsWithin (length text.now)) }
@@ -54,7 +54,8 @@ pub fn read(alloc: Global, text: &[u8]) -> Result<NamedGame, PgFault>
     named_game(alloc, nodes)
 }
 
-/// The fault at the first successor that is not the id of a node, located by reading the text again.
+/// Parses the text a second time to locate the first successor that is not the id of a node, and returns the fault
+/// there.
 fn unknown_successor(alloc: Global, text: &[u8], nodes: &Nodes) -> PgFault
     requires read { TextAnswers None (stream_of text.now) (Ok nodes.now) }
     requires some { KnowsAll (ids_of nodes.now) nodes.now → ⊥ }
@@ -66,7 +67,7 @@ fn unknown_successor(alloc: Global, text: &[u8], nodes: &Nodes) -> PgFault
     }
 }
 
-/// The fault that reports an error at a token.
+/// The fault that reports an error at the offset of a token.
 fn fault(cause: PgCause, token: Token) -> PgFault
     ensures { result ≡ faults.Text cause token.entry.start }
 {
@@ -76,7 +77,8 @@ fn fault(cause: PgCause, token: Token) -> PgFault
     }
 }
 
-/// Parses a whole text. If the ids of the text's nodes are known, each successor must be one of them.
+/// Parses a whole game text, and returns its nodes. If the ids of the text's nodes are known, each successor must be
+/// one of them.
 fn game_text(alloc: Global, text: &[u8], known: Option<&Ids>) -> Result<Nodes, PgFault>
     ensures answer { TextAnswers (option_copied known.entry) (stream_of text.now) result }
     ensures later { KnownAnswers (stream_of text.now) result }
@@ -89,7 +91,7 @@ fn game_text(alloc: Global, text: &[u8], known: Option<&Ids>) -> Result<Nodes, P
     Ok(nodes)
 }
 
-/// Parses a line such as `parity 7;`, if the text continues with one.
+/// Parses a line such as `parity 7;`, if the next token is its first word.
 fn setting(tokens: &mut Tokens, word: &[u8]) -> Result<(), PgFault>
     ensures { ReadsAs (λ u. u) (parts.setting word.now) tokens.old result tokens.new }
 {
@@ -100,7 +102,7 @@ fn setting(tokens: &mut Tokens, word: &[u8]) -> Result<(), PgFault>
     Ok(())
 }
 
-/// Parses a number that has no meaning, and a semicolon.
+/// Parses the number in a line such as `parity 7;`, which has no meaning, and the semicolon.
 fn value_line(tokens: &mut Tokens) -> Result<(), PgFault>
     ensures { ReadsAs (λ u. u) parts.value_line tokens.old result tokens.new }
 {
@@ -108,7 +110,7 @@ fn value_line(tokens: &mut Tokens) -> Result<(), PgFault>
     semicolon(tokens)
 }
 
-/// Parses the nodes. One list is reused for the successors of each node.
+/// Parses the nodes. The memory of one list is used again for the successors of each node.
 fn entries(alloc: Global, tokens: &mut Tokens, known: Option<&Ids>) -> Result<Nodes, PgFault>
     ensures part { ReadsAs (λ nodes. nodes) (parts.entries (option_copied known.entry)) tokens.old result tokens.new }
     ensures later { ReadsKnown KnowsAll (λ nodes. nodes) parts.entries tokens.old result tokens.new }
@@ -140,7 +142,7 @@ fn entry(
     Ok(())
 }
 
-/// Parses a node with a new id. The successors of the node replace the contents of the list.
+/// Parses a node with a new id. The successors of this node replace the contents of the list `list`.
 fn node(
     alloc: Global,
     tokens: &mut Tokens,
@@ -187,7 +189,7 @@ fn number(tokens: &mut Tokens) -> Result<u64, PgFault>
     any_number(tokens)
 }
 
-/// Parses a number without checking its meaning.
+/// Parses any number that fits in 64 bits.
 #[inline(always)]
 fn any_number(tokens: &mut Tokens) -> Result<u64, PgFault>
     ensures answer { result ≡ number_answer (next_of tokens.old) (offset_of tokens.old.pieces tokens.old.end) }
@@ -210,7 +212,7 @@ fn owner(tokens: &mut Tokens) -> Result<u8, PgFault>
     one_of_two(owner, start)
 }
 
-/// Parses the successors of a node, which replace the contents of the list.
+/// Parses the successors of a node, which replace the contents of the list `list`.
 fn successors(
     tokens: &mut Tokens,
     known: Option<&Ids>,
@@ -270,7 +272,7 @@ fn successor(tokens: &mut Tokens, known: Option<&Ids>) -> Result<u64, PgFault>
     if_known(id, start, known)
 }
 
-/// Parses a name, if the text continues with one.
+/// Parses the name of a node, if the next token is a name.
 #[inline(always)]
 fn name(alloc: Global, tokens: &mut Tokens) -> Result<Option<Vec<u8>>, PgFault>
     ensures part { ReadsAs name_bytes parts.name tokens.old result tokens.new }
@@ -347,7 +349,8 @@ fn one_of_two(owner: u64, start: usize) -> Result<u8, PgFault>
     }
 }
 
-/// Returns the number at offset `start` as a successor. If the ids are known, the number must be one of them.
+/// Returns the number at offset `start` as a successor. If the ids of the nodes are known, the number must be one of
+/// them.
 #[inline(always)]
 fn if_known(id: u64, start: usize, known: Option<&Ids>) -> Result<u64, PgFault>
     ensures { result ≡ successor_of_number (option_copied known.entry) start id }
@@ -363,7 +366,7 @@ fn if_known(id: u64, start: usize, known: Option<&Ids>) -> Result<u64, PgFault>
     Ok(id)
 }
 
-/// Interprets a token as a successor.
+/// Returns the id that a token gives as a successor, or the token's error.
 fn successor_of(token: Token, known: Option<&Ids>) -> Result<u64, PgFault>
     requires { IsPlain token.kind }
     ensures { result ≡ successor_answer (option_copied known.entry) (sign_of token.entry.kind) token.entry.start }
@@ -372,7 +375,7 @@ fn successor_of(token: Token, known: Option<&Ids>) -> Result<u64, PgFault>
     if_known(id, token.start, known)
 }
 
-/// Interprets a token as the first successor of a node.
+/// Returns the id that a token gives as a node's first successor, or the token's error.
 fn first_of(token: Token, known: Option<&Ids>) -> Result<u64, PgFault>
     requires { IsPlain token.kind }
     ensures { result ≡ first_answer (option_copied known.entry) (sign_of token.entry.kind) token.entry.start }
@@ -405,7 +408,7 @@ fn semicolon_of(token: Token) -> Result<(), PgFault>
     }
 }
 
-/// Interprets a token as a number.
+/// Returns the value of a number token, or the token's error.
 #[tactic(auto, using(crate::proofs::ValueLemmas::number_small, crate::proofs::ValueLemmas::number_large))]
 fn number_of(token: Token) -> Result<u64, PgFault>
     requires { IsPlain token.kind }

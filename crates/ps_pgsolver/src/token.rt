@@ -20,10 +20,10 @@ use std::marker::Model;
 /// Numbers with at least this many digits are parsed by slower code, which checks for overflow.
 const FEW: usize = 18;
 
-/// The kind of a token, with its bytes.
+/// The kind of a token of a game text, with its value or its bytes.
 #[derive(Clone, Copy)]
 pub enum Kind<'a> {
-    /// A number that fits in 64 bits.
+    /// A number that fits in a `u64`.
     Number(u64),
     /// The digits of a number that does not fit in a `u64`.
     LargeNumber(&'a [u8]),
@@ -37,22 +37,22 @@ pub enum Kind<'a> {
     Semicolon,
     /// A name without its closing quote.
     OpenName,
-    /// Any other token that is never allowed.
+    /// Any other token that is allowed nowhere in a game text.
     Wrong,
     /// The end of the text.
     End,
 }
 
-/// A token and its offset.
+/// A token of a game text, with its offset in the text.
 #[derive(Clone, Copy)]
 pub struct Token<'a> {
     /// The kind of the token.
     pub kind: Kind<'a>,
-    /// The offset of the token's first byte, from 0.
+    /// The offset of the token's first byte in the text, counted from 0.
     pub start: usize,
 }
 
-/// The tokens of a text from an offset on.
+/// A lexer, which yields the tokens of a text from an offset on.
 #[derive(Drop)]
 pub struct Tokens<'a> {
     text: &'a [u8],
@@ -75,7 +75,7 @@ impl<'a> Tokens<'a> {
     ghost use Rattle.ps_text.specs.Bytes.{is_unquoted};
     ghost use Rattle.ps_pgsolver.specs.Signs.{Word, Comma, Semicolon};
 
-    /// The tokens of a text.
+    /// A lexer for the tokens of a whole text.
     pub fn new(text: &'a [u8]) -> Self
         ensures { result ≡ stream_of text.now }
     {
@@ -114,8 +114,8 @@ impl<'a> Tokens<'a> {
         next_start(self.text, self.at)
     }
 
-    /// Reads the next token if it is a number with few digits. Most numbers have few digits, and no token is built for
-    /// them.
+    /// Moves past the next token and returns its value, if it is a number with fewer than 18 digits. Most numbers are
+    /// so short, and no value of type `Token` is built for them.
     #[inline(always)]
     pub fn take_number(&mut self) -> Option<u64>
         ensures some { IfSome result (λ number. IsNumberTaken number self.old self.new) }
@@ -131,7 +131,7 @@ impl<'a> Tokens<'a> {
         Some(number.value)
     }
 
-    /// Reads the next token if it is a comma.
+    /// Moves past the next token if it is a comma, and returns whether it is one.
     #[inline(always)]
     pub fn take_comma(&mut self) -> bool
         ensures { TakesIfNext Comma self.old result self.new }
@@ -145,7 +145,7 @@ impl<'a> Tokens<'a> {
         true
     }
 
-    /// Reads the next token if it is a semicolon.
+    /// Moves past the next token if it is a semicolon, and returns whether it is one.
     #[inline(always)]
     pub fn take_semicolon(&mut self) -> bool
         ensures { TakesIfNext Semicolon self.old result self.new }
@@ -175,7 +175,7 @@ impl<'a> Tokens<'a> {
         begins_with(rest, Class::Comma)
     }
 
-    /// The next token, if it is a name.
+    /// The name that is the next token, or `None` if the next token is not a name.
     pub fn next_name(&self) -> Option<&'a [u8]>
         ensures name { option_copied result ≡ name_of (next_of self.now) }
         ensures plain { IfSome result (λ inner. AllPass is_unquoted inner.now) }
@@ -201,7 +201,7 @@ impl<'a> Tokens<'a> {
     }
 }
 
-/// The first token from an offset on, and the offset of its end.
+/// The first token of a text from an offset on, and the offset at which the token ends.
 #[inline(always)]
 fn token_from<'a>(text: &'a [u8], at: usize) -> (Token<'a>, usize)
     requires { at ≤ length text.now }
@@ -247,7 +247,7 @@ fn token_at<'a>(before: &[u8], rest: &'a [u8]) -> (Kind<'a>, usize)
     }
 }
 
-/// The token of a run of digits, and the token's length in bytes.
+/// The token of the run of digits with which a text begins, and the token's length in bytes.
 #[inline(always)]
 fn number_at<'a>(before: &[u8], rest: &'a [u8]) -> (Kind<'a>, usize)
     ensures { IsLexed result (number_sign before.now rest.now) (prefix_len is_digit rest.now) (length rest.now) }
@@ -260,7 +260,7 @@ fn number_at<'a>(before: &[u8], rest: &'a [u8]) -> (Kind<'a>, usize)
     }
 }
 
-/// The number that a run of digits denotes, and the length of the run in bytes.
+/// The number token of a text's leading digits, and the token's length in bytes.
 fn digits_at<'a>(rest: &'a [u8]) -> (Kind<'a>, usize)
     ensures { IsLexed result (Number (decimal_value (take_while is_digit rest.now))) (prefix_len is_digit rest.now)
         (length rest.now) }
@@ -298,7 +298,7 @@ fn few_digits(text: &[u8]) -> Option<LeadingNumber>
     Some(LeadingNumber { value, digits })
 }
 
-/// The token of a run of letters, and the token's length in bytes.
+/// The token of the run of letters with which a text begins, and the token's length in bytes.
 #[inline(always)]
 fn word_at<'a>(before: &[u8], rest: &'a [u8]) -> (Kind<'a>, usize)
     ensures { IsLexed result (word_sign before.now rest.now) (prefix_len is_letter rest.now) (length rest.now) }
@@ -326,7 +326,7 @@ fn name_at<'a>(behind: &'a [u8]) -> (Kind<'a>, usize)
     }
 }
 
-/// The token of a byte that is a token on its own, or that is never allowed.
+/// The token of a single byte: a comma, a semicolon, or a byte that is never allowed.
 fn punctuation<'a>(byte: u8) -> Kind<'a>
     ensures sign { sign_of result ≡ Some (punctuation_sign byte) }
     ensures plain { IsPlain result }
@@ -338,7 +338,7 @@ fn punctuation<'a>(byte: u8) -> Kind<'a>
     }
 }
 
-/// Whether the first byte of the text is in the class.
+/// Whether the first byte of the text is in the given class, for instance the digits.
 fn begins_with(text: &[u8], class: Class) -> bool
     ensures { result ≡ begins_in (in_class class) text.now }
 {
@@ -348,7 +348,7 @@ fn begins_with(text: &[u8], class: Class) -> bool
     }
 }
 
-/// Whether the last byte of the text is in the class.
+/// Whether the last byte of the text is in the given class, for instance the letters.
 fn ends_in_class(text: &[u8], class: Class) -> bool
     ensures { result ≡ ends_in (in_class class) text.now }
 {

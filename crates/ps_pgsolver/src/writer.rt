@@ -1,4 +1,4 @@
-//! Writing the text of a game.
+//! The writer of a game's text in PGSolver's format.
 
 ghost use Rattle.std.specs.Prelude.{◌≡◌, ◌++◌, ◌<◌, ◌≤◌, decimal, OnOk, IfOk, Ok, None, slice_index, slice_index_or};
 ghost use Rattle.std.specs.Prelude.{vec_len, option_copied};
@@ -36,7 +36,7 @@ fn greatest_id(game: &NamedGame) -> u64
     most
 }
 
-/// Writes the line that precedes those of the vertices.
+/// Writes the first line, `parity K;` with the greatest id, which precedes those of the vertices.
 fn write_head(out: &mut Vec<u8>, id: u64) -> Result<(), AllocError>
     ensures bytes { OnOk result (out.new.items ≡ out.old.items ++ head_text id) }
     ensures word { IsWord id }
@@ -96,7 +96,7 @@ fn write_successors(out: &mut Vec<u8>, named: &NamedGame, vertex: usize) -> Resu
     Ok(())
 }
 
-/// Writes a name after a space, if there is one.
+/// Writes the name of a vertex after a space, if the vertex has a name.
 fn write_name(out: &mut Vec<u8>, name: Option<&[u8]>) -> Result<(), AllocError>
     ensures { OnOk result (out.new.items ≡ out.old.items ++ name_text (option_copied name.entry)) }
 {

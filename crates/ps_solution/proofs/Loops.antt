@@ -1,5 +1,5 @@
--- The parts of the grammar as the code reads them: parts that follow one another, parts that may be missing, and the
--- loop over the entries.
+-- How the code parses the grammar of a solution: parts that follow one another, parts that may be missing, and the loop
+-- over the entries.
 use Rattle.std.proofs.Common.{◌≡◌, ℕ, ◌<◌, true, false, List, length, Option, None, Some, Ok, Err, Result, IsErrAnd}
 use Rattle.std.proofs.Common.{refl, sym, ap, subst, inl, ◌∙◌, rules}
 use Rattle.ps_text.specs.Answers.{Stream, Found, next_of}
@@ -30,7 +30,7 @@ use Rattle.ps_solution.proofs.PartLaws.{joint_entries}
 use Rattle.ps_solution.proofs.PartLaws.{joint_value, joint_solution, entry_end, from_choice, from_winner}
 use Rattle.ps_ids.specs.Ids.{place_of}
 
--- a function that reports the error at which the part stops has read the part
+-- a function that reports the first error of a part of the grammar meets its contract for this part
 pub exit : {V X : Type 0} (view : X → V) (P : Field V) (old new : Stream Sign) (e : CertFault) (r : Result X CertFault)
     → Stops solution_causes P old (found_of e) → IsErrAnd r (λ y. y ≡ e) → ReadsAs view P old r new
 exit view P old new e r s i = exits found_of solution_causes view P old new e r s i

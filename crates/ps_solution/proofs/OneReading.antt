@@ -1,4 +1,4 @@
--- The text of a solution has at most one answer.
+-- The text of a solution has at most one answer: a solution, or the first error.
 use Rattle.std.proofs.Common.{◌≡◌, ℕ, eqb, List, length, Result, Ok, Err, sym, ap, subst, ◌∙◌, rules, if◌then◌else◌}
 use Rattle.ps_text.specs.Answers.{Stream, Found, AreNumbered}
 use Rattle.ps_text.specs.Parts.{PartAnswers, IsWrong}
@@ -50,7 +50,7 @@ module _ (ids : List ℕ) where
   abbrev solves : SolvedData → Answered
   solves s = Ok (solution_of s)
 
-  -- the answer to a text, given the tokens that the lexer produces
+  -- the cases of the answer to a solution's text, in terms of the tokens that the lexer produces
   data Over (text : List ℕ) (answer : Answered) : Type 0 where
     first : (f : Found CertCause) → PartAnswers solution_causes (solution ids) (stream_of text) (stops_as f) →
         answer ≡ refuses f → Over text answer

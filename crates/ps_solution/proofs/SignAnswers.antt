@@ -1,4 +1,4 @@
--- The results of the parser's functions for a token agree with the grammar's parts of one sign.
+-- The parsing functions that read one token give the results that the grammar states for this token.
 use Rattle.std.proofs.Common.{◌≡◌, ◌⊎◌, ℕ, ◌<◌, ◌≤◌, true, false, ltb, List, Option, None, Some, Result, Ok, Err, refl}
 use Rattle.std.proofs.Common.{sym}
 use Rattle.std.proofs.Common.{subst, inl, inr, ⊎_elim, ◌∙◌, arith, rules, Bool, ◌&&◌, not}
@@ -25,7 +25,8 @@ use Rattle.ps_solution.specs.Texts.{successor, semicolon}
 use Rattle.ps_solution.specs.Inner.Answered.{ReadsAs, value_answer, any_of_number, vertex_of_number, winner_of_number}
 use Rattle.ps_solution.specs.Inner.Answered.{successor_of_number, semicolon_answer}
 
--- the verdict on the value of a number: it is right, or it has exactly one error
+-- a function's judgement on a number's value agrees with the grammar: the value is accepted, or it has exactly one
+-- error, which is reported
 data Verdict {V : Type 0} (value : ℕ → V) (Wrong : ℕ → CertCause → Type 0) (judge : ℕ → ℕ → Result V CertFault)
     (n at : ℕ) : Type 0 where
   right : ((f : CertCause) → Wrong n f → ⊥) → judge at n ≡ Ok (value n) → Verdict value Wrong judge n at
@@ -88,7 +89,7 @@ semicolon_fits : (t : Sign) (at : ℕ) → Fits cause_number Syntax semicolon_in
 semicolon_fits Semicolon at = taken tt refl (λ f b. b) refl
 semicolon_fits _ at = refused refl (λ f b. b) refl
 
--- the result for a number token, if every number that fits in 64 bits is allowed
+-- where every number that fits in 64 bits is allowed, a number token that fits gives its value
 pub value_small : {n : ℕ} (at : ℕ) → n < too_large → Ok n ≡ value_answer any_of_number (Some (Number n)) at
 value_small {n} at small = rw (lt-ltb n too_large small) refl
 

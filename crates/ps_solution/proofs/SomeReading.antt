@@ -1,4 +1,4 @@
--- Each text has an answer.
+-- Each text of a solution has an answer: a solution, or the first error.
 use Rattle.std.proofs.Common.{◌≡◌, ℕ, ◌<◌, ◌≤◌, ◌⊎◌, inl, inr, zero, suc, ◌+◌, List, length, Option, None, Some, rules}
 use Rattle.std.proofs.Common.{Result, Ok, Err, Bool, true, false, refl, sym, arith}
 use Rattle.std.specs.List.{Contains}
@@ -36,7 +36,7 @@ Has part = HasOutcomes solution_causes part
 no_bad : (t : Sign) → Judged cause_number (NoBad {T = Sign} t)
 no_bad t = good (λ f b. b)
 
--- the errors of a number are decidable if the errors of its value are
+-- the errors of a number token are decidable if the errors of its value are
 module _ (Wrong : ℕ → CertCause → Type 0) (judge : (n : ℕ) → Judged cause_number (Wrong n)) where
   judge_value : (t : Sign) → Judged cause_number (BadValue Wrong t)
   judge_value (Number n) = judge_one cause_number (judge_cause cause_number Syntax (decide_below too_large n))
@@ -108,7 +108,7 @@ module _ (ids : List ℕ) where
       (answer : Result SolvedData (Found CertCause)) × PartAnswers solution_causes (solution ids) stream answer
   some_solved = some_answer (laws_solution ids) has_solution
 
--- whether each vertex has an entry is decidable
+-- it is decidable whether the entries that were read include one for each vertex
 decide_whole : (s : SolvedData) → Decided (IsFilled s)
 decide_whole s = up_to (length s.named)
   where

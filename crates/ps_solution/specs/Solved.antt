@@ -1,26 +1,27 @@
--- The entries of a text for the vertices of a game, which are numbered from 0.
+-- The entries of a solution's text, one for each vertex of a game; vertices are numbered from 0.
 use Rattle.std.specs.Prelude.{◌≡◌, ℕ, ◌<◌, ◌==◌, if◌then◌else◌, List, length, Option, None, Some, Bool, true, false}
 use Rattle.std.specs.Prelude.{IfSome, replicate, slice_set}
 use Rattle.std.specs.List.{All}
 use Rattle.ps_game.specs.Regions.{has}
 
--- the vertices that have an entry so far, those of them that player 0 wins, and the given moves
+-- the entries that were read so far: which vertices have an entry, which of these player 0 wins, and the moves that the
+-- entries give
 pub record SolvedData : Type 0 where
   pub named : List Bool
   pub won : List Bool
   pub moves : List (Option ℕ)
 
--- each move is less than the number of vertices
+-- each move is the index of a vertex, so it is less than the number of vertices
 abbrev pub AreMoves : ℕ → List (Option ℕ) → Type 0
 AreMoves count moves = All (λ choice. IfSome choice (λ v. v < count)) moves
 
--- the three lists have one item for each vertex, and moves are vertices
+-- the three lists have one item for each vertex, and each move is the index of a vertex
 pub record AreTables (s : SolvedData) : Type 0 where
   pub won_each : length s.won ≡ length s.named
   pub move_each : length s.moves ≡ length s.named
   pub moves : AreMoves (length s.named) s.moves
 
--- no entries, for a given number of vertices
+-- the state before any entry is read, for a game with `n` vertices
 abbrev pub none_solved : ℕ → SolvedData
 none_solved n = record { named = replicate n false; won = replicate n false; moves = replicate n None }
 
@@ -31,7 +32,7 @@ abbrev pub with_move : List (Option ℕ) → ℕ → Option ℕ → List (Option
 with_move moves v None = moves
 with_move moves v (Some w) = slice_set moves v (Some w)
 
--- the entries with one entry more, which states who wins a vertex, and by which move
+-- the entries after one more was read, which states who wins vertex `v`, and by which move
 abbrev pub with_entry : SolvedData → ℕ → ℕ → Option ℕ → SolvedData
 with_entry s v winner choice = record {
   named = slice_set s.named v true;
@@ -43,7 +44,7 @@ with_entry s v winner choice = record {
 abbrev pub IsFilled : SolvedData → Type 0
 IsFilled s = (v : ℕ) → v < length s.named → has s.named v ≡ true
 
--- the vertices that player 0 wins, and a move or none for each vertex; player 1 wins all other vertices
+-- a solution: the vertices that player 0 wins, and a move or none for each vertex; player 1 wins all other vertices
 pub record SolutionData : Type 0 where
   pub won : List Bool
   pub moves : List (Option ℕ)

@@ -21,13 +21,14 @@ use ps_ids::Ids;
 use ps_pgsolver::{Kind, Token, Tokens};
 use std::alloc::Global;
 
-/// Parses a solution of a game. Winners are 0 or 1. The text gives vertices and moves by their ids in the game, and the
-/// solution stores their indices.
+/// Parses a solution of a game. Each winner in the text is 0 or 1. In the text, vertices and moves are given by ids of
+/// the game; the parsed solution stores the indices of these vertices.
 ///
 /// # Errors
 ///
-/// [`CertFault::Text`] with the first error of the text and the offset of its token. If the text has no error but a
-/// vertex has no entry, the error is `OtherGame` at the end of the text. The only other error is out of memory.
+/// [`CertFault::Text`] with the first error of the text and the offset of its token. If the text has no other error,
+/// but some vertex has no entry, the error is `OtherGame` at the end of the text. Apart from errors of the text, the
+/// only error is out of memory.
 pub fn read(alloc: Global, text: &[u8], game: &NamedGame) -> Result<Solution, CertFault>
     ensures answer { IsSolutionAnswer game.now.ids text.now result }
     ensures won { IfOk result (λ solution. length solution.won ≡ vertex_count game.now.game) }
@@ -53,7 +54,7 @@ fn fault(cause: CertCause, offset: usize) -> CertFault
     CertFault::Text { cause, offset }
 }
 
-/// Parses a whole text.
+/// Parses the whole text of a solution, and returns its entries.
 fn solution_text(alloc: Global, text: &[u8], ids: &Ids) -> Result<Solved, CertFault>
     ensures answer { TextAnswers ids.now (stream_of text.now) result }
     ensures places { IfOk result (λ solved. length solved.named ≡ length ids.now) }
@@ -76,7 +77,7 @@ fn heading(tokens: &mut Tokens) -> Result<(), CertFault>
     Ok(())
 }
 
-/// Parses a number that has no meaning, and a semicolon.
+/// Parses the number in the line `paritysol 7;`, which has no meaning, and the semicolon.
 fn value_line(tokens: &mut Tokens) -> Result<(), CertFault>
     ensures { ReadsAs (λ u. u) parts.value_line tokens.old result tokens.new }
 {
@@ -97,7 +98,7 @@ fn entries(alloc: Global, tokens: &mut Tokens, ids: &Ids) -> Result<Solved, Cert
     Ok(solved)
 }
 
-/// Parses an entry, and adds it to those that were read before.
+/// Parses an entry of a solution, and adds it to the entries that were read before.
 fn entry(tokens: &mut Tokens, ids: &Ids, solved: &mut Solved) -> Result<(), CertFault>
     requires { length solved.old.named ≡ length ids.now }
     ensures part { ReadsAs (λ _. solved.new) (parts.entry ids.now solved.old) tokens.old result tokens.new }
@@ -111,7 +112,7 @@ fn entry(tokens: &mut Tokens, ids: &Ids, solved: &mut Solved) -> Result<(), Cert
     Ok(())
 }
 
-/// Parses the id of a vertex that has no entry yet. Returns the vertex's index.
+/// Parses the id that begins an entry, of a vertex that has no entry yet. Returns the index of this vertex.
 fn vertex(tokens: &mut Tokens, ids: &Ids, solved: &Solved) -> Result<usize, CertFault>
     requires { length solved.now.named ≡ length ids.now }
     ensures part { ReadsAs (λ v. v) (parts.vertex ids.now solved.now) tokens.old result tokens.new }
@@ -131,7 +132,7 @@ fn winner(tokens: &mut Tokens) -> Result<u8, CertFault>
     one_of_two(winner, start)
 }
 
-/// Parses a move, if the text continues with one.
+/// Parses the move of an entry, if the next token is a number.
 fn choice(tokens: &mut Tokens, ids: &Ids) -> Result<Option<usize>, CertFault>
     ensures part { ReadsAs (λ c. c) (parts.choice ids.now) tokens.old result tokens.new }
     ensures within { IfOk result (λ c. IfSome c (λ v. v < length ids.now)) }
@@ -143,7 +144,8 @@ fn choice(tokens: &mut Tokens, ids: &Ids) -> Result<Option<usize>, CertFault>
     Ok(Some(successor))
 }
 
-/// Parses the id of a successor. Returns the vertex's index.
+/// Parses the id of the vertex to which a move leads, which may be any vertex of the game. Returns the index of this
+/// vertex.
 fn successor(tokens: &mut Tokens, ids: &Ids) -> Result<usize, CertFault>
     ensures part { ReadsAs (λ v. v) (parts.successor ids.now) tokens.old result tokens.new }
     ensures within { IfOk result (λ v. v < length ids.now) }
@@ -170,7 +172,7 @@ fn semicolon(tokens: &mut Tokens) -> Result<(), CertFault>
     semicolon_of(tokens.next())
 }
 
-/// Parses a number without checking its meaning.
+/// Parses any number that fits in 64 bits.
 fn any_number(tokens: &mut Tokens) -> Result<u64, CertFault>
     ensures answer { result ≡ value_answer any_of_number (next_of tokens.old)
         (offset_of tokens.old.pieces tokens.old.end) }
@@ -216,7 +218,7 @@ fn one_of_two(winner: u64, start: usize) -> Result<u8, CertFault>
     }
 }
 
-/// The index of the vertex whose id is the number at offset `start`. Fails if no vertex has this id.
+/// The index of the vertex whose id is the number at offset `start`. The function fails if no vertex has this id.
 fn if_known(id: u64, start: usize, ids: &Ids) -> Result<usize, CertFault>
     ensures answer { result ≡ successor_of_number ids.now start id }
     ensures within { IfOk result (λ v. v < length ids.now) }

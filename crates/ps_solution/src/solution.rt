@@ -1,15 +1,15 @@
-//! The value of a solution.
+//! A parsed solution: who is claimed to win each vertex of a game, and by which move.
 
 use ps_game::{Region, Strategy};
 use std::marker::Model;
 
-/// The players who are claimed to win the vertices of a game, and their moves.
+/// For each vertex of a game, the player who is claimed to win it, and that player's move.
 #[derive(Drop)]
 pub struct Solution {
-    /// The vertices that player 0 is claimed to win; player 1 is claimed to win all others.
+    /// The vertices that player 0 is claimed to win; player 1 is claimed to win all other vertices.
     pub won: Region,
-    /// The move of each vertex, or none. The parser accepts a move even if the claimed winner of the vertex doesn't own
-    /// it.
+    /// The move that the solution gives for each vertex, or none. The parser accepts the move of a vertex even if the
+    /// claimed winner doesn't own the vertex.
     pub moves: Strategy,
 }
 

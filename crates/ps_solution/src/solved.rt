@@ -1,4 +1,4 @@
-//! The entries that the parser has read so far.
+//! The entries of a solution that the parser has read so far.
 
 ghost use Rattle.std.specs.Prelude.{◌≡◌, ◌<◌, ◌↔◌, length, IfOk, IfSome, IsTrue};
 ghost use Rattle.ps_game.specs.Regions.{has};
@@ -9,7 +9,8 @@ use ps_game::{Region, Strategy};
 use std::alloc::{AllocError, Global};
 use std::marker::Model;
 
-/// The vertices of a game that have an entry so far, those of them that player 0 wins, and the given moves.
+/// The entries read so far: which vertices of the game have one, which of these player 0 wins, and the moves that the
+/// entries give.
 #[derive(Drop)]
 pub(crate) struct Solved {
     named: Region,
@@ -28,7 +29,7 @@ impl Model for Solved {
 }
 
 impl Solved {
-    /// No entries yet, for a game with `vertices` vertices.
+    /// The state before any entry is read, for a game with `vertices` vertices.
     pub(crate) fn new(alloc: Global, vertices: usize) -> Result<Self, AllocError>
         ensures { IfOk result (λ solved. solved ≡ none_solved vertices) }
     {
@@ -39,7 +40,7 @@ impl Solved {
         })
     }
 
-    /// Whether a vertex has an entry.
+    /// Whether an entry for the given vertex was read.
     pub(crate) fn has(&self, vertex: usize) -> bool
         requires { vertex < length self.now.named }
         ensures { result ≡ has self.now.named vertex }
@@ -62,7 +63,7 @@ impl Solved {
         }
     }
 
-    /// Whether each vertex has an entry.
+    /// Whether an entry was read for each vertex.
     pub(crate) fn is_whole(&self) -> bool
         ensures { IsTrue result ↔ IsFilled self.now }
     {

@@ -1,5 +1,5 @@
--- The results of the parser's functions for one token, and what each function establishes about its part of the
--- grammar.
+-- The results of the functions that parse one token of a game text, and what each parsing function establishes about
+-- its part of the grammar.
 use Rattle.std.specs.Prelude.{ℕ, Bool, true, List, Option, None, Some, Result, Ok, Err, IfOk, nat_lt, if◌then◌else◌}
 use Rattle.ps_text.specs.Answers.{Stream, Found}
 use Rattle.ps_text.specs.Parts.{Part, PartAnswers}
@@ -14,19 +14,20 @@ use Rattle.ps_pgsolver.specs.declared.fault.PgCause.TheVariants as causes
 use Rattle.ps_pgsolver.specs.Causes.{PgFault}
 use Rattle.ps_text.specs.declared.faults.Fault.TheVariants as faults
 
--- the part was read from `old`, and `new` is left; or the function located the first error of the part
+-- the function parsed a part of the grammar, starting at `old` and ending at `new`, or it located the first error of
+-- this part
 abbrev pub ReadsAs : {V X : Type 0} → (X → V) → Part Sign V PgCause → Stream Sign → Result X PgFault →
     Stream Sign → Type 0
 ReadsAs view part old result new = Meets found_of pg_causes view part old result new
 
--- the part has the same result for every list of known ids that contains all ids in the value
+-- parsing gives the same value for every list of known ids that contains all successors in this value
 abbrev pub ReadsKnown : {V X : Type 0} → (List ℕ → V → Type 0) → (X → V) → (Option (List ℕ) → Part Sign V PgCause) →
     Stream Sign → Result X PgFault → Stream Sign → Type 0
 ReadsKnown Knows view part old result new =
     IfOk result (λ x. (ids : List ℕ) → Knows ids (view x) → WasRead (part (Some ids)) old (view x) new)
 
--- every list of known ids that contains all ids in the new value contains all ids in the old value, and for every such
--- list the part has the same result
+-- each list of known ids that contains all successors in the new value contains those in the old value, and with each
+-- such list parsing gives the new value
 abbrev pub AddsKnown : {V X : Type 0} → (List ℕ → V → Type 0) → V → V → (Option (List ℕ) → Part Sign V PgCause) →
     Stream Sign → Result X PgFault → Stream Sign → Type 0
 AddsKnown Knows before after part old result new =
@@ -36,7 +37,7 @@ abbrev pub is_known : Option (List ℕ) → ℕ → Bool
 is_known None n = true
 is_known (Some ids) n = is_member ids n
 
--- the result of a function that expects a number, for a sign or the end of the text, at an offset
+-- the result of a function that expects a number, if it finds a given token, or the end of the text, at an offset
 abbrev pub number_answer : Option Sign → ℕ → Result ℕ PgFault
 number_answer (Some (Number n)) at = if nat_lt n too_large then Ok n else Err (faults.Text causes.Number at)
 number_answer _ at = Err (faults.Text causes.Syntax at)
@@ -82,7 +83,7 @@ abbrev pub end_answer : Option Sign → ℕ → Result (Unit {0}) PgFault
 end_answer None at = Ok tt
 end_answer (Some sign) at = Err (faults.Text causes.Syntax at)
 
--- what the result of parsing a whole text means
+-- a fault that parsing a whole text returns is the grammar's first error in the text, unless it is out of memory
 abbrev pub FaultAnswers : Option (List ℕ) → Stream Sign → Option (Found PgCause) → Type 0
 FaultAnswers known stream None = Unit {0}
 FaultAnswers known stream (Some found) = PartAnswers pg_causes (game known) stream (Err found)
@@ -91,7 +92,7 @@ abbrev pub TextAnswers : Option (List ℕ) → Stream Sign → Result (List Node
 TextAnswers known stream (Ok nodes) = PartAnswers pg_causes (game known) stream (Ok nodes)
 TextAnswers known stream (Err fault) = FaultAnswers known stream (found_of fault)
 
--- the answer to a text stays the same if the known ids include all ids in its value
+-- the nodes that are parsed from a text stay the same if the list of known ids contains all successors in these nodes
 abbrev pub KnownAnswers : Stream Sign → Result (List NodeData) PgFault → Type 0
 KnownAnswers stream result =
     IfOk result (λ nodes. (ids : List ℕ) → KnowsAll ids nodes →

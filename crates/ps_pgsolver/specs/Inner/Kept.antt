@@ -1,5 +1,5 @@
--- How nodes are stored: in a list of ids, a list of vertices and a list of names. In the list of vertices, the
--- successors are ids.
+-- How the nodes of a game text are stored while it is parsed: in a list of ids, a list of vertices and a list of names.
+-- In this list of vertices, successors are given by their ids, not yet by their indices.
 use Rattle.std.specs.Prelude.{◌≡◌, ℕ, List, [], ◌∷◌, ◌++◌, length, Option, Some, None, Vec}
 use Rattle.std.specs.Global.{Global}
 use Rattle.ps_game.specs.Games.{VertexData, ParityGame}
@@ -16,11 +16,11 @@ unfoldable pub nodes_kept : List ℕ → ParityGame → List (Option (List ℕ))
 nodes_kept (id ∷ ids) (v ∷ vertices) (name ∷ names) = node_kept id v name ∷ nodes_kept ids vertices names
 nodes_kept _ _ _ = []
 
--- the vertex of a node, before its successors are replaced by their indices
+-- the vertex that is stored for a node, with the ids of its successors, which are later replaced by their indices
 abbrev pub vertex_kept : NodeData → VertexData
 vertex_kept node = vertex_made node.owner node.priority node.successors
 
--- a node that was read, with its successors
+-- a parsed node, as a value that includes its successors
 abbrev pub node_with : Node → List ℕ → NodeData
 node_with node successors =
     record {
@@ -31,12 +31,12 @@ node_with node successors =
       name = name_bytes node.name;
     }
 
--- a list with one more name at its end, if there is a name
+-- the list of names after a node is added: one more name at the end, if the node has a name
 abbrev pub names_with : List (Option (Vec ℕ Global)) → Option (Vec ℕ Global) → List (Option (Vec ℕ Global))
 names_with names None = names
 names_with names (Some name) = names ++ Some name ∷ []
 
--- the lists have equal lengths and store nodes
+-- the three lists have equal lengths, and the nodes that they store are well formed and have distinct ids
 pub record AreKept (ids : List ℕ) (vertices : ParityGame) (names : List (Option (List ℕ))) : Type 0 where
   pub id_each : length ids ≡ length vertices
   pub name_each : length names ≡ length ids

@@ -1,5 +1,5 @@
--- The results of the parser's functions for one token, and what each function establishes about its part of the
--- grammar.
+-- The results of the functions that parse one token of a solution, and what each parsing function establishes about its
+-- part of the grammar.
 use Rattle.std.specs.Prelude.{ℕ, List, Option, None, Some, Result, Ok, Err, nat_lt, if◌then◌else◌, ◌&&◌, not}
 use Rattle.std.specs.List.{list_any}
 use Rattle.ps_text.specs.Answers.{Stream}
@@ -17,11 +17,13 @@ use Rattle.ps_pgsolver.specs.Signs.{Sign, Number, Semicolon}
 use Rattle.ps_solution.specs.Solved.{SolvedData}
 use Rattle.ps_solution.specs.Texts.{Field, solution_causes, solution}
 
--- the part was read from `old`, and `new` is left; or the function located the first error of the part
+-- the function parsed a part of the grammar, starting at `old` and ending at `new`, or it located the first error of
+-- this part
 abbrev pub ReadsAs : {V X : Type 0} → (X → V) → Field V → Stream Sign → Result X CertFault → Stream Sign → Type 0
 ReadsAs view part old result new = Meets found_of solution_causes view part old result new
 
--- the result for a sign, or for the end of the text, at an offset; `judge` checks the value of a number
+-- the result of a function that expects a number, if it finds a given token, or the end of the text, at an offset;
+-- `judge` checks the number's value
 abbrev pub value_answer : {V : Type 0} → (ℕ → ℕ → Result V CertFault) → Option Sign → ℕ → Result V CertFault
 value_answer judge (Some (Number n)) at = if nat_lt n too_large then judge at n else Err (Text Syntax at)
 value_answer judge _ at = Err (Text Syntax at)
@@ -47,7 +49,7 @@ abbrev pub end_answer : Option Sign → ℕ → Result (Unit {0}) CertFault
 end_answer None at = Ok tt
 end_answer (Some sign) at = Err (Text Syntax at)
 
--- what the result of parsing a whole text means
+-- a result of parsing a whole text, other than out of memory, is the grammar's answer: the entries, or the first error
 abbrev pub TextAnswers : List ℕ → Stream Sign → Result SolvedData CertFault → Type 0
 TextAnswers ids stream (Ok solved) = PartAnswers solution_causes (solution ids) stream (Ok solved)
 TextAnswers ids stream (Err (Text cause offset)) =

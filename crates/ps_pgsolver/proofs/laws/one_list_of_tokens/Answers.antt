@@ -1,4 +1,4 @@
--- The tokens of a text are those that the lexer produces.
+-- The law `one_list_of_tokens` holds because a text's tokens are exactly those that the lexer produces.
 use Rattle.ps_pgsolver.specs.Lexer.{stream_of}
 use Rattle.ps_pgsolver.proofs.GameTokens.{tokens_found, only_tokens}
 use Rattle.ps_pgsolver.proofs.laws.one_list_of_tokens.Goals as goal

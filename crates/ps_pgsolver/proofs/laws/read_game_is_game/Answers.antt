@@ -1,4 +1,4 @@
--- The law `read_game_is_game` is the lemma `game_is_sound`.
+-- The law `read_game_is_game` is proved by the lemma `game_is_sound`.
 use Rattle.ps_pgsolver.proofs.SoundGames.{game_is_sound}
 use Rattle.ps_pgsolver.proofs.laws.read_game_is_game.Goals as goal
 

@@ -6,7 +6,7 @@ use Rattle.ps_pgsolver.proofs.SingleSigns.{reads_first, later_first}
 use Rattle.ps_pgsolver.proofs.reader.first_successor.Goals as goal
 use Rattle.ps_pgsolver.proofs.reader.first_successor.Goals.{After-if_known}
 
--- the result if the next token is a number with few digits
+-- if the next token is a number with few digits, the function's result for it is what the grammar states
 taken : (c : After-if_known) → let old = c.args.tokens.now in
     c.if_known.result ≡ first_answer (option_copied c.args.known) (next_of old) (offset_of old.pieces old.end)
 taken c = grind arith
