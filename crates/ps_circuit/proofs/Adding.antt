@@ -1,4 +1,5 @@
--- The definitions and readings that the lines of one kind add to those of the earlier lines.
+-- Lemmas about the defining literals and the used literals that the lines of one kind (inputs, latches, outputs or
+-- gates) add to those of the earlier lines.
 --     LineKind X      for a kind of lines: the literals that items define, and the literals that items read
 --     AddsItem kind c d x      d has one item more than c, the item x
 --     Added kind before read d      d has the definitions `before` and readings `read`, and then those of its items
@@ -32,12 +33,12 @@ pub record Added {X : Type 0} (kind : LineKind X) (before read : List ℕ) (d : 
   pub defined : d.defined ≡ map variable (before ++ kind.defines d.items)
   pub readings : values d.readings ≡ read ++ kind.reads d.items
 
--- before the first item, nothing is added
+-- before the first line of a kind, no literals are added to those of the earlier lines
 pub none_more : {X : Type 0} (of : List X → List ℕ) → of [] ≡ [] → (front : List ℕ) {items : List X} → items ≡ [] →
     front ≡ front ++ of items
 none_more of none front e = search rules
 
--- after one more item
+-- after one more line of a kind, the literals of its item are added at the end
 pub one_more : {X : Type 0} (of : List X → List ℕ) → ((xs ys : List X) → of (xs ++ ys) ≡ of xs ++ of ys) →
     (front : List ℕ) (old : List X) {new : List X} (x : X) → new ≡ old ++ x ∷ [] →
     (front ++ of old) ++ of (x ∷ []) ≡ front ++ of new

@@ -1,4 +1,5 @@
--- The definitions and readings that the lines of a text add, and the circuit that the lines form.
+-- Lemmas about the defining literals and the used literals that an AIGER text's lines add, and about the circuit that
+-- these lines form.
 --     Lined kind most before read d      d has the given definitions and readings, and then those of lines of one kind
 --     gates_placed      each gate of a draft has the offset of its line
 --     sound_draft      a draft whose literals are all defined is a circuit, except that a gate may depend on itself
@@ -78,7 +79,7 @@ module _ (most : ℕ) where
 
 -- ## The offsets of the gates' lines
 
--- each further item adds k line offsets; k is 1 for gates, and otherwise 0
+-- each further line adds k recorded offsets of lines; k is 1 for gate lines, and 0 for all other lines
 abbrev Keeps : {A : Type 0} → ℕ → (Lines A → Field (Lines A)) → Type 0
 Keeps {A} k item = (c d : Lines A) (text : List Seen) → (item c).IsText text d →
     length d.starts + k * length c.items ≡ length c.starts + k * length d.items
@@ -141,7 +142,7 @@ sound_draft most {i} {l} {o} {a} names limit placed gi gl go ga n1 n2 n3 a1 a2 a
       starts = placed;
     }
 
--- an optional name for each item
+-- the list of names has one optional name for each item
 pub each_named : {A : Type 0} (names : Vec (Option (Vec ℕ Global)) Global) (items : Vec A Global) {k n : ℕ} →
     vec_len names ≡ k → k ≡ n → n ≡ vec_len items → length (map name_bytes names.items) ≡ length items.items
 each_named names items e f g = omega (arith, length-map names.items name_bytes, names.ok.0, items.ok.0, e, f, g)

@@ -1,4 +1,4 @@
--- Lemmas for the function that parses a text from the first byte to the last.
+-- Lemmas for the function that parses an AIGER text from the first byte to the last.
 --     text_reads, text_trails      the answer follows from the result of the grammar's part
 --     Reached start now rest      after parsing from `start` to `now`, the part `rest` remains
 --     past_header, past_lines, all_reads      the text is read section by section
@@ -64,7 +64,8 @@ text_trails text new d {b} m n is = subst (λ x. FoundAnswers text (found_of x))
 
 -- ## The parts of the text, in order
 
--- after parsing from `start` to `now`, the part `rest` remains, and the number of remaining bytes is limited
+-- the text was parsed from `start` to `now`, the grammar's part `rest` is still to be parsed, and at most 2^63 bytes
+-- remain
 pub record Reached (start now : Stream Seen) (rest : Field DraftData) : Type 0 where
   pub left : Left circuit_text start rest now
   pub short : length now.pieces ≤ 2 ^ 63
@@ -74,7 +75,7 @@ reads_on : {A : Type 0} {P : Field A} {Q : A → Field DraftData} {First More : 
     {next : Stream Seen} → ReadsPart P now a next → Reached start next (Q a)
 reads_on j {now = now} r a {next} m = grind (arith, past j r.left m, length-append m.0.taken next.pieces)
 
--- the numbers of the first line, with the greatest variable as the code stores it
+-- the numbers of the first line, with the greatest variable as the parser's code stores it
 abbrev pub numbers : ℕ → HeaderData → HeaderData
 numbers most d = record { most = most; inputs = d.inputs; latches = d.latches; outputs = d.outputs; gates = d.gates }
 
@@ -82,7 +83,7 @@ pub text_unread : {start : Stream Seen} → Left circuit_text start (then_by hea
 unfolding circuit_text
 text_unread = unread
 
--- the text after the header, from the input lines on
+-- the grammar of the text after the header, from the input lines on
 abbrev pub body_inputs : HeaderData → Lines ℕ → Field DraftData
 body_inputs h c = then_by (times h.inputs (input_line h.most) c) (body_latches h)
 
@@ -92,7 +93,7 @@ unfolding body
 past_header {start} {next} {most} {d} e short m is = subst (λ x. Reached start next (body_inputs (numbers most d) x))
     (sym is) (reads_on chain_text (record { left = text_unread; short = short }) (numbers most d) (grind arith))
 
--- the text continues with as many lines of one kind as the code counts
+-- the text continues with as many lines of one kind as the header's number states, which the code stores in 64 bits
 pub record Ahead {A : Type 0} (item : Lines A → Field (Lines A)) (Q : Lines A → Field DraftData)
     (start now : Stream Seen) (count : ℕ) (noted : Lines A) : Type 0 where
   pub n : ℕ
@@ -112,7 +113,7 @@ module _ {A : Type 0} {item : Lines A → Field (Lines A)} {Q : Lines A → Fiel
       Stops aig_causes circuit_text start o
   lines_fail o m = stops_at x.chain x.reached.left o (m x.n x.counted x.reached.short)
 
--- the names, and the comment after them
+-- the end of an AIGER text: the symbol table and the comment after it
 module _ (most : ℕ) (i : Lines ℕ) (l : Lines Latch) (u : Lines ℕ) (a : Lines Gate) {start now : Stream Seen}
     (r : Reached start now (symbols most i l u a)) {n0 : NamesData} (en : n0 ≡ first_names most i l u a) where
   pub symbols_fail : (o : Option (Found AigCause)) → Stops aig_causes (many symbol_line n0) now o →
@@ -173,7 +174,7 @@ pub draft_reads : (text : List ℕ) {start s7 : Stream Seen} {d : DraftData} →
     ReadsPart circuit_text start d s7 → PartAnswers aig_causes circuit_text (stream_of text) (Ok d)
 draft_reads text {start} {s7} {d} is e m = text_reads text s7 d e (subst (λ x. ReadsPart circuit_text x d s7) is m)
 
--- a list of missing names
+-- the list of names for items of which none has a name
 none_of : {A : Type 0} {n : ℕ} (items : List A) → n ≡ length items → replicate n None ≡ no_names items
 none_of [] e = ap (λ k. replicate k None) e
 none_of (x ∷ items) e = ap (λ k. replicate k None) e ∙ ap (λ xs. None ∷ xs) (none_of items refl)

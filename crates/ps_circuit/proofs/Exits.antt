@@ -1,4 +1,4 @@
--- The rest of a part, depending on whether a further field follows.
+-- What is still to be parsed of a line, depending on whether a further field follows.
 use Rattle.std.proofs.Common.{◌≡◌, Bool, true, false, subst}
 use Rattle.ps_text.specs.Answers.{Stream}
 use Rattle.ps_text.specs.Bytes.{Seen}

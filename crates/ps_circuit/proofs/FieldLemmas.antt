@@ -1,4 +1,5 @@
--- Lemmas for the functions that read fields, including the cases in which they fail.
+-- Lemmas for the functions that parse the fields of a line in an AIGER text, including the cases in which these
+-- functions fail.
 use Rattle.std.proofs.Common.{◌≡◌, ℕ, ◌^◌, ◌<◌, ◌≤◌, Bool, true, false, eqb, List, [], length, Option, None, Some}
 use Rattle.std.proofs.Common.{Result, Ok, sym, subst, refl, arith, rules}
 use Rattle.std.specs.Prelude.{IfSome, IfNone}
@@ -99,7 +100,7 @@ module _ (old : Stream Seen) where
 
 -- ## Values
 
--- the greatest number of 64 bits stands for every number that does not fit into 64 bits
+-- the code stores every number that does not fit into 64 bits as the greatest number of 64 bits
 pub value_saturated : (n : ℕ) (v : Option ℕ) {r : ℕ} → r ≡ unwrap_or v 18446744073709551615 → r < 2 ^ 64 →
     IfSome v (λ w. w ≡ n) → IfNone v (2 ^ 64 ≤ n) → r ≡ saturated n
 value_saturated n None e small held large = omega (arith, e, large)

@@ -1,4 +1,4 @@
--- The gates of a builder, before and after a gate is added.
+-- Lemmas about the gates of a circuit builder, before and after a gate is added.
 use Rattle.std.proofs.Common.{◌≡◌, ◌∙◌, ℕ, ◌+◌, ◌-◌, ◌*◌, ◌/◌, ◌%◌, ◌^◌, ◌<◌, ◌≤◌, ◌&&◌, ◌||◌, Bool, true, false, not}
 use Rattle.std.proofs.Common.{cond, eqb, [], ◌∷◌, ◌++◌, length, length-append, get_or, slice_get, Some, refl, sym, ap}
 use Rattle.std.proofs.Common.{ap₂, subst, arith, inl, inr, ◌⊎◌, Result, Err, IsErrAnd, rules}
@@ -22,7 +22,7 @@ use Rattle.ps_circuit.specs.Building.{bit, variables_of}
 pub bool_cases : (b : Bool) → (b ≡ true) ⊎ (b ≡ false)
 bool_cases b = cases_Bool b
 
--- true is not false
+-- the truth values `true` and `false` differ
 pub true_is_not_false : true ≡ false → ⊥
 true_is_not_false e = cc
 
@@ -63,11 +63,11 @@ variable-negated l = search (rules, of_literal, negated_even, negated_odd)
 pub held-negated : (d : Drafted) (l : ℕ) → IsHeld d l → IsHeld d (negated l)
 held-negated d l h = subst (λ n. n ≤ variables_of d) (sym (variable-negated l)) h
 
--- each draft extends itself
+-- a list of gates extends itself
 pub extends-refl : (d : Drafted) → Extends d d
 extends-refl d = record { given = refl; more = omega arith; same = λ k s e. e }
 
--- an extension of an extension is an extension
+-- if the gates c extend b, and b extends a, then c extends a
 pub extends-trans : (a b c : Drafted) → Extends a b → Extends b c → Extends a c
 extends-trans a b c x y = search rules
 
@@ -77,7 +77,7 @@ held-extends a b x l h = let p = x.more in let q = x.given in omega arith
 pub meets-extends : (a b : Drafted) → Extends a b → (v : ℕ → Bool) → MeetsEquations b v → MeetsEquations a v
 meets-extends a b x v m = search rules
 
--- the gates with one more gate
+-- the builder's gates after one more gate is appended
 abbrev pub more : Drafted → Sides → Drafted
 more d s = record { given = d.given; gates = d.gates ++ s ∷ [] }
 
@@ -109,7 +109,7 @@ sound-more {d} {s} is room sides none = record {
 pub drafted_are : (a b : Drafted) → a.given ≡ b.given → a.gates ≡ b.gates → a ≡ b
 drafted_are a b e f = ap₂ (λ n g. record { given = n; gates = g }) e f
 
--- the new gates are sound, contain the old gates, and have the gate s at an index
+-- the builder's new gates are well formed, extend the old gates, and have the gate `s` at the index `place`
 pub record Placed (old new : Drafted) (s : Sides) (place : ℕ) : Type 0 where
   pub sound : IsSoundDraft new
   pub extends : Extends old new
@@ -139,7 +139,7 @@ pub placed-bit : (d : Drafted) (s : Sides) (place : ℕ) → slice_get d.gates p
     bit v (2 * (d.given + 1 + place)) ≡ (bit v s.first && bit v s.second)
 placed-bit d s place at v m = bit-plain v (d.given + 1 + place) ∙ m.each place s at
 
--- a new pair of literals needs a gate
+-- a pair of literals that no existing gate has, and that is allowed for a gate, needs a new gate
 pub needs : (d : Drafted) (own : ℕ) (s : Sides) → IsSoundDraft d → AreSides own s → IsNew d s.first s.second →
     NeedsGate d s.first s.second
 needs d own s is a new = search rules
@@ -167,7 +167,7 @@ pub chosen_bits : (v : ℕ → Bool) (s h l : ℕ) {ns : ℕ} (high low result :
     bit v result ≡ cond (bit v s) (bit v h) (bit v l)
 chosen_bits v s h l high low result e eh el er = er ∙ chosen_either v s h l high low e eh el
 
--- a choice in which one alternative is the constant true
+-- lemmas about a multiplexer of which one alternative is the constant true
 bit_one : {d : Drafted} (v : ℕ → Bool) → MeetsEquations d v → bit v 1 ≡ true
 bit_one v m = ap not m.constant
 
@@ -186,7 +186,7 @@ pub needs-low : {d : Drafted} {s high low not_s : ℕ} → not_s ≡ negated s �
     NeedsGate d (negated not_s) (negated high) → NeedsChoice d s high low
 needs-low {d} {s} {high} {low} {not_s} n e g = for_either not_s high (either_low d s high low not_s n e) g
 
--- a fault that is returned unchanged
+-- a function that returns the fault of a call unchanged returns this fault
 pub passed : {X : Type 0} (result : Result X EncodeFault) (fault other : EncodeFault) →
     IsErrAnd result (λ given. given ≡ fault) → result ≡ Err other → fault ≡ other
 passed result fault other h k = search rules

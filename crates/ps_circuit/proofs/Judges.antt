@@ -25,14 +25,14 @@ syntax_least g = search rules
 pub judge_any : Judges AnyNumber
 judge_any n = judge_none cause_number
 
--- it can be decided whether the greatest variable is wrong
+-- it is decidable whether the header's greatest variable M is an error
 pub judge_most : Judges WrongMost
 judge_most n = judge_cause cause_number Literal (decide_below (2 ^ 31) n)
 
 pub judge_count : Judges WrongCount
 judge_count n = judge_cause cause_number Sections (decide_not (cases_eq n 0))
 
--- it can be decided whether a literal is wrong
+-- it is decidable whether a literal is too large
 pub judge_literal : (most : ℕ) → Judges (WrongLiteral most)
 judge_literal most n = judge_cause cause_number Literal (decide_below (suc (2 * most + 1)) n)
 
@@ -49,22 +49,22 @@ judge_reset latch n = judge_one cause_number (judge_cause cause_number UnsetLatc
 
 -- ## Symbols
 
--- the longest run of digits in the bytes after a given byte, which may be empty
+-- `digits` is the longest run of digits, perhaps empty, with which the bytes after a given byte begin
 pub record Digits (s : Seen) (digits : List ℕ) : Type 0 where
   pub rest : List ℕ
   pub split : s.behind ≡ digits ++ rest
   pub all : AllOf is_digit digits
   pub longest : StopsBefore is_digit rest
 
--- the letter of a symbol is an error only if a number follows that is not the number of an unnamed input, latch or
--- output
+-- in the symbol table, the letter of a symbol is an error only if the number after it is not that of a still unnamed
+-- input, latch or output
 pub bad_symbol : {names : NamesData} {s : Seen} {kind : Kind} {digits : List ℕ} {f : AigCause} →
     take_kind s ≡ Some kind → Digits s digits → IsBadSymbol names s f →
     (0 < length digits) × (slice_get (names_of names kind) (decimal_value digits) ≡ Some None → ⊥)
 bad_symbol {names} {s} {kind} {digits} letter d b = search (rules, same_some, same_run)
 
 module _ (names : NamesData) where
-  -- whether the entry with this number is missing or already has a name
+  -- it is decidable whether the input, latch or output with this number is missing or already has a name
   decide_free : (place : Option (Option (List ℕ))) → Decided (place ≡ Some None → ⊥)
   decide_free place = search (rules, none_is_some, same_some)
 

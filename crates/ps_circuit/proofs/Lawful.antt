@@ -1,4 +1,4 @@
--- Abbreviations for the laws of the parts of a circuit's text (`ps_text`).
+-- Abbreviations for the laws that ps_text requires of a grammar's parts, here of the parts of an AIGER text.
 --     Lawful, Chain, Left      the definitions of ps_text, for parts of circuit texts and their errors
 --     Judges Wrong      it is decidable which numbers are errors
 use Rattle.std.proofs.Common.{ℕ}

@@ -1,4 +1,5 @@
--- Lemmas for the functions that parse the number lines of a text, including the cases in which they fail.
+-- Lemmas for the functions that parse the lines of inputs, latches, outputs and gates, including the cases in which
+-- they fail.
 --     past_..      what remains of a line after one of its fields
 --     Lining      the invariant of a loop over the lines of one kind
 use Rattle.std.proofs.Common.{◌≡◌, ℕ, ◌+◌, ◌-◌, ◌*◌, ◌^◌, ◌<◌, ◌≤◌, Bool, true, false, List, [], ◌∷◌, ◌++◌, length}

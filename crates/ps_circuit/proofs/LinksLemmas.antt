@@ -1,4 +1,4 @@
--- The links of a gate lead to exactly the gates that it reads.
+-- The links that are stored for a gate lead to exactly the gates whose literals it reads.
 use Rattle.std.proofs.Common.{◌≡◌, ◌≢◌, ℕ, ◌+◌, ◌<◌, IfSome, List, [], ◌∷◌, ◌++◌, map, length, get_or, refl, sym, ap}
 use Rattle.std.proofs.Common.{ap₂, subst, ◌∙◌, arith, nat_eq, Some, None, Option, slice_get, suc, rules, AllPairs}
 use Rattle.std.proofs.Common.{Contains, take, length-append}
@@ -30,7 +30,7 @@ record ArePlaces (gates : List Gate) (place_of : ℕ → Option ℕ) : Type 0 wh
 abbrev pub gate_variables : List Gate → List ℕ
 gate_variables gates = map (λ g. variable g.literal) gates
 
--- a list of gates with distinct variables
+-- in this module, the gates of a list have distinct variables
 module _ (gates : List Gate) (once : AllPairs (λ g h. variable g.literal ≢ variable h.literal) gates) where
   many : length (gate_variables gates) ≡ length gates
   many = length-map gates (λ g. variable g.literal)
@@ -69,7 +69,7 @@ length-links_by : (place_of : ℕ → Option ℕ) (gates : List Gate) → length
 length-links_by place_of [] = refl
 length-links_by place_of (g ∷ gates) = ap suc (length-links_by place_of gates)
 
--- the links that are computed with the indices of all gates
+-- links that are computed from the index of each gate's variable lead to exactly the gates that are read
 links-by_places : {gates : List Gate} {place_of : ℕ → Option ℕ} {links : List Links} → ArePlaces gates place_of →
     links ≡ links_by place_of gates → AreLinksOf gates links
 links-by_places {gates} {place_of} a e = search (rules, length-links_by, slice_get-map, slice_get_within)
@@ -77,7 +77,7 @@ links-by_places {gates} {place_of} a e = search (rules, length-links_by, slice_g
 abbrev sides : Option ℕ → Option ℕ → Links
 sides first second = record { first = first; second = second }
 
--- the list of links after the links of one more gate are appended
+-- appending the links of one more gate gives the links of the gates with this one
 pub links_by-more : (variables : List ℕ) (gates : List Gate) (k : ℕ) (g : Gate) {links more : List Links}
     {first second : Option ℕ} → k < length gates →
     links ≡ links_by (place_in variables) (take k gates) → more ≡ links ++
@@ -91,7 +91,7 @@ links_by-more variables gates k g l before e at_first at_second =
     ∙ map-append (λ h. sides (place_in variables (variable h.first)) (place_in variables (variable h.second)))
     (take k gates) (get_or gates k g ∷ []))
 
--- the links that are computed with the indices of the gates' variables
+-- links that are computed from the list of the gates' variables lead to exactly the gates that are read
 pub links-by_variables : {gates : List Gate} {variables : List ℕ} {links : List Links} →
     AllPairs (λ g h. variable g.literal ≢ variable h.literal) gates →
     variables ≡ gate_variables gates → links ≡ links_by (place_in variables) gates → AreLinksOf gates links
@@ -125,7 +125,7 @@ gates_once c once i j d lt within e = grind (arith, length-append, many, length-
         (length (c.inputs ++ map (λ l. l.literal) c.latches) + i) 0 ≡ (get_or c.gates i d).literal
     at_gate i d lt = search (rules, get_or-append-add, get_or-map, c.inputs, c.latches, c.gates)
 
--- a literal of a gate links to the index of a gate
+-- the link of a gate's first or second literal leads to the index of a gate, if the literal's variable belongs to one
 pub side_within : (links : List Links) (item place : ℕ) {sides : Links} → LinksStayWithin (graph_of links) →
     slice_get links item ≡ Some sides → place < 2 → IfSome (side_of sides place) (λ to. to < length links)
 side_within links item place {sides} within at lt = which (side_of sides place) refl

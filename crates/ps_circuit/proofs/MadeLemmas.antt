@@ -1,4 +1,4 @@
--- Gates that were made remain, and making a gate a second time finds the existing gate.
+-- Lemmas about a builder's gates: a gate that was made remains, and making a gate a second time finds the existing one.
 use Rattle.std.proofs.Common.{◌≡◌, ◌∙◌, ℕ, ◌+◌, ◌*◌, ◌<◌, ◌≤◌, ◌==◌, ◌&&◌, Bool, true, false, cond, rules}
 use Rattle.std.proofs.Common.{if◌then◌else◌, [], ◌∷◌, ◌++◌, length, length-append, get_or, slice_get, Some, refl, sym}
 use Rattle.std.proofs.Common.{ap, ap₂, arith, inl, inr}
@@ -17,7 +17,7 @@ use Rattle.ps_circuit.specs.Gates.{Made, has_sides, gate_of, and_of, or_of, chos
 use Rattle.ps_circuit.proofs.GateLemmas.{bool_cases, true_is_not_false, extends-refl, extends-trans, extends-more}
 use Rattle.ps_circuit.proofs.GateLemmas.{same_sides, sides_same, drafted_are, Placed}
 
--- making the gates again, in a draft that already has all of them, adds no gate and returns the same literal
+-- making the same gates again, when all of them exist already, adds no gate and returns the same literal
 abbrev pub IsThere : Made → (Drafted → Made) → Drafted → Type 0
 IsThere made make e = make e ≡ record { draft = e; literal = made.literal }
 
@@ -56,7 +56,7 @@ gate_at d {s} = elim (bool_cases (list_any (has_sides s) d.gates)) [
   | inr none ↦ grind (arith, absent_place, slice_get-push)
 ]
 
--- no gate before the index of a gate has the same two literals
+-- no gate before the index at which a pair of literals is found has the same two literals
 gate_first : {d e : Drafted} (s : Sides) → Extends d e → (k : ℕ) → k < place_of d s → place_of d s ≤ length d.gates →
     has_sides s (get_or e.gates k s) ≡ false
 gate_first {d} {e} s x k lt within =
@@ -67,7 +67,7 @@ gate_first {d} {e} s x k lt within =
 place_within : (d : Drafted) (s : Sides) → place_of d s ≤ length d.gates
 place_within d s = search (rules, bool_cases, present_place, absent_place)
 
--- making a gate finds the first gate with the same two literals
+-- making a gate finds the first existing gate with the same two literals
 pub gate-found : (e : Drafted) {s : Sides} (place : ℕ) → slice_get e.gates place ≡ Some s →
     ((k : ℕ) → k < place → has_sides s (get_or e.gates k s) ≡ false) →
     gate_of e s ≡ record { draft = e; literal = 2 * (e.given + 1 + place) }
@@ -91,7 +91,7 @@ gate-again d {e} s x =
 
 -- ## What remains
 
--- the existing gates remain, and making the same gates again adds no gate
+-- a way to make gates: the existing gates remain, and making the same gates again later adds no gate
 pub record Lasts (make : Drafted → Made) : Type 0 where
   pub extends : (d : Drafted) → Extends d (make d).draft
   pub again : (d e : Drafted) → Extends (make d).draft e → IsThere (make d) make e
@@ -137,7 +137,7 @@ mux_lasts s high low = by_test (high == low) _ _ (taken_as_is high)
     (by_test (high == 1 && low == 0) _ _ (taken_as_is s) (by_test (high == 0 && low == 1) _ _ (taken_as_is (negated s))
     (search (rules, by_test, or_lasts, and_lasts, chosen_lasts))))
 
--- a choice extends the draft
+-- making a multiplexer keeps the existing gates
 pub mux-extends : (d : Drafted) (s high low : ℕ) → Extends d (mux_of d s high low).draft
 mux-extends d s high low = (mux_lasts s high low).extends d
 
@@ -175,7 +175,7 @@ gate_draft : (old : Drafted) {new : Drafted} (s : Sides) → new.given ≡ old.g
 unfolding gate_of
 gate_draft old {new} s given keys = drafted_are (gate_of old s).draft new (sym given) (sym keys)
 
--- inserting a gate into the builder's set has the same result as `gate_of`
+-- inserting a gate into the builder's set of gates has the same result as the definition `gate_of`
 pub made-placed : {old new : Drafted} {s : Sides} {place : ℕ} → Placed old new s place → new.given ≡ old.given →
     new.gates ≡ insert_key (sides_eq.eq-value).it old.gates s →
     gate_of old s ≡ record { draft = new; literal = 2 * (new.given + 1 + place) }

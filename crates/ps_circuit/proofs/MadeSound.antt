@@ -1,4 +1,4 @@
--- The gates that a builder makes from existing literals are sound if there is a literal for each variable, and the
+-- If the literals of all variables fit into 32 bits, a builder makes well-formed gates from existing literals, and the
 -- resulting literal has the requested value.
 use Rattle.std.proofs.Common.{if◌then◌else◌, ◌≡◌, ◌∙◌, ℕ, ◌+◌, ◌^◌, ◌<◌, ◌==◌, ◌&&◌, ◌||◌, rules}
 use Rattle.std.proofs.Common.{Bool, true, false, not, cond, nat_lt, refl, ap, arith}
@@ -16,15 +16,15 @@ use Rattle.ps_circuit.proofs.GateLemmas.{bit-negated, chosen_bits, held-extends,
 use Rattle.ps_circuit.proofs.GateLemmas.{placed, placed-bit, sides_same}
 use Rattle.ps_circuit.proofs.MadeLemmas.{above-new, and-extends, gate_at, or-extends, place_of}
 
--- there is a literal of 32 bits for each variable
+-- the literals of all variables fit into 32 bits
 abbrev pub HasRoom : Drafted → Type 0
 HasRoom d = variables_of d < 2 ^ 31
 
 pub room-before : (d e : Drafted) → Extends d e → HasRoom e → HasRoom d
 room-before d e x room = let p = x.more in let q = x.given in omega arith
 
--- the gates are sound, and the literal over them has the requested value whenever the variables' values satisfy the
--- gates
+-- the gates are well formed, and the returned literal has the requested value whenever the variables' values satisfy
+-- the equations of the gates
 pub record IsMade (m : Made) (wanted : (ℕ → Bool) → Bool) : Type 0 where
   pub sound : IsSoundDraft m.draft
   pub held : IsHeld m.draft m.literal
@@ -34,7 +34,7 @@ pub made-as : (m : Made) (p q : (ℕ → Bool) → Bool) → ((v : ℕ → Bool)
     IsMade m q
 made-as m p q same made = search rules
 
--- the gates remain sound, and the literal keeps its value, when more gates are added
+-- a literal that was made keeps its value when more gates are added
 pub made-later : (m : Made) (p : (ℕ → Bool) → Bool) (e : Drafted) → Extends m.draft e → IsSoundDraft e → IsMade m p →
     IsMade (record { draft = e; literal = m.literal }) p
 made-later m p e x sound made = record {
@@ -43,11 +43,11 @@ made-later m p e x sound made = record {
   is = λ v meets. made.is v (meets-extends m.draft e x v meets);
 }
 
--- the result is right, unless there are too many variables
+-- the gates and the literal that were made are right, unless there are more variables than literals of 32 bits
 pub record Makes (m : Made) (wanted : (ℕ → Bool) → Bool) : Type 0 where
   pub made : HasRoom m.draft → IsMade m wanted
 
--- the requested literal exists already
+-- no gate is needed if an existing literal has the requested value
 there : {d : Drafted} (literal : ℕ) {wanted : (ℕ → Bool) → Bool} → IsSoundDraft d → IsHeld d literal →
     ((v : ℕ → Bool) → v 0 ≡ false → bit v literal ≡ wanted v) → Makes (record { draft = d; literal = literal }) wanted
 there literal sound held is = search rules
@@ -81,7 +81,7 @@ gate_makes {d} x y sound sides = record {
 
 -- ## Conjunctions
 
--- two literals of the same variable are equal, or each is the other's negation
+-- two literals of the same variable are equal, unless each is the other's negation
 one_variable : {x y : ℕ} → (x ≡ negated y → ⊥) → variable x ≡ variable y → x ≡ y
 one_variable {x} {y} other same = search (rules, cases_eq, eq-eqb)
 
@@ -91,7 +91,7 @@ second_is x y e v zero = search (rules, or_cases, eqb-true, and_self)
 first_is : (x y : ℕ) → (y == 1) ≡ true → (v : ℕ → Bool) → v 0 ≡ false → bit v x ≡ (bit v x && bit v y)
 first_is x y e v zero = search (rules, and-true, eqb-true)
 
--- the two literals are not constant, and their variables differ
+-- neither of the two literals is constant, and their variables differ
 record Differ (x y : ℕ) : Type 0 where
   first : x ≡ 0 → ⊥
   second : y ≡ 0 → ⊥

@@ -1,4 +1,5 @@
--- Lemmas for the functions that parse numbers and the first line of a text, including the cases in which they fail.
+-- Lemmas for the functions that parse numbers and the first line of an AIGER text, including the cases in which they
+-- fail.
 use Rattle.std.proofs.Common.{◌≡◌, ℕ, zero, suc, ◌-◌, ◌<◌, ◌≤◌, Bool, true, false, List, Option, Result, Ok, Err, rules}
 use Rattle.std.proofs.Common.{IsErrAnd, refl, sym, ap, ap₂, subst, inl, inr, ◌∙◌, arith}
 use Rattle.std.specs.Prelude.{codes}
@@ -46,7 +47,7 @@ number_small Wrong {old} {new} {n} x small good =
     let v : n.value ≡ decimal_value x.run = omega (arith, x.value) in
     run_reads is_digit number_at (BadDigits Wrong) x.passes x.some (λ f b. grind arith) (number_is x v)
 
--- a number of any size
+-- a number of any size is parsed, and stored as the greatest number of 64 bits if it does not fit
 pub number_any : {old new : Stream Seen} {n : Number} → NumberIs old new n →
     (v : Number) × (n.value ≡ saturated v.value) × Reads (number AnyNumber) old v new
 unfolding number
@@ -64,7 +65,7 @@ unfolding number
 number_wrong Wrong {old} {new} f x wrong least is = subst (λ y. Stops aig_causes (number Wrong) old (found_of y))
     (sym (is ∙ ap (Text f) x.offset)) (search (rules, run_bad))
 
--- an error that the reader of numbers reports is the error at which the part stops
+-- an error that the function for numbers reports is the first error of the grammar's part `number`
 pub number_none : (Wrong : ℕ → AigCause → Type 0) {old : Stream Seen} (new : Stream Seen) (e : AigFault) →
     TellsNumber old (Err e) new → Stops aig_causes (number Wrong) old (found_of e)
 unfolding number
@@ -124,7 +125,7 @@ sections_unread (suc n) {old} l =
     subst (λ k. Left (sections (suc n)) old
     (then_by more (by_more (then_by (number WrongCount) (λ _. sections k)) (give tt))) old) one unread
 
--- a further section follows
+-- if the header goes on after a number, the size of a further section (B, C, J or F) is still to be parsed
 pub section_unread : (left : ℕ) {old mid : Stream Seen} {b : Bool} → 0 < left → b ≡ true → Reads more old b mid →
     Left (sections left) old (section left) mid
 section_unread left l e m =
@@ -162,7 +163,7 @@ pub header_unread : {old : Stream Seen} → Left header old (then_by (word (code
 unfolding header
 header_unread = unread
 
--- the rest of the first line after the numbers that were read
+-- the part of the first line's grammar that remains after the numbers that were already parsed
 module _ {old : Stream Seen} {s0 s1 : Stream Seen} {m : Number}
     (w : Reads {F = AigCause} (word (codes "aag")) old tt s0)
     (r1 : Reads (field WrongMost) s0 m s1) where

@@ -1,4 +1,4 @@
--- If each gate comes after the gates that it reads, no gate depends on itself.
+-- If each gate of a list comes after the gates that it reads, no gate depends on itself.
 use Rattle.std.proofs.Common.{◌≡◌, ◌∙◌, ℕ, ◌<◌, List, length, get_or, sym, arith, Some, slice_get}
 use Rattle.std.proofs.lemmas.Option.{slice_get_within, slice_get-get_or, get_or_from_slice_get}
 use Rattle.ps_components.specs.Graphs.{Way, last, next}

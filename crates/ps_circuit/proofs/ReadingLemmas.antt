@@ -1,4 +1,4 @@
--- Lemmas for the parser's private functions.
+-- Lemmas for the private functions of the AIGER parser.
 use Rattle.std.proofs.Common.{◌≡◌, ◌≢◌, ℕ, ◌+◌, ◌^◌, ◌<◌, ◌≤◌, List, [], ◌∷◌, ◌++◌, Bool, true, map, length, take}
 use Rattle.std.proofs.Common.{get_or, set, sym, subst, arith, Some, Option, All, rules, AllPairs, Contains, Vec}
 use Rattle.std.proofs.lemmas.List.{length-map, get_or-map, map-set, take_more, take_all, take-append-drop}
@@ -23,7 +23,7 @@ use Rattle.ps_circuit.specs.Inner.Reading.{AddsVariable, Defines, IsKnownIn, Tel
 use Rattle.ps_circuit.specs.declared.number.Number.{Number}
 use Rattle.std.specs.Bool.{OnTrue}
 
--- a variable that is not in the list is appended to it
+-- appending a variable that is not in the list of defined variables defines one new variable
 pub adds_variable : {old new : List ℕ} {v : ℕ} → new ≡ old ++ v ∷ [] → (Contains old v → ⊥) → AddsVariable old v new
 adds_variable {old} e none = search (rules, Contains-get_or)
 
@@ -44,7 +44,7 @@ apart_of : (literals : List ℕ) → AllPairs (λ v w. v ≢ w) (map variable li
 apart_of literals h i j d lt within e =
     h i j (variable d) lt (omega (arith, length-map literals variable)) (grind (arith, get_or-map))
 
--- the parts that were read form a draft
+-- the lines that were read form a circuit, if all used literals are defined, except that a gate may depend on itself
 pub draft_of : {c : CircuitData} {defined : List ℕ} → c.most < 2 ^ 31 → Defines c.most [] (definitions c) defined →
     All (IsKnownIn defined) (readings c) → length c.input_names ≡ length c.inputs →
     length c.latch_names ≡ length c.latches → length c.output_names ≡ length c.outputs →
@@ -66,7 +66,7 @@ pub known_all : (variables : List ℕ) (fields : List Number) (i : ℕ) → leng
     All (λ f. IsKnownIn variables f.value) (take i fields) → All (λ f. IsKnownIn variables f.value) fields
 known_all variables fields i le h = subst (λ fs. All (λ f. IsKnownIn variables f.value) fs) (take_all i fields le) h
 
--- the first literal in the list that is not defined
+-- the literal at which the check stops is the first used literal whose variable is not defined
 pub first_undefined : {variables : List ℕ} {readings : List Number} (i : ℕ) (d : Number) → i < length readings →
     All (IsDefined variables) (take i readings) → (IsDefined variables (get_or readings i d) → ⊥) →
     IsFirstUndefined variables readings (get_or readings i d)

@@ -1,4 +1,5 @@
--- The laws of the smallest parts of an AIGER text: sets of bytes, single bytes, words, numbers, gaps and ends of lines.
+-- The smallest parts of the AIGER grammar obey the laws of ps_text: single bytes, sets of bytes, words, numbers, gaps
+-- and ends of lines.
 --     Separates      a space, a tab or a newline, which end a number
 --     AtBody, AtTail      the first bytes that can follow the first line, and the number lines
 --     numbers, optional      the laws of a number, or an optional field, and the text after it
@@ -31,7 +32,7 @@ AtInner s = is_inner s.byte ≡ true
 abbrev pub Separates : Seen → Type 0
 Separates s = AtSpace s ⊎ At 10 s
 
--- a letter of a symbol
+-- the byte is i, l or o, the letter with which a line of the symbol table begins
 abbrev pub AtKind : Seen → Type 0
 AtKind s = At 105 s ⊎ At 108 s ⊎ At 111 s
 
@@ -126,12 +127,12 @@ unfolding more
 laws_more = either_of laws_ends_here chain_gap_more.whole (λ t e h. space_newline t h e) (λ t h. inr h) (λ t h. inl h)
     (λ t h. absurd h) (λ t h. h) (λ t h. absurd h.0)
 
--- a number, and what follows it
+-- the laws of a number and what follows it
 pub numbers : {B : Type 0} {Q : Number → Field B} {Wrong : ℕ → AigCause → Type 0} {More : Seen → Type 0} →
     Judges Wrong → ((n : Number) → Lawful (Q n) Separates More ⊥) → Chain (number Wrong) Q AtDigit More ⊥
 numbers judge q = next (laws_number judge) q digit_separates
 
--- a further field of the line, or the value that stands for a missing field
+-- the laws of an optional last field of a line, with the value that stands for a missing field
 pub optional : {V : Type 0} {P : Field V} → Lawful P AtDigit Separates ⊥ → (v : V) →
     Chain more (by_more P (give v)) Separates Separates ⊥
 optional {P = P} l v = chained laws_more by (λ t h d. digit_separates t d h) (λ t h. h) (λ t h. absurd h.0) (λ t h. h)

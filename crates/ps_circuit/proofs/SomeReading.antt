@@ -1,4 +1,4 @@
--- Each text of a circuit has an answer: an error in the text, a literal that is not defined, a gate that depends on
+-- Each AIGER text has an answer: a syntax error, a literal whose variable is not defined, a gate that depends on
 -- itself, or the circuit.
 use Rattle.std.proofs.Common.{ℕ, ◌<◌, ◌⊎◌, List, [], ◌∷◌, length, get_or, All, Result, Ok, Err, refl, ap, inl, inr}
 use Rattle.std.proofs.Common.{arith}

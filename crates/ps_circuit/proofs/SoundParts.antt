@@ -1,5 +1,5 @@
--- What is known of the value of a part, if the part has no error. Errors also depend on the bytes after a part, so the
--- signs carry those bytes (Placed).
+-- What is known of the value that a part of the AIGER grammar yields, if the part has no error. Whether a part has an
+-- error also depends on the bytes after it, so each byte is given together with the bytes that follow it (`Placed`).
 --     Safe part Good      the value has the property Good, whatever follows the part
 --     Followed part Good      the value has the property Good, if a space, a tab, a newline or the end follows
 --     followed_number, followed_field      a number or a field without an error has a value that is not wrong
@@ -21,7 +21,7 @@ use Rattle.ps_circuit.specs.Inner.Reading.{Grown, none, more}
 use Rattle.ps_circuit.proofs.Lawful.{Lawful}
 use Rattle.ps_circuit.proofs.SignLaws.{Separates, separates_digit}
 
--- each sign carries the bytes of those that follow
+-- each byte of the list is given with the bytes that follow it
 abbrev pub Placed : List Seen → Type 0
 Placed [] = Unit {0}
 Placed (s ∷ signs) = (s.behind ≡ bytes_of signs) × Placed signs
@@ -34,7 +34,7 @@ placed_right : (front back : List Seen) → Placed (front ++ back) → Placed ba
 placed_right [] back placed = placed
 placed_right (s ∷ front) back placed = placed_right front back placed.1
 
--- the part has no error within the text
+-- the part of the grammar has no error within the text
 abbrev pub Quiet : {V : Type 0} → Field V → List Seen → Type 0
 Quiet part text =
     (front back : List Seen) (t : Seen) (f : AigCause) → text ≡ front ++ t ∷ back → part.IsCause front t f → ⊥
@@ -74,7 +74,8 @@ module _ {A B : Type 0} (P : Field A) (Q : A → Field B) where
       (ap (λ (z : List Seen). left ++ z) e ∙ sym (append_assoc left front (t ∷ back)))
       (inr (record { left = left; right = front; value = a; split = refl; is_left = h; is_cause = c }))
 
--- the text of two parts and the text after them may be divided after the first part
+-- the text of two parts, followed by a rest, may also be regarded as the first part's text, followed by the second
+-- part's text and the rest
 placed_parts : (text left right rest : List Seen) → text ≡ left ++ right → Placed (text ++ rest) →
     Placed (left ++ (right ++ rest))
 placed_parts text left right rest e placed =
@@ -91,7 +92,7 @@ safe_then {P = P} {Q} l r = record {
       (quiet_right P Q h.left h.right h.value h.is_left quiet);
 }
 
--- the next part begins with a space, a tab or a newline
+-- a part that obeys these laws begins with a space, a tab or a newline
 begins : {B : Type 0} (part : Field B) {More : Seen → Type 0} → Lawful part Separates More ⊥ →
     (text rest : List Seen) (b : B) → part.IsText text b → Parts (text ++ rest)
 begins part l [] rest b h t e = absurd (l.laws.null b h)
@@ -119,7 +120,7 @@ no_digit (t ∷ rest) parts = elim (cases_Bool (is_digit t.byte)) [
   | inr other ↦ other
 ]
 
--- the number is not an error
+-- the condition `Wrong` does not make the number an error
 abbrev pub IsRight : (ℕ → AigCause → Type 0) → Number → Type 0
 IsRight Wrong n = (f : AigCause) → Wrong n.value f → ⊥
 

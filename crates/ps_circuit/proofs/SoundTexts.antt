@@ -1,4 +1,4 @@
--- A text without errors describes a circuit.
+-- An AIGER text without errors describes a well-formed circuit.
 --     safe_input, safe_latch, safe_output, safe_gate      a line of each kind adds what its value defines and reads
 --     safe_names, safe_header, safe_body      the names, the first line, and the text after it have sound values
 --     circuit_is_sound      the law `read_circuit_is_circuit`
@@ -35,7 +35,7 @@ use Rattle.ps_circuit.proofs.TextLaws.{chain_1, chain_first, chain_next, laws_en
 
 -- ## Lines
 
--- a definition without an error defines a new variable
+-- a defining literal without an error defines a variable that was not defined before
 defines_right : (most : ℕ) (defined : List ℕ) (l : Number) → IsRight (WrongDefinition most defined) l →
     Defines most defined (l.value ∷ []) (defined ++ variable l.value ∷ [])
 defines_right most defined l right = elim (decide_definition most l.value) [
@@ -81,7 +81,8 @@ module _ (most : ℕ) where
 
 -- ## Names
 
--- the names of a kind: as many as before, and each with a byte and without a newline
+-- the optional names of all inputs, latches or outputs: `count` of them, and each name has at least one byte and no
+-- newline
 pub record AreNames (count : ℕ) (names : List (Option (List ℕ))) : Type 0 where
   pub count_is : length names ≡ count
   pub each : All IsSymbolName names
@@ -132,7 +133,7 @@ safe_symbol names are = safe_then safe_any (λ kind _. safe_then safe_any (λ k 
     safe_rest (λ name plain. safe_mapped (λ _. add_name names kind k.value name)
     (λ _ _. name_added names kind k.value name are plain) safe_any))))
 
--- names that are missing
+-- a list in which all names are missing is a valid list of names
 none_named : {A : Type 0} (items : List A) → AreNames (length items) (no_names items)
 none_named items =
     record { count_is = length-map items (λ _. None); each = All-map IsSymbolName (λ _. None) items (λ k d l. tt) }
@@ -151,7 +152,7 @@ safe_header = safe_then safe_any (λ _ _. safe_before (followed_field WrongMost)
       | inr more ↦ absurd (right Literal (more, refl))
     ]
 
--- a draft whose gates have offsets is sound
+-- the result of parsing is well formed if the offset of each gate's line is recorded
 abbrev IsSoundIfPlaced : DraftData → Type 0
 IsSoundIfPlaced d = length d.starts ≡ length d.circuit.gates → IsSoundDraft d
 

@@ -1,4 +1,4 @@
--- Lemmas for the functions that parse the lines of names and the comment, including the cases in which they fail.
+-- Lemmas for the functions that parse the symbol table and the comment, including the cases in which they fail.
 --     AtLetter      the next byte is the letter of a symbol, and one step moves past it
 --     past_letter, past_number, past_space, past_name      what remains of the line after each of its parts
 use Rattle.std.proofs.Common.{◌≡◌, ◌≢◌, ℕ, zero, suc, ◌+◌, ◌^◌, ◌<◌, true, false, List, [], ◌∷◌, ◌++◌, length, map, set}
@@ -44,7 +44,7 @@ use Rattle.ps_circuit.proofs.TextLaws.{chain_number, chain_space, chain_name, la
 use Rattle.ps_circuit.proofs.SignLaws.{AtKind}
 use Rattle.ps_circuit.proofs.NumberLemmas.{number_any}
 
--- the bytes after the next byte, as the grammar sees them, are those that follow it in the text
+-- the bytes that are given together with the next byte are those that follow it in the text
 behind_is : {old new : Stream Seen} {t : Seen} (at : ℕ) {bytes : List ℕ} → IsAhead old → next_of old ≡ Some t →
     new ≡ tail old → new.pieces ≡ pieces_at at bytes → t.behind ≡ bytes
 behind_is {old} {t} at {bytes} x n e k = go x.1 x.2
@@ -70,7 +70,7 @@ at_letter all kind names t same next is ahead moved = search rules
 
 module _ {all : NamesData} {kind : Kind} {names : List (Option (Vec ℕ Global))} {t : Seen} {old s1 : Stream Seen}
     (a : AtLetter all kind names t old s1) where
-  -- the digits that were read are the digits after the letter
+  -- the digits that were read are the longest run of digits after the symbol's letter
   seen_digits : {s2 : Stream Seen} {run : List ℕ} → Passes is_digit s1 s2 run → Digits t run
   seen_digits x = grind (arith, behind_is x.at a.ahead a.next a.moved x.old_is)
 
@@ -113,7 +113,7 @@ module _ {all : NamesData} {kind : Kind} {names : List (Option (Vec ℕ Global))
         pub past_name : Left (symbol_line all) old (symbol_end all kind k name) s4
         past_name = past (chain_name all kind k) past_space r
 
-        -- the list of names of one kind, after the new name is set
+        -- one more name is parsed, and set at its index in the list of names of its kind
         pub symbol_reads : {s5 : Stream Seen} {after : List (Option (Vec ℕ Global))} (v : Vec ℕ Global) →
             Reads newline s4 tt s5 → after ≡ set names n.value (Some v) → v.items ≡ name →
             Reads (symbol_line all) old (put_names all kind (map name_bytes after)) s5
@@ -170,13 +170,13 @@ pub symbol_refused : (names : NamesData) (s : Stream Seen) {e : AigFault} → (n
     → Stops aig_causes (symbol_line names) s (found_of e)
 symbol_refused names s i l o is = grind (arith, stops_here, symbol_laws)
 
--- the next byte is the letter of a symbol
+-- if the next byte is i, l or o, it begins a line of the symbol table for an input, a latch or an output
 pub letter_is : (s : Stream Seen) {b : ℕ} {kind : Kind} → next_byte s ≡ Some b →
     take_kind (record { byte = b; at = 0; behind = [] }) ≡ Some kind →
     (t : Seen) × (next_of s ≡ Some t) × (take_kind t ≡ Some kind)
 letter_is s e h = let t = next_is (next_of s) e in (t.0, t.1, rw t.2 h)
 
--- a name that was read has at least one byte, and no newline
+-- a name consists of bytes other than newlines
 pub all_plain : (xs : List ℕ) → AllOf is_inner xs → All (λ b. b ≢ 10) xs
 all_plain [] h k d lt = absurd (omega arith)
 all_plain (x ∷ xs) h zero d lt = λ e. let y : is_inner 10 ≡ true = ap is_inner (sym e) ∙ h.0 in cc

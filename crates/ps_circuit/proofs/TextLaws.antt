@@ -1,5 +1,5 @@
--- The laws of the parts of an AIGER text: the bytes that can begin a part, and the bytes that can continue it. The laws
--- of the smallest parts are in SignLaws.
+-- The parts of the AIGER grammar obey the laws of ps_text, which state the bytes that can begin a part, and those that
+-- can continue it. The module SignLaws has the laws of the smallest parts of the AIGER grammar.
 --     fields      the laws of a gap, a number, and the text after them
 --     chain_..      a part of a production and what follows it
 use Rattle.std.proofs.Common.{◌≡◌, ℕ, zero, suc, Bool, false, eqb, List, Some, refl, inl, inr, rules}
@@ -49,7 +49,7 @@ pub chain_field : {Wrong : ℕ → AigCause → Type 0} → Judges Wrong → Cha
 chain_field judge = chained laws_gap (λ _. laws_number judge) space_digit (λ t h. inl h) (λ t h. absurd h.0) (λ t h. h)
     (λ t h. absurd h.0) (λ n. n.0)
 
--- a gap, a number, and what follows
+-- the laws of a gap, a number, and what follows the number
 pub fields : {B : Type 0} {Q : Number → Field B} {Wrong : ℕ → AigCause → Type 0} {More : Seen → Type 0} →
     Judges Wrong → ((n : Number) → Lawful (Q n) Separates More ⊥) → Chain (field Wrong) Q Separates More ⊥
 unfolding field
@@ -174,7 +174,7 @@ pub laws_gate_line : (most : ℕ) (c : Lines Gate) → Lawful (gate_line most c)
 unfolding gate_line
 laws_gate_line most c = (chain_gate most c).whole
 
--- a given number of lines of one kind
+-- the laws of a given number of lines of one kind
 module _ {C : Type 0} (item : C → Field C) (l : (c : C) → Lawful (item c) AtDigit Separates ⊥) where
   behind_line : (n : ℕ) (c : C) → ((d : C) → Lawful (times n item d) AtDigit Separates (Unit {0})) →
       Chain (item c) (times n item) AtDigit Separates (Unit {0})
@@ -294,7 +294,7 @@ unfolding header body
 chain_text = chained chain_header.whole (λ h. (chain_inputs h no_lines).whole) separates_body (λ t h. tt) (λ t h. tt)
     (λ t h. tt) (λ t h. tt) (λ n. n.0)
 
--- the laws of the grammar of a whole circuit
+-- the grammar of a whole AIGER text obeys the laws of ps_text
 pub laws_text : Lawful circuit_text Any Any ⊥
 unfolding circuit_text
 laws_text = chain_text.whole

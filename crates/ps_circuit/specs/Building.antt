@@ -1,4 +1,4 @@
--- A circuit of gates under construction.
+-- The and-gates of a circuit under construction, as a circuit builder has them.
 --     Drafted      the number of given variables, and the two literals of each gate, in order
 --     bit v literal      the value of a literal, if each variable has the value that v gives
 --     MeetsEquations d v      variable 0 is false, and each gate is the conjunction of its two literals
@@ -14,11 +14,11 @@ pub record Drafted : Type 0 where
   pub given : ℕ
   pub gates : List Sides
 
--- the number of variables, without variable 0
+-- the number of variables that exist in a builder, not counting variable 0
 abbrev pub variables_of : Drafted → ℕ
 variables_of d = d.given + length d.gates
 
--- the literal's variable is 0, a given variable or the variable of a gate
+-- the literal exists in the builder: its variable is 0, a given variable or the variable of a gate
 abbrev pub IsHeld : Drafted → ℕ → Type 0
 IsHeld d literal = variable literal ≤ variables_of d
 
@@ -35,34 +35,35 @@ pub record Extends (old new : Drafted) : Type 0 where
   pub more : length old.gates ≤ length new.gates
   pub same : (k : ℕ) (s : Sides) → slice_get old.gates k ≡ Some s → slice_get new.gates k ≡ Some s
 
--- two literals of different variables that are less than the gate's own variable; neither is constant, and the greater
--- literal is first
+-- the two literals of a gate: their variables differ and are less than the gate's own variable, neither literal is
+-- constant, and the greater literal is first
 pub record AreSides (own : ℕ) (s : Sides) : Type 0 where
   pub below : variable s.first < own
   pub falls : s.second < s.first
   pub different : variable s.second ≢ variable s.first
   pub not_constant : 0 < variable s.second
 
--- the literals of all variables fit into 32 bits, and no two gates have the same two literals
+-- the invariant of a builder: the literals of all variables fit into 32 bits, each gate's literals are allowed, and no
+-- two gates have the same two literals
 pub record IsSoundDraft (d : Drafted) : Type 0 where
   pub room : variables_of d < 2 ^ 31
   pub sides : (k : ℕ) (s : Sides) → slice_get d.gates k ≡ Some s → AreSides (d.given + 1 + k) s
   pub once : (k l : ℕ) (s : Sides) → slice_get d.gates k ≡ Some s → slice_get d.gates l ≡ Some s → k ≡ l
 
--- the literals of a further variable would not fit into 32 bits
+-- the builder is full: the literals of a further variable would not fit into 32 bits
 abbrev pub IsFull : Drafted → Type 0
 IsFull d = variables_of d ≡ 2147483647
 
--- so many variables that there are not enough literals of 32 bits
+-- there are so many variables that their literals do not all fit into 32 bits
 abbrev pub HasTooMany : Drafted → Type 0
 HasTooMany d = 2147483647 < variables_of d
 
--- no existing gate has the two given literals
+-- no existing gate has the two given literals in this order
 abbrev pub IsNew : Drafted → ℕ → ℕ → Type 0
 IsNew d x y = (k : ℕ) (s : Sides) → slice_get d.gates k ≡ Some s → ¬ ((s.first ≡ x) × (s.second ≡ y))
 
--- the two literals have different variables, neither literal is constant, and no existing gate has the same two
--- literals
+-- a conjunction needs a new gate: its two literals have different variables, neither of them is constant, and no
+-- existing gate has both
 pub record NeedsGate (d : Drafted) (x y : ℕ) : Type 0 where
   pub first_varies : 0 < variable x
   pub second_varies : 0 < variable y
@@ -70,14 +71,15 @@ pub record NeedsGate (d : Drafted) (x y : ℕ) : Type 0 where
   pub is_new : IsNew d x y
   pub is_new_too : IsNew d y x
 
--- the disjunction of x and y is a choice: it has the value of `high` if s is true, and that of `low` if s is false
+-- the disjunction of x and y is a multiplexer: it has the value of `high` if `s` is true, and that of `low` if `s` is
+-- false
 abbrev pub IsChoice : Drafted → (s high low x y : ℕ) → Type 0
 IsChoice d s high low x y =
     (v : ℕ → Bool) → MeetsEquations d v → (bit v x || bit v y) ≡ (if bit v s then bit v high else bit v low)
 
--- A choice is built from three conjunctions: of `s` and `high`; of the negation of `s` and `low`; and of the negations
--- of these two conjunctions, whose own negation is the choice. A choice needs a new gate if one of its three
--- conjunctions has no gate yet.
+-- A multiplexer consists of three conjunctions: `s` and `high`; not `s` and `low`; and the conjunction of the negations
+-- of these two, whose own negation is the result. A multiplexer needs a new gate if one of its three conjunctions needs
+-- one.
 pub data NeedsChoice (d : Drafted) (s high low : ℕ) : Type 0 where
   for_high : NeedsGate d s high → NeedsChoice d s high low
   for_low : NeedsGate d (negated s) low → NeedsChoice d s high low

@@ -1,4 +1,4 @@
--- The names of the causes for which the text of a circuit is rejected.
+-- The names of the errors for which an AIGER text is rejected.
 use Rattle.std.specs.Prelude.{ℕ, List, codes}
 use Rattle.ps_circuit.specs.declared.fault.AigCause.{AigCause}
 use Rattle.ps_circuit.specs.declared.fault.AigCause.TheVariants.{Syntax, Literal, DefinedTwice, Undefined, Cyclic}

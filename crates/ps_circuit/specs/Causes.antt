@@ -1,11 +1,11 @@
--- The causes for which the text of a circuit is rejected, with their numbers.
+-- The errors for which an AIGER text is rejected, with their numbers.
 use Rattle.std.specs.Prelude.{ℕ}
 use Rattle.ps_text.specs.declared.faults.Fault.{Fault}
 use Rattle.ps_circuit.specs.declared.fault.AigCause.{AigCause}
 use Rattle.ps_circuit.specs.declared.fault.AigCause.TheVariants.{Syntax, Literal, DefinedTwice, Undefined, Cyclic}
 use Rattle.ps_circuit.specs.declared.fault.AigCause.TheVariants.{UnsetLatch, Sections}
 
--- either a cause with an offset, or out of memory
+-- why the parser returns no circuit: an error of the text with its offset, or out of memory
 abbrev pub AigFault : Type 0
 AigFault = Fault AigCause
 

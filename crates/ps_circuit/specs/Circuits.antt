@@ -1,4 +1,4 @@
--- The definition of a circuit.
+-- The definition of a circuit of latches and and-gates, as in AIGER.
 --     CircuitData      the value of a circuit: its greatest variable, its literals, and the optional names
 --     definitions, readings      the literals that define a variable, and the literals that are read
 --     ReadsGate gates i j, Way      gate i reads gate j; a gate depends on another gate
@@ -22,19 +22,20 @@ pub record CircuitData : Type 0 where
   pub latch_names : List (Option (List ℕ))
   pub output_names : List (Option (List ℕ))
 
--- the literals of the inputs, latches and gates
+-- the literals that define variables: those of the inputs, the latches and the gates
 abbrev pub definitions : CircuitData → List ℕ
 definitions c = c.inputs ++ map (λ l. l.literal) c.latches ++ map (λ g. g.literal) c.gates
 
--- the literals that are read: the next literals of the latches, the outputs, and the two literals of each gate
+-- the literals that are used: the next literals of the latches, the outputs, and the two literals that each gate reads
 abbrev pub readings : CircuitData → List ℕ
 readings c = map (λ l. l.next) c.latches ++ c.outputs ++ flat_map (λ g. g.first ∷ g.second ∷ []) c.gates
 
--- the literal is not negated, not constant, and not greater than the greatest literal
+-- the literal may define a variable: it is neither negated nor constant, and its variable is at most the greatest
+-- variable `most`
 abbrev pub IsDefinition : ℕ → ℕ → Type 0
 IsDefinition most literal = (literal % 2 ≡ 0) × (2 ≤ literal) × (literal ≤ 2 * most + 1)
 
--- the literal's variable is 0 or is defined
+-- the literal's variable is 0, or one of the literals `defined` has the same variable
 abbrev pub IsKnown : List ℕ → ℕ → Type 0
 IsKnown defined literal = (variable literal ≡ 0) ⊎ Contains (map variable defined) (variable literal)
 
@@ -46,7 +47,7 @@ pub record ReadsGate (gates : List Gate) (i j : ℕ) : Type 0 where
   pub at_j : slice_get gates j ≡ Some read
   pub side : (variable reader.first ≡ variable read.literal) ⊎ (variable reader.second ≡ variable read.literal)
 
--- a name has at least one byte, and no newline
+-- the name of an input, latch or output, if there is one, has at least one byte and no newline
 abbrev pub IsSymbolName : Option (List ℕ) → Type 0
 IsSymbolName None = Unit {0}
 IsSymbolName (Some bytes) = (0 < length bytes) × All (λ b. b ≢ 10) bytes
@@ -67,7 +68,7 @@ pub record IsCircuit (c : CircuitData) : Type 0 where
   pub draft : IsDraft c
   pub acyclic : (i : ℕ) → ¬ Way (ReadsGate c.gates) i i
 
--- the parts form the circuit c
+-- the circuit c has the given parts, and is well formed
 pub record IsMadeOf (parts c : CircuitData) : Type 0 where
   pub is : c ≡ parts
   pub well_formed : IsCircuit c

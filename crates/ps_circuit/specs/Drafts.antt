@@ -1,4 +1,4 @@
--- The values of the parts of a circuit, as contracts refer to them.
+-- Functions by which contracts refer to the parts of a circuit, and to the links between its gates.
 use Rattle.std.specs.Prelude.{ℕ, ◌==◌, List, map, position, Option, Vec}
 use Rattle.std.specs.Option.{option_map}
 use Rattle.std.specs.Global.{Global}
@@ -23,11 +23,11 @@ data_of p = record {
   output_names = map name_bytes p.output_names.items;
 }
 
--- the index of a variable in a list of variables, if it is in the list
+-- the index of a variable in a list of variables, or `None` if the list doesn't have the variable
 abbrev pub place_in : List ℕ → ℕ → Option ℕ
 place_in variables v = position (λ other. v == other) variables
 
--- for each gate, the indices of the gates that it reads
+-- for each gate, the indices of the gates whose literals it reads
 abbrev pub links_by : (ℕ → Option ℕ) → List Gate → List Links
 links_by place_of gates =
     map (λ g. record { first = place_of (variable g.first); second = place_of (variable g.second) }) gates

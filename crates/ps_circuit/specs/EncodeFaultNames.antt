@@ -1,4 +1,4 @@
--- The numbers and the names of the faults for which a machine has no circuit.
+-- The numbers and the names of the faults that are reported if no circuit was made for a machine.
 use Rattle.std.specs.Prelude.{ℕ, List, codes}
 use Rattle.ps_text.specs.Faults.{memory_number, memory_name}
 use Rattle.ps_circuit.specs.declared.encode_fault.EncodeFault.{EncodeFault}

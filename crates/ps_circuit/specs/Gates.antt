@@ -1,4 +1,4 @@
--- The gates that a builder makes, in order, without a limit on their number.
+-- The gates that a circuit builder makes, in order, as if their number were unlimited.
 --     Made      the gates so far, and a literal over them
 --     gate_of d s      the literal of the gate that reads the two literals in `s`
 --     and_of d x y, or_of d x y, mux_of d s high low      the literals of conjunction, disjunction, and choice by s
@@ -18,7 +18,8 @@ pub record Made : Type 0 where
 abbrev pub has_sides : Sides → Sides → Bool
 has_sides s gate = s.first == gate.first && s.second == gate.second
 
--- an existing gate is used again; a new gate takes the next variable
+-- the literal of the gate with the two given literals: an existing gate is used again, and a new gate takes the next
+-- variable
 unfoldable pub gate_of : Drafted → Sides → Made
 gate_of d s = record {
   draft = record { given = d.given; gates = if list_any (has_sides s) d.gates then d.gates else d.gates ++ s ∷ [] };
@@ -39,7 +40,7 @@ inverted made = record { draft = made.draft; literal = negated made.literal }
 unfoldable pub or_of : Drafted → ℕ → ℕ → Made
 or_of d x y = inverted (and_of d (negated x) (negated y))
 
--- the choice between two different literals, neither of which is constant
+-- the multiplexer of two different literals, neither of which is constant
 unfoldable pub chosen_of : Drafted → ℕ → ℕ → ℕ → Made
 chosen_of d s high low =
     let where_true = and_of d s high in
@@ -57,17 +58,17 @@ mux_of d s high low =
     else if low == 1 then or_of d (negated s) high
     else chosen_of d s high low
 
--- The result of a call that makes the gates `all`. The literal of the result is the literal of `all`, and has the value
--- `value v` if v satisfies the gates.
+-- The result of a builder's call that is to make the gates `all`. The literal that the call returns is the literal of
+-- `all`, and has the value `value v` if the variables' values v satisfy the equations of the gates.
 pub record MakesGates (old new : Drafted) (result : Result ℕ EncodeFault) (all : Made) (value : (ℕ → Bool) → Bool)
     (Needs : Type 0) : Type 0 where
-  -- the existing gates remain, also if the call fails
+  -- the existing gates remain, even if the call fails
   pub extends : Extends old new
   pub held : IfOk result (IsHeld new)
   pub bit : IfOk result (λ literal. (v : ℕ → Bool) → MeetsEquations new v → bit v literal ≡ value v)
   pub made : IfOk result (λ literal. all ≡ record { draft = new; literal = literal })
-  -- if the call fails because no variable is left, all variables exist, a further one is needed, and the gates need too
-  -- many
+  -- if the call fails because no variable is left: 2147483647 variables exist, a new gate is needed, and the gates
+  -- `all` have more variables than that
   pub too_large : result ≡ Err CircuitTooLarge → IsFull new
   pub needed : result ≡ Err CircuitTooLarge → Needs
   pub above : result ≡ Err CircuitTooLarge → HasTooMany all.draft

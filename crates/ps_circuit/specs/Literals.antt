@@ -1,4 +1,4 @@
--- A literal as a number: twice its variable, plus one if the literal is negated. Variable 0 is false.
+-- A literal is a number: twice its variable, plus one if the literal is negated. Variable 0 is always false.
 use Rattle.std.specs.Prelude.{ℕ, ◌+◌, ◌-◌, ◌/◌, ◌%◌, ◌==◌, Bool, if◌then◌else◌}
 
 abbrev pub variable : ℕ → ℕ

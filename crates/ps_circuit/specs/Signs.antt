@@ -1,4 +1,4 @@
--- The parts of an AIGER text that consist of single bytes and of runs of bytes (`ps_text`).
+-- The smallest parts of the AIGER grammar, which are single bytes and runs of bytes.
 --     number Wrong      the longest run of digits, including leading zeros; `Wrong` states which numbers are errors
 --     gap, newline, line_end, more      what separates the fields of a line, and what ends the line
 use Rattle.std.specs.Prelude.{ℕ, Bool, true, false, List}
@@ -21,15 +21,15 @@ Field V = Part Seen V AigCause
 abbrev pub number_at : ℕ → List ℕ → Number
 number_at at digits = record { value = decimal_value digits; offset = at }
 
--- a number of any size, with the offset of its first digit
+-- the grammar of a number of any size; its value includes the offset of its first digit
 unfoldable pub number : (ℕ → AigCause → Type 0) → Field Number
 number Wrong = run is_digit number_at (λ digits f. Wrong (decimal_value digits) f)
 
--- one or more spaces or tabs
+-- a gap between two fields: one or more spaces or tabs
 unfoldable pub gap : Field (Unit {0})
 gap = run is_space (λ at bytes. tt) NoBadRun
 
--- everything up to the end of the line, at least one byte
+-- at least one byte, up to the end of the line
 unfoldable pub rest_of_line : Field (List ℕ)
 rest_of_line = run is_inner (λ at bytes. bytes) NoBadRun
 
@@ -46,7 +46,7 @@ line_end = then_by (either gap (give tt)) (λ _. newline)
 unfoldable pub more : Field Bool
 more = either (mapped (λ _. false) newline) (then_by gap (λ _. either (mapped (λ _. false) newline) (give true)))
 
--- the first part if a further field follows, and otherwise the second part
+-- the grammar P if a further field follows in the line, and otherwise the grammar Q
 abbrev pub by_more : {V : Type 0} → Field V → Field V → Bool → Field V
 by_more P Q true = P
 by_more P Q false = Q

@@ -1,4 +1,4 @@
--- AIGER texts of circuits: their grammar, in parts (`ps_text`), and the errors that they can have.
+-- The grammar of the AIGER texts of circuits, and the errors that these texts can have.
 --     aag M I L O A [B [C [J [F]]]]
 --     I lines   lit
 --     L lines   lit next [reset]
@@ -7,21 +7,21 @@
 --     symbols   iK name | lK name | oK name
 --     c         and then anything
 --
--- A gap is one or more spaces or tabs. Each field of a number line comes after a gap, and a number line may end with a
--- gap. Numbers may be of any size and have leading zeros. The last newline may be missing. There are as many lines as
--- the numbers I, L, O and A state, however large these numbers are. A name follows one space, reaches to the end of the
--- line, and has at least one byte.
+-- In an AIGER text, a gap is one or more spaces or tabs. Each field of a line of numbers, except the first, comes after
+-- a gap, and such a line may end with a gap. Numbers in the text may be of any size and have leading zeros. The newline
+-- at the end of the text may be missing. There are as many lines as the numbers I, L, O and A state, however large
+-- these numbers are. In the symbol table, a name comes after one space, ends with the line, and has at least one byte.
 --     61 (`Syntax`)      a byte not allowed here, an early end, or a symbol whose K is too large or already has a name
 --     62 (`Literal`)      a literal above 2M + 1, an M of 2^31 or more, or a wrong input, latch, left side or reset
 --     63 (`DefinedTwice`)      an input, latch or left side whose variable was defined before
 --     66 (`UnsetLatch`)      a reset that is the latch
 --     67 (`Sections`)      a B, C, J or F that is not 0
 --
--- An input, latch or left side must be even and at least 2, and a reset must be 0, 1 or the latch itself. The errors
--- 62, 63, 66 and 67 are reported at the first digit of the wrong number, and the error 61 of a symbol at the symbol's
--- letter. The first error in the text is reported. If there are several errors at the same offset, the error with the
--- smallest number is reported. If a text has none of the errors above, it can have one of the following, which are
--- checked in this order:
+-- The literal of an input, of a latch or of a gate's left side must be even and at least 2, and a latch's reset must be
+-- 0 or 1. The errors 62, 63, 66 and 67 are reported at the first digit of the wrong number, and the error 61 for a
+-- symbol's number at the symbol's letter. The first error in the order of the text is reported. If there are several
+-- errors at the same offset, the error with the smallest number is reported. If a text has none of the errors above, it
+-- can have one of the following, which are checked in this order:
 --     64 (`Undefined`)      the first literal that is read and whose variable is neither defined nor 0
 --     65 (`Cyclic`)      the line of the first gate that depends on itself
 use Rattle.std.specs.Prelude.{◌≡◌, ◌≢◌, ℕ, zero, suc, ◌+◌, ◌*◌, ◌^◌, ◌<◌, ◌≤◌, ◌⊎◌, List, [], ◌∷◌, ◌++◌, Bool, false}
@@ -75,12 +75,12 @@ pub record HeaderData : Type 0 where
   pub outputs : ℕ
   pub gates : ℕ
 
--- the sizes of up to n sections, and the end of the line
+-- the end of the header: the sizes of up to n of the sections B, C, J and F, which must be 0, and the end of the line
 unfoldable pub sections : ℕ → Field (Unit {0})
 sections zero = line_end
 sections (suc n) = then_by more (by_more (then_by (number WrongCount) (λ _. sections n)) (give tt))
 
--- a gap and a number
+-- the grammar of a gap and a number
 unfoldable pub field : (ℕ → AigCause → Type 0) → Field Number
 field Wrong = then_by gap (λ _. number Wrong)
 
@@ -94,15 +94,15 @@ header =
 
 -- ## Number lines
 
--- what was read of some lines of one kind: their items, the variables defined so far, the literals read so far and, for
--- gates, the offset of each line
+-- what was read up to some line: the items of the line's kind, the variables defined so far, the literals used so far,
+-- and the offset of each gate's line
 pub record Lines (A : Type 0) : Type 0 where
   pub items : List A
   pub defined : List ℕ
   pub readings : List Number
   pub starts : List ℕ
 
--- what was read before the first line; for `next_lines`, before the first line of the next kind
+-- what was read before the first input line; `next_lines` is what was read before the first line of the next kind
 abbrev pub no_lines : {A : Type 0} → Lines A
 no_lines = record { items = []; defined = []; readings = []; starts = [] }
 
@@ -141,7 +141,7 @@ add_gate c l first second = record {
 unfoldable pub input_line : ℕ → Lines ℕ → Field (Lines ℕ)
 input_line most c = then_by (number (WrongDefinition most c.defined)) (λ l. mapped (λ _. add_input c l) line_end)
 
--- the reset of a latch, if there is one, and the end of the line; the value is true for the reset 1
+-- the optional reset of a latch, and the end of the line; the value is true if the reset is 1
 unfoldable pub reset : ℕ → Field Bool
 reset latch =
     then_by more (by_more (then_by (number (WrongReset latch)) (λ n. mapped (λ _. n.value == 1) line_end)) (give false))
@@ -185,11 +185,11 @@ put_names names OfInput list = record { inputs = list; latches = names.latches; 
 put_names names OfLatch list = record { inputs = names.inputs; latches = list; outputs = names.outputs }
 put_names names OfOutput list = record { inputs = names.inputs; latches = names.latches; outputs = list }
 
--- the names with one more name, for the k-th input, latch or output
+-- the names after one more was added, for the input, latch or output with the index k
 abbrev pub add_name : NamesData → Kind → ℕ → List ℕ → NamesData
 add_name names kind k name = put_names names kind (slice_set (names_of names kind) k (Some name))
 
--- the letters i, l and o
+-- the letters i, l and o, which stand for an input, a latch and an output
 abbrev pub take_kind : Seen → Option Kind
 take_kind s =
     if s.byte == 105 then Some OfInput else if s.byte == 108 then Some OfLatch else if s.byte == 111 then Some
@@ -218,8 +218,8 @@ comment = either (then_by (byte 99) (λ _. anything)) (give tt)
 
 -- ## The text
 
--- What was read of a text: its circuit, the defined variables, the literals that are read, in text order, and the
--- offset of each gate's line.
+-- What was read of a text, before the last checks: its circuit, the defined variables and the used literals in text
+-- order, and the offset of each gate's line.
 pub record DraftData : Type 0 where
   pub circuit : CircuitData
   pub defined : List ℕ
@@ -265,7 +265,7 @@ circuit_text = then_by header (λ h. body h)
 
 -- ## The answer
 
--- the literal's variable is 0 or defined
+-- the variable of the literal is 0, or is one of the defined variables
 abbrev pub IsDefined : List ℕ → Number → Type 0
 IsDefined defined l = (variable l.value ≡ 0) ⊎ Contains defined (variable l.value)
 
@@ -277,7 +277,7 @@ pub record IsFirstUndefined (defined : List ℕ) (readings : List Number) (l : N
   pub before_defined : All (IsDefined defined) before
   pub not_defined : ¬ IsDefined defined l
 
--- the answer to a text: its circuit, or its first error
+-- the answer to an AIGER text: its circuit, or its first error
 pub data ReadsCircuit (text : List ℕ) (answer : Result CircuitData (Found AigCause)) : Type 0 where
   refused : (found : Found AigCause) → PartAnswers aig_causes circuit_text (stream_of text) (Err found) →
       answer ≡ Err found → ReadsCircuit text answer
@@ -292,6 +292,6 @@ pub data ReadsCircuit (text : List ℕ) (answer : Result CircuitData (Found AigC
       All (IsDefined d.defined) d.readings →
       ((i : ℕ) → ¬ Way (ReadsGate d.circuit.gates) i i) → answer ≡ Ok d.circuit → ReadsCircuit text answer
 
--- the result of the parser: the answer to the text, or out of memory
+-- what the parser of circuits returns: the answer to the text, or out of memory
 abbrev pub IsCircuitAnswer : List ℕ → Result CircuitData AigFault → Type 0
 IsCircuitAnswer text result = UnlessMemory (ReadsCircuit text) result

@@ -1,11 +1,11 @@
--- The values of a circuit, and its traces.
+-- The values of a circuit's variables, and the traces of a circuit.
 --     bit_of values literal      the value of a literal, if the list has a bit for each variable
 --     AreValues c inputs latches values      the list has a bit for each variable, and satisfies the equations of c
 --     HasOneValues c      c has values, and any two lists of values agree on all known literals
 --     Steps c latches inputs outputs next      the outputs of a step, and the latches after the step
 --     IsTrace c moments      the latches begin with their resets, and are updated by their next literals
 --
--- A variable that is not defined may have either value, since no literal of a circuit reads it.
+-- An undefined variable may have either value, since no literal that the circuit uses has this variable.
 use Rattle.std.specs.Prelude.{◌≡◌, ℕ, ◌+◌, ◌&&◌, Bool, false, not, if◌then◌else◌, List, [], ◌∷◌, map, length}
 use Rattle.std.specs.Prelude.{slice_index_or, All}
 use Rattle.ps_circuit.specs.declared.parts.Gate.{Gate}
@@ -43,11 +43,11 @@ pub record Steps (c : CircuitData) (latches inputs outputs next : List Bool) : T
   pub outputs_are : outputs ≡ map (bit_of values) c.outputs
   pub next_are : next ≡ map (λ l. bit_of values l.next) c.latches
 
--- the first values of the latches
+-- the values of the latches in the first step
 abbrev pub resets : CircuitData → List Bool
 resets c = map (λ l. l.reset) c.latches
 
--- the bits of one step; the latches are those before the step
+-- the values of one step: of the latches before the step, of the inputs and of the outputs
 pub record Moment : Type 0 where
   pub latches : List Bool
   pub inputs : List Bool

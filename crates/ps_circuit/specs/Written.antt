@@ -13,7 +13,7 @@ fields (x ∷ xs) = 32 ∷ decimal x ++ fields xs
 abbrev pub line : ℕ → List ℕ → List ℕ
 line x xs = decimal x ++ fields xs ++ 10 ∷ []
 
--- the reset is written only if it is 1
+-- the line of a latch, in which the reset is written only if it is 1
 abbrev pub latch_line : Latch → List ℕ
 latch_line l = if l.reset then line l.literal (l.next ∷ 1 ∷ []) else line l.literal (l.next ∷ [])
 
@@ -33,7 +33,7 @@ abbrev pub symbol_line : ℕ → ℕ → Option (List ℕ) → List ℕ
 symbol_line letter k None = []
 symbol_line letter k (Some name) = letter ∷ decimal k ++ 32 ∷ name ++ 10 ∷ []
 
--- a line for each name; the first entry of the list has the number k
+-- a line of the symbol table for each name; the first item of the list has the number k
 abbrev pub symbol_lines : ℕ → ℕ → List (Option (List ℕ)) → List ℕ
 symbol_lines letter k [] = []
 symbol_lines letter k (n ∷ ns) = symbol_line letter k n ++ symbol_lines letter (k + 1) ns

@@ -1,4 +1,4 @@
-//! A builder of and-gates, which makes each gate only once.
+//! A builder of circuits of and-gates, which makes each gate only once.
 
 ghost use Rattle.std.specs.Prelude.{◌≡◌, ℕ, ◌+◌, ◌*◌, ◌^◌, ◌<◌, ◌≤◌, ◌&&◌, ◌||◌, Bool, not, cond, [], length};
 ghost use Rattle.std.specs.Prelude.{slice_get, Some, IfOk};
@@ -14,7 +14,8 @@ use indexmap::IndexSet;
 use std::alloc::Global;
 use std::marker::Model;
 
-/// The largest number of variables, chosen such that twice the number plus one still fits into 32 bits.
+/// The largest number of variables of a circuit: the number of the greatest literal, twice this number plus one, still
+/// fits into 32 bits.
 const MOST_VARIABLES: u32 = 2147483647;
 
 /// The two literals that a gate reads, with the greater literal first.
@@ -26,10 +27,11 @@ pub struct Sides {
     pub second: Literal,
 }
 
-/// Makes and-gates over some given variables. An existing gate is used again, and a new gate takes the next variable.
+/// A builder, which makes and-gates over some given variables. If a gate with the same two literals exists, it is used
+/// again; a new gate takes the next variable.
 ///
-/// Every call, even one that fails, leaves the existing gates unchanged. A call fails only if out of memory, or if
-/// 2147483647 variables exist and another gate is needed.
+/// Every call of a builder, even one that fails, leaves the existing gates unchanged. A builder's call fails only if
+/// out of memory, or if 2147483647 variables exist and another gate is needed.
 #[derive(Drop)]
 pub struct Builder {
     given: u32,
@@ -45,7 +47,7 @@ impl Model for Builder {
 }
 
 impl Builder {
-    /// A builder without gates. The given variables have the numbers from 1 to `given`.
+    /// A builder without gates. The variables that the builder is given have the numbers from 1 to `given`.
     pub fn new(alloc: Global, given: u32) -> Self
         requires { given < 2 ^ 31 }
         ensures given { result.given ≡ given }
@@ -57,7 +59,7 @@ impl Builder {
         }
     }
 
-    /// The number of variables: the given variables and the gates, without variable 0.
+    /// The number of variables in the builder: the given ones and one for each gate, without variable 0.
     pub fn variables(&self) -> u32
         ensures variables { result ≡ variables_of self.now }
         ensures sound { IsSoundDraft self.now }
@@ -65,7 +67,7 @@ impl Builder {
         self.given + self.gates.len() as u32
     }
 
-    /// The number of given variables.
+    /// The number of variables that the builder was given.
     pub fn given(&self) -> u32
         ensures given { result ≡ self.now.given }
         ensures sound { IsSoundDraft self.now }
@@ -81,7 +83,7 @@ impl Builder {
         self.gates.as_slice()
     }
 
-    /// The literal that is true if both literals are true.
+    /// Returns a literal that is true exactly if both given literals are true.
     #[tactic(auto, unfolding(crate::specs::Gates::and_of))]
     pub fn and(&mut self, x: Literal, y: Literal) -> Result<Literal, EncodeFault>
         requires first { IsHeld self.old x }
@@ -111,7 +113,7 @@ impl Builder {
         }
     }
 
-    /// The literal that is true if at least one of the two literals is true.
+    /// Returns a literal that is true exactly if at least one of the two given literals is true.
     #[tactic(auto, unfolding(crate::specs::Gates::or_of))]
     pub fn or(&mut self, x: Literal, y: Literal) -> Result<Literal, EncodeFault>
         requires first { IsHeld self.old x }
@@ -123,7 +125,8 @@ impl Builder {
         Ok(neither.negated())
     }
 
-    /// The literal that is `high` if `s` is true, and `low` if it is false.
+    /// Returns a literal that has the value of `high` if `s` is true, and the value of `low` if `s` is false (a
+    /// multiplexer).
     #[tactic(auto, unfolding(crate::specs::Gates::mux_of))]
     pub fn mux(&mut self, s: Literal, high: Literal, low: Literal) -> Result<Literal, EncodeFault>
         requires chooses { IsHeld self.old s }
@@ -170,7 +173,7 @@ impl Builder {
         self.or(where_true, where_false)
     }
 
-    /// The literal of the gate that reads the two given literals. A missing gate is made.
+    /// The literal of the gate that reads the two given literals. If no gate reads these two literals yet, it is made.
     fn gate(&mut self, sides: Sides) -> Result<Literal, EncodeFault>
         requires { AreSides (variables_of self.old + 1) sides }
         ensures { MakesGates self.old self.new result (gate_of self.old sides)

@@ -15,7 +15,7 @@ use std::alloc::{AllocError, Global};
 use std::marker::Model;
 use thiserror::Error;
 
-/// Why some parts do not form a circuit.
+/// Why no circuit could be made from given parts.
 #[derive(Clone, Copy, Debug, PartialEq, Eq, Error)]
 pub enum CircuitFault {
     /// A gate depends on itself.
@@ -40,9 +40,9 @@ impl From<AllocError> for CircuitFault {
     }
 }
 
-/// A circuit of and-gates and latches. Each variable is defined once, each literal's variable is defined or 0, and no
-/// gate depends on itself. The circuit stores an order of its gates in which each gate comes after the gates that it
-/// reads.
+/// A circuit of and-gates and latches. In a circuit, no variable is defined twice, the variable of each used literal is
+/// defined or 0, and no gate depends on itself. The circuit stores an order of its gates in which each gate comes after
+/// the gates that it reads.
 #[derive(Drop)]
 pub struct Circuit {
     parts: Parts,
@@ -59,7 +59,8 @@ impl Model for Circuit {
 }
 
 impl Circuit {
-    /// Makes a circuit from its parts. Fails if a gate depends on itself, or if out of memory.
+    /// Makes a circuit from its parts: inputs, latches, outputs, gates and names. Making the circuit fails if a gate
+    /// depends on itself, or if out of memory.
     pub(crate) fn new(alloc: Global, parts: Parts) -> Result<Self, CircuitFault>
         requires { IsDraft (data_of parts) }
         ensures made { IfOk result (IsMadeOf (data_of parts)) }
@@ -117,7 +118,7 @@ impl Circuit {
         &self.parts.outputs
     }
 
-    /// The gates, in the order in which the text or the parts list them.
+    /// The gates of the circuit, in the order of the text or of the parts from which the circuit was made.
     pub fn gates(&self) -> &[Gate]
         ensures gates { result.now ≡ self.now.gates }
         ensures well_formed { IsCircuit self.now }

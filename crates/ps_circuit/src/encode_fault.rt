@@ -1,4 +1,4 @@
-//! Why a machine has no circuit.
+//! Why no circuit was made for a machine.
 
 ghost use Rattle.std.specs.Prelude.{◌≡◌};
 ghost use Rattle.ps_circuit.specs.declared.encode_fault.EncodeFault.TheVariants.{OutOfMemory};
@@ -7,7 +7,7 @@ use crate::fault::AigFault;
 use std::alloc::{AllocError, AllocFailed};
 use thiserror::Error;
 
-/// Why no circuit was made.
+/// Why no circuit was made for a machine: too many variables, or out of memory.
 #[derive(Debug, Clone, Copy, PartialEq, Eq, Error)]
 pub enum EncodeFault {
     /// 2147483647 variables exist, and another variable is needed.
@@ -21,7 +21,7 @@ pub enum EncodeFault {
 impl EncodeFault {
     ghost use Rattle.ps_circuit.specs.EncodeFaultNames.{fault_number, fault_name};
 
-    /// The fault's number in psyn's list of faults.
+    /// The number of this fault in psyn's list of faults, docs/FAULTS.md.
     pub fn number(self) -> u8
         ensures { result ≡ fault_number self }
     {

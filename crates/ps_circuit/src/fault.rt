@@ -1,34 +1,34 @@
-//! Why the text of a circuit is rejected.
+//! Why an AIGER text of a circuit is rejected.
 
 ghost use Rattle.ps_circuit.specs.CauseNames.{cause_name};
 ghost use Rattle.ps_circuit.specs.Causes.{cause_number};
 
 use ps_text::faults::{Cause, Fault};
 
-/// What is wrong with the text of a circuit. Each description ends with the part of AIGER 1.9 that the text violates,
-/// in brackets.
+/// What is wrong with the AIGER text of a circuit. Each description names in brackets the section of the AIGER 1.9
+/// format description that the text violates.
 #[derive(Clone, Copy, Debug, PartialEq, Eq)]
 pub enum AigCause {
-    /// A byte is not allowed here, or the text ends too early (ASCII format, symbol table, comments).
+    /// A byte is not allowed at its position, or the text ends too early (ASCII format, symbol table, comments).
     Syntax,
-    /// A literal is not allowed here: it is too large, or it is negated or constant where a variable is defined
-    /// (literals).
+    /// A literal is not allowed at its position: it is too large, or it is negated or constant although it should
+    /// define a variable (literals).
     Literal,
     /// A variable is defined a second time (literals).
     DefinedTwice,
-    /// The variable of a literal is never defined (literals).
+    /// The variable of a literal that is used is never defined (literals).
     Undefined,
     /// A gate depends on itself (and-gates).
     Cyclic,
     /// A latch has no first value, since its own literal is its reset (reset logic). psyn rejects such a latch, because
     /// it runs circuits.
     UnsetLatch,
-    /// One of the counts B, C, J and F of the header is not 0, so a section of bad states, constraints, justice or
-    /// fairness is not empty. The limit is psyn's own.
+    /// One of the counts B, C, J and F of the header is not 0, so the text has a section of bad states, constraints,
+    /// justice or fairness. Only psyn, not AIGER, requires these sections to be empty.
     Sections,
 }
 
-/// Why the text of a circuit was not parsed: an error in the text, or out of memory.
+/// Why the parser returned no circuit: an error in the text, or out of memory.
 pub type AigFault = Fault<AigCause>;
 
 impl Cause for AigCause {

@@ -42,11 +42,11 @@ pub fn gap(cursor: &mut Cursor) -> Result<(), AigFault>
     Ok(())
 }
 
-/// Reads up to the end of the line, at least one byte.
+/// Reads at least one byte, up to the end of the line.
 ///
 /// # Errors
 ///
-/// [`AigCause::Syntax`] if the line ends here.
+/// [`AigCause::Syntax`] if there is no further byte in the line.
 pub fn rest_of_line<'a>(cursor: &mut Cursor<'a>) -> Result<&'a [u8], AigFault>
     ensures { Tells (λ r. r.now) parts.rest_of_line cursor.old result cursor.new }
 {
@@ -69,7 +69,7 @@ pub fn newline(cursor: &mut Cursor) -> Result<(), AigFault>
     cursor.byte(b'\n', AigCause::Syntax)
 }
 
-/// Skips the end of a line, with any spaces or tabs before it.
+/// Skips any spaces or tabs, and the end of the line after them.
 ///
 /// # Errors
 ///
@@ -81,7 +81,7 @@ pub fn line_end(cursor: &mut Cursor) -> Result<(), AigFault>
     newline(cursor)
 }
 
-/// Moves past the end of a line or to the next field, and returns whether there is a next field.
+/// Moves past the end of the line, or past a gap to the next field, and returns whether there is a next field.
 ///
 /// # Errors
 ///

@@ -1,4 +1,4 @@
-//! The gates of a circuit, as a graph.
+//! The gates of a circuit, as a graph whose edges lead to the gates that are read.
 
 ghost use Rattle.ps_components.specs.Graphs.{LinksStayWithin};
 ghost use Rattle.ps_circuit.specs.Inner.GateGraphs.{graph_of};
@@ -6,7 +6,7 @@ ghost use Rattle.ps_circuit.specs.Inner.GateGraphs.{graph_of};
 use crate::links::Links;
 use ps_components::Graph;
 
-/// The gates as the vertices of a graph. Up to two edges lead from each gate to the gates whose literals it reads.
+/// The gates as the vertices of a graph. From each gate up to two edges lead to the gates whose literals it reads.
 #[derive(Drop)]
 pub struct GateGraph {
     /// For each gate, the gates that it reads.

@@ -2,7 +2,7 @@
 //! AIGER 1.9, and a writer writes them in that form.
 //!
 //! The number of a literal is twice its variable, plus one if the literal is negated. As in AIGER, literal 0 is false
-//! and literal 1 is true. There are at most 2,147,483,647 variables.
+//! and literal 1 is true. A circuit has at most 2,147,483,647 variables.
 //!
 //! | Call | What it gives |
 //! |---|---|
@@ -21,11 +21,11 @@
 //! | `read_circuit_is_circuit` | law: what a text describes is a circuit |
 //!
 //! A builder fails only if out of memory, or if 2,147,483,647 variables exist and another gate is needed. In a circuit
-//! each variable is defined once, each literal's variable is defined or 0, and no gate depends on itself.
+//! no variable is defined twice, the variable of each used literal is defined or 0, and no gate depends on itself.
 //!
-//! Parsing takes time proportional to the length of the text, except that variables that are not in order are looked up
-//! in a tree. Sections of bad states, constraints, justice and fairness must be empty, and a latch must not have its
-//! own literal as its reset.
+//! Parsing takes time proportional to the length of the text, except that variables that are far out of order are
+//! looked up in a B-tree. In an AIGER text, the sections of bad states, constraints, justice and fairness must be
+//! empty, and a latch must not have its own literal as its reset.
 #![tactic(auto)]
 
 mod builder;

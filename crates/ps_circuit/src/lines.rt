@@ -1,4 +1,4 @@
-//! The parser of the number lines in the text of a circuit.
+//! The parser of the lines of inputs, latches, outputs and gates in an AIGER text.
 
 ghost use Rattle.std.specs.Prelude.{◌≡◌, ℕ, ◌<◌, ◌≤◌, ◌+◌, ◌*◌, ◌^◌, [], ◌∷◌, ◌++◌, length, IfOk, OnOk, IsTrue};
 ghost use Rattle.std.specs.Prelude.{◌↔◌, false, Contains};
@@ -25,20 +25,20 @@ use ps_ids::Ids;
 use ps_text::cursor::Cursor;
 use std::alloc::{AllocError, Global};
 
-/// What the parser records while it reads the lines: the defined variables, the literals that use a variable, and the
+/// What the parser records while it reads these lines: the defined variables, the literals that use a variable, and the
 /// offset of each gate's line.
 #[derive(Drop)]
 pub struct Noted {
     /// The variables that are defined so far, in text order.
     pub variables: Ids,
-    /// The literals so far that use a variable, as opposed to defining it, in text order.
+    /// The literals read so far that use a variable rather than define it, in text order.
     pub readings: Vec<Number>,
-    /// The offset of each gate's line.
+    /// The offset of each gate's line in the text.
     pub starts: Vec<usize>,
 }
 
 impl Noted {
-    /// The records before the first line.
+    /// The records before any line is read.
     pub fn nothing(alloc: Global) -> Self
         ensures { lines_of [] result ≡ no_lines {A = ℕ} }
     {
@@ -50,15 +50,15 @@ impl Noted {
     }
 }
 
-/// A kind of number lines: inputs, latches, outputs or gates.
+/// One of the four kinds of lines of numbers: of inputs, latches, outputs or gates.
 pub trait Line {
-    /// The value that is read from one line.
+    /// The type of the value that is read from one line.
     type Item: Drop;
 
     /// The grammar of the next line, given what was read before it.
     ghost part: { ℕ → Lines Self.Item → Field (Lines Self.Item) };
 
-    /// What the next line adds to the lines before it.
+    /// What the parser knows after the next line, compared with what it knew before.
     ghost adds: { ℕ → Lines Self.Item → Lines Self.Item → Type 0 };
 
     /// Reads a line.
@@ -78,7 +78,7 @@ pub trait Line {
 ///
 /// # Errors
 ///
-/// The first error in the lines, or out of memory.
+/// The first error in these lines, or out of memory.
 pub fn lines<L: Line>(
     alloc: Global,
     cursor: &mut Cursor,
@@ -99,14 +99,15 @@ pub fn lines<L: Line>(
     Ok(items)
 }
 
-/// Whether a literal is not negated, not constant, and not greater than the greatest literal.
+/// Whether a literal may define a variable: it is neither negated nor constant, and not greater than the greatest
+/// literal.
 fn can_define(literal: u64, most: u32) -> bool
     ensures { IsTrue result ↔ IsDefinition most literal }
 {
     literal % 2 == 0 && literal >= 2 && literal <= 2 * u64::from(most) + 1
 }
 
-/// Records that a variable is defined, and returns whether the variable is new.
+/// Records that a variable is defined, and returns whether the variable was undefined before.
 fn adds(variables: &mut Ids, variable: u64) -> Result<bool, AllocError>
     ensures new { IfOk result (λ new. OnTrue new (AddsVariable variables.old variable variables.new)) }
     ensures twice { result ≡ Ok false → Contains variables.old variable }
@@ -134,7 +135,7 @@ fn definition(cursor: &mut Cursor, variables: &mut Ids, header: Header) -> Resul
     Ok(number)
 }
 
-/// Reads a gap and a literal, and records the literal for a later check.
+/// Reads a gap and a literal that is used, and records the literal, since its variable may be defined later.
 fn reading(
     cursor: &mut Cursor,
     readings: &mut Vec<Number>,
@@ -152,7 +153,7 @@ fn reading(
     Ok(number)
 }
 
-/// The line of an input.
+/// The kind of lines that define an input.
 pub struct InputLine;
 
 impl Line for InputLine {
@@ -175,7 +176,7 @@ impl Line for InputLine {
     }
 }
 
-/// Reads a latch's first value, if the line has one, and the end of the line.
+/// Reads the optional first value (reset) of a latch, and the end of the line.
 fn reset(cursor: &mut Cursor, literal: u64) -> Result<bool, AigFault>
     requires { literal < 2 ^ 32 }
     ensures { Tells (λ b. b) (parts.reset literal) cursor.old result cursor.new }
@@ -194,7 +195,7 @@ fn reset(cursor: &mut Cursor, literal: u64) -> Result<bool, AigFault>
     Ok(number.value == 1)
 }
 
-/// The line of a latch.
+/// The kind of lines that define a latch.
 pub struct LatchLine;
 
 impl Line for LatchLine {
@@ -222,7 +223,7 @@ impl Line for LatchLine {
     }
 }
 
-/// The line of an output.
+/// The kind of lines that state an output.
 pub struct OutputLine;
 
 impl Line for OutputLine {
@@ -249,7 +250,7 @@ impl Line for OutputLine {
     }
 }
 
-/// The line of a gate.
+/// The kind of lines that define a gate.
 pub struct GateLine;
 
 impl Line for GateLine {

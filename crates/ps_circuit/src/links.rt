@@ -1,4 +1,4 @@
-//! The gates that each gate reads.
+//! For each gate of a circuit, the gates that it reads.
 
 ghost use Rattle.std.specs.Prelude.{◌≡◌, ◌≢◌, IfOk, AllPairs, map};
 ghost use Rattle.ps_circuit.specs.Literals.{variable};
@@ -12,9 +12,9 @@ use std::alloc::{AllocError, Global};
 /// The indices of the gates that a gate reads.
 #[derive(Clone, Copy)]
 pub struct Links {
-    /// The index of the gate to which the first literal belongs, if it belongs to a gate.
+    /// The index of the gate whose variable the first literal has, if there is such a gate.
     pub first: Option<usize>,
-    /// The index of the gate to which the second literal belongs, if it belongs to a gate.
+    /// The index of the gate whose variable the second literal has, if there is such a gate.
     pub second: Option<usize>,
 }
 
@@ -28,7 +28,7 @@ pub fn links_of(alloc: Global, gates: &[Gate]) -> Result<Vec<Links>, AllocError>
     Ok(links)
 }
 
-/// The variables of the gates, in order.
+/// The variables of the gates, in the order of the gates.
 fn variables_of(alloc: Global, gates: &[Gate]) -> Result<Ids, AllocError>
     requires once { AllPairs (λ g h. variable g.literal ≢ variable h.literal) gates.now }
     ensures { IfOk result (λ variables. variables ≡ map (λ g. variable g.literal) gates.now) }
@@ -41,7 +41,8 @@ fn variables_of(alloc: Global, gates: &[Gate]) -> Result<Ids, AllocError>
     Ok(variables)
 }
 
-/// The links of the gates. A gate's index is the index of its variable in the list `variables`.
+/// For each gate, the indices of the gates whose variables its literals have. A gate's index is the index of its
+/// variable in the list `variables`.
 fn links_to(alloc: Global, gates: &[Gate], variables: &Ids) -> Result<Vec<Links>, AllocError>
     ensures { IfOk result (λ links. links.items ≡ links_by (place_in variables.now) gates.now) }
 {

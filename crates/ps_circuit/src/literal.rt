@@ -5,8 +5,8 @@ ghost use Rattle.ps_circuit.specs.Literals.{is_negated, negated, variable};
 
 use std::marker::Model;
 
-/// A variable, negated or not. Variable 0 is false. The number of a literal is twice its variable, plus one if the
-/// literal is negated. Literals are ordered by their numbers.
+/// A literal of a circuit: a variable, negated or not. Variable 0 is false. The number of a literal is twice its
+/// variable, plus one if the literal is negated. Literals are ordered by their numbers.
 #[derive(Debug, Clone, Copy, PartialEq, Eq, PartialOrd, Ord, Hash)]
 pub struct Literal {
     number: u32,
@@ -29,14 +29,14 @@ impl Literal {
     /// The literal that is always true.
     pub const TRUE: Literal = Literal { number: 1 };
 
-    /// The literal with this number.
+    /// The literal that has the given number.
     pub fn new(number: u32) -> Self
         ensures { result ≡ number }
     {
         Literal { number }
     }
 
-    /// The literal of a variable that is not negated.
+    /// The literal of a variable, not negated.
     pub fn positive(variable: u32) -> Self
         requires { variable < 2 ^ 31 }
         ensures { result ≡ 2 * variable }
@@ -53,7 +53,7 @@ impl Literal {
         if bit { Literal::TRUE } else { Literal::FALSE }
     }
 
-    /// The number of the literal, as it is written in a text.
+    /// The number of the literal, as it is written in an AIGER text.
     pub fn number(self) -> u32
         ensures { result ≡ self }
     {

@@ -1,4 +1,4 @@
-//! The parser of the names in the text of a circuit, and of the comment that ends the text.
+//! The parser of the symbol table in an AIGER text, and of the comment that ends the text.
 
 ghost use Rattle.std.specs.Prelude.{◌≡◌, ◌≢◌, ℕ, ◌<◌, ◌^◌, Some, None, false, [], map, length, replicate, slice_get};
 ghost use Rattle.std.specs.Prelude.{vec_len, IfOk, OnOk, IsTrue, All};
@@ -29,7 +29,7 @@ pub struct Names {
 }
 
 impl Names {
-    /// No names, for the given numbers of inputs, latches and outputs. Fails if out of memory.
+    /// The state before any name is read, for the given numbers of inputs, latches and outputs. Fails if out of memory.
     pub fn none(
         alloc: Global,
         inputs: usize,
@@ -47,7 +47,7 @@ impl Names {
     }
 }
 
-/// A list of length `count` without names.
+/// A list of `count` items, none of which is a name.
 fn no_names(alloc: Global, count: usize) -> Result<Vec<Option<Vec<u8>>>, AllocError>
     ensures each { IfOk result (λ names. vec_len names ≡ count) }
     ensures none { IfOk result (λ names. map name_bytes names.items ≡ replicate count None) }
@@ -59,7 +59,7 @@ fn no_names(alloc: Global, count: usize) -> Result<Vec<Option<Vec<u8>>>, AllocEr
     Ok(names)
 }
 
-/// Reads the lines of names.
+/// Reads the lines of the symbol table, each of which gives a name.
 ///
 /// # Errors
 ///
@@ -78,14 +78,14 @@ pub fn symbols(alloc: Global, cursor: &mut Cursor, names: &mut Names) -> Result<
     Ok(())
 }
 
-/// Whether a line with a name begins with this byte.
+/// Whether the byte is `i`, `l` or `o`, with which a line of the symbol table begins.
 fn is_letter(byte: Option<u8>) -> bool
     ensures { result ≡ is_kind byte }
 {
     matches!(byte, Some(b'i' | b'l' | b'o'))
 }
 
-/// Reads a line with a name.
+/// Reads a line of the symbol table.
 fn symbol_line(alloc: Global, cursor: &mut Cursor, names: &mut Names) -> Result<(), AigFault>
     requires { AreNames names.old (vec_len names.old.inputs) (vec_len names.old.latches) (vec_len names.old.outputs) }
     ensures exact { Tells (λ _. names_data names.new) (parts.symbol_line (names_data names.old)) cursor.old
@@ -105,7 +105,7 @@ fn symbol_line(alloc: Global, cursor: &mut Cursor, names: &mut Names) -> Result<
     Err(cursor.refusal(AigCause::Syntax))
 }
 
-/// Reads a line with a name of one kind: the letter, the number and the name.
+/// Reads a line of the symbol table for one kind (input, latch or output): the letter, the number and the name.
 fn name_line(
     alloc: Global,
     cursor: &mut Cursor,
@@ -132,7 +132,7 @@ fn name_line(
     Ok(())
 }
 
-/// Whether the number belongs to an entry that has no name yet.
+/// Whether the list has an item with this number, and the item has no name yet.
 fn is_free(names: &Vec<Option<Vec<u8>>>, number: u64) -> bool
     ensures free { IsTrue result → slice_get (map name_bytes names.now.items) number ≡ Some None }
     ensures taken { result ≡ false → slice_get (map name_bytes names.now.items) number ≢ Some None }
@@ -142,11 +142,11 @@ fn is_free(names: &Vec<Option<Vec<u8>>>, number: u64) -> bool
     number < names.len() as u64 && names[number as usize].is_none()
 }
 
-/// Skips what follows the names: nothing, or a line that begins with `c` and everything after it.
+/// Skips what follows the symbol table: nothing, or a `c` and all bytes after it.
 ///
 /// # Errors
 ///
-/// [`AigCause::Syntax`] if anything else follows.
+/// [`AigCause::Syntax`] if any other byte follows the symbol table.
 pub fn comment(cursor: &mut Cursor) -> Result<(), AigFault>
     ensures { TellsComment cursor.old result cursor.new }
 {

@@ -1,4 +1,4 @@
-//! The numbers of the text of a circuit.
+//! The numbers that are read from an AIGER text.
 
 ghost use Rattle.std.specs.Prelude.{◌≡◌, ◌<◌, ◌^◌};
 ghost use Rattle.ps_text.specs.declared.faults.Fault.TheVariants as faults;
@@ -11,9 +11,9 @@ use crate::literal::Literal;
 /// greatest number of 64 bits.
 #[derive(Clone, Copy)]
 pub struct Number {
-    /// The value of the number.
+    /// The value of the number, or the greatest number of 64 bits if the value does not fit.
     pub value: u64,
-    /// The offset of the first digit.
+    /// The offset of the number's first digit in the text.
     pub offset: usize,
 }
 
@@ -26,14 +26,14 @@ impl Number {
         Literal::new(self.value as u32)
     }
 
-    /// The variable of the literal with this number.
+    /// The variable of the literal that has this number.
     pub fn variable(self) -> u64
         ensures { result ≡ variable self.value }
     {
         self.value / 2
     }
 
-    /// The fault with a given cause at the offset of this number.
+    /// The fault that reports a given error at the offset of this number.
     pub fn refused(self, cause: AigCause) -> AigFault
         ensures { result ≡ faults.Text cause self.offset }
     {

@@ -1,4 +1,4 @@
-//! The parts of a circuit.
+//! The parts of a circuit: latches, gates, and the lists of all inputs, latches, outputs, gates and names.
 
 use crate::literal::Literal;
 

@@ -1,4 +1,4 @@
-//! The parser of circuits in AIGER texts.
+//! The parser of AIGER texts, which describe circuits.
 
 ghost use Rattle.std.specs.Prelude.{◌≡◌, ◌≢◌, ℕ, ◌<◌, ◌≤◌, ◌+◌, ◌*◌, ◌^◌, List, [], ◌∷◌, ◌++◌, length, map, vec_len};
 ghost use Rattle.std.specs.Prelude.{IfOk, Result, Err, All, Contains, IsTrue, ◌⊎◌, false, slice_index};
@@ -22,7 +22,8 @@ use ps_ids::Ids;
 use ps_text::cursor::Cursor;
 use std::alloc::Global;
 
-/// The parts of a circuit as the text states them, and the records that the later checks need.
+/// The parts of a circuit as the text states them, and the records for the checks that follow parsing (undefined
+/// variables, cycles).
 #[derive(Drop)]
 pub(crate) struct Draft {
     parts: Parts,
@@ -34,7 +35,7 @@ pub(crate) struct Draft {
 /// # Errors
 ///
 /// The first error of the text, in the order of the text, or out of memory. Undefined variables and cycles are reported
-/// only if there is no other error.
+/// only if the text has no other error.
 pub fn read(alloc: Global, text: &[u8]) -> Result<Circuit, AigFault>
     // The circuit of the text, or the first error of the text.
     ensures exact { IsCircuitAnswer text.now result }
@@ -45,7 +46,7 @@ pub fn read(alloc: Global, text: &[u8]) -> Result<Circuit, AigFault>
     assembled(alloc, parts, &noted.starts)
 }
 
-/// Reads a text from the first byte to the last.
+/// Reads an AIGER text from the first byte to the last.
 fn read_draft(alloc: Global, text: &[u8]) -> Result<Draft, AigFault>
     ensures exact { TellsDraft text.now result }
     ensures sound { IfOk result (λ d. IsSoundDraft (draft_data d)) }
@@ -73,8 +74,8 @@ fn read_draft(alloc: Global, text: &[u8]) -> Result<Draft, AigFault>
     Ok(Draft { parts, noted })
 }
 
-/// Checks that the variable of each used literal is defined or 0. The fault is reported for the first literal that
-/// fails this check.
+/// Checks that the variable of each used literal is defined or 0. The fault is reported at the first literal whose
+/// variable is neither defined nor 0.
 fn all_defined(noted: &Noted) -> Result<(), AigFault>
     ensures { TellsDefined noted.now.variables noted.now.readings.items result }
 {
@@ -105,7 +106,7 @@ fn cyclic(starts: &[usize], gate: usize) -> AigFault
     }
 }
 
-/// Makes the circuit from its parts. Fails if a gate depends on itself, or if out of memory.
+/// Makes the circuit from its parsed parts. Fails if a gate depends on itself, or if out of memory.
 fn assembled(alloc: Global, parts: Parts, starts: &[usize]) -> Result<Circuit, AigFault>
     requires draft { IsDraft (data_of parts) }
     requires starts { length starts.now ≡ length parts.gates.items }

@@ -1,21 +1,21 @@
-//! The numbers of the first line of the text of a circuit.
+//! The numbers in the header, the first line of an AIGER text.
 
 ghost use Rattle.std.specs.Prelude.{◌<◌, ◌^◌};
 
-/// The numbers of the first line. A number of inputs, latches, outputs or gates that does not fit into 64 bits is
-/// stored as the greatest number of 64 bits.
+/// The numbers in the header of an AIGER text. A number of inputs, latches, outputs or gates that does not fit into 64
+/// bits is stored as the greatest number of 64 bits.
 #[derive(Clone, Copy)]
 pub struct Header {
-    /// The greatest variable: M.
+    /// M in the header, the greatest variable of the circuit.
     pub most: u32,
-    /// The number of input lines: I.
+    /// I in the header, the number of input lines.
     pub inputs: u64,
-    /// The number of latch lines: L.
+    /// L in the header, the number of latch lines.
     pub latches: u64,
-    /// The number of output lines: O.
+    /// O in the header, the number of output lines.
     pub outputs: u64,
-    /// The number of gate lines: A.
+    /// A in the header, the number of gate lines.
     pub gates: u64,
-    /// Twice the greatest variable, plus one, fits into 32 bits.
+    /// The greatest literal, twice the greatest variable plus one, fits into 32 bits.
     pub ghost small: { most < 2 ^ 31 },
 }

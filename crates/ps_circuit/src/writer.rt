@@ -90,7 +90,7 @@ fn write_gates(out: &mut Vec<u8>, gates: &[Gate]) -> Result<(), AllocError>
     Ok(())
 }
 
-/// Writes a line for each input, latch or output that has a name.
+/// Writes a line of the symbol table for each input, latch or output that has a name.
 fn write_symbols(out: &mut Vec<u8>, letter: u8, names: &[Option<Vec<u8>>]) -> Result<(), AllocError>
     ensures { OnOk result (out.new.items ≡ out.old.items ++ symbol_lines letter 0 (map name_bytes names.now)) }
 {

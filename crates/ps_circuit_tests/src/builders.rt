@@ -1,9 +1,11 @@
-//! Tests of the gates that the builder makes, with a case for each kind of choice between two literals.
+//! Tests of the gates that a circuit builder makes, with a case for each kind of multiplexer (constant, equal or other
+//! inputs).
 
 use ps_aiger::{Builder, EncodeFault, Literal};
 use std::alloc::Global;
 
-/// The number of the literal that `mux` returns, or `None` if an argument's variable does not exist.
+/// The number of the literal that the builder's `mux` returns, or `None` if an argument's variable does not exist or
+/// the call fails.
 fn mux(builder: &mut Builder, s: u32, high: u32, low: u32) -> Option<u32> {
     let (s, high, low) = (Literal::new(s), Literal::new(high), Literal::new(low));
     let most = builder.variables();
@@ -14,8 +16,7 @@ fn mux(builder: &mut Builder, s: u32, high: u32, low: u32) -> Option<u32> {
     Some(literal.number())
 }
 
-/// Whether each choice between two literals gives the expected literal, and leaves the builder with the expected number
-/// of variables.
+/// Whether each multiplexer gives the expected literal, and leaves the builder with the expected number of variables.
 fn choices_are_right(alloc: Global) -> bool {
     let mut builder = Builder::new(alloc, 3);
     for (high, low, literal, variables) in [
@@ -40,7 +41,7 @@ fn each_row_of_the_table_of_choices(rt: HostRuntime) {
     assert!(rt; choices_are_right(rt.alloc()));
 }
 
-/// The number of the literal that `and` returns, or `None` if an argument's variable does not exist.
+/// The number of the literal that the builder's `and` returns, or `None` if an argument's variable does not exist.
 fn and(builder: &mut Builder, x: u32, y: u32) -> Option<Result<u32, EncodeFault>> {
     let (x, y) = (Literal::new(x), Literal::new(y));
     let most = builder.variables();
@@ -50,7 +51,7 @@ fn and(builder: &mut Builder, x: u32, y: u32) -> Option<Result<u32, EncodeFault>
     Some(builder.and(x, y).map(Literal::number))
 }
 
-/// The number of the literal that `or` returns, or `None` if an argument's variable does not exist.
+/// The number of the literal that the builder's `or` returns, or `None` if an argument's variable does not exist.
 fn or(builder: &mut Builder, x: u32, y: u32) -> Option<Result<u32, EncodeFault>> {
     let (x, y) = (Literal::new(x), Literal::new(y));
     let most = builder.variables();
@@ -60,8 +61,8 @@ fn or(builder: &mut Builder, x: u32, y: u32) -> Option<Result<u32, EncodeFault>>
     Some(builder.or(x, y).map(Literal::number))
 }
 
-/// Whether gates over two variables have the expected literals, and the builder makes only one gate in all of these
-/// calls.
+/// Whether conjunctions and a disjunction of two variables have the expected literals, and the builder makes only one
+/// gate for all of them.
 fn gates_are_right(builder: &mut Builder) -> bool {
     for (x, y, literal) in [(2, 4, 6), (4, 2, 6), (2, 3, 0), (2, 2, 2), (1, 4, 4)] {
         if and(builder, x, y) != Some(Ok(literal)) {
@@ -71,8 +72,8 @@ fn gates_are_right(builder: &mut Builder) -> bool {
     or(builder, 3, 5) == Some(Ok(7)) && builder.gates().len() == 1
 }
 
-/// The check of `gates_are_right` with a new builder. If an allocation failed, as in a run of `rt try --test
-/// --fail-alloc N`, the check is repeated with the same builder.
+/// Whether `gates_are_right` holds for a new builder. A failed check is repeated with the same builder, since an
+/// allocation may have failed, as in a run of `rt try --test --fail-alloc N`.
 fn new_gates_are_right(alloc: Global) -> bool {
     let mut builder = Builder::new(alloc, 2);
     gates_are_right(&mut builder) || gates_are_right(&mut builder)
@@ -83,7 +84,8 @@ fn a_gate_is_made_once(rt: HostRuntime) {
     assert!(rt; new_gates_are_right(rt.alloc()));
 }
 
-/// Whether the builder makes one more gate, and then rejects a further gate because no variable is left.
+/// Whether a builder with one variable left makes one more gate, and then rejects a further gate because no variable is
+/// left.
 fn last_gates_are_right(alloc: Global) -> bool {
     let mut builder = Builder::new(alloc, 2147483646);
     and(&mut builder, 2, 4) == Some(Ok(4294967294))

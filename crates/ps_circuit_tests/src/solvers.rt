@@ -1,4 +1,4 @@
-//! Tests of a solver that is fed certificates.
+//! Tests of the solver `Replay`, which is given the text of a certificate instead of computing one.
 
 use ps_game::NamedGame;
 use ps_machine::{Replay, SolveFault, Solver};
@@ -6,13 +6,14 @@ use ps_pgsolver::{PgFault, read};
 use std::alloc::{AllocError, Global};
 use std::test::Fail;
 
-/// Two vertices of player 1.
+/// A game with two vertices, both owned by player 1, in PGSolver's format.
 const GAME: &[u8] = b"7 0 1 9; 9 1 1 9;";
 
-/// The number of entries of the certificate; or the offset at which the text is rejected, or none for any other fault.
+/// What a solver returned: the number of the certificate's entries, or the offset at which its text is rejected, or
+/// `None` for any other fault.
 type Answer = Result<usize, Option<usize>>;
 
-/// The result of a solver that was fed a text.
+/// What the solver returns for a game, after it was given the text of a certificate.
 fn answer(solver: &mut Replay, game: &NamedGame) -> Answer {
     match solver.solve(game) {
         Ok(certificate) => Ok(certificate.entries.len()),
@@ -21,8 +22,9 @@ fn answer(solver: &mut Replay, game: &NamedGame) -> Answer {
     }
 }
 
-/// The result of a solver that was fed a text. If an allocation failed, as in a run of `rt try --test --fail-alloc N`,
-/// the same solver is called again.
+/// What the solver returns for a game, after it was given the text of a certificate. If the solver fails for another
+/// reason than the text, it is called again, since an allocation may have failed, as in a run of `rt try --test
+/// --fail-alloc N`.
 fn answer_again(solver: &mut Replay, game: &NamedGame) -> Answer {
     match answer(solver, game) {
         Err(None) => answer(solver, game),
@@ -30,7 +32,7 @@ fn answer_again(solver: &mut Replay, game: &NamedGame) -> Answer {
     }
 }
 
-/// Feeds a text to a solver, and tries again if an allocation failed.
+/// Gives the text of a certificate to a solver, and tries again if an allocation failed.
 fn feed(solver: &mut Replay, text: &[u8]) -> Result<(), AllocError> {
     match solver.feed(text) {
         Ok(()) => Ok(()),
@@ -38,10 +40,10 @@ fn feed(solver: &mut Replay, text: &[u8]) -> Result<(), AllocError> {
     }
 }
 
-/// The results before any text is fed, after a text that ends early, and after a complete text.
+/// What the solver returns before it is given any text, after a text that ends early, and after a complete text.
 type Answers = [Answer; 3];
 
-/// The three results for a game.
+/// The three results of the solver for a game.
 fn answers_for(alloc: Global, game: &NamedGame) -> Result<Answers, Fail> {
     let mut solver = Replay::new(alloc);
     let none = answer_again(&mut solver, game);
@@ -54,7 +56,8 @@ fn answers_for(alloc: Global, game: &NamedGame) -> Result<Answers, Fail> {
     Ok([none, early, answer_again(&mut solver, game)])
 }
 
-/// The game of a text. If an allocation failed, the text is parsed again.
+/// The game that is parsed from a text in PGSolver's format. If parsing fails, the text is parsed again, since an
+/// allocation may have failed.
 fn game_of(alloc: Global, text: &[u8]) -> Result<NamedGame, PgFault> {
     match read(alloc, text) {
         Ok(game) => Ok(game),
@@ -62,7 +65,7 @@ fn game_of(alloc: Global, text: &[u8]) -> Result<NamedGame, PgFault> {
     }
 }
 
-/// The three results for the game of a text.
+/// The three results of the solver for the game that is parsed from a text.
 fn answers_of(alloc: Global, text: &[u8]) -> Result<Answers, Fail> {
     let game = game_of(alloc, text)?;
     answers_for(alloc, &game)

@@ -1,4 +1,4 @@
--- Lemmas about parsing the number lines of a written circuit, all lines of one kind at a time.
+-- Lemmas about parsing the text of a written circuit, all lines of inputs, latches, outputs or gates at a time.
 --     IsSection kind all before read d      the lines of one kind were parsed, and gave the items `all`
 --     reread_section      the lines of one kind are parsed as they were written
 --     reread_inputs, reread_latches, reread_outputs, reread_gates      the lines of each kind are parsed as written
@@ -27,7 +27,7 @@ use Rattle.ps_circuit.proofs.Rereading.RereadLines.{IsNew, reread_input, reread_
 
 -- ## The literals of a circuit
 
--- `whole` consists of `front`, `own` and `rest`
+-- in this module, the list `whole` is the concatenation of `front`, `own` and `rest`
 module _ (front own rest : List ℕ) {whole : List ℕ} (split : whole ≡ front ++ (own ++ rest)) where
   place_within : (k : ℕ) → k < length own → length front + k < length whole
   place_within k lt = omega (arith, ap length split, length-append front (own ++ rest), length-append own rest)
@@ -47,7 +47,7 @@ module _ {c : CircuitData} (draft : IsDraft c) where
       fits : IsDefinition c.most (get_or own k d)
       fits = all_of_own front own rest split (IsDefinition c.most) draft.defined k d lt
 
-      -- the variable of this literal was not defined before
+      -- the variable of a literal in `own` is not defined by an earlier literal
       fresh : Contains (map variable front) (variable (get_or own k d)) → ⊥
       fresh (i, l, h) =
           let small : i < length front = omega (arith, l, length-map front variable) in
@@ -71,7 +71,8 @@ module _ {c : CircuitData} (draft : IsDraft c) where
 
 -- ## The lines of one kind
 
--- the parsed items are `all`; the definitions and readings are `before` and `read`, followed by those of the items
+-- the parsed items are `all`; their defining literals come after those in `before`, and their used literals after those
+-- in `read`
 pub record IsSection {X : Type 0} (kind : LineKind X) (all : List X) (before read : List ℕ) (d : Lines X) : Type 0 where
   pub items : d.items ≡ all
   pub defined : d.defined ≡ map variable (before ++ kind.defines all)
@@ -84,7 +85,8 @@ module _ {c : CircuitData} (draft : IsDraft c) {X : Type 0} (kind : LineKind X) 
     (none : texts [] ≡ []) (some : (x : X) (xs : List X) → texts (x ∷ xs) ≡ text x ++ texts xs)
     (reread : (rest : List ℕ) (Good : Lines X → Type 0) (d : Lines X) (x : X) → IsNew kind c.most d x →
     ((e : Lines X) → AddsItem kind d e x → Good e) → Rereads (line d) Good (text x ++ rest) rest) where
-  -- one item between the items before it and after it
+  -- a list that consists of the literals of earlier lines, of all items, and of later lines, divided around one of the
+  -- items
   middle : (of : List X → List ℕ) → ((xs ys : List X) → of (xs ++ ys) ≡ of xs ++ of ys) →
       (front back whole : List ℕ) → whole ≡ front ++ (of all ++ back) → (a xs : List X) (x : X) → a ++ x ∷ xs ≡ all →
       whole ≡ (front ++ of a) ++ (of (x ∷ []) ++ (of xs ++ back))

@@ -1,4 +1,4 @@
--- Lemmas about parsing the fields of a written line.
+-- Lemmas about parsing the fields of a line that the circuit writer has written.
 --     from e at text      the stream of `text`, from the offset `at` to the end `e`
 --     Rereads part Good text rest      the part is parsed from `text`: its value is `Good`, and `rest` remains
 --     reread_then, reread_mapped      two parts are parsed, one after the other; a function is applied to a value
@@ -79,7 +79,7 @@ pub reread_give : {V : Type 0} {Good : V → Type 0} (v : V) {rest : List ℕ} �
 reread_give v {rest} g =
     record { there = λ e at. record { value = v; good = g; to = at; reads = reads_give (from e at rest) v } }
 
--- the property that every value has
+-- the property that holds for every value
 abbrev pub AnyValue : {V : Type 0} → V → Type 0
 AnyValue v = Unit {0}
 
@@ -117,7 +117,7 @@ digits_no_space (b ∷ digits) rest some all = digit_no_space b all.0
 abbrev pub HasValue : ℕ → Number → Type 0
 HasValue n x = x.value ≡ n
 
--- the number fits into 64 bits, and is not an error
+-- the number fits into 64 bits, and the condition `Wrong` does not make it an error
 pub record IsGood (Wrong : ℕ → AigCause → Type 0) (n : ℕ) : Type 0 where
   pub small : n < 2 ^ 64
   pub right : (f : AigCause) → Wrong n f → ⊥
@@ -157,7 +157,7 @@ pub reread_word : (bytes : List ℕ) {rest : List ℕ} → Rereads (word bytes) 
 reread_word [] = reread_give tt tt
 reread_word (b ∷ bytes) = reread_then (chain_word b bytes) (reread_byte b) (λ _ _. reread_word bytes)
 
--- one space before a number
+-- the single space that the writer puts before a number is parsed as a gap
 reread_space : (n : ℕ) (rest : List ℕ) → n < 2 ^ 64 → Rereads gap AnyValue (32 ∷ decimal n ++ rest) (decimal n ++ rest)
 unfolding gap
 reread_space n rest small =
@@ -165,7 +165,7 @@ reread_space n rest small =
     reread_run is_space (λ at bytes. tt) NoBadRun (32 ∷ []) (omega arith) (refl, tt)
     (digits_no_space (decimal n) rest t.some t.pass) (λ f x. x) (λ at. tt)
 
--- the next byte is not in the set A
+-- if the byte b is not in the set A, the next byte of a text that begins with b is not in A
 avoids_at : (A : Seen → Type 0) (e at b : ℕ) (rest : List ℕ) → ((t : Seen) → t.byte ≡ b → A t → ⊥) →
     Avoids A (next_of (from e at (b ∷ rest)))
 avoids_at A e at b rest none t x a = none t (ap (λ (s : Seen). s.byte) (sym (same_some _ t x))) a
@@ -202,7 +202,7 @@ reread_no_more {rest} = reread_branch (λ at. left_otherwise laws_ends_here.laws
 digit_newline : (t : Seen) → AtDigit t → At 10 t → ⊥
 digit_newline t d e = let h : is_digit 10 ≡ true = ap is_digit (sym e) ∙ d in cc
 
--- a further number follows
+-- a space and a number after a field are parsed as a further field
 pub reread_more : (n : ℕ) (rest : List ℕ) → n < 2 ^ 64 →
     Rereads more (λ v. v ≡ true) (32 ∷ decimal n ++ rest) (decimal n ++ rest)
 unfolding more

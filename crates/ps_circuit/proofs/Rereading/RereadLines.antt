@@ -1,4 +1,5 @@
--- Lemmas about parsing the first line and each number line of a written circuit.
+-- Lemmas about parsing the first line, and the line of each input, latch, output or gate, in the text of a written
+-- circuit.
 --     IsWritable      the counts fit into 64 bits
 --     reread_header      the first line is parsed as it was written
 --     IsNew kind most d x      after the lines d, item x may define its literals, and read its other literals
@@ -36,7 +37,7 @@ use Rattle.ps_circuit.proofs.Rereading.RereadFields.{reread_more, reread_no_more
 abbrev pub field_text : ℕ → List ℕ → List ℕ
 field_text n rest = 32 ∷ (decimal n ++ rest)
 
--- the counts fit into 64 bits
+-- the circuit is well formed, apart from cycles, and its numbers of inputs, latches, outputs and gates fit into 64 bits
 pub record IsWritable (c : CircuitData) : Type 0 where
   pub draft : IsDraft c
   pub inputs : length c.inputs < 2 ^ 64
@@ -77,7 +78,7 @@ reread_header c w rest = reread_as regrouped (reread_then chain_header (reread_w
 
 -- ## The parts of a line
 
--- fields, and the text that follows them
+-- the text of numbers, each after one space, and of what follows them
 abbrev pub fields_text : List ℕ → List ℕ → List ℕ
 fields_text [] rest = rest
 fields_text (x ∷ xs) rest = field_text x (fields_text xs rest)
@@ -89,7 +90,7 @@ fields_is (x ∷ xs) rest = search (rules, append_assoc, fields_is xs rest)
 line_is : (x : ℕ) (xs rest : List ℕ) → line x xs ++ rest ≡ decimal x ++ fields_text xs (10 ∷ rest)
 line_is x xs rest = grind (arith, append_assoc, fields_is)
 
--- the text of a reset value, with the end of the line; a reset value 0 isn't written
+-- the text of a latch's reset value and of the end of the line; the reset value 0 is not written
 abbrev reset_text : Bool → List ℕ → List ℕ
 reset_text r rest = if r then 32 ∷ decimal 1 ++ 10 ∷ rest else 10 ∷ rest
 
@@ -120,7 +121,7 @@ reread_reset true latch {rest} two = reread_then (chain_reset latch) (reread_mor
 
 -- ## Lines
 
--- after the lines d, the item may define its literals, and the literals that it reads are allowed
+-- after the lines d, the item may define its variable, and the literals that it uses are not too large
 pub record IsNew {X : Type 0} (kind : LineKind X) (most : ℕ) (d : Lines X) (x : X) : Type 0 where
   pub definitions : All (λ l. (2 ≤ l) × IsGood (WrongDefinition most d.defined) l) (kind.defines (x ∷ []))
   pub literals : All (IsGood (WrongLiteral most)) (kind.reads (x ∷ []))

@@ -1,4 +1,4 @@
--- Lemmas about parsing the names of a written circuit.
+-- Lemmas about parsing the symbol table that is written for a circuit.
 --     reread_names      the lines of the names of one kind, and what follows them
 --     reread_no_names, reread_no_comment      the end of the text, with no further name and no comment
 use Rattle.std.proofs.Common.{◌≡◌, ◌≢◌, ℕ, ◌+◌, ◌^◌, ◌<◌, true, List, [], ◌∷◌, ◌++◌, length, Option, None, Some, All}

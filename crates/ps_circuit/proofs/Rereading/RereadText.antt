@@ -1,4 +1,4 @@
--- Lemmas about parsing the text of a written circuit, which gives the same circuit.
+-- Lemmas about parsing the text that is written for a circuit, which gives the same circuit.
 --     reread_text      the text parses as a draft of the circuit, and nothing remains
 --     text_ends      the last byte of the text is a newline
 --     reads_again      the answer to the text is the circuit
@@ -36,7 +36,7 @@ none_same [] (y ∷ ys) e = absurd (omega (arith, e))
 none_same (x ∷ xs) [] e = absurd (omega (arith, e))
 none_same (x ∷ xs) (y ∷ ys) e = ap (λ zs. None ∷ zs) (none_same xs ys (omega (arith, e)))
 
--- the draft has the circuit's parts, definitions and readings
+-- the result of parsing, before the last checks, is the circuit c, with its defined variables and its used literals
 pub record IsDraftOf (c : CircuitData) (d : DraftData) : Type 0 where
   pub circuit : d.circuit ≡ c
   pub defined : d.defined ≡ map variable (definitions c)
@@ -115,7 +115,7 @@ ends_behind (x ∷ []) [] h = absurd cc
 ends_behind (x ∷ []) (y ∷ ys) h = h
 ends_behind (x ∷ z ∷ xs) ys h = ends_behind (z ∷ xs) ys h
 
--- whole lines, or nothing
+-- the text is empty, or its last byte is a newline
 abbrev AreLines : List ℕ → Type 0
 AreLines xs = (xs ≡ []) ⊎ (ends_line xs ≡ true)
 

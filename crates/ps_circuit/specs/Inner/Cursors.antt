@@ -1,4 +1,4 @@
--- Contracts of the parser's private functions, in terms of the bytes that they move past.
+-- The contracts of the AIGER parser's private functions, in terms of the bytes that these functions move past.
 --     Tells view part old result new      either a part of the grammar was parsed, or the result is its first error
 --     TellsNumber old result new      either the function moved past a number, or there is no number here
 use Rattle.std.specs.Prelude.{◌≡◌, ℕ, ◌-◌, ◌^◌, ◌<◌, List, [], length, Result, Ok, Err, min}
@@ -14,11 +14,12 @@ use Rattle.ps_circuit.specs.declared.fault.AigCause.TheVariants.{Syntax}
 use Rattle.ps_circuit.specs.Causes.{AigFault}
 use Rattle.ps_text.specs.declared.faults.Fault.TheVariants.{Text}
 
--- either the part was parsed and the stream went from `old` to `new`, or the result is the first error of the part
+-- either the function parsed a part of the grammar, starting at `old` and ending at `new`, or its result is the first
+-- error of this part
 abbrev pub Tells : {V X : Type 0} → (X → V) → Field V → Stream Seen → Result X AigFault → Stream Seen → Type 0
 Tells view part old result new = Meets found_of aig_causes view part old result new
 
--- a number as it is stored in 64 bits
+-- a number as the parser stores it: as the greatest number of 64 bits if it does not fit
 abbrev pub saturated : ℕ → ℕ
 saturated n = min n (2 ^ 64 - 1)
 

@@ -1,4 +1,4 @@
--- The invariant of the names that the parser has read so far.
+-- Definitions about the names of inputs, latches and outputs that the AIGER parser has read so far.
 use Rattle.std.specs.Prelude.{◌≡◌, ℕ, Bool, false, ◌==◌, ◌||◌, [], map, replicate, All, vec_len, Option, None, Some}
 use Rattle.std.specs.Prelude.{Result, Ok, Err}
 use Rattle.ps_text.specs.Answers.{Stream}
@@ -21,7 +21,7 @@ names_data n =
       outputs = map name_bytes n.outputs.items;
     }
 
--- lists of optional names with the given lengths, for inputs, latches and outputs
+-- the lists of optional names for inputs, latches and outputs have the given lengths, and their names are valid
 pub record AreNames (n : Names) (inputs latches outputs : ℕ) : Type 0 where
   pub inputs_each : vec_len n.inputs ≡ inputs
   pub latches_each : vec_len n.latches ≡ latches
@@ -36,12 +36,13 @@ pub record AreNone (names : NamesData) (inputs latches outputs : ℕ) : Type 0 w
   pub latches_none : names.latches ≡ replicate latches None
   pub outputs_none : names.outputs ≡ replicate outputs None
 
--- the byte is `i`, `l` or `o`
+-- the byte is `i`, `l` or `o`, with which a line of the symbol table begins
 abbrev pub is_kind : Option ℕ → Bool
 is_kind None = false
 is_kind (Some b) = (b == 105) || (b == 108) || (b == 111)
 
--- either the parser skipped the rest of the text after the names, or there is a byte that does not begin a comment
+-- either the parser skipped the rest of the text after the symbol table, or the next byte does not begin a comment,
+-- which is an error
 abbrev pub TellsComment : Stream Seen → Result (Unit {0}) AigFault → Stream Seen → Type 0
 TellsComment old (Ok u) new = Reads comment old tt new × (new.pieces ≡ [])
 TellsComment old (Err e) new = (b : ℕ) × (next_byte old ≡ Some b) × (b ≡ 99 → ⊥) × (e ≡ Text Syntax (stream_offset old))

@@ -1,4 +1,4 @@
--- Contracts of the parser's private functions, in terms of what they have read.
+-- The contracts of the AIGER parser's private functions, in terms of what these functions have read.
 --     lines_of items noted      the lines of one kind that were read
 --     TellsField, TellsCount, TellsHeader, TellsDraft      the results for a field, a count, the header, the text
 --     AddsInput, AddsLatch, AddsOutput, AddsGate      one more line was read, of an input, a latch, an output or a gate
@@ -30,18 +30,19 @@ use Rattle.ps_circuit.specs.declared.sizes.Header.{Header}
 use Rattle.ps_circuit.specs.declared.lines.Noted.{Noted}
 use Rattle.ps_circuit.specs.declared.reader.Draft.{Draft}
 
--- each literal defines its variable, in order, and no variable is defined twice
+-- each of the literals defines its variable, these variables are appended to the defined ones in order, and none is
+-- defined twice
 pub record Defines (most : ℕ) (old : List ℕ) (literals : List ℕ) (new : List ℕ) : Type 0 where
   pub variables : new ≡ old ++ map variable literals
   pub each : All (IsDefinition most) literals
   pub apart : AllPairs (λ v w. v ≢ w) old → AllPairs (λ v w. v ≢ w) new
 
--- a new variable is appended to the list
+-- a variable that the list doesn't have is appended to the list
 pub record AddsVariable (old : List ℕ) (v : ℕ) (new : List ℕ) : Type 0 where
   pub behind : new ≡ old ++ v ∷ []
   pub fresh : (k d : ℕ) → k < length old → slice_index_or old k d ≢ v
 
--- the literal's variable is 0 or in the list
+-- the variable of the literal is 0 or is in the list `variables`
 abbrev pub IsKnownIn : List ℕ → ℕ → Type 0
 IsKnownIn variables literal = (variable literal ≡ 0) ⊎ Contains variables (variable literal)
 
@@ -74,7 +75,8 @@ abbrev pub lines_of : {A : Type 0} → List A → Noted → Lines A
 lines_of items noted =
     record { items = items; defined = noted.variables; readings = noted.readings.items; starts = noted.starts.items }
 
--- a further line of each kind was read; the variable that a line defines is new
+-- a further line was read, of an input, a latch, an output or a gate; a variable that the line defines was not defined
+-- before
 pub record AddsInput (most : ℕ) (c d : Lines ℕ) : Type 0 where
   pub literal : Number
   pub is : d ≡ add_input c literal
@@ -98,8 +100,8 @@ pub record AddsGate (most : ℕ) (c d : Lines Gate) : Type 0 where
   pub is : d ≡ add_gate c literal first second
   pub new : Defines most c.defined (literal.value ∷ []) d.defined
 
--- a kind of lines that are read one after another: reading a line moves past at least one byte, and the remaining lines
--- are read after it
+-- lines of one kind are read one after another: reading a line moves past at least one byte, and the remaining lines
+-- are read after this line
 pub record IsRow {C : Type 0} (line : C → Field C) : Type 0 where
   pub takes : (c d : C) (old new : Stream Seen) → ReadsPart (line c) old d new → length new.pieces < length old.pieces
   pub goes_on : (n : ℕ) (c d : C) (old mid new : Stream Seen) (r : Result C (Option (Found AigCause))) → 0 < n →
@@ -114,8 +116,8 @@ pub data Grown {C : Type 0} (Adds : C → C → Type 0) (c : C) : C → Type 0 w
 
 -- ## The text
 
--- If each literal that is read is defined, the parts form a circuit, except that a gate may depend on itself. The list
--- `starts` has the offset of each gate's line.
+-- If the variable of each used literal is defined, the parsed parts form a circuit, except that a gate may depend on
+-- itself. The list `starts` has the offset of each gate's line.
 pub record IsSoundDraft (d : DraftData) : Type 0 where
   pub draft : All (IsDefined d.defined) d.readings → IsDraft d.circuit
   pub starts : length d.starts ≡ length d.circuit.gates
@@ -137,7 +139,7 @@ abbrev pub TellsDraft : List ℕ → Result Draft AigFault → Type 0
 TellsDraft text (Ok d) = PartAnswers aig_causes circuit_text (stream_of text) (Ok (draft_data d))
 TellsDraft text (Err e) = FoundAnswers text (found_of e)
 
--- the fault for the first literal that is not defined
+-- the fault for the first used literal whose variable is neither 0 nor defined
 abbrev pub TellsDefined : List ℕ → List Number → Result (Unit {0}) AigFault → Type 0
 TellsDefined defined readings (Ok u) = All (IsDefined defined) readings
 TellsDefined defined readings (Err e) =

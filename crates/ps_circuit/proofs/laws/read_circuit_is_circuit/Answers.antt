@@ -1,4 +1,4 @@
--- The law `read_circuit_is_circuit` is the lemma `circuit_is_sound`.
+-- The law `read_circuit_is_circuit` is proved by the lemma `circuit_is_sound`.
 use Rattle.ps_circuit.proofs.SoundTexts.{circuit_is_sound}
 use Rattle.ps_circuit.proofs.laws.read_circuit_is_circuit.Goals as goal
 
