@@ -1,8 +1,11 @@
--- How moves, the lines of vertices and the whole text are read, and how reading them fails.
---     choice_dash, choice_fails, choice_reads      a move is `-`, has an error, or is parsed
---     past_id, .., entry_reads      what is left of a vertex's line, after each field
---     past_first, .., head_read      what is left of the text, after each of its first lines
---     text_fails, text_reads, text_trails      the whole text has an error, is parsed, or is followed by more bytes
+-- Lemmas about parsing the moves, the lines of vertices and the whole text of a certificate, including the cases in
+-- which parsing fails.
+-- - `choice_dash`, `choice_fails`, `choice_reads`: lemmas for a move that is `-`, has an error, or is the id of a
+--   vertex
+-- - `past_id`, .., `entry_reads`: what is still to be parsed of a vertex's line after each of its fields
+-- - `past_first`, .., `head_read`: what is still to be parsed of the text after each of its first lines
+-- - `text_fails`, `text_reads`, `text_trails`: lemmas for a whole text that has an error, is parsed, or is followed by
+--   more bytes
 use Rattle.std.proofs.Common.{◌≡◌, ◌≢◌, ℕ, Bool, not, cond, eqb, ltb, List, [], ◌∷◌, length, Option, Some, None, Result}
 use Rattle.std.proofs.Common.{Ok, Err, IsErrAnd, refl, sym, ap, subst, ◌∙◌, arith, rules}
 use Rattle.std.specs.Prelude.{position}

@@ -1,5 +1,5 @@
 -- Abbreviations for the laws that ps_text requires of a grammar's parts, here of the parts of a certificate's text.
---     Lawful, Chain, Left      the definitions of ps_text, for parts of certificates and their errors
+-- - `Lawful`, `Chain`, `Left`: the definitions of ps_text with these names, for certificates and their errors
 use Rattle.ps_text.specs.Answers.{Stream}
 use Rattle.ps_text.specs.Bytes.{Seen}
 use Rattle.ps_text.proofs.Bytes.Lawful as lawful

@@ -1,7 +1,7 @@
 -- Invariants of the loops of the certificate parser: what a loop has read, and what remains to be read.
---     fails      at a `?`, the function returns the first error of the part
---     priorities_fail, priorities_end      a line of priorities has an error, or ends
---     Listing      the rest of a list is yet to be read, after its front
+-- - `fails`: at a `?`, the parsing function returns the first error of the grammar's part
+-- - `priorities_fail`, `priorities_end`: lemmas for a line of priorities that has an error, or ends
+-- - `Listing`: the invariant of a loop that parses a list: the list `front` was read, and the rest is still to be read
 use Rattle.std.proofs.Common.{◌≡◌, ℕ, suc, ◌+◌, ◌-◌, ◌<◌, ◌≤◌, Bool, true, false, not, eqb, List, [], ◌∷◌, ◌++◌, length}
 use Rattle.std.proofs.Common.{get_or, drop, Option, Some, Result, Ok, Err, IsErrAnd, sym, subst, append_assoc, arith}
 use Rattle.std.proofs.Common.{rules}

@@ -1,7 +1,9 @@
 -- The grammar of a number obeys the laws that ps_text requires. Each condition on a number is decidable, so parsing a
 -- number from any bytes has a result: a value or an error.
---     judged_by, number_by      a number with a condition; a number, some values of which belong to another game
---     decide_next, judge_priority, judge_zero, judge_missing      the errors of numbers, and of the end of a line
+-- - `judged_by`, `number_by`: lemmas for a number with a condition, and for a number of which some values disagree with
+--   the game
+-- - `decide_next`, `judge_priority`, `judge_zero`, `judge_missing`: the errors of numbers, and of the end of a line,
+--   are decidable
 use Rattle.std.proofs.Common.{◌≡◌, ℕ, ◌^◌, ◌<◌, ◌≤◌, ◌⊎◌, List, [], ◌∷◌, length, drop, refl, inl, inr, arith, rules}
 use Rattle.std.specs.List.{Contains}
 use Rattle.std.proofs.lemmas.Bool.{cases_lt, cases_eq}

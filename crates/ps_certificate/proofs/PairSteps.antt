@@ -1,8 +1,10 @@
--- How the pair of a priority and its count is read, and how reading it fails.
---     zero_fails, positive_reads      a count, which must not be 0
---     priority_fails, .., priority_unknown      the priority of a count has an error
---     priority_reads      the priority of a count is parsed
---     past_priority, past_colon, pair_priority      what remains of a pair after its priority, and after its colon
+-- Lemmas about parsing a pair of a priority and its count in a compact certificate, including the cases in which
+-- parsing fails.
+-- - `zero_fails`, `positive_reads`: lemmas for the count in a pair, which must not be 0
+-- - `priority_fails`, .., `priority_unknown`: lemmas for a pair whose priority has an error
+-- - `priority_reads`: the priority of a pair is parsed
+-- - `past_priority`, `past_colon`, `pair_priority`: what is still to be parsed of a pair after its priority, and after
+--   its colon
 use Rattle.std.proofs.Common.{◌≡◌, ℕ, ◌≤◌, ◌⊎◌, true, false, List, Option, Some, ap, ◌∙◌, Result, Err, IsErrAnd, refl}
 use Rattle.std.proofs.Common.{sym, subst, inl, inr, arith, rules}
 use Rattle.std.specs.Prelude.{slice_index}

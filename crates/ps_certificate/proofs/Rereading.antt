@@ -1,4 +1,4 @@
--- Parsing the text that was written for a certificate gives that certificate.
+-- Parsing the text that was written for a certificate gives this certificate.
 
 pub mod WritingSteps
 pub mod CountsOfPairs

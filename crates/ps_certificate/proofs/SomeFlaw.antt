@@ -1,10 +1,12 @@
 -- A certificate is closed or has a first flaw, and a certificate that fits its game is valid or has a first flaw. The
 -- first flaw is found by searching the vertices in order, at each vertex the successors, and for each edge the
 -- priorities.
---     IsFirstPlace, first_place      the first place at which one of two facts holds, if there is one
---     decide_move, decide_rule      decisions about the move of a vertex, and about the rule of counts
---     sound_or_flawed, kept_or_flawed      a vertex has no flaw of a stage, or has a first one
---     closed_or_flawed, valid_or_flawed      the law `first_flaw_is_there`
+-- - `IsFirstPlace`, `first_place`: the first number below n for which Q holds, if P or Q holds for each of these
+--   numbers
+-- - `decide_move`, `decide_rule`: it is decidable whether a vertex's move is right, and whether an edge obeys the rule
+--   of counts
+-- - `sound_or_flawed`, `kept_or_flawed`: for each stage of the check, a vertex has no flaw, or it has a first one
+-- - `closed_or_flawed`, `valid_or_flawed`: the two lemmas that prove the law `first_flaw_is_there`
 use Rattle.std.proofs.Common.{◌≡◌, ◌≢◌, ℕ, zero, suc, ◌<◌, ◌≤◌, ◌⊎◌, inl, inr, length, get_or, Option, None, Some, refl}
 use Rattle.std.proofs.Common.{sym, subst, arith, rules}
 use Rattle.std.proofs.lemmas.Bool.{cases_eq, cases_lt}

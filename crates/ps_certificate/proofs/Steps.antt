@@ -1,8 +1,12 @@
--- How the functions of the parser read their parts of a text byte by byte, and how they fail.
---     two_first, two_second, two_fails      the part `take_two` reads the first byte or the second, or fails
---     zero_passed, digits_passed, none_passed      the function reads a number, or finds none
---     end_reads, end_missing, end_fails      the end of a line of priorities, when some priorities may be missing
---     ends_true, ends_false      the test for the end of a field
+-- Lemmas about the functions that parse the small parts of a certificate's text byte by byte, including the cases in
+-- which they fail.
+-- - `two_first`, `two_second`, `two_fails`: parsing with `take_two` reads the first of two bytes, reads the second, or
+--   fails
+-- - `zero_passed`, `digits_passed`, `none_passed`: the function for numbers reads a single 0, reads digits, or finds no
+--   number
+-- - `end_reads`, `end_missing`, `end_fails`: lemmas for the end of a line of priorities: it is read, some priorities
+--   are missing, or another byte comes
+-- - `ends_true`, `ends_false`: the function's test tells correctly whether a field ends here
 use Rattle.std.proofs.Common.{◌≡◌, ℕ, ◌+◌, ◌^◌, ◌<◌, ◌≤◌, ◌⊎◌, Bool, true, false, List, [], ◌∷◌, ◌++◌, length, take}
 use Rattle.std.proofs.Common.{Some, refl, sym, ap, inl, inr, ◌∙◌, arith, rules}
 use Rattle.std.proofs.Math.Seq.{take-append_seam}

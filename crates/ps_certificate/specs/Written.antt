@@ -1,11 +1,12 @@
--- The bytes of the texts of a certificate.
---     fields xs      the numbers, each after one space
---     pairs ps cs      the nonzero counts, each after a space, its priority and a colon
---     entry_line compact odd even ids id entry      the line of the vertex with the given id
---     IsWritable count odd even entry      the condition under which the line of an entry can be written
---     IsWord n, HasWords ids c      numbers that fit in 64 bits
---     text_in compact game c      the first line, the number of vertices, the priorities, and a line for each vertex
---     certificate_text, compact_text      the plain text and the compact text
+-- The bytes of the plain and the compact text that are written for a certificate.
+-- - `fields xs`: the text of the numbers in `xs`, each after one space
+-- - `pairs ps cs`: the text of the nonzero counts in `cs`, each after a space, its priority and a colon
+-- - `entry_line compact odd even ids id entry`: the line of the vertex with the given id
+-- - `IsWritable count odd even entry`: the condition under which the line of an entry can be written
+-- - `IsWord n`, `HasWords ids c`: a number, or all numbers of a certificate, fit in 64 bits
+-- - `text_in compact game c`: the text of certificate c: the first line, the number of vertices, the priorities, and a
+--   line for each vertex
+-- - `certificate_text`, `compact_text`: the plain text and the compact text of a certificate
 use Rattle.std.specs.Prelude.{◌≡◌, ℕ, ◌+◌, ◌^◌, ◌<◌, Bool, true, false, ◌==◌, if◌then◌else◌, List, [], ◌∷◌, ◌++◌}
 use Rattle.std.specs.Prelude.{length, decimal, Option, Some, None, IfSome, slice_index}
 use Rattle.std.specs.List.{All}

@@ -105,9 +105,9 @@ fn unranked_through<A: Arena>(
 }
 
 /// Checks whether a certificate is valid: it is closed, and each edge that the winner's moves allow obeys the rule of
-/// counts. The error is the first flaw of a certificate that is not valid: the flaw that [`crate::closed`] returns, if
-/// there is one, or else the first edge that breaks the rule, ordered by vertex, then successor, then priority.
-/// Allocates no memory.
+/// counts. If the certificate is not valid, the error is its first flaw. This is the flaw that [`crate::closed`]
+/// returns, if there is one, or else the first edge that breaks the rule of counts, ordered by vertex, successor and
+/// priority. Allocates no memory.
 ///
 /// # Errors
 ///

@@ -2,10 +2,10 @@
 //!
 //! A certificate proves its winners by counts: each vertex has one count for each priority that opposes its winner,
 //! that is, for each priority of the other player's parity. The winner's moves allow an edge, which is then called a
-//! remaining edge, if it is one of these moves, or if it leaves a vertex that the loser owns. The rule of counts: for
-//! each priority, the count does not rise along a remaining edge whose two ends have no greater priority, and it falls
-//! if the edge also leaves a vertex of this priority. The file docs/CERTIFICATES.md describes the format and the rule,
-//! for those who write another checker of certificates.
+//! remaining edge, if it is one of these moves, or if it leaves a vertex that the loser owns. The rule of counts is
+//! this: for each priority, the count does not rise along a remaining edge whose two ends have no greater priority. The
+//! count falls if, in addition, the edge leaves a vertex of this priority. The file docs/CERTIFICATES.md describes the
+//! format and the rule, for those who write another checker of certificates.
 //!
 //! | Call | What it gives |
 //! |---|---|

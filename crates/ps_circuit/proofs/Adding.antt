@@ -1,9 +1,11 @@
 -- Lemmas about the defining literals and the used literals that the lines of one kind (inputs, latches, outputs or
 -- gates) add to those of the earlier lines.
---     LineKind X      for a kind of lines: the literals that items define, and the literals that items read
---     AddsItem kind c d x      d has one item more than c, the item x
---     Added kind before read d      d has the definitions `before` and readings `read`, and then those of its items
---     input_kind, latch_kind, output_kind, gate_kind      the four kinds of lines
+-- - `LineKind X`: what a kind of lines with items of type X adds: the literals that items define, and the literals that
+--   items use
+-- - `AddsItem kind c d x`: the lines d are the lines c and one more, which has the item x
+-- - `Added kind before read d`: the lines d have the defining literals `before` and the used literals `read`, and then
+--   those of their items
+-- - `input_kind`, `latch_kind`, `output_kind`, `gate_kind`: the four kinds of lines: inputs, latches, outputs and gates
 use Rattle.std.proofs.Common.{arith, ◌≡◌, ℕ, List, [], ◌∷◌, ◌++◌, map, flat_map, refl, rules, append_assoc}
 use Rattle.std.proofs.lemmas.List.{map-append}
 use Rattle.std.proofs.lemmas.List.Concat.{flat_map-append}

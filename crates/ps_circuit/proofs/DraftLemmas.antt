@@ -1,9 +1,11 @@
 -- Lemmas about the defining literals and the used literals that an AIGER text's lines add, and about the circuit that
 -- these lines form.
---     Lined kind most before read d      d has the given definitions and readings, and then those of lines of one kind
---     gates_placed      each gate of a draft has the offset of its line
---     sound_draft      a draft whose literals are all defined is a circuit, except that a gate may depend on itself
---     each_named      an optional name for each item
+-- - `Lined kind most before read d`: the lines d have the given defining and used literals, and then those of lines of
+--   one kind
+-- - `gates_placed`: for each gate of a parsed text, the offset of its line is recorded
+-- - `sound_draft`: a parsed text whose used literals are all defined is a circuit, except that a gate may depend on
+--   itself
+-- - `each_named`: the list of names has one optional name for each item
 use Rattle.std.proofs.Common.{◌≡◌, ℕ, zero, suc, ◌+◌, ◌*◌, ◌^◌, ◌<◌, List, [], ◌∷◌, ◌++◌, length, map, Option, All}
 use Rattle.std.proofs.Common.{refl, sym, ap, subst, append-nil, append_assoc, arith, length-append, rules}
 use Rattle.std.specs.Prelude.{vec_len, Vec}

@@ -1,9 +1,10 @@
 -- Lemmas for the function that parses an AIGER text from the first byte to the last.
---     text_reads, text_trails      the answer follows from the result of the grammar's part
---     Reached start now rest      after parsing from `start` to `now`, the part `rest` remains
---     past_header, past_lines, all_reads      the text is read section by section
---     answered      the function returns the answer to the text
---     draft_fails, draft_trails      the ways in which the function can return
+-- - `text_reads`, `text_trails`: the answer to a text follows from the result of parsing the whole grammar
+-- - `Reached start now rest`: the text was parsed from `start` to `now`, and the grammar's part `rest` is still to be
+--   parsed
+-- - `past_header`, `past_lines`, `all_reads`: the text is parsed section by section
+-- - `answered`: the parser returns the answer to the text
+-- - `draft_fails`, `draft_trails`: the ways in which the parser can return without a circuit
 use Rattle.std.proofs.Common.{◌≡◌, ℕ, ◌^◌, ◌≤◌, List, [], ◌∷◌, length, Option, None, Some, Result, Ok, Err, IsErrAnd}
 use Rattle.std.proofs.Common.{All, refl, sym, ap, subst, ◌∙◌, arith, length-append, rules}
 use Rattle.std.specs.Prelude.{replicate, IfOk}

@@ -1,8 +1,8 @@
 -- The smallest parts of the AIGER grammar obey the laws of ps_text: single bytes, sets of bytes, words, numbers, gaps
 -- and ends of lines.
---     Separates      a space, a tab or a newline, which end a number
---     AtBody, AtTail      the first bytes that can follow the first line, and the number lines
---     numbers, optional      the laws of a number, or an optional field, and the text after it
+-- - `Separates`: the byte is a space, a tab or a newline, which ends a number
+-- - `AtBody`, `AtTail`: the byte can be the first after the header, or the first after the lines of numbers
+-- - `numbers`, `optional`: the laws of a number, or of an optional field, and the text after it
 use Rattle.std.proofs.Common.{◌≡◌, ℕ, ◌⊎◌, Bool, true, false, refl, sym, ap, inl, inr, ◌∙◌, rules}
 use Rattle.std.proofs.lemmas.Bool.{eqb-true}
 use Rattle.ps_text.specs.Parts.{give, then_by, either, mapped}

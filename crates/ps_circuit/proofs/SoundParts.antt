@@ -1,9 +1,11 @@
 -- What is known of the value that a part of the AIGER grammar yields, if the part has no error. Whether a part has an
 -- error also depends on the bytes after it, so each byte is given together with the bytes that follow it (`Placed`).
---     Safe part Good      the value has the property Good, whatever follows the part
---     Followed part Good      the value has the property Good, if a space, a tab, a newline or the end follows
---     followed_number, followed_field      a number or a field without an error has a value that is not wrong
---     safe_then, safe_before, safe_mapped, safe_times, safe_many      a part is safe if the combined parts are safe
+-- - `Safe part Good`: a value that is parsed without an error has the property `Good`, whatever follows
+-- - `Followed part Good`: a value that is parsed without an error has the property `Good` if a space, a tab, a newline
+--   or the end follows
+-- - `followed_number`, `followed_field`: a number, or a field, that is parsed without an error meets its condition
+-- - `safe_then`, `safe_before`, `safe_mapped`, `safe_times`, `safe_many`: a compound part of the grammar is `Safe` if
+--   the parts that it consists of are
 use Rattle.std.proofs.Common.{◌≡◌, ℕ, zero, suc, ◌+◌, List, [], ◌∷◌, ◌++◌, Some, refl, sym, ap}
 use Rattle.std.proofs.Common.{subst, inl, inr, ◌∙◌, append_assoc, arith}
 use Rattle.std.proofs.lemmas.Bool.{cases_Bool}

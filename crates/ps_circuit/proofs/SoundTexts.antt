@@ -1,7 +1,9 @@
 -- An AIGER text without errors describes a well-formed circuit.
---     safe_input, safe_latch, safe_output, safe_gate      a line of each kind adds what its value defines and reads
---     safe_names, safe_header, safe_body      the names, the first line, and the text after it have sound values
---     circuit_is_sound      the law `read_circuit_is_circuit`
+-- - `safe_input`, `safe_latch`, `safe_output`, `safe_gate`: a line of each kind adds the literals that its item defines
+--   and uses
+-- - `safe_names`, `safe_header`, `safe_body`: the names, the header, and the text after the header have well-formed
+--   values
+-- - `circuit_is_sound`: the lemma that proves the law `read_circuit_is_circuit`
 use Rattle.std.proofs.Common.{◌≡◌, ◌≢◌, ℕ, ◌^◌, ◌<◌, List, [], ◌∷◌, ◌++◌, length, Option, None, Some}
 use Rattle.std.proofs.Common.{All, append-nil, Ok, refl, sym, subst, inl, inr, ◌∙◌, rules}
 use Rattle.std.specs.Prelude.{slice_set}

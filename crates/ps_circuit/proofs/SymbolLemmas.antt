@@ -1,6 +1,7 @@
 -- Lemmas for the functions that parse the symbol table and the comment, including the cases in which they fail.
---     AtLetter      the next byte is the letter of a symbol, and one step moves past it
---     past_letter, past_number, past_space, past_name      what remains of the line after each of its parts
+-- - `AtLetter`: the next byte is the letter of a symbol, and the parser has moved past this byte
+-- - `past_letter`, `past_number`, `past_space`, `past_name`: what is still to be parsed of a symbol's line after each
+--   of its parts
 use Rattle.std.proofs.Common.{◌≡◌, ◌≢◌, ℕ, zero, suc, ◌+◌, ◌^◌, ◌<◌, true, false, List, [], ◌∷◌, ◌++◌, length, map, set}
 use Rattle.std.proofs.Common.{Option, None, Some, Vec, refl, sym, ap, subst, inl, inr, ◌∙◌, arith, rules}
 use Rattle.std.specs.Prelude.{slice_get, All}

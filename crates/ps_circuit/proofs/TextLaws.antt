@@ -1,7 +1,7 @@
 -- The parts of the AIGER grammar obey the laws of ps_text, which state the bytes that can begin a part, and those that
 -- can continue it. The module SignLaws has the laws of the smallest parts of the AIGER grammar.
---     fields      the laws of a gap, a number, and the text after them
---     chain_..      a part of a production and what follows it
+-- - `fields`: the laws of a gap, a number, and the text after them
+-- - `chain_..`: the laws of one part of a grammar rule and of what follows this part
 use Rattle.std.proofs.Common.{◌≡◌, ℕ, zero, suc, Bool, false, eqb, List, Some, refl, inl, inr, rules}
 use Rattle.std.specs.Prelude.{codes}
 use Rattle.std.proofs.lemmas.Bool.{eqb-true}

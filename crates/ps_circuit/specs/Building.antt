@@ -1,9 +1,10 @@
 -- The and-gates of a circuit under construction, as a circuit builder has them.
---     Drafted      the number of given variables, and the two literals of each gate, in order
---     bit v literal      the value of a literal, if each variable has the value that v gives
---     MeetsEquations d v      variable 0 is false, and each gate is the conjunction of its two literals
---     Extends old new      the existing gates remain, with the same variables
---     IsSoundDraft d      the invariant of the gates of a builder
+-- - `Drafted`: the number of given variables, and the two literals of each gate, in order
+-- - `bit v literal`: the value of a literal, if each variable has the value that v gives it
+-- - `MeetsEquations d v`: variable 0 is false, and the variable of each gate is the conjunction of the gate's two
+--   literals
+-- - `Extends old new`: all gates of `old` are also in `new`, with the same variables
+-- - `IsSoundDraft d`: the invariant of the gates of a circuit builder
 use Rattle.std.specs.Prelude.{◌≡◌, ◌≢◌, ℕ, ◌+◌, ◌^◌, ◌<◌, ◌≤◌, ◌&&◌, ◌||◌, Bool, false, not, if◌then◌else◌, List}
 use Rattle.std.specs.Prelude.{length}
 use Rattle.std.specs.Prelude.{slice_get, Some}

@@ -1,9 +1,9 @@
 -- The definition of a circuit of latches and and-gates, as in AIGER.
---     CircuitData      the value of a circuit: its greatest variable, its literals, and the optional names
---     definitions, readings      the literals that define a variable, and the literals that are read
---     ReadsGate gates i j, Way      gate i reads gate j; a gate depends on another gate
---     IsDraft      all conditions on a circuit, except that no gate depends on itself
---     IsCircuit      all conditions on a circuit
+-- - `CircuitData`: the value of a circuit: its greatest variable, its literals, and the optional names
+-- - `definitions`, `readings`: the literals that define a variable, and the literals that are used
+-- - `ReadsGate gates i j`, `Way`: gate i reads gate j; a gate depends on another gate, directly or indirectly
+-- - `IsDraft`: all conditions on a circuit, except that no gate depends on itself
+-- - `IsCircuit`: all conditions on a circuit
 use Rattle.std.specs.Prelude.{◌≡◌, ◌≢◌, ℕ, ◌+◌, ◌*◌, ◌%◌, ◌<◌, ◌≤◌, ◌⊎◌, ◌^◌, List, [], ◌∷◌, ◌++◌, length, map}
 use Rattle.std.specs.Prelude.{slice_get, Option, None, Some, All, AllPairs, Contains}
 use Rattle.std.specs.List.{flat_map}

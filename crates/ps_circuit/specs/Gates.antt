@@ -1,7 +1,8 @@
 -- The gates that a circuit builder makes, in order, as if their number were unlimited.
---     Made      the gates so far, and a literal over them
---     gate_of d s      the literal of the gate that reads the two literals in `s`
---     and_of d x y, or_of d x y, mux_of d s high low      the literals of conjunction, disjunction, and choice by s
+-- - `Made`: the gates that were made so far, and the literal that the last call returned
+-- - `gate_of d s`: the literal of the gate that reads the two literals in `s`
+-- - `and_of d x y`, `or_of d x y`, `mux_of d s high low`: the literals of a conjunction, a disjunction, and a
+--   multiplexer controlled by s
 use Rattle.std.specs.Prelude.{ℕ, ◌+◌, ◌*◌, ◌==◌, ◌&&◌, ◌||◌, nat_lt, Bool, if◌then◌else◌, [], ◌∷◌, ◌++◌}
 use Rattle.std.specs.Prelude.{◌≡◌, Err, IfOk, Result}
 use Rattle.std.specs.List.{list_any, position_or_len}

@@ -1,6 +1,6 @@
 -- The smallest parts of the AIGER grammar, which are single bytes and runs of bytes.
---     number Wrong      the longest run of digits, including leading zeros; `Wrong` states which numbers are errors
---     gap, newline, line_end, more      what separates the fields of a line, and what ends the line
+-- - `number Wrong`: the longest run of digits, including leading zeros; `Wrong` states which numbers are errors
+-- - `gap`, `newline`, `line_end`, `more`: what separates the fields of a line, and what ends the line
 use Rattle.std.specs.Prelude.{ℕ, Bool, true, false, List}
 use Rattle.ps_text.specs.Parts.{Part, Causes, give, then_by, either, mapped}
 use Rattle.ps_text.specs.Bytes.{Seen, byte_causes, byte, run, NoBadRun, is_digit, is_space, is_inner}

@@ -1,29 +1,32 @@
 -- The grammar of the AIGER texts of circuits, and the errors that these texts can have.
---     aag M I L O A [B [C [J [F]]]]
---     I lines   lit
---     L lines   lit next [reset]
---     O lines   lit
---     A lines   lhs rhs0 rhs1
---     symbols   iK name | lK name | oK name
---     c         and then anything
+-- ```text
+-- aag M I L O A [B [C [J [F]]]]
+-- I lines   lit
+-- L lines   lit next [reset]
+-- O lines   lit
+-- A lines   lhs rhs0 rhs1
+-- symbols   iK name | lK name | oK name
+-- c         and then anything
+-- ```
 --
 -- In an AIGER text, a gap is one or more spaces or tabs. Each field of a line of numbers, except the first, comes after
 -- a gap, and such a line may end with a gap. Numbers in the text may be of any size and have leading zeros. The newline
 -- at the end of the text may be missing. There are as many lines as the numbers I, L, O and A state, however large
 -- these numbers are. In the symbol table, a name comes after one space, ends with the line, and has at least one byte.
---     61 (`Syntax`)      a byte not allowed here, an early end, or a symbol whose K is too large or already has a name
---     62 (`Literal`)      a literal above 2M + 1, an M of 2^31 or more, or a wrong input, latch, left side or reset
---     63 (`DefinedTwice`)      an input, latch or left side whose variable was defined before
---     66 (`UnsetLatch`)      a reset that is the latch
---     67 (`Sections`)      a B, C, J or F that is not 0
+-- - 61 (`Syntax`): a byte that is not allowed at its position, an early end, or a symbol whose number is too large or
+--   already has a name
+-- - 62 (`Literal`): a literal above 2M + 1, an M of 2^31 or more, or a wrong input, latch, left side or reset
+-- - 63 (`DefinedTwice`): an input, latch or left side whose variable was defined before
+-- - 66 (`UnsetLatch`): a reset of a latch that is the latch's own literal
+-- - 67 (`Sections`): a B, C, J or F in the header that is not 0
 --
 -- The literal of an input, of a latch or of a gate's left side must be even and at least 2, and a latch's reset must be
 -- 0 or 1. The errors 62, 63, 66 and 67 are reported at the first digit of the wrong number, and the error 61 for a
 -- symbol's number at the symbol's letter. The first error in the order of the text is reported. If there are several
 -- errors at the same offset, the error with the smallest number is reported. If a text has none of the errors above, it
 -- can have one of the following, which are checked in this order:
---     64 (`Undefined`)      the first literal that is read and whose variable is neither defined nor 0
---     65 (`Cyclic`)      the line of the first gate that depends on itself
+-- - 64 (`Undefined`): the first literal that is used and whose variable is neither defined nor 0
+-- - 65 (`Cyclic`): the line of the first gate that depends on itself
 use Rattle.std.specs.Prelude.{◌≡◌, ◌≢◌, ℕ, zero, suc, ◌+◌, ◌*◌, ◌^◌, ◌<◌, ◌≤◌, ◌⊎◌, List, [], ◌∷◌, ◌++◌, Bool, false}
 use Rattle.std.specs.Prelude.{map, codes, slice_get, slice_set, All, Contains, Option, Some, None, Result, Ok, Err}
 use Rattle.std.specs.Prelude.{◌==◌, if◌then◌else◌}

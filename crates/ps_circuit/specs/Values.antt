@@ -1,9 +1,13 @@
 -- The values of a circuit's variables, and the traces of a circuit.
---     bit_of values literal      the value of a literal, if the list has a bit for each variable
---     AreValues c inputs latches values      the list has a bit for each variable, and satisfies the equations of c
---     HasOneValues c      c has values, and any two lists of values agree on all known literals
---     Steps c latches inputs outputs next      the outputs of a step, and the latches after the step
---     IsTrace c moments      the latches begin with their resets, and are updated by their next literals
+-- - `bit_of values literal`: the value of a literal, if the list `values` has a bit for each variable
+-- - `AreValues c inputs latches values`: the list `values` has a bit for each variable, and satisfies the equations of
+--   circuit c
+-- - `HasOneValues c`: the circuit c has values for all inputs and latches, and any two lists of values agree on all
+--   defined literals
+-- - `Steps c latches inputs outputs next`: the circuit's outputs in a step, and the values of its latches after the
+--   step
+-- - `IsTrace c moments`: in consecutive steps, the latches begin with their resets, and take the values of their next
+--   literals
 --
 -- An undefined variable may have either value, since no literal that the circuit uses has this variable.
 use Rattle.std.specs.Prelude.{◌≡◌, ℕ, ◌+◌, ◌&&◌, Bool, false, not, if◌then◌else◌, List, [], ◌∷◌, map, length}

@@ -1,6 +1,7 @@
 -- The bytes of a circuit's text as the writer produces it.
---     line x xs      the number x, then each of xs after one space, then a newline
---     text_of c      the header, the lines of the inputs, latches, outputs and gates, and a line for each name
+-- - `line x xs`: the number x, then each number of `xs` after one space, then a newline
+-- - `text_of c`: the text of circuit c: the header, the lines of the inputs, latches, outputs and gates, and a line for
+--   each name
 use Rattle.std.specs.Prelude.{ℕ, ◌+◌, List, [], ◌∷◌, ◌++◌, length, codes, decimal, Option, None, Some, if◌then◌else◌}
 use Rattle.ps_circuit.specs.declared.parts.Latch.{Latch}
 use Rattle.ps_circuit.specs.declared.parts.Gate.{Gate}

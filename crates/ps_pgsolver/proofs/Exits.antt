@@ -1,8 +1,10 @@
 -- How the functions of the game parser return: a part of the grammar was parsed, or it has an error.
---     Done part old v new      the part was read from old with the value v, and new is left
---     done_then, stops_left, stops_right      two parts: both are read, or the first has an error, or the second
---     done_mapped, stops_mapped      a part whose value is mapped is read, or has an error
---     exit      at a `?`, the function returns the error that was found
+-- - `Done part old v new`: the grammar's part `part` was parsed from `old` to `new` with the value v
+-- - `done_then`, `stops_left`, `stops_right`: of two parts in a row, both are parsed, the first has an error, or the
+--   second has one
+-- - `done_mapped`, `stops_mapped`: a part of the grammar with a function applied to its value is parsed, or has an
+--   error
+-- - `exit`: at a `?`, the parsing function returns the error that was found
 use Rattle.std.proofs.Common.{◌≡◌, Result, Ok, Err, IsErrAnd, refl, subst}
 use Rattle.ps_text.specs.Answers.{Stream, signs, next_of}
 use Rattle.ps_text.specs.Parts.{Part, IsRead, then_by, many, mapped}

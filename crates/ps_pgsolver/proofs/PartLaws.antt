@@ -1,6 +1,7 @@
 -- The parts of the grammar of game texts obey the laws of ps_text, and so do the parts that are joined from them.
---     laws_sign      the laws of a part that consists of one sign
---     laws_number, .., laws_node, joint_more, .., joint_id      the laws and joints, in the grammar's order
+-- - `laws_sign`: the laws of a part of the grammar that consists of one token
+-- - `laws_number`, .., `laws_node`, `joint_more`, .., `joint_id`: the laws of each part of the grammar, and of parts
+--   that follow one another
 use Rattle.std.proofs.Common.{◌≡◌, ℕ, List, [], ◌∷◌, ◌++◌, Option, None, Some, refl, sym, ◌∙◌, arith, rules}
 use Rattle.ps_text.specs.Parts.{Part, one, give, then_by, many, mapped, NoBad}
 use Rattle.ps_text.proofs.Laws.{Laws, Joint, Nothing, Or, Within, Apart, weaker}

@@ -1,7 +1,7 @@
 -- A game text without errors describes a well-formed game: each node has an owner 0 or 1 and a successor, and each
 -- successor is a node's id.
---     sound_nodes      a text of the grammar without errors has only nodes with an owner 0 or 1 and a successor
---     game_is_sound      the law `read_game_is_game`
+-- - `sound_nodes`: each node of a text without errors has an owner 0 or 1 and at least one successor
+-- - `game_is_sound`: the lemma that proves the law `read_game_is_game`
 use Rattle.std.proofs.Common.{◌≡◌, ℕ, ◌<◌, List, [], ◌∷◌, ◌++◌, length, Option, None, Some, Ok, refl}
 use Rattle.std.proofs.Common.{subst, inl, inr, arith, rules, length-append}
 use Rattle.std.proofs.lemmas.Bool.{cases_lt}

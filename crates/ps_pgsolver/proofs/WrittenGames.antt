@@ -1,7 +1,7 @@
 -- Parsing the text that was written for a game gives that game.
---     game_kept      the nodes that the lines write make the same game
---     readable      nodes with different ids can be read, one after the other
---     reads_again      parsing the whole text gives the game again
+-- - `game_kept`: the nodes that are written for a game describe the same game
+-- - `readable`: nodes with different ids can be parsed, one after the other
+-- - `reads_again`: parsing the whole text that was written for a game gives this game
 use Rattle.std.proofs.Common.{◌≡◌, ℕ, suc, ◌+◌, ◌<◌, ◌≤◌, Bool, true, cond, eqb, List, [], ◌∷◌, ◌++◌, length, rules}
 use Rattle.std.proofs.Common.{get_or, map, drop, Option, Some, None, Ok, refl, sym, ap, ap₂, subst, ◌∙◌, arith}
 use Rattle.std.proofs.Common.{append_assoc, length-append}

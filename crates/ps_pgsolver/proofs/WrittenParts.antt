@@ -1,7 +1,8 @@
 -- The text that is written for a game, as a list of tokens, belongs to the grammar and has no error.
---     IsReadable known ids node      the node can be read after nodes with these ids
---     AreReadable known before nodes      each node can be read after `before` and the nodes in front of it
---     written_answers      the answer to the signs of a whole text
+-- - `IsReadable known ids node`: the node can be parsed after nodes with the ids `ids`
+-- - `AreReadable known before nodes`: each node of the list can be parsed after the nodes `before` and those earlier in
+--   the list
+-- - `written_answers`: the grammar's answer to the tokens of a whole written text
 use Rattle.std.proofs.Common.{◌≡◌, ℕ, ◌<◌, List, [], ◌∷◌, ◌++◌, length, Option, Some, None, Ok, refl, sym, ap, subst}
 use Rattle.std.proofs.Common.{rules, ◌∙◌, arith, append_assoc, append-nil}
 use Rattle.std.specs.Prelude.{codes}

@@ -1,8 +1,9 @@
 -- The tokens of the text that is written for a game.
---     Lexed before bytes ss      the tokens of `bytes`, after the bytes `before`, are the signs `ss`
---     comma_signs, list_signs, name_signs, node_signs, nodes_signs      the tokens of each part, before further ones
---     node_made, nodes_made      the nodes that are parsed from the written lines
---     written_tokens      the tokens of the whole text
+-- - `Lexed before bytes ss`: the tokens of `bytes`, after the bytes `before`, are the list `ss`
+-- - `comma_signs`, `list_signs`, `name_signs`, `node_signs`, `nodes_signs`: the tokens of each written part, followed
+--   by further tokens
+-- - `node_made`, `nodes_made`: the nodes that are parsed from the written lines of vertices
+-- - `written_tokens`: the tokens of the whole text that is written for a game
 use Rattle.std.proofs.Common.{◌≡◌, ℕ, suc, ◌+◌, ◌^◌, ◌<◌, Bool, true, false, List, [], ◌∷◌, ◌++◌, length, get_or, map}
 use Rattle.std.proofs.Common.{rules, Option, Some, None, refl, sym, ap, subst, ◌∙◌, arith, append_assoc}
 use Rattle.std.specs.Prelude.{decimal, codes}

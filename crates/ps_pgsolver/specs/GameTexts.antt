@@ -1,6 +1,8 @@
--- PGSolver's game texts: their grammar, and its possible errors.
---     game ::= ("parity" N ";")? ("start" N ";")? node+
---     node ::= N N N N ("," N)* name? ";"
+-- The grammar of game texts in PGSolver's format, and the errors that these texts can have.
+-- ```text
+-- game ::= ("parity" N ";")? ("start" N ";")? node+
+-- node ::= N N N N ("," N)* name? ";"
+-- ```
 --
 -- The fields of a node are its id, priority, owner and successors. The value of a game text is the list of its nodes.
 -- In these definitions, `known` is the list of the ids of the text's nodes, or `None` if these ids are not known yet.

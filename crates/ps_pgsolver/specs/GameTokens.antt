@@ -1,7 +1,7 @@
 -- The tokens of a game text, as a relation between the text's bytes and a list of tokens with offsets.
---     IsByteRun p text rest      text is a run of bytes that pass p, and rest does not begin with such a byte
---     IsToken before sign text rest      text is the token `sign`, between the bytes `before` and `rest`
---     AreGameTokens text stream      the tokens of a whole text, with blanks between them
+-- - `IsByteRun p text rest`: `text` is a run of bytes that pass the test p, and `rest` does not begin with such a byte
+-- - `IsToken before sign text rest`: the bytes `text`, between the bytes `before` and `rest`, are the token `sign`
+-- - `AreGameTokens text stream`: the list `stream` has the tokens of the whole text, which have blanks between them
 --
 -- A number is a longest run of digits, a word is a longest run of letters, and a name is between quotes. Some tokens
 -- are never allowed: a word directly after a number, a number directly after a word, a name without its closing quote,

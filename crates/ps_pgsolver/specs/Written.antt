@@ -1,11 +1,11 @@
 -- The bytes of the text that is written for a game, in PGSolver's format.
---     commas ids ws      the id of each vertex in `ws`, after a comma
---     list_text ids ws      the ids of the vertices in `ws`, with commas between them
---     name_text name      a name after a space, if there is one
---     vertex_line ids id vertex name      the line of a vertex: its id, priority, owner, successors, and its name
---     vertex_lines ids names v vertices      the lines of the vertices from v on
---     game_text game      the greatest id, and a line for each vertex
---     IsWord n      a number that fits in 64 bits
+-- - `commas ids ws`: the id of each vertex in `ws`, after a comma
+-- - `list_text ids ws`: the ids of the vertices in `ws`, with commas between them
+-- - `name_text name`: the name of a vertex after a space, if the vertex has one
+-- - `vertex_line ids id vertex name`: the line of a vertex: its id, priority, owner, successors and name
+-- - `vertex_lines ids names v vertices`: the lines of the vertices from vertex v on
+-- - `game_text game`: the text of a game: a line with the greatest id, and a line for each vertex
+-- - `IsWord n`: the number n fits in 64 bits
 use Rattle.std.specs.Prelude.{ℕ, ◌+◌, ◌^◌, ◌<◌, List, [], ◌∷◌, ◌++◌, decimal, codes, Option, Some, None, slice_index}
 use Rattle.std.specs.Prelude.{slice_index_or}
 use Rattle.ps_game.specs.Games.{VertexData, ParityGame, NamedGameData, quote}

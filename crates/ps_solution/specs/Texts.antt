@@ -1,6 +1,8 @@
--- PGSolver's solutions of a game: their grammar, and its possible errors.
---     solution ::= ("paritysol" N ";")? entry+
---     entry ::= N W N? ";"
+-- The grammar of a game's solutions in PGSolver's format, and the errors that these texts can have.
+-- ```text
+-- solution ::= ("paritysol" N ";")? entry+
+-- entry ::= N W N? ";"
+-- ```
 --
 -- The fields of an entry are the id of a vertex, its winner W, which is the number 0 or 1, and a move, which is the id
 -- of a vertex. The list `ids` has the ids of the game's vertices, in order. The value of a solution's text is the list

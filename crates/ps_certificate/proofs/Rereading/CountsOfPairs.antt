@@ -1,6 +1,8 @@
--- The counts that the pairs of a line give for its priorities are the counts from which the pairs were written.
---     after ps cs so_far      the counts that are known after the pairs of ps and cs
---     after_counts      the count that is known for each priority is its count
+-- If the pairs `priority:count` of a line were written from a list of counts, reading the pairs gives these counts
+-- again.
+-- - `after ps cs so_far`: the counts that are known after the pairs of the priorities `ps` and the counts `cs` were
+--   read
+-- - `after_counts`: after all pairs of a line were read, the count that is known for each priority is its count
 use Rattle.std.proofs.Common.{◌≡◌, ℕ, ◌<◌, Bool, cond, eqb, List, [], ◌∷◌, length, map, refl, arith, rules}
 use Rattle.std.specs.List.{All}
 use Rattle.std.proofs.lemmas.Bool.{eq-eqb, ne_eqb, eqb-true}

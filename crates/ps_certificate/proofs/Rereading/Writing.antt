@@ -1,9 +1,12 @@
--- Parsing the text that was written for a certificate gives that certificate.
---     writable      the entries of a certificate that fits can be written
---     IsReadFrom P text v rest      the part P is read from the bytes `text` with the value v, and rest is left
---     then, with_value      two parts are read, one after the other; a function is applied to the value of a part
---     read_byte, .., read_text      each part of the text, and the whole text, is read back
---     reads_again      parsing the whole text gives the certificate again
+-- Parsing the text that was written for a certificate gives this certificate.
+-- - `writable`: the entries of a certificate that fits its game can be written
+-- - `IsReadFrom P text v rest`: the grammar's part P is parsed from the bytes `text` with the value `v`, and `rest` is
+--   left
+-- - `then`, `with_value`: lemmas for two parts of the grammar that follow one another, and for a part with a function
+--   applied to its value
+-- - `read_byte`, .., `read_text`: each part of the written text, and the whole text, is parsed with the value that was
+--   written
+-- - `reads_again`: parsing the whole text that was written for a certificate gives this certificate
 use Rattle.std.proofs.Common.{◌≡◌, ◌≢◌, ℕ, zero, suc, ◌+◌, ◌^◌, ◌<◌, ◌⊎◌, Bool, true, false, cond, eqb, List, [], ◌∷◌}
 use Rattle.std.proofs.Common.{◌++◌, length, get_or, drop, Option, Some, None, Ok, refl, sym, ap, subst, inl, inr, ◌∙◌}
 use Rattle.std.proofs.Common.{append_assoc, add-zero, arith, rules}

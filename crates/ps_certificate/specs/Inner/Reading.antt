@@ -1,8 +1,10 @@
--- What the private functions of the parser establish: a part of the grammar was read, or it has a first error.
---     Tells view part old result new      the function read the part, or located its first error
---     numeral bytes      the longest run of digits without a leading zero with which the bytes begin
---     TellsNumber old result new      the function moved past a number, or no number of 64 bits begins here
---     TellsPriority, TellsHead, TellsEntries      the results for a count's priority, the first lines, the text
+-- What the private functions of the certificate parser establish: a part of the grammar was parsed, or its first error
+-- was located.
+-- - `Tells view part old result new`: the function parsed the grammar's part `part`, or located its first error
+-- - `numeral bytes`: the longest run of digits without a leading zero with which the bytes begin
+-- - `TellsNumber old result new`: the function moved past a number, or no number of 64 bits begins here
+-- - `TellsPriority`, `TellsHead`, `TellsEntries`: what the functions for a count's priority, for the first lines and
+--   for the whole text return
 use Rattle.std.specs.Prelude.{◌≡◌, ℕ, ◌+◌, ◌^◌, ◌<◌, ◌≤◌, ◌⊎◌, List, [], ◌∷◌, ◌++◌, length, Option, Some, None, Result}
 use Rattle.std.specs.Prelude.{Ok, Err, Bool, true, false, ◌||◌, nat_lt, ◌==◌, if◌then◌else◌, take_while, slice_index}
 use Rattle.std.specs.Char.{is_ascii_digit}

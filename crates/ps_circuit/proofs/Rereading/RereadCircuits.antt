@@ -1,7 +1,8 @@
 -- Lemmas about parsing the text of a written circuit, all lines of inputs, latches, outputs or gates at a time.
---     IsSection kind all before read d      the lines of one kind were parsed, and gave the items `all`
---     reread_section      the lines of one kind are parsed as they were written
---     reread_inputs, reread_latches, reread_outputs, reread_gates      the lines of each kind are parsed as written
+-- - `IsSection kind all before read d`: the lines of one kind were parsed, and gave the items `all`
+-- - `reread_section`: the lines of any one kind are parsed with the items that were written
+-- - `reread_inputs`, `reread_latches`, `reread_outputs`, `reread_gates`: the lines of each kind are parsed with the
+--   items that were written
 use Rattle.std.proofs.Common.{◌≡◌, ℕ, ◌+◌, ◌*◌, ◌<◌, ◌≤◌, ◌⊎◌, List, [], ◌∷◌, ◌++◌, length, get_or, map, rules}
 use Rattle.std.proofs.Common.{flat_map, All, Contains, refl, sym, ap, subst, inl, inr, ◌∙◌, arith, append_assoc}
 use Rattle.std.proofs.Common.{append-nil, length-append}

@@ -1,10 +1,13 @@
 -- Lemmas about parsing the fields of a line that the circuit writer has written.
---     from e at text      the stream of `text`, from the offset `at` to the end `e`
---     Rereads part Good text rest      the part is parsed from `text`: its value is `Good`, and `rest` remains
---     reread_then, reread_mapped      two parts are parsed, one after the other; a function is applied to a value
---     reread_as, reread_branch      an equal text is parsed; one of several forms is parsed
---     number_then, field_then      a number, or a space and a number, and what follows
---     reread_end, reread_more, reread_no_more      the end of a line; a further field follows, or none
+-- - `from e at text`: the bytes of `text` as parser input, from the offset `at` to the end `e`
+-- - `Rereads part Good text rest`: the grammar's part `part` is parsed from `text` with a value that has the property
+--   `Good`, and `rest` remains
+-- - `reread_then`, `reread_mapped`: lemmas for two parts of the grammar that follow one another, and for a part with a
+--   function applied to its value
+-- - `reread_as`, `reread_branch`: lemmas for parsing an equal text, and for parsing by one of several alternatives
+-- - `number_then`, `field_then`: lemmas for a number, or a space and a number, and what follows it
+-- - `reread_end`, `reread_more`, `reread_no_more`: lemmas for the end of a line, for a further field that follows, and
+--   for no further field
 use Rattle.std.proofs.Common.{◌≡◌, ℕ, ◌+◌, ◌^◌, ◌<◌, Bool, true, false, List, [], ◌∷◌, ◌++◌, length, refl, sym, ap}
 use Rattle.std.proofs.Common.{subst, ◌∙◌, arith, rules}
 use Rattle.std.specs.Prelude.{decimal}

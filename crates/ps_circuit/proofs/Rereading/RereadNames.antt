@@ -1,6 +1,6 @@
 -- Lemmas about parsing the symbol table that is written for a circuit.
---     reread_names      the lines of the names of one kind, and what follows them
---     reread_no_names, reread_no_comment      the end of the text, with no further name and no comment
+-- - `reread_names`: the lines of the symbol table for one kind, and what follows them, are parsed as they were written
+-- - `reread_no_names`, `reread_no_comment`: at the end of the text, no further name and no comment is found
 use Rattle.std.proofs.Common.{◌≡◌, ◌≢◌, ℕ, ◌+◌, ◌^◌, ◌<◌, true, List, [], ◌∷◌, ◌++◌, length, Option, None, Some, All}
 use Rattle.std.proofs.Common.{slice_get, refl, sym, subst, arith, append_assoc, rules, length-append}
 use Rattle.std.specs.Prelude.{decimal}

@@ -1,7 +1,7 @@
 -- Lemmas about parsing the text that is written for a circuit, which gives the same circuit.
---     reread_text      the text parses as a draft of the circuit, and nothing remains
---     text_ends      the last byte of the text is a newline
---     reads_again      the answer to the text is the circuit
+-- - `reread_text`: the whole written text is parsed with the circuit's parts, and nothing remains
+-- - `text_ends`: the last byte of the written text is a newline
+-- - `reads_again`: the answer to the written text is the circuit for which it was written
 use Rattle.std.proofs.Common.{◌≡◌, ℕ, ◌+◌, ◌^◌, ◌<◌, ◌⊎◌, Bool, true, if◌then◌else◌, List, [], ◌∷◌, ◌++◌, length}
 use Rattle.std.proofs.Common.{get_or, map, Option, None, Some, All, Contains, Ok, refl, sym, ap, subst, inl, inr, rules}
 use Rattle.std.proofs.Common.{◌∙◌, arith, append_assoc, append-nil}

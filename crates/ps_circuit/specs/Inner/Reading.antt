@@ -1,9 +1,11 @@
 -- The contracts of the AIGER parser's private functions, in terms of what these functions have read.
---     lines_of items noted      the lines of one kind that were read
---     TellsField, TellsCount, TellsHeader, TellsDraft      the results for a field, a count, the header, the text
---     AddsInput, AddsLatch, AddsOutput, AddsGate      one more line was read, of an input, a latch, an output or a gate
---     IsRow      lines of the kind are read one after another
---     Grown      any number of lines was added
+-- - `lines_of items noted`: what was read of the lines of one kind: their items and the parser's records
+-- - `TellsField`, `TellsCount`, `TellsHeader`, `TellsDraft`: what the functions for a field, a count, the header and
+--   the whole text return
+-- - `AddsInput`, `AddsLatch`, `AddsOutput`, `AddsGate`: one more line was read, of an input, a latch, an output or a
+--   gate
+-- - `IsRow`: lines of one kind are read one after another
+-- - `Grown`: any number of lines was read in addition
 use Rattle.std.specs.Prelude.{◌≡◌, ◌≢◌, ℕ, ◌-◌, ◌<◌, ◌⊎◌, Bool, List, [], ◌∷◌, ◌++◌, slice_index_or, slice_get, length}
 use Rattle.std.specs.Prelude.{map, All, AllPairs, Contains, Option, None, Some, Result, Ok, Err}
 use Rattle.ps_text.specs.Answers.{Stream, Found}
