@@ -1,5 +1,5 @@
--- The first flaw at a vertex is the first flaw of the certificate, if the earlier vertices have no flaw of the same or
--- an earlier stage of the check.
+-- The first wrong move or escape at a vertex is the certificate's first flaw, if the earlier vertices have neither a
+-- wrong move nor an escape.
 use Rattle.std.proofs.Common.{◌≡◌, ℕ, ◌<◌, ◌⊎◌, inl, inr, arith, Option, refl, rules}
 use Rattle.std.proofs.lemmas.Bool.{cases_order}
 use Rattle.ps_game.specs.Games.{ParityGame, vertex_count}

@@ -1,5 +1,4 @@
--- Lemmas about the longest run of digits without a leading zero that bytes begin with, and about the number that this
--- run denotes.
+-- Lemmas about the function `numeral`, which gives the longest number without leading zeros with which bytes begin.
 use Rattle.std.proofs.Common.{rules, ◌≡◌, ℕ, ◌<◌, true, false, eqb, List, [], ◌∷◌, ◌++◌, length, drop, refl, sym, ap}
 use Rattle.std.proofs.Common.{ap₂, subst, inl, inr, ◌∙◌, append_assoc, append-nil, arith, length-append}
 use Rattle.std.specs.Prelude.{take_while}
@@ -37,18 +36,18 @@ taken_over (d ∷ digits) more h = rw (take_while-cons, digit_passes d (All-head
 comes_is : (b : ℕ) (bytes : List ℕ) → comes b bytes ≡ true → (more : List ℕ) × (bytes ≡ b ∷ more)
 comes_is b bytes h = search (rules, eqb-true)
 
--- the longest run of digits that bytes begin with is a prefix of these bytes
+-- the digits that `numeral` gives are a prefix of the bytes
 pub numeral_split : (bytes : List ℕ) → bytes ≡ numeral bytes ++ drop (length (numeral bytes)) bytes
 numeral_split bytes = search (rules, cases_Bool, comes_is, taken_split)
 
 no_zero : (bytes : List ℕ) → comes 48 bytes ≡ false → BeginsWithZero (take_while is_ascii_digit bytes) → ⊥
 no_zero bytes h k = search (rules, take_while-cons, cases_Bool, eqb-false)
 
--- if bytes begin with a digit, their longest run of digits is a number without leading zeros
+-- if `numeral` gives any digits, they are a number without leading zeros
 pub numeral_plain : (bytes : List ℕ) → 0 < length (numeral bytes) → IsPlainNumber (numeral bytes)
 numeral_plain bytes long = search (rules, All-cons, All-nil, taken_digits, no_zero)
 
--- if bytes begin with a number without leading zeros, this number is a prefix of the bytes' longest run of digits
+-- if bytes begin with a number without leading zeros, this number is a prefix of the digits that `numeral` gives
 pub numeral_longest : (digits more : List ℕ) → IsPlainNumber digits
     → (m : List ℕ) × (numeral (digits ++ more) ≡ digits ++ m)
 numeral_longest [] more h = absurd (omega (arith, h.0.0))
@@ -68,7 +67,7 @@ plain_front [] b l h = absurd (omega arith)
 plain_front (d ∷ a) b l h =
     grind (arith, length-append a b, take-append_seam (d ∷ a) b, All-take IsDigit (length (d ∷ a)) ((d ∷ a) ++ b) h.0.1)
 
--- if a space, a newline or a colon follows a number without leading zeros, the number is the longest run of digits
+-- if a space, a newline or a colon follows a number without leading zeros, `numeral` gives exactly this number
 pub numeral_ended : {digits : List ℕ} (more : List ℕ) → IsPlainNumber digits → EndsField more →
     numeral (digits ++ more) ≡ digits
 numeral_ended {digits} more h ends = go long.0 long.1

@@ -18,8 +18,8 @@ pub record DiffersInCounts (game : ParityGame) (one other : CertificateData) : T
   pub even : one.even ≡ other.even
   pub same : SaysTheSame game one other
 
--- each count is the least of all valid certificates that differ only in counts; the counts for priorities less than the
--- vertex's own are without meaning, and are 0
+-- each count is at most that of every valid certificate that differs only in counts; a count for a priority less than
+-- the vertex's own has no meaning, and is 0
 pub record HasLeastCounts (game : ParityGame) (certificate : CertificateData) : Type 0 where
   pub least : (other : CertificateData) → Fits game other → IsValid game other →
       DiffersInCounts game certificate other →

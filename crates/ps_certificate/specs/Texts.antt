@@ -11,15 +11,15 @@
 -- leading zeros. The second line of a certificate gives the number of vertices, and the next two lines list the game's
 -- odd and even priorities in ascending order. One line for each vertex follows, in the game's order: the vertex's id,
 -- its winner (0 or 1), the winner's move, and one count for each priority of the loser's parity. In the line of a
--- vertex, the move is the id of a vertex, or `-` for no move. The compact text of a certificate, on the right, has only
+-- vertex, the move is the id of a vertex, or `-` for no move. The compact text of a certificate, version 2, has only
 -- the nonzero counts, each after its priority, in ascending order of priorities. A text that does not have the form of
--- a certificate is rejected with fault 53 (`Syntax`). As far as this form is concerned, the number of vertices, the
--- priorities, ids and moves may be any numbers, and a list may have any number of priorities. A number is also rejected
--- with fault 53, at its first digit, if it does not fit in 64 bits, or if it is a count of 0 in a compact text. In a
--- compact text, fault 53 also rejects a priority that is not greater than the previous one in the line, if a space, a
--- newline or a colon follows this priority. A text is rejected with fault 54 (`OtherGame`) at a number that disagrees
--- with the given game, if a space, a newline or a colon follows the number. Fault 54 is also reported at a newline that
--- ends a list of priorities before all priorities of the game were given.
+-- a certificate is rejected with fault 53 (`Syntax`). The form of a certificate allows any number as the number of
+-- vertices, as a priority, as an id or as a move, and any number of listed priorities. A number is also rejected with
+-- fault 53, at its first digit, if it does not fit in 64 bits, or if it is a count of 0 in a compact text. In a compact
+-- text, fault 53 also rejects a priority that is not greater than the previous one in the line, if a space, a newline
+-- or a colon follows this priority. A text is rejected with fault 54 (`OtherGame`) at a number that disagrees with the
+-- given game, if a space, a newline or a colon follows the number. Fault 54 is also reported at a newline that ends a
+-- list of priorities before all priorities of the game were given.
 use Rattle.std.specs.Prelude.{◌≡◌, ◌≢◌, ℕ, zero, suc, ◌^◌, ◌<◌, ◌≤◌, ◌⊎◌, List, [], ◌∷◌, ◌++◌, length, map, drop}
 use Rattle.std.specs.Prelude.{Option, Some, None, Result, Bool, true, false, ◌==◌, if◌then◌else◌, slice_get, position}
 use Rattle.std.specs.List.{Contains}

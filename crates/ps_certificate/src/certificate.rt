@@ -1,4 +1,4 @@
-//! The value of a certificate.
+//! The type of certificates of parity games.
 
 ghost use Rattle.std.specs.Prelude.{◌≡◌, ℕ, ◌<◌, length, Option, slice_index};
 ghost use Rattle.ps_certificate.specs.Certificates.{CertificateData, winner_of, choice_of, counts_of, opposing};
@@ -30,7 +30,7 @@ impl Model for Certificate {
 
 #[tactic(auto, unfolding(crate::specs::Certificates::winner_of, crate::specs::Certificates::choice_of, crate::specs::Certificates::counts_of, crate::specs::Certificates::opposing))]
 impl Certificate {
-    /// The winner of a vertex.
+    /// The winner that the certificate gives for a vertex.
     pub fn winner(&self, vertex: usize) -> u8
         requires { vertex < length self.now.entries }
         ensures { result ≡ winner_of self.now vertex }
@@ -46,7 +46,7 @@ impl Certificate {
         self.entries.choice(vertex)
     }
 
-    /// The counts of a vertex.
+    /// The counts that the certificate has for a vertex.
     pub fn counts(&self, vertex: usize) -> Row<'_>
         requires { vertex < length self.now.entries }
         ensures { result ≡ counts_of self.now vertex }
@@ -54,7 +54,7 @@ impl Certificate {
         self.entries.counts(vertex)
     }
 
-    /// The priorities that oppose a player, ascending.
+    /// The priorities that oppose a player: those of the opponent's parity, in ascending order.
     pub fn opposing(&self, player: u8) -> &[u64]
         ensures { result.now ≡ opposing self.now player }
     {

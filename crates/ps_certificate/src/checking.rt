@@ -16,8 +16,8 @@ use crate::flaw::Flaw;
 use crate::rising::Rising;
 use ps_game::Arena;
 
-/// The first of the priorities that oppose the winner for which an edge breaks the rule of counts. A search finds the
-/// first of these priorities that is not less than the priority of either end of the edge; from there on, only nonzero
+/// The first of the priorities that oppose the winner for which an edge breaks the rule of counts. A binary search
+/// finds the first listed priority that is not less than that of either end of the edge; from there on, only nonzero
 /// counts are compared.
 fn broken_priority<A: Arena>(
     arena: &A,
@@ -105,9 +105,9 @@ fn unranked_through<A: Arena>(
 }
 
 /// Checks whether a certificate is valid: it is closed, and each edge that the winner's moves allow obeys the rule of
-/// counts. If the certificate is not valid, the error is its first flaw. This is the flaw that [`crate::closed`]
-/// returns, if there is one, or else the first edge that breaks the rule of counts, ordered by vertex, successor and
-/// priority. Allocates no memory.
+/// counts. If the certificate is not valid, the error is its first flaw. The first flaw is the one that
+/// [`crate::closed`] returns, if there is one, or else the first edge that breaks the rule of counts, ordered by
+/// vertex, successor and priority. Allocates no memory.
 ///
 /// # Errors
 ///

@@ -91,7 +91,7 @@ pub(crate) fn unsound_at<A: Arena>(
 ///
 /// # Errors
 ///
-/// [`Flaw::Move`] or [`Flaw::Escape`], whichever is first.
+/// The error is [`Flaw::Move`] or [`Flaw::Escape`], whichever comes first.
 pub fn closed<A: Arena>(arena: &A, certificate: &Certificate) -> Result<(), Flaw>
     requires { length certificate.now.entries ≡ vertex_count (A.game arena.now) }
     ensures exact { IsOk result ↔ IsClosed (A.game arena.now) certificate.now }

@@ -7,7 +7,7 @@ use ps_text::faults::{Cause, Fault};
 /// What is wrong with the text of a certificate.
 #[derive(Clone, Copy, Debug, PartialEq, Eq)]
 pub enum CertCause {
-    /// The text does not have the form of a certificate, or a number in it is too large.
+    /// The text does not have the form of a certificate, or a number in it does not fit in 64 bits.
     Syntax,
     /// The text has the form of a certificate, but disagrees with the given game.
     OtherGame,

@@ -14,8 +14,8 @@ pub fn closed_regions_are_kept()
         BothKeep game certificate }
 {}
 
-/// A player who follows the moves of a valid certificate stays in, and wins, the region that the certificate gives the
-/// player.
+/// A player who follows the moves of a valid certificate stays in the region that the certificate gives the player, and
+/// wins there.
 pub fn valid_regions_are_held()
     ensures { (game : ParityGame) (certificate : CertificateData) → Fits game certificate → IsValid game certificate →
         BothHold game certificate }

@@ -1,11 +1,11 @@
 //! Certificates of parity games, which state who wins each vertex, by which move, and why.
 //!
 //! A certificate proves its winners by counts: each vertex has one count for each priority that opposes its winner,
-//! that is, for each priority of the other player's parity. The winner's moves allow an edge, which is then called a
-//! remaining edge, if it is one of these moves, or if it leaves a vertex that the loser owns. The rule of counts is
-//! this: for each priority, the count does not rise along a remaining edge whose two ends have no greater priority. The
-//! count falls if, in addition, the edge leaves a vertex of this priority. The file docs/CERTIFICATES.md describes the
-//! format and the rule, for those who write another checker of certificates.
+//! that is, for each priority of the other player's parity. The winner's moves allow an edge (called a remaining edge)
+//! if it is one of these moves, or if it leaves a vertex that the loser owns. The rule of counts is this: along an edge
+//! that the winner's moves allow, the count for a priority does not rise if neither end of the edge has a greater
+//! priority. The count for a priority even falls if, in addition, the edge leaves a vertex of this priority. The file
+//! docs/CERTIFICATES.md describes the format and the rule, for those who write another checker of certificates.
 //!
 //! | Call | What it gives |
 //! |---|---|

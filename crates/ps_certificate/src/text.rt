@@ -25,18 +25,18 @@ use std::alloc::{AllocError, Global};
 /// What the parser knows about the game before it reads the text.
 #[derive(Drop)]
 struct Known {
-    /// The odd priorities, ascending.
+    /// The odd priorities of the game, ascending.
     odd: Vec<u64>,
-    /// The even priorities, ascending.
+    /// The even priorities of the game, ascending.
     even: Vec<u64>,
-    /// The ids of the vertices.
+    /// The ids of the game's vertices.
     ids: Ids,
     ghost odd_rises: { IsStrictlyIncreasing odd.items },
     ghost even_rises: { IsStrictlyIncreasing even.items },
 }
 
 impl Known {
-    /// The priorities that oppose a player, ascending.
+    /// The priorities that oppose a player: those of the opponent's parity, in ascending order.
     fn lost_by(&self, player: u8) -> Rising<'_>
         ensures { result.list.now ≡ parts.lost_by self.now.odd.items self.now.even.items player }
     {

@@ -116,7 +116,7 @@ fn version_digit(compact: bool) -> u8
     if compact { b'2' } else { b'1' }
 }
 
-/// Writes the line of each vertex of a certificate. The contents of `row` are overwritten.
+/// Writes the line of each vertex of a certificate. The contents of the list `row` are overwritten.
 fn write_entries(
     out: &mut Vec<u8>,
     row: &mut Vec<u64>,
@@ -147,7 +147,7 @@ fn write_entries(
     Ok(())
 }
 
-/// The priorities that oppose a player.
+/// The priorities that oppose a player: those of the opponent's parity.
 fn lost_by<'a>(odd: &'a [u64], even: &'a [u64], player: u8) -> &'a [u64]
     ensures { result.now ≡ lost_by odd.now even.now player }
 {

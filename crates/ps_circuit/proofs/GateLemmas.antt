@@ -186,7 +186,7 @@ pub needs-low : {d : Drafted} {s high low not_s : ℕ} → not_s ≡ negated s �
     NeedsGate d (negated not_s) (negated high) → NeedsChoice d s high low
 needs-low {d} {s} {high} {low} {not_s} n e g = for_either not_s high (either_low d s high low not_s n e) g
 
--- a function that returns the fault of a call unchanged returns this fault
+-- if a function returns the fault of a call unchanged, its fault equals that of the call
 pub passed : {X : Type 0} (result : Result X EncodeFault) (fault other : EncodeFault) →
     IsErrAnd result (λ given. given ≡ fault) → result ≡ Err other → fault ≡ other
 passed result fault other h k = search rules

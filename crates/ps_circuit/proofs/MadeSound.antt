@@ -43,7 +43,7 @@ made-later m p e x sound made = record {
   is = λ v meets. made.is v (meets-extends m.draft e x v meets);
 }
 
--- the gates and the literal that were made are right, unless there are more variables than literals of 32 bits
+-- the gates and the literal that were made are right, if the literals of all variables fit into 32 bits
 pub record Makes (m : Made) (wanted : (ℕ → Bool) → Bool) : Type 0 where
   pub made : HasRoom m.draft → IsMade m wanted
 

@@ -11,8 +11,9 @@
 --
 -- In an AIGER text, a gap is one or more spaces or tabs. Each field of a line of numbers, except the first, comes after
 -- a gap, and such a line may end with a gap. Numbers in the text may be of any size and have leading zeros. The newline
--- at the end of the text may be missing. There are as many lines as the numbers I, L, O and A state, however large
--- these numbers are. In the symbol table, a name comes after one space, ends with the line, and has at least one byte.
+-- at the end of the text may be missing. The text has as many lines of inputs, latches, outputs and gates as the
+-- header's numbers I, L, O and A state, however large these numbers are. In the symbol table, a name comes after one
+-- space, ends with the line, and has at least one byte.
 -- - 61 (`Syntax`): a byte that is not allowed at its position, an early end, or a symbol whose number is too large or
 --   already has a name
 -- - 62 (`Literal`): a literal above 2M + 1, an M of 2^31 or more, or a wrong input, latch, left side or reset

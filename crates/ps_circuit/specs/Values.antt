@@ -2,7 +2,7 @@
 -- - `bit_of values literal`: the value of a literal, if the list `values` has a bit for each variable
 -- - `AreValues c inputs latches values`: the list `values` has a bit for each variable, and satisfies the equations of
 --   circuit c
--- - `HasOneValues c`: the circuit c has values for all inputs and latches, and any two lists of values agree on all
+-- - `HasOneValues c`: for any inputs and latches, circuit c has a list of values, and any two such lists agree on
 --   defined literals
 -- - `Steps c latches inputs outputs next`: the circuit's outputs in a step, and the values of its latches after the
 --   step
@@ -23,7 +23,7 @@ abbrev pub bit_of : List Bool → ℕ → Bool
 bit_of values literal =
     if is_negated literal then not (value_of values (variable literal)) else value_of values (variable literal)
 
--- the gate is the conjunction of the two literals that it reads
+-- the value of the gate's own literal is the conjunction of the values of the two literals that the gate reads
 abbrev pub MeetsGate : List Bool → Gate → Type 0
 MeetsGate values g = bit_of values g.literal ≡ (bit_of values g.first && bit_of values g.second)
 

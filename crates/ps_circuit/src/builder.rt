@@ -173,7 +173,7 @@ impl Builder {
         self.or(where_true, where_false)
     }
 
-    /// The literal of the gate that reads the two given literals. If no gate reads these two literals yet, it is made.
+    /// The literal of the gate that reads the two given literals. If no gate reads these two literals yet, one is made.
     fn gate(&mut self, sides: Sides) -> Result<Literal, EncodeFault>
         requires { AreSides (variables_of self.old + 1) sides }
         ensures { MakesGates self.old self.new result (gate_of self.old sides)

@@ -21,10 +21,11 @@ pub enum AigCause {
     /// A gate depends on itself (and-gates).
     Cyclic,
     /// A latch has no first value, since its own literal is its reset (reset logic). psyn rejects such a latch, because
-    /// it runs circuits.
+    /// psyn runs circuits and needs first values.
     UnsetLatch,
     /// One of the counts B, C, J and F of the header is not 0, so the text has a section of bad states, constraints,
-    /// justice or fairness. Only psyn, not AIGER, requires these sections to be empty.
+    /// justice or fairness. Only psyn, not AIGER, requires the sections of bad states, constraints, justice and
+    /// fairness to be empty.
     Sections,
 }
 

@@ -1,4 +1,4 @@
-//! The parser of the fields of a line, and of what separates them, in the text of a circuit.
+//! The parser of the fields in the lines of an AIGER text, and of what separates these fields.
 
 ghost use Rattle.ps_circuit.specs.Signs as parts;
 ghost use Rattle.ps_circuit.specs.Inner.Cursors.{Tells, TellsNumber};

@@ -25,8 +25,8 @@ use ps_ids::Ids;
 use ps_text::cursor::Cursor;
 use std::alloc::{AllocError, Global};
 
-/// What the parser records while it reads these lines: the defined variables, the literals that use a variable, and the
-/// offset of each gate's line.
+/// What the parser records while it reads the lines of numbers: the defined variables, the literals that use a
+/// variable, and the offset of each gate's line.
 #[derive(Drop)]
 pub struct Noted {
     /// The variables that are defined so far, in text order.
@@ -58,7 +58,7 @@ pub trait Line {
     /// The grammar of the next line, given what was read before it.
     ghost part: { ℕ → Lines Self.Item → Field (Lines Self.Item) };
 
-    /// What the parser knows after the next line, compared with what it knew before.
+    /// The relation between what was read before the next line and what was read after it.
     ghost adds: { ℕ → Lines Self.Item → Lines Self.Item → Type 0 };
 
     /// Reads a line.
@@ -78,7 +78,7 @@ pub trait Line {
 ///
 /// # Errors
 ///
-/// The first error in these lines, or out of memory.
+/// The first error in the lines of this kind, or out of memory.
 pub fn lines<L: Line>(
     alloc: Global,
     cursor: &mut Cursor,

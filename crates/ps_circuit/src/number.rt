@@ -18,7 +18,7 @@ pub struct Number {
 }
 
 impl Number {
-    /// The literal with this number.
+    /// The literal that has this number.
     pub fn literal(self) -> Literal
         requires { self.value < 2 ^ 32 }
         ensures { result ≡ self.value }

@@ -1,4 +1,4 @@
-//! The parts of a circuit: latches, gates, and the lists of all inputs, latches, outputs, gates and names.
+//! The types for the parts of a circuit: a latch, an and-gate, and all parts together.
 
 use crate::literal::Literal;
 

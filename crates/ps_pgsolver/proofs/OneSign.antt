@@ -1,5 +1,5 @@
--- A parsing function that reads one token. If the function's result agrees with the grammar for each token, the
--- function parses that part of the grammar correctly, whatever the type of errors is.
+-- Lemmas about a parsing function that reads one token. If the function's result agrees with the grammar for each
+-- token, the function parses that part of the grammar correctly, whatever the type of errors is.
 use Rattle.std.proofs.Common.{◌≡◌, ℕ, ◌≤◌, Option, None, Some, Result, Ok, Err, refl, sym, ap, rules, subst, ◌∙◌, arith}
 use Rattle.ps_text.specs.Answers.{Stream, next_of, offset_of}
 use Rattle.ps_text.specs.Parts.{Causes, one, refusal_of}

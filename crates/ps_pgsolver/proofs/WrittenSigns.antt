@@ -1,4 +1,4 @@
--- The tokens of the text that is written for a game.
+-- Lemmas about the tokens of the text that is written for a game.
 -- - `Lexed before bytes ss`: the tokens of `bytes`, after the bytes `before`, are the list `ss`
 -- - `comma_signs`, `list_signs`, `name_signs`, `node_signs`, `nodes_signs`: the tokens of each written part, followed
 --   by further tokens

@@ -5,7 +5,7 @@
 --
 -- A number is a longest run of digits, a word is a longest run of letters, and a name is between quotes. Some tokens
 -- are never allowed: a word directly after a number, a number directly after a word, a name without its closing quote,
--- and any other byte.
+-- and a byte that can begin none of the other tokens.
 use Rattle.std.specs.Prelude.{◌≡◌, ◌≢◌, ℕ, ◌<◌, Bool, true, false, List, [], ◌∷◌, ◌++◌, length}
 use Rattle.ps_text.specs.Answers.{Stream}
 use Rattle.ps_text.specs.Digits.{decimal_value}

@@ -1,5 +1,5 @@
--- The game that the nodes of a text describe. Vertices are numbered in the order of the nodes, and a repeated successor
--- counts once.
+-- The game that the nodes of a text describe. The game's vertices are numbered in the order of the text's nodes, and a
+-- successor that a node lists twice counts once.
 use Rattle.std.specs.Prelude.{ℕ, List, map}
 pub use Rattle.ps_ids.specs.Ids.{place_of}
 use Rattle.ps_game.specs.Games.{VertexData, ParityGame, NamedGameData}

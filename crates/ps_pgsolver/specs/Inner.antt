@@ -1,4 +1,4 @@
--- Definitions that only private contracts use; no public clause refers to them.
+-- Definitions that only the contracts of private functions use; no contract of a public function refers to them.
 
 pub mod Answered
 pub mod Kept

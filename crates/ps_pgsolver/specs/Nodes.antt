@@ -39,8 +39,8 @@ pub record IsNewNode (ids : List ℕ) (node : NodeData) : Type 0 where
   pub new : ¬ Contains ids node.id
   pub is_node : IsReadNode node
 
--- Each item of a list is in the list `ids`. `KnowsNode` states this for the successors of one node, and `KnowsAll` for
--- the successors of all nodes.
+-- Each item of a list (`KnowsEach`), each successor of a node (`KnowsNode`), or each successor of any node in a list
+-- (`KnowsAll`) is in the list `ids`.
 abbrev pub KnowsEach : List ℕ → List ℕ → Type 0
 KnowsEach ids list = All (λ id. Contains ids id) list
 

@@ -9,5 +9,5 @@ pub data Sign : Type 0 where
   Semicolon : Sign
   -- a name without its closing quote
   OpenName : Sign
-  -- any other token that is never allowed
+  -- any other token that is allowed nowhere in a game text
   Wrong : Sign

@@ -19,8 +19,8 @@ pub fn one_answer()
     ensures { (text : List ℕ) (a b : Result NamedGameData (Found PgCause)) → Answer text a → Answer text b → a ≡ b }
 {}
 
-/// Every game text has an answer: its game, or its first error. The law concerns texts and not calls, so out of memory
-/// is not one of the answers.
+/// Every game text has an answer: its game, or its first error. This law is about texts, not about calls of the parser,
+/// so out of memory is not one of the answers.
 pub fn some_answer()
     ensures { (text : List ℕ) → (answer : Result NamedGameData (Found PgCause)) × Answer text answer }
 {}

@@ -31,8 +31,8 @@ use std::alloc::Global;
 /// The maximal length of a game text, in bytes.
 const TEXT_LIMIT: usize = 16_777_216;
 
-/// Parses a game text. Vertices are numbered in the order of the nodes. The text may use a node's id as a successor
-/// before it describes that node, so all ids are known only at the end of the text.
+/// Parses a game text. The game's vertices are numbered in the order of the text's nodes. The text may use a node's id
+/// as a successor before it describes that node, so all ids are known only at the end of the text.
 ///
 /// # Errors
 ///

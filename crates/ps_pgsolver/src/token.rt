@@ -17,7 +17,7 @@ use ps_text::cursor::{Class, run_length};
 use ps_text::numbers::{LeadingNumber, leading_number};
 use std::marker::Model;
 
-/// Numbers with at least this many digits are parsed by slower code, which checks for overflow.
+/// Numbers with at least 18 digits are parsed by slower code, which checks for overflow.
 const FEW: usize = 18;
 
 /// The kind of a token of a game text, with its value or its bytes.
@@ -114,8 +114,8 @@ impl<'a> Tokens<'a> {
         next_start(self.text, self.at)
     }
 
-    /// Moves past the next token and returns its value, if it is a number with fewer than 18 digits. Most numbers are
-    /// so short, and no value of type `Token` is built for them.
+    /// Moves past the next token and returns its value, if it is a number with fewer than 18 digits. Most numbers in
+    /// game texts have fewer than 18 digits, and no value of type `Token` is built for them.
     #[inline(always)]
     pub fn take_number(&mut self) -> Option<u64>
         ensures some { IfSome result (λ number. IsNumberTaken number self.old self.new) }

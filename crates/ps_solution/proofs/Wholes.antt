@@ -1,4 +1,4 @@
--- The result of parsing a whole text gives the answer to that text.
+-- The result of the function that parses a whole solution is the grammar's answer to this text.
 use Rattle.std.proofs.Common.{rules, ◌≡◌, ℕ, List, length, [], ◌∷◌, Result, Ok, Err, IsErrAnd, refl, sym, ap, subst}
 use Rattle.std.proofs.lemmas.Result.{err_from_is_err_and}
 use Rattle.ps_text.specs.Answers.{Piece, Stream, Found, signs, first_of, next_of, offset_of}

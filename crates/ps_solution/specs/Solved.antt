@@ -40,7 +40,7 @@ with_entry s v winner choice = record {
   moves = with_move s.moves v choice;
 }
 
--- each vertex has an entry
+-- the entries that were read include one for each vertex
 abbrev pub IsFilled : SolvedData → Type 0
 IsFilled s = (v : ℕ) → v < length s.named → has s.named v ≡ true
 

@@ -13,8 +13,8 @@ pub fn one_answer()
         ReadsSolution ids text a → ReadsSolution ids text b → a ≡ b }
 {}
 
-/// Every text has an answer, a solution or its first error, for each list of the ids of a game's vertices. The law
-/// concerns texts and not calls, so out of memory is not one of the answers.
+/// Every text has an answer, a solution or its first error, for each list of the ids of a game's vertices. This law is
+/// about texts, not about calls of the parser, so out of memory is not one of the answers.
 pub fn some_answer()
     ensures { (ids text : List ℕ) → (answer : Result SolutionData (Found CertCause)) ×
         ReadsSolution ids text answer }

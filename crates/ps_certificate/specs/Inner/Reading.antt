@@ -1,7 +1,7 @@
 -- What the private functions of the certificate parser establish: a part of the grammar was parsed, or its first error
 -- was located.
 -- - `Tells view part old result new`: the function parsed the grammar's part `part`, or located its first error
--- - `numeral bytes`: the longest run of digits without a leading zero with which the bytes begin
+-- - `numeral bytes`: the longest number without leading zeros with which the bytes begin
 -- - `TellsNumber old result new`: the function moved past a number, or no number of 64 bits begins here
 -- - `TellsPriority`, `TellsHead`, `TellsEntries`: what the functions for a count's priority, for the first lines and
 --   for the whole text return
@@ -42,7 +42,7 @@ comes byte (b ∷ bytes) = b == byte
 abbrev pub numeral : List ℕ → List ℕ
 numeral bytes = if comes 48 bytes then 48 ∷ [] else take_while is_ascii_digit bytes
 
--- the parsing function moved past the next run of digits, which denotes the number `n`
+-- the parsing function moved past the longest number without leading zeros that comes next, which is `n`
 pub record IsNumberRead (old new : Stream Seen) (n : ℕ) : Type 0 where
   pub at : ℕ
   pub digits : List ℕ

@@ -1,5 +1,5 @@
 -- How the nodes of a game text are stored while it is parsed: in a list of ids, a list of vertices and a list of names.
--- In this list of vertices, successors are given by their ids, not yet by their indices.
+-- While a game text is parsed, the stored vertices give their successors by ids, not yet by indices.
 use Rattle.std.specs.Prelude.{◌≡◌, ℕ, List, [], ◌∷◌, ◌++◌, length, Option, Some, None, Vec}
 use Rattle.std.specs.Global.{Global}
 use Rattle.ps_game.specs.Games.{VertexData, ParityGame}

@@ -1,4 +1,4 @@
--- The law `one_answer` is the lemma `one_reading`.
+-- The law `one_answer` is proved by the lemma `one_reading`.
 use Rattle.ps_pgsolver.proofs.OneReading.{one_reading}
 use Rattle.ps_pgsolver.proofs.laws.one_answer.Goals as goal
 

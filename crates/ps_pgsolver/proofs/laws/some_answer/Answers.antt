@@ -1,4 +1,4 @@
--- The law `some_answer` is the lemma `some_reading`.
+-- The law `some_answer` is proved by the lemma `some_reading`.
 use Rattle.ps_pgsolver.proofs.SomeReading.{some_reading}
 use Rattle.ps_pgsolver.proofs.laws.some_answer.Goals as goal
 
