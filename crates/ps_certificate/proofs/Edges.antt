@@ -60,7 +60,8 @@ pub not_wrong_when_right : {game : ParityGame} {certificate : CertificateData} {
     HasRightMove game certificate v → HasWrongMove game certificate v → ⊥
 not_wrong_when_right h k = search rules
 
--- at a vertex that the loser owns, the edge to the first successor with the other winner is the vertex's first escape
+-- at a vertex that the loser owns, the edge to the first successor with the other winner is the vertex's first escape,
+-- an edge out of the winner's region
 pub IsFirstEscape-at : {game : ParityGame} {certificate : CertificateData} {v : ℕ} (k : ℕ) {w : ℕ} → v <
     vertex_count game → owner_of game v ≢ winner_of certificate v → k < length (successors_of game v) → w ≡ slice_index
     (successors_of game v) k → ((j : ℕ) → j < k → winner_of certificate (get_or (successors_of game v) j 0)

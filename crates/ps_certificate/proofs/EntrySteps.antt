@@ -181,8 +181,8 @@ module _ (odd even ids : List ℕ) where
       → Stops causes whole old (found_of e) → IsErrAnd r (λ y. y ≡ e) → TellsHead odd even ids old r new
   head_fails old new e r s i = search (rules, err_from_is_err_and)
 
-  -- Suppose that the lines before those of the vertices have been parsed. Then an error in the vertices' lines is an
-  -- error of the whole text, and if these lines are parsed, so is the whole text.
+  -- if the lines before those of the vertices have been parsed, an error in the vertices' lines is an error of the
+  -- whole text, and parsing them parses the whole text
   module _ (compact : Bool) (all : List ℕ) (same : all ≡ ids) (start now : Stream Seen)
       (k : Carries causes whole start (all_entries compact odd even ids) now) where
     abbrev with_lists : List EntryData → CertificateData

@@ -1,5 +1,6 @@
--- Abbreviations for the laws that ps_text requires of a grammar's parts, here of the parts of a certificate's text.
--- - `Lawful`, `Chain`, `Left`: the definitions of ps_text with these names, for certificates and their errors
+-- Abbreviations for the grammar laws of the crate `ps_text`, here for the parts of a certificate's text.
+-- - `Lawful`, `Chain`, `Left`: the definitions of the crate `ps_text` with these names, for certificates and their
+--   errors
 use Rattle.ps_text.specs.Answers.{Stream}
 use Rattle.ps_text.specs.Bytes.{Seen}
 use Rattle.ps_text.proofs.Bytes.Lawful as lawful

@@ -124,7 +124,8 @@ module _ (game : ParityGame) (certificate : CertificateData) (v : ℕ) (in_range
             )
           ]
 
-  -- either the vertex has neither a wrong move nor an escape, or one of these is its first flaw
+  -- either the vertex has neither a wrong move nor an edge out of its winner's region, or one of these is its first
+  -- flaw
   sound_or_flawed : IsSoundAt game certificate v ⊎ ((flaw : Flaw) × IsFirstFlawAt game certificate 0 v flaw)
   sound_or_flawed = elim decide_move [
     | inl right ↦ elim (stays_or_escapes right) [
@@ -221,7 +222,8 @@ module _ (game : ParityGame) (certificate : CertificateData) where
   abbrev HasFirst : Type 0
   HasFirst = (flaw : Flaw) × IsFirstFlaw game certificate flaw
 
-  -- either no vertex has a wrong move or an escape, or the certificate's first flaw is a wrong move or an escape
+  -- either no vertex has a wrong move or an edge out of its winner's region, or the certificate's first flaw is one of
+  -- these
   all_sound : ((v : ℕ) → v < vertex_count game → IsSoundAt game certificate v) ⊎
       (¬ IsClosed game certificate × HasFirst)
   all_sound = elim (first_place (IsSoundAt game certificate)

@@ -1,7 +1,7 @@
--- The parts of a certificate text's grammar obey the laws of ps_text: these lemmas state which bytes a part can begin
--- with, and which bytes can continue a part. Only a number or a move can be continued, by a digit; what comes after a
--- number or a move begins with a space, a colon or a newline. The lemma about a chain of grammar parts has the name of
--- the chain's first part.
+-- The parts of a certificate text's grammar obey the grammar laws of the crate `ps_text`: these lemmas state which
+-- bytes a part can begin with, and which bytes can continue a part. Only a number or a move can be continued, by a
+-- digit; what comes after a number or a move begins with a space, a colon or a newline. The lemma about a chain of
+-- grammar parts has the name of the chain's first part.
 use Rattle.std.proofs.Common.{◌≡◌, ℕ, zero, suc, ◌⊎◌, Bool, true, false, cond, eqb, List, [], ◌∷◌, length, drop, Option}
 use Rattle.std.proofs.Common.{Some, None, refl, ap, inl, inr, arith, rules}
 use Rattle.std.specs.Prelude.{codes, map}
@@ -47,13 +47,13 @@ digit_no_colon t d e = omega (arith, e, d.1)
 numbers_end : Apart (Or AtDigit (At 32)) (At 10)
 numbers_end = search rules
 
--- the laws of a space followed by another part of the grammar
+-- a space followed by another part of the grammar obeys the grammar laws of the crate `ps_text`
 spaced : {B : Type 0} {Q : Unit {0} → Field B} {First More : Seen → Type 0} {Null : Type 0} →
     ((u : Unit {0}) → Lawful (Q u) First More Null) → Chain (byte 32) Q Separates More ⊥
 spaced q = chained (byte_of 32) q (λ t h k. h) (λ t h. inl h) (λ t h. absurd h.0) (λ t h. h) (λ t h. absurd h.1)
     (λ n. n.0)
 
--- the laws of a list of items, each after a space, with a newline at the end
+-- a list of items, each after a space, with a newline at the end, obeys the grammar laws of the crate `ps_text`
 line : {A B : Type 0} {P : Field A} {Q : A → Field B} → Lawful P (At 32) (Or AtDigit (At 32)) (Unit {0}) →
     ((a : A) → Lawful (Q a) (At 10) Nothing ⊥) → Chain P Q Separates Nothing ⊥
 line p q = chained p q numbers_end (λ t h. inl h) (λ t h. inr h.1) (λ t h. h) (λ t h. absurd h.0) (λ n. n.1)
@@ -142,7 +142,7 @@ abbrev pub behind_space : List ℕ → Pairs → Field Pairs
 behind_space ps pairs = then_by
     (judged (WrongPriority ps pairs)) (λ p. then_by (byte 58) (λ _. mapped (λ m. with_pair pairs p m) (judged IsZero)))
 
--- the laws of a space and a count, as one part in a chain of parts
+-- a space and a count, as one part in a chain of parts, obey the grammar laws of the crate `ps_text`
 pub chain_pair : (ps : List ℕ) (pairs : Pairs) → Chain (byte 32) (λ _. behind_space ps pairs) (At 32) AtDigit ⊥
 chain_pair ps pairs = tight (byte_of 32) (λ _. (chain_priority ps pairs).whole)
 

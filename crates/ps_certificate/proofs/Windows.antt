@@ -23,7 +23,7 @@ pub same_place : (list : List ℕ) → IsStrictlyIncreasing list → {i j : ℕ}
     slice_index list i ≡ slice_index list j → i ≡ j
 same_place list rising {i} {j} i_within j_within same = search (rules, cases_order, rising_far)
 
--- each marked number of the window is a priority of the game, and the window's numbers that are priorities of vertices
+-- each marked number of the list `window` is a priority of the game, and its numbers that are priorities of vertices
 -- before `vertex` are marked
 pub record AreMarks (game : ParityGame) (window : List ℕ) (seen : List Bool) (vertex : ℕ) : Type 0 where
   pub room : length window ≤ length seen
@@ -31,25 +31,25 @@ pub record AreMarks (game : ParityGame) (window : List ℕ) (seen : List Bool) (
   pub passed : (k v : ℕ) → k < length window → v < vertex → priority_of game v ≡ get_or window k 0 →
       get_or seen k false ≡ true
 
--- the marks are still right after one more vertex, if its priority is in the window of numbers and is marked
+-- the marks are still right after one more vertex, if its priority is in the list `window` and is marked
 pub AreMarks-found : {game : ParityGame} {window : List ℕ} {seen : List Bool} {vertex place priority : ℕ} →
     IsStrictlyIncreasing window → vertex < vertex_count game → priority ≡ priority_of game vertex → IsAt
     window priority place → AreMarks game window seen vertex → AreMarks game window (set seen place true) (vertex + 1)
 AreMarks-found {game} {window} {seen} {vertex} {place} rising in_range is at marks =
     search (rules, cases_eq, same_place)
 
--- the marks are still right after one more vertex, if its priority is not in the window of numbers
+-- the marks are still right after one more vertex, if its priority is not in the list `window`
 pub AreMarks-missing : {game : ParityGame} {window : List ℕ} {seen : List Bool} {vertex priority : ℕ} →
     priority ≡ priority_of game vertex → ¬ Contains window priority → AreMarks game window seen vertex →
     AreMarks game window seen (vertex + 1)
 AreMarks-missing {game} {window} {vertex} is missing marks = search (rules, cases_eq, Contains-at)
 
--- if all numbers of the window are marked, all of them are priorities of the game
+-- if all numbers of the list `window` are marked, all of them are priorities of the game
 pub All-from_marks : {game : ParityGame} {window : List ℕ} {seen : List Bool} {vertex : ℕ} → AreMarks
     game window seen vertex → ((k : ℕ) → k < length window → get_or seen k false ≡ true) → All (HasPriority game) window
 All-from_marks {game} {window} marks each = All-from_get_or (HasPriority game) window 0 (λ k within. grind arith)
 
--- after the last vertex, each number of the window is marked if all of them are priorities of the game
+-- after the last vertex, all numbers of the list `window` are marked if all of them are priorities of the game
 pub marked_in_the_end : {game : ParityGame} {window : List ℕ} {seen : List Bool} (k : ℕ) → AreMarks game window seen
     (vertex_count game) → All (HasPriority game) window → k < length window → get_or seen k false ≡ true
 marked_in_the_end k marks all within = let (v, below, has) = all k 0 within in marks.passed k v within below has

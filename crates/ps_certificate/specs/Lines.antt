@@ -1,5 +1,6 @@
--- How a certificate stores its entries: a list of winners, and a list of lines. A line has the move of a vertex, and
--- refers to the range of a shared list that has the vertex's nonzero counts. (For private fields.)
+-- How a certificate stores its entries: as a list of winners, and a list of values of type `Line`. A `Line` has the
+-- move of a vertex, and refers to the range of a shared list that has the vertex's nonzero counts. (For private
+-- fields.)
 use Rattle.std.specs.Prelude.{◌≡◌, ℕ, ◌≤◌, List, length, map}
 use Rattle.std.specs.List.{All, slice_range, zip}
 use Rattle.ps_certificate.specs.Certificates.{EntryData}
@@ -7,11 +8,11 @@ use Rattle.ps_certificate.specs.Sparse.{dense_row, IsRow}
 use Rattle.ps_certificate.specs.declared.entries.Line.{Line}
 use Rattle.ps_certificate.specs.declared.row.PlacedCount.{PlacedCount}
 
--- the range of the shared list to which a line refers: the nonzero counts of one vertex
+-- the range of the shared list to which a `Line` refers: the nonzero counts of one vertex
 abbrev pub part_of : List PlacedCount → Line → List PlacedCount
 part_of placed line = slice_range placed line.start line.end
 
--- the certificate's entry for a vertex that is stored as a winner and a line
+-- the certificate's entry for a vertex, which is stored as a winner and a `Line`
 abbrev pub entry_in : List PlacedCount → ℕ × Line → EntryData
 entry_in placed p =
     record { winner = p.0; choice = p.1.choice; counts = dense_row p.1.width (part_of placed p.1) }
@@ -19,13 +20,13 @@ entry_in placed p =
 abbrev pub entries_in : List ℕ → List Line → List PlacedCount → List EntryData
 entries_in winners lines placed = map (entry_in placed) (zip winners lines)
 
--- a line refers to a range of the shared list in which the indices of the counts ascend
+-- the `Line` refers to a range of the shared list in which the indices of the counts ascend
 pub record IsRowWithin (placed : List PlacedCount) (line : Line) : Type 0 where
   pub rises : line.start ≤ line.end
   pub ends : line.end ≤ length placed
   pub row : IsRow line.width (part_of placed line)
 
--- there is a winner for each line, and each line refers to a range of the shared list in which the indices of the
+-- there is a winner for each `Line`, and each `Line` refers to a range of the shared list in which the indices of the
 -- counts ascend
 pub record AreLines (winners : List ℕ) (lines : List Line) (placed : List PlacedCount) : Type 0 where
   pub each : length winners ≡ length lines

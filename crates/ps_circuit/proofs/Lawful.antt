@@ -1,5 +1,6 @@
--- Abbreviations for the laws that ps_text requires of a grammar's parts, here of the parts of an AIGER text.
--- - `Lawful`, `Chain`, `Left`: the definitions of ps_text with these names, for AIGER texts and their errors
+-- Abbreviations for the grammar laws of the crate `ps_text`, here for the parts of an AIGER text.
+-- - `Lawful`, `Chain`, `Left`: the definitions of the crate `ps_text` with these names, for AIGER texts and their
+--   errors
 -- - `Judges Wrong`: it is decidable which numbers the condition `Wrong` makes errors
 use Rattle.std.proofs.Common.{ℕ}
 use Rattle.ps_text.specs.Answers.{Stream}

@@ -1,8 +1,9 @@
--- The smallest parts of the AIGER grammar obey the laws of ps_text: single bytes, sets of bytes, words, numbers, gaps
--- and ends of lines.
+-- The smallest parts of the AIGER grammar obey the grammar laws of the crate `ps_text`: single bytes, sets of bytes,
+-- words, numbers, gaps and ends of lines.
 -- - `Separates`: the byte is a space, a tab or a newline, which ends a number
 -- - `AtBody`, `AtTail`: the byte can be the first after the header, or the first after the lines of numbers
--- - `numbers`, `optional`: the laws of a number, or of an optional field, and the text after it
+-- - `numbers`, `optional`: the grammar laws of the crate `ps_text` for a number, or an optional field, and the text
+--   after it
 use Rattle.std.proofs.Common.{◌≡◌, ℕ, ◌⊎◌, Bool, true, false, refl, sym, ap, inl, inr, ◌∙◌, rules}
 use Rattle.std.proofs.lemmas.Bool.{eqb-true}
 use Rattle.ps_text.specs.Parts.{give, then_by, either, mapped}
@@ -127,12 +128,13 @@ unfolding more
 laws_more = either_of laws_ends_here chain_gap_more.whole (λ t e h. space_newline t h e) (λ t h. inr h) (λ t h. inl h)
     (λ t h. absurd h) (λ t h. h) (λ t h. absurd h.0)
 
--- the laws of a number and what follows it
+-- a number and what follows it obey the grammar laws of the crate `ps_text`
 pub numbers : {B : Type 0} {Q : Number → Field B} {Wrong : ℕ → AigCause → Type 0} {More : Seen → Type 0} →
     Judges Wrong → ((n : Number) → Lawful (Q n) Separates More ⊥) → Chain (number Wrong) Q AtDigit More ⊥
 numbers judge q = next (laws_number judge) q digit_separates
 
--- the laws of an optional last field of a line, with the value that stands for a missing field
+-- an optional last field of a line, with a value that stands for a missing field, obeys the grammar laws of the crate
+-- `ps_text`
 pub optional : {V : Type 0} {P : Field V} → Lawful P AtDigit Separates ⊥ → (v : V) →
     Chain more (by_more P (give v)) Separates Separates ⊥
 optional {P = P} l v = chained laws_more by (λ t h d. digit_separates t d h) (λ t h. h) (λ t h. absurd h.0) (λ t h. h)

@@ -94,7 +94,7 @@ safe_then {P = P} {Q} l r = record {
       (quiet_right P Q h.left h.right h.value h.is_left quiet);
 }
 
--- a part of the grammar whose laws allow only a space, a tab or a newline as the first byte begins with one of these
+-- a part of the grammar that may begin only with a space, a tab or a newline begins with one of these
 begins : {B : Type 0} (part : Field B) {More : Seen → Type 0} → Lawful part Separates More ⊥ →
     (text rest : List Seen) (b : B) → part.IsText text b → Parts (text ++ rest)
 begins part l [] rest b h t e = absurd (l.laws.null b h)

@@ -1,7 +1,8 @@
--- The parts of the AIGER grammar obey the laws of ps_text, which state the bytes that can begin a part, and those that
--- can continue it. The module SignLaws has the laws of the smallest parts of the AIGER grammar.
--- - `fields`: the laws of a gap, a number, and the text after them
--- - `chain_..`: the laws of one part of a grammar rule and of what follows this part
+-- The parts of the AIGER grammar obey the grammar laws of the crate `ps_text`, which state the bytes that can begin a
+-- part, and those that can continue it. The module SignLaws shows that the smallest parts of the AIGER grammar obey
+-- these laws.
+-- - `fields`: the grammar laws of the crate `ps_text` for a gap, a number, and the text after them
+-- - `chain_..`: the grammar laws of the crate `ps_text` for one part of a grammar rule and what follows this part
 use Rattle.std.proofs.Common.{◌≡◌, ℕ, zero, suc, Bool, false, eqb, List, Some, refl, inl, inr, rules}
 use Rattle.std.specs.Prelude.{codes}
 use Rattle.std.proofs.lemmas.Bool.{eqb-true}
@@ -49,7 +50,7 @@ pub chain_field : {Wrong : ℕ → AigCause → Type 0} → Judges Wrong → Cha
 chain_field judge = chained laws_gap (λ _. laws_number judge) space_digit (λ t h. inl h) (λ t h. absurd h.0) (λ t h. h)
     (λ t h. absurd h.0) (λ n. n.0)
 
--- the laws of a gap, a number, and what follows the number
+-- a gap, a number, and what follows the number obey the grammar laws of the crate `ps_text`
 pub fields : {B : Type 0} {Q : Number → Field B} {Wrong : ℕ → AigCause → Type 0} {More : Seen → Type 0} →
     Judges Wrong → ((n : Number) → Lawful (Q n) Separates More ⊥) → Chain (field Wrong) Q Separates More ⊥
 unfolding field
@@ -174,7 +175,7 @@ pub laws_gate_line : (most : ℕ) (c : Lines Gate) → Lawful (gate_line most c)
 unfolding gate_line
 laws_gate_line most c = (chain_gate most c).whole
 
--- the laws of a given number of lines of one kind
+-- a given number of lines of one kind obeys the grammar laws of the crate `ps_text`
 module _ {C : Type 0} (item : C → Field C) (l : (c : C) → Lawful (item c) AtDigit Separates ⊥) where
   behind_line : (n : ℕ) (c : C) → ((d : C) → Lawful (times n item d) AtDigit Separates (Unit {0})) →
       Chain (item c) (times n item) AtDigit Separates (Unit {0})
@@ -294,7 +295,7 @@ unfolding header body
 chain_text = chained chain_header.whole (λ h. (chain_inputs h no_lines).whole) separates_body (λ t h. tt) (λ t h. tt)
     (λ t h. tt) (λ t h. tt) (λ n. n.0)
 
--- the grammar of a whole AIGER text obeys the laws of ps_text
+-- the grammar of a whole AIGER text obeys the grammar laws of the crate `ps_text`
 pub laws_text : Lawful circuit_text Any Any ⊥
 unfolding circuit_text
 laws_text = chain_text.whole

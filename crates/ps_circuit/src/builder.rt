@@ -27,8 +27,8 @@ pub struct Sides {
     pub second: Literal,
 }
 
-/// A builder, which makes and-gates over some given variables. If a gate with the same two literals exists, it is used
-/// again; a new gate takes the next variable.
+/// A circuit builder, which makes and-gates over some given variables. If a gate with the same two literals exists, it
+/// is used again; a new gate takes the next variable.
 ///
 /// Every call of a builder, even one that fails, leaves the existing gates unchanged. A builder's call fails only if
 /// out of memory, or if 2147483647 variables exist and another gate is needed.

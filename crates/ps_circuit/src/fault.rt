@@ -5,23 +5,24 @@ ghost use Rattle.ps_circuit.specs.Causes.{cause_number};
 
 use ps_text::faults::{Cause, Fault};
 
-/// What is wrong with the AIGER text of a circuit. Each description names in brackets the section of the AIGER 1.9
-/// format description that the text violates.
+/// What is wrong with the AIGER text of a circuit. The description of each error names in brackets the section of the
+/// AIGER 1.9 format description that the text violates.
 #[derive(Clone, Copy, Debug, PartialEq, Eq)]
 pub enum AigCause {
-    /// A byte is not allowed at its position, or the text ends too early (ASCII format, symbol table, comments).
+    /// A byte is not allowed at its position, or the text ends too early (AIGER 1.9: ASCII format, symbol table,
+    /// comments).
     Syntax,
     /// A literal is not allowed at its position: it is too large, or it is negated or constant although it should
-    /// define a variable (literals).
+    /// define a variable (AIGER 1.9: literals).
     Literal,
-    /// A variable is defined a second time (literals).
+    /// A variable is defined a second time (AIGER 1.9: literals).
     DefinedTwice,
-    /// The variable of a literal that is used is never defined (literals).
+    /// The variable of a literal that is used is never defined (AIGER 1.9: literals).
     Undefined,
-    /// A gate depends on itself (and-gates).
+    /// A gate depends on itself (AIGER 1.9: and-gates).
     Cyclic,
-    /// A latch has no first value, since its own literal is its reset (reset logic). psyn rejects such a latch, because
-    /// psyn runs circuits and needs first values.
+    /// A latch has no first value, since its own literal is its reset (AIGER 1.9: reset logic). psyn rejects such a
+    /// latch, because psyn runs circuits and needs first values.
     UnsetLatch,
     /// One of the counts B, C, J and F of the header is not 0, so the text has a section of bad states, constraints,
     /// justice or fairness. Only psyn, not AIGER, requires the sections of bad states, constraints, justice and

@@ -1,5 +1,5 @@
--- The grammar of a whole game text obeys the laws of ps_text: what can follow each node, and what can follow the last
--- one.
+-- The grammar of a whole game text obeys the grammar laws of the crate `ps_text`: what can follow each node, and what
+-- can follow the last one.
 use Rattle.std.proofs.Common.{◌≡◌, ℕ, cond, List, [], Option, None, Some, refl, ap, arith, rules}
 use Rattle.std.proofs.lemmas.Slice.Eq.{bytes_eq-Decides}
 use Rattle.std.proofs.lemmas.Bool.{cases_Bool}
@@ -22,7 +22,7 @@ use Rattle.ps_pgsolver.proofs.PartLaws.{laws_semicolon, laws_node}
 -- ## The whole text
 
 module _ (known : Option (List ℕ)) where
-  -- the grammar of one more node obeys the laws of ps_text
+  -- the grammar of one more node obeys the grammar laws of the crate `ps_text`
   pub laws_entry : (nodes : List NodeData) → Laws Odd (entry known nodes) (IsKind 0) Nothing ⊥
   unfolding entry
   laws_entry nodes = laws_mapped _ (node known (ids_of nodes)) (laws_node known (ids_of nodes))
@@ -112,7 +112,7 @@ module _ (known : Option (List ℕ)) where
   pub joint_parity : Joint (setting (codes "parity")) (λ _. from_start)
   joint_parity = joint (laws_setting (codes "parity")) (λ _. laws_start) parity_apart
 
-  -- the grammar of a whole game obeys the laws of ps_text
+  -- the grammar of a whole game obeys the grammar laws of the crate `ps_text`
   pub laws_game : Laws Odd (game known) Anything (IsKind 0) ⊥
   unfolding game
   laws_game = weaker

@@ -1,7 +1,8 @@
--- The parts of the grammar of game texts obey the laws of ps_text, and so do the parts that are joined from them.
--- - `laws_sign`: the laws of a part of the grammar that consists of one token
--- - `laws_number`, .., `laws_node`, `joint_more`, .., `joint_id`: the laws of each part of the grammar, and of parts
---   that follow one another
+-- The parts of the grammar of game texts obey the grammar laws of the crate `ps_text`, and so do the parts that are
+-- joined from them.
+-- - `laws_sign`: the grammar laws of the crate `ps_text` for a part that consists of one token
+-- - `laws_number`, .., `laws_node`, `joint_more`, .., `joint_id`: the grammar laws for each part, and for parts that
+--   follow one another
 use Rattle.std.proofs.Common.{◌≡◌, ℕ, List, [], ◌∷◌, ◌++◌, Option, None, Some, refl, sym, ◌∙◌, arith, rules}
 use Rattle.ps_text.specs.Parts.{Part, one, give, then_by, many, mapped, NoBad}
 use Rattle.ps_text.proofs.Laws.{Laws, Joint, Nothing, Or, Within, Apart, weaker}
@@ -49,8 +50,8 @@ kinds_apart i j d t h k = d (sym h ∙ k)
 pub same : (A : Sign → Type 0) → Within A A
 same A t h = h
 
--- a part of the grammar that reads one token obeys the laws if `First` contains each token that the part accepts or
--- reports as an error
+-- a part of the grammar that reads one token obeys the grammar laws of the crate `ps_text` if `First` contains each
+-- token that the part accepts or reports as an error
 pub laws_sign : {V : Type 0} (take : Sign → Option V) (Bad : Sign → PgCause → Type 0) (t : Sign) (v : V) (First : Sign →
     Type 0) → take t ≡ Some v → Within (Or (Taken take) (BadSign Bad)) First → Laws Odd (one take Bad) First Nothing ⊥
 laws_sign take Bad t v First e first = weaker (search (rules, laws_one, no_odd)) first (same Nothing) (λ h. h)

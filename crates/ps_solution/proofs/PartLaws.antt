@@ -1,4 +1,5 @@
--- The parts of the grammar of solutions obey the laws of ps_text, and so do the parts that are joined from them.
+-- The parts of the grammar of solutions obey the grammar laws of the crate `ps_text`, and so do the parts that are
+-- joined from them.
 use Rattle.std.proofs.Common.{◌≡◌, ℕ, List, length, Option, None, Some, refl, ap, arith, rules}
 use Rattle.std.specs.Prelude.{codes}
 use Rattle.ps_text.specs.Parts.{Part, one, give, then_by, either, many, mapped, NoBad}
@@ -27,8 +28,8 @@ Odd = Own solution_causes
 no_odd : (A : Sign → Type 0) → Apart A Odd
 no_odd A t h o = none_is_some o.0 o.1
 
--- a part of the grammar that reads one token obeys the laws if `First` contains each token that the part accepts or
--- reports as an error
+-- a part of the grammar that reads one token obeys the grammar laws of the crate `ps_text` if `First` contains each
+-- token that the part accepts or reports as an error
 laws_sign : {V : Type 0} (take : Sign → Option V) (Bad : Sign → CertCause → Type 0) (t : Sign) (v : V) (First : Sign →
     Type 0) → take t ≡ Some v → Within (Or (Taken take) (BadSign Bad)) First → Laws Odd (one take Bad) First Nothing ⊥
 laws_sign take Bad t v First e first = weaker (search (rules, laws_one, no_odd)) first (same Nothing) (λ h. h)

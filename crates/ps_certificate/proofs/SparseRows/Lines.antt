@@ -1,5 +1,5 @@
--- Lemmas about a certificate's stored entries: a list of winners, a list of lines, and one shared list of nonzero
--- counts with their indices.
+-- Lemmas about a certificate's stored entries: a list of winners, a list of values of type `Line`, and one shared list
+-- of nonzero counts with their indices.
 use Rattle.std.proofs.Common.{◌≡◌, ℕ, ◌<◌, ◌≤◌, List, [], ◌∷◌, ◌++◌, length, get_or, take, drop, refl}
 use Rattle.std.proofs.Common.{ap, sym, subst, ◌∙◌, arith, rules}
 use Rattle.std.specs.List.{All, slice_range, zip}
@@ -24,7 +24,7 @@ zip_push [] (b ∷ ls) w l h = absurd (omega arith)
 zip_push (a ∷ ws) [] w l h = absurd (omega arith)
 zip_push (a ∷ ws) (b ∷ ls) w l h = ap (λ rest. (a, b) ∷ rest) (zip_push ws ls w l (omega arith))
 
--- the entries that are stored as lines do not change when more counts are appended to the shared list
+-- a certificate's stored entries do not change when more counts are appended to the shared list
 entries_kept : (ws : List ℕ) (ls : List Line) {cs : List PlacedCount} (more : List PlacedCount) →
     All (IsRowWithin cs) ls
     → entries_in ws ls (cs ++ more) ≡ entries_in ws ls cs
@@ -64,7 +64,7 @@ module _ (ws : List ℕ) (ls : List Line) (cs new : List PlacedCount) (are : Are
         (ls ++ line ∷ []) new ≡ entries_in ws ls cs ++ record { winner = w; choice = line.choice; counts = row } ∷ []
     entries_push is = search (rules, zip_push, map-append, entries_same)
 
-    -- the stored lines stay correct when one more line is appended whose counts are in the shared list
+    -- the stored entries stay well formed when one more is appended whose counts are in the shared list
     pub lines_push : IsRowWithin new line → AreLines (ws ++ w ∷ []) (ls ++ line ∷ []) new
     lines_push is = grind (
       arith,

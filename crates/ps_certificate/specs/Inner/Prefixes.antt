@@ -43,8 +43,8 @@ pub record IsFirstEscape (game : ParityGame) (certificate : CertificateData) (v 
   pub leaves : Leaves game certificate v w
   pub first : (other : ℕ) → Leaves game certificate v other → (w ≡ other) ⊎ OccursBefore (successors_of game v) w other
 
--- the stage of the check that reports a flaw: the first stage reports wrong moves and escapes, and the second reports
--- flaws in counts
+-- the stage of the check that reports a flaw: the first stage reports wrong moves and edges out of a winner's region,
+-- and the second reports flaws in counts
 abbrev pub stage_of : Flaw → ℕ
 stage_of (Move _ _) = 0
 stage_of (Escape _ _) = 0

@@ -2,8 +2,8 @@ use Rattle.std.proofs.Common.{◌≡◌, ℕ, ◌<◌, get_or, true, false}
 use Rattle.ps_certificate.proofs.Windows.{AreMarks}
 use Rattle.ps_certificate.proofs.fitted.window_present.Given as goal
 
--- each marked number is some vertex's priority; if the window contains the priority of a vertex before the loop's
--- index, this priority is marked
+-- each marked number is some vertex's priority; if the list `window` contains the priority of a vertex before the
+-- loop's index, this priority is marked
 abbrev pub invariant-loop-vertex : goal.invariant-loop-vertex
 invariant-loop-vertex g l = AreMarks (g.A.Arena.game l.arena) l.window.list.now l.seen l.vertex
 
