@@ -22,7 +22,7 @@ use Rattle.ps_synthesis.specs.declared.report.Report.{Report}
 use Rattle.ps_program.specs.Determined.{AgreeInWinners}
 use Rattle.ps_program.specs.Replies.{Reply, text_reply}
 
--- the laws that are used
+-- the laws of other crates on which the proofs in this file rely
 abbrev pub OneFile : Type 0
 OneFile = (text : List ℕ) (a b : Result FileData (Found HoaCause)) → ReadsFile text a → ReadsFile text b → a ≡ b
 
@@ -47,7 +47,7 @@ ok_of v = Ok v
 pub ok_same : {V E : Type 0} (v w : V) → ok_of {V = V} {E = E} v ≡ Ok w → v ≡ w
 ok_same v w e = cc
 
--- the players of a file's game are 0 and 1
+-- each vertex of a file's game is owned by player 0 or player 1
 owner_below : (order : Order) (key : Key) → owner_of_key (mover_of order) key < 2
 owner_below order key = grind arith
 
@@ -112,7 +112,7 @@ module _ (files : OneFile) (file_games : OneFileGame) (winners : OneWinner) wher
     pub reports-game : a.game_text.items ≡ b.game_text.items
     reports-game = f.printed ∙ ap game_text same_game ∙ sym g.printed
 
-  -- any two certificates of the same game agree
+  -- any two valid certificates of the same game assign the same winner to each vertex
   pub certificates_agree : (compact : Bool) (game : NamedGameData) (one other : CertificateData) (a b : Reply) →
       IsCertified game one → IsCertified game other → a ≡ text_reply (text_in compact game one) →
       b ≡ text_reply (text_in compact game other) → AgreeInWinners compact game a b

@@ -12,11 +12,11 @@ some_or : List ℕ → Option (List ℕ) → List ℕ
 some_or other None = other
 some_or other (Some line) = line
 
--- a lack of memory has no line
+-- the fault `OutOfMemory` is reported by no line
 pub no_line : {line : List ℕ} → None ≡ Some line → ⊥
 no_line none = cc
 
--- the line of a fault of the text
+-- if a text has a fault, the line that reports this fault is a possible result of reading the text as an automaton
 pub text_refused : (text : List ℕ) (fault : SynthFault) (line : List ℕ) → IsTextFault text fault →
     stage_line fault ≡ Some line → ReadsAutomaton text (Err line)
 unfolding some_or

@@ -1,4 +1,4 @@
--- The line that is printed for a tested certificate.
+-- The line that the program prints after it has tested a certificate.
 use Rattle.std.proofs.Common.{arith, ◌≡◌, ◌↔◌, ℕ, List, Result, Ok, Err, false, true, ap}
 use Rattle.std.specs.Prelude.{IfErr, IsOk}
 use Rattle.ps_game.specs.Games.{NamedGameData, ParityGame, IsGame, vertex_count}
@@ -43,13 +43,13 @@ no_reply same = cc
 no_fault : {reply : Reply} {line : List ℕ} → Err line ≡ Ok reply → ⊥
 no_fault same = cc
 
--- the flaw names only vertices of the game
+-- the flaw that a test of a certificate finds names only vertices of the game
 pub outcome_names_vertices : (game : ParityGame) (given : CertificateData) (outcome : Result (Unit {0}) Flaw) →
     IsGame game → Fits game given → IfErr outcome (IsFirstFlaw game given) →
     IfErr outcome (NamesVertices (vertex_count game))
 outcome_names_vertices game given outcome is_game fits first = grind (arith, flaw_names_vertices)
 
--- the result is the line for what the test found
+-- the command's result is the line for the outcome of the test: the word for success, or the line of the flaw
 pub tests_told : (IsGood : ParityGame → CertificateData → Type 0) (word : List ℕ) (named : NamedGameData)
     (given : CertificateData) (outcome : Result (Unit {0}) Flaw) (result : Result Answer Refusal) → IsGame named.game
     → (IsOk outcome ↔ IsGood named.game given) → IfErr outcome (IsFirstFlaw named.game given) →

@@ -1,4 +1,4 @@
--- The texts of circuits and stimuli.
+-- How faults in the texts of circuits and stimuli become faults of a command.
 use Rattle.std.proofs.Common.{arith, ℕ, false, Bool, List, length, Ok, Err, refl, inl, inr}
 use Rattle.ps_circuit.specs.Circuits.{CircuitData}
 use Rattle.ps_simulate.specs.Stimuli.{StimulusData, stem_of}
@@ -20,14 +20,14 @@ Run = CircuitData × StimulusData
 abbrev pub run_view : CircuitData × List (List Bool) → Run
 run_view both = (both.0, stem_of both.1)
 
--- a fault of the circuit's text is a fault of the two texts together
+-- a fault in the circuit's text is also the fault that reading the circuit and the stimulus together reports
 pub simulated_circuit_fault : (texts first second : List ℕ) (fault : Refusal) → CutsInTwo texts (Ok (first, second))
     → Gives {X = CircuitData} (λ given. given) (ReadsCircuitText first) (Err fault) →
     Gives run_view (ReadsSimulated texts) (Err fault)
 simulated_circuit_fault texts first second (refusal.Fault fault) cuts h = inr ((first, second), cuts, grind arith)
 simulated_circuit_fault texts first second refusal.OutOfMemory cuts h = tt
 
--- a fault of the stimulus after a correct circuit is a fault of the two texts together
+-- if the circuit's text is correct, a fault in the stimulus is the fault that reading both texts reports
 pub simulated_stimulus_fault : (texts first second : List ℕ) (c : CircuitData) (fault : Refusal) →
     CutsInTwo texts (Ok (first, second)) → ReadsCircuitText first (Ok c)
     → Gives {X = List (List Bool)} stem_of (ReadsStimulusText (length c.inputs) false second) (Err fault) →

@@ -1,4 +1,4 @@
--- How clap reads words by the table of commands.
+-- How the command-line parser clap reads the words of a line, given the table of commands.
 use Rattle.std.proofs.Common.{rules, arith, ◌≡◌, ◌⊎◌, ◌∙◌, ◌<◌, ◌+◌, ◌++◌, ℕ, List, [], ◌∷◌, ◌||◌, Bool, Bor, length}
 use Rattle.std.proofs.Common.{map, take, true, false, refl, sym, inl, inr, ap, ap₂, subst}
 use Prim.Native.Nat.{suc}
@@ -30,7 +30,7 @@ use Rattle.ps_program.specs.CommandLine.{words_with, AreRead, Says, LinesAreRead
 use Rattle.ps_program.specs.Inner.Usages.{usage_of, with_flags}
 use Rattle.ps_program.specs.declared.commands.Usage.{Usage as Row}
 
--- the table is a simple command, for which clap's contracts say what the words give
+-- the table of commands is a simple clap command, so clap's contracts define what it returns for each list of words
 pub table-simple : is_simple table ≡ true
 unfolding table clap_on_literals
 table-simple = refl
@@ -39,17 +39,17 @@ pub table-free : is_simple_and_free table ≡ true
 unfolding table clap_on_literals
 table-free = refl
 
--- if clap refuses words, and not for lack of memory, the words mean the line of that refusal
+-- if clap refuses words for a reason other than lack of memory, the words mean the `Line` for that kind of error
 pub says_refusal : (app : App) (words : List Text) (kind : ErrorKind) → app ≡ table → (kind ≡ OutOfMemory → ⊥)
     → (kind ≡ OutOfMemory) ⊎ IsAmong kind (fault_of app words) → Says words (line_refused kind)
 says_refusal app words kind same memory (inl e) = absurd (memory e)
 says_refusal app words kind same memory (inr among) = inr (kind, grind arith, refl)
 
--- words that clap refuses are a refused line, unless they ask for help
+-- words that clap refuses mean the line `Refused`, unless they ask for help
 pub line_refused-other : (kind : ErrorKind) → (kind ≡ DisplayHelp → ⊥) → line_refused kind ≡ Refused
 line_refused-other kind other = grind arith
 
--- what clap returns for a command and flags: its errors, and the line
+-- what clap returns for a command and flags: the kinds of its errors, and the `Line` that the words mean
 abbrev Heard : Type 0
 Heard = List ErrorKind × Line
 
@@ -96,13 +96,13 @@ pub given_is : (found : Found) (name : Text) (value : Option Text) → value ≡
     option_map_or (λ text. bytes_eq text (codes "true")) value false ≡ is_given name (rows_of found)
 given_is found name value is = grind (arith, first_value-rows)
 
--- ---- the table while commands are added
+-- ---- the table of commands while commands are added to it
 
 -- a command with its flags, as a program of its own
 abbrev pub app_with : Text → List Text → App
 app_with name flags = record { top = command_with name flags; subs = [] }
 
--- the flags before an index, and the flag at that index
+-- appending the flag at an index to the flags before that index gives one flag more
 one_more : (flags : List (Bor Text)) (i : ℕ) (default : Bor Text) → i < length flags
     → map flag (map (λ given. given.now) (take i flags)) ++ flag (get_or flags i default).now ∷ [] ≡ map flag
     (map (λ given. given.now) (take (i + 1) flags))
@@ -120,13 +120,13 @@ pub flag_added : (old new : App) (rule : Rule) (name : Text) (flags : List (Bor 
     rule ≡ flag (get_or flags i default).now → new ≡ app_with name (map (λ given. given.now) (take (i + 1) flags))
 flag_added old new rule name flags i default within added were is = grind (arith, one_more)
 
--- the command with all its flags
+-- after the last flag has been added, the command has all its flags
 pub flags_whole : (command : Command) (name : Text) (flags : List (Bor Text)) (i : ℕ) → i ≡ length flags →
     app_of command ≡ app_with name (map (λ given. given.now) (take i flags))
     → (out-Command command).has_globals ≡ false → HasFlags name (map (λ given. given.now) flags) command
 flags_whole command name flags i behind is local = grind (arith, take-length)
 
--- the table with one command more
+-- the table of commands with one more command
 abbrev pub more : App → Text → List Text → App
 more app name flags = with_subcommand app (command_with name flags)
 
@@ -135,14 +135,14 @@ pub grown : {E : Type 0} (result : Result Command E) (psyn command : Command) (n
     → IfOk result (λ whole. app_of whole ≡ more (app_of psyn) name flags)
 grown result psyn command name flags has adds = grind arith
 
--- ---- the table in the code
+-- ---- the table of commands that the code builds
 
 with_one_more : (app : App) (usages : List Usage) (usage : Usage) →
     with_commands app (usages ++ usage ∷ []) ≡ more (with_commands app usages) usage.name usage.flags
 with_one_more app [] usage = refl
 with_one_more app (first ∷ usages) usage = with_one_more (more app first.name first.flags) usages usage
 
--- the table of the first rows, extended by the next row
+-- adding the next row's command to the table of the rows before it
 pub row_added : (old new app : App) (rows : List Row) (i : ℕ) (default : Row) → i < length rows →
     new ≡ more old (get_or rows i default).name.now (map (λ flag. flag.now) (get_or rows i default).flags.now) →
     old ≡ with_commands app (map usage_of (take i rows)) → new ≡ with_commands app (map usage_of (take (i + 1) rows))
@@ -155,7 +155,7 @@ row_added old new app rows i default within added were =
       take-suc rows i default within,
     )
 
--- the table of all commands
+-- the command that the code builds from all rows is the table of all commands
 pub made_table : {E : Type 0} (made : Result Command E) (rows : List Row) → map usage_of rows ≡ commands →
     IfOk made (λ command. app_of command ≡ with_commands program (map usage_of rows)) →
     IfOk made (λ command. app_of command ≡ table)
@@ -167,7 +167,7 @@ pub all_rows : (app : App) (rows : List Row) (i : ℕ) → i ≡ length rows →
     app ≡ with_commands program (map usage_of (take i rows)) → app ≡ with_commands program (map usage_of rows)
 all_rows app rows i behind is = grind (arith, take-length)
 
--- the line of the row with this name
+-- finding a row by a command's name gives the `Line` that the definitions give for this name
 found_among : (rows : List Row) (name : Text) (given : Text → Bool) →
     option_map_or (λ row. with_flags row.line given) (find (λ row. bytes_eq row.name.now name) rows) Refused
     ≡ option_map_or (λ usage. usage.line given) (find (λ usage. bytes_eq usage.name name) (map usage_of rows)) Refused
@@ -191,11 +191,11 @@ longer_than_each rows word same longer =
     let IsLonger : Usage → Type 0 = λ usage. length usage.name < length word in
     subst (All IsLonger) same (All-map IsLonger usage_of rows longer)
 
--- if the bytes of a word don't begin with a hyphen, the word does not
+-- if the first byte of a word is not a hyphen, the word does not begin with a hyphen
 pub no_hyphen : (word bytes : Text) → bytes ≡ word → (get_or bytes 0 0 ≡ 45 → ⊥) → slice_index word 0 ≡ 45 → ⊥
 no_hyphen word bytes same plain hyphen = grind arith
 
--- the subcommand with a name and rows
+-- a subcommand as a pair of its name and its parsed arguments
 module _ {B : Type 0} (name_in : B → Text) (rows_in : B → List clap.Row) where
   abbrev both_in : B → Text × List clap.Row
   both_in b = (name_in b, rows_in b)

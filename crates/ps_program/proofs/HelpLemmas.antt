@@ -1,4 +1,4 @@
--- The help text consists of its parts.
+-- The bytes that the code appends, command by command, are the help text of the definitions.
 use Rattle.std.proofs.Common.{◌≡◌, ◌++◌, ◌∙◌, ℕ, List, ap, ap₂, map}
 use Rattle.std.specs.Prelude.{flat_map}
 use Rattle.ps_program.specs.CommandLine.{Usage, commands}

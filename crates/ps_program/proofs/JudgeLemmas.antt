@@ -1,4 +1,4 @@
--- The line that is printed for a judged solution.
+-- The line that the command `judge` prints if a solution is refused, and why this line is unique.
 use Rattle.std.proofs.Common.{◌≡◌, ◌⊎◌, ◌∙◌, ◌<◌, ℕ, Bool, List, Option, None, Result, Ok, Err, IfSome}
 use Rattle.std.proofs.Common.{refl, sym, ap, subst, inl, inr, arith}
 use Rattle.std.proofs.lemmas.List.{get_or_default}
@@ -54,7 +54,7 @@ solved_solution_fault texts first second named (refusal.Fault fault) cuts reads 
     inr ((first, second), cuts, inr (named, reads, inl (fault_text fault, h, refl)))
 solved_solution_fault texts first second named refusal.OutOfMemory cuts reads h = tt
 
--- ---- the vertices of a fault
+-- ---- the vertices that a fault of a solution names
 
 module _ (named : NamedGameData) (given : SolutionData) (is_game : IsGame named.game)
     (places : HasPlaces named given) where
@@ -108,7 +108,7 @@ module _ (named : NamedGameData) (given : SolutionData) (is_game : IsGame named.
 
 -- ---- one answer
 
--- the laws that are used
+-- the laws of other crates on which the proofs in this file rely
 abbrev pub OneSolution : Type 0
 OneSolution = (ids text : List ℕ) (a b : Result SolutionData (Found CertCause)) → ReadsSolution ids text a →
     ReadsSolution ids text b → a ≡ b
@@ -139,7 +139,7 @@ module _ (flaws : OneFlaw) (certificates : OneJudged) (apart : NoFlawAndCycle) (
   not_refused is_game s (inr (player, cycle, lost, e)) =
       no_cycle named.game given.won given.moves given.moves player cycle s lost
 
-  -- a refused solution has only one line, unless a player loses a cycle
+  -- only one line can report a refused solution, unless a player loses a cycle
   refused_one : {line other : List ℕ} → IsGame named.game → IsRefusalLine named given line →
       IsRefusalLine named given other →
       (line ≡ other) ⊎ LosesCycle named given

@@ -1,5 +1,5 @@
--- A line that clap refuses either asks for help or is refused. It does not matter which of the possible errors clap
--- reports, because all possible errors of a line give the same result.
+-- A command line with which the parser clap reports an error either asks for help or is refused by psyn. It does not
+-- matter which possible error of a command line clap reports, because all of them give the same result.
 use Rattle.std.proofs.Common.{rules, arith, ◌≡◌, ◌⊎◌, ◌&&◌, ℕ, Bool, zero, suc, true, false, List, [], ◌∷◌, Option}
 use Rattle.std.proofs.Common.{None, Some, is_some, refl, inl, inr}
 use Rattle.std.specs.Prelude.{find, if◌then◌else◌}
@@ -23,7 +23,7 @@ use Rattle.ps_program.specs.declared.commands.Line.{Line}
 use Rattle.ps_program.specs.declared.commands.Line.TheVariants.{Refused}
 use Rattle.ps_program.specs.CommandLine.{line_refused}
 
--- all errors of the given kinds have one line
+-- all errors of the given kinds mean the same `Line`
 pub record MakeOne (kinds : Kinds) : Type 0 where
   pub line : Line
   pub same : (k : ErrorKind) → IsAmong k kinds → line_refused k ≡ line
@@ -78,7 +78,7 @@ one_action other again a values rows = one_request other
 one_use : (again : Bool) (a : Rule) (values : List Text) (rows : List Row) → MakeOne (use_fault again a values rows)
 one_use again a values rows = grind (arith, one_else, one_range, one_action)
 
--- ---- the walk through the words
+-- ---- clap goes through the words of a line
 
 one_settle : (c : List Rule) (again : Bool) (h : Held) → MakeOne (settle_fault c again h)
 one_settle c again h = search (rules, one_option, one_use, one_none)
@@ -116,7 +116,7 @@ one_flag_word : (c : List Rule) (again : Bool) (o : Option (Text × Option Text)
     MakeOne (flag_word_fault c again o word h)
 one_flag_word c again o word h = grind (arith, one_long, one_option, one_flags, one_none)
 
--- no word asks for the help of a subcommand
+-- there is no subcommand `help`, or there are no subcommands at all
 abbrev pub IsPlain : Shape → Names → Type 0
 IsPlain s names = (s.disable_help_subcommand ≡ true) ⊎ (names ≡ [])
 
@@ -165,7 +165,7 @@ one_walk s names w [] plain = one_none
 one_walk s names w (word ∷ rest) plain =
     one_else _ _ (one_turn s names w word plain) (one_walk s names (walked s.rules names w word) rest plain)
 
--- ---- after the walk
+-- ---- after clap has gone through all words
 
 one_default : (rows : List Row) (a : Rule) → MakeOne (default_fault rows a)
 one_default rows a = grind (arith, one_if, one_none, one_else, one_request, one_values)
@@ -188,7 +188,7 @@ one_entered : (a : App) (stop : Option (Text × List Text)) → MakeOne (entered
 one_entered a stop = one_option _ stop [] (λ p. one_option _ (find (λ s. answers_to p.0 (label_of s)) a.subs) []
     (λ s. one_level s [] nothing_held p.1 false [] (inr refl) one_none) one_none) one_none
 
--- if no command `help` exists, all errors of a line give the same line
+-- if clap adds no subcommand `help`, all possible errors of a command line mean the same `Line`
 pub one_fault : (a : App) (words : List Text) → (built a).top.disable_help_subcommand ≡ true →
     MakeOne (fault_of a words)
 one_fault a words off = grind (arith, one_level, one_entered)

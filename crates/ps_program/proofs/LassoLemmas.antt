@@ -1,4 +1,4 @@
--- The result of `lasso`, text by text.
+-- The result of the command `lasso`, given the results of parsing the automaton, the circuit and the stimulus.
 use Rattle.std.proofs.Common.{arith, ◌≡◌, ◌<◌, ℕ, Bool, true, List, All, length, Result, Ok, Err, refl, inl}
 use Rattle.std.proofs.Common.{inr, subst, sym}
 use Rattle.ps_circuit.specs.Circuits.{CircuitData, IsCircuit}
@@ -23,13 +23,13 @@ use Rattle.ps_program.specs.Replies.{Reply, line_reply, reply_of}
 use Rattle.ps_program.specs.Texts.{CutsInThree, ReadsCircuitText, ReadsStimulusText}
 
 module _ (role : Role) (texts first second third : List ℕ) (cuts : CutsInThree texts (Ok (first, second, third))) where
-  -- a fault of the automaton
+  -- a fault in the automaton's text is the fault that `lasso` reports
   pub lasso_automaton_fault : (fault : Refusal) → GivesAutomaton first (Err fault) →
       Gives {X = Answer} reply_of (AnswersLasso role texts) (Err fault)
   lasso_automaton_fault (refusal.Fault fault) h = inr ((first, second, third), cuts, inl (fault_text fault, h, refl))
   lasso_automaton_fault refusal.OutOfMemory h = tt
 
-  -- the result for the circuit and the stimulus after a correct automaton
+  -- if the automaton's text is correct, the result of `lasso` is the result for the circuit and the stimulus
   pub lasso_run : (file : FileData) → ReadsAutomaton first (Ok file) → (outcome : Result Answer Refusal) →
       Gives reply_of (RunsCircuit role file second third) outcome → Gives reply_of (AnswersLasso role texts) outcome
   lasso_run file is_file (Ok answer) h = inr ((first, second, third), cuts, inr (file, is_file, h))
@@ -40,7 +40,7 @@ module _ (role : Role) (file : FileData) (text letters : List ℕ) where
   -- after a correct circuit
   module _ (c : CircuitData) (is_circuit : ReadsCircuitText text (Ok c)) (width : ℕ)
       (is_width : width ≡ length c.inputs) where
-    -- a fault of the stimulus after a correct circuit
+    -- if the circuit's text is correct, a fault in the stimulus is the fault that is reported
     pub run_stimulus_fault : (fault : Refusal) → Gives {X = StimulusData} (λ stimulus. stimulus)
         (ReadsStimulusText width true letters) (Err fault) → Gives {X = Answer} reply_of
         (RunsCircuit role file text letters) (Err fault)

@@ -1,4 +1,4 @@
--- The line is refused if its first word is longer than each command and does not begin with a hyphen.
+-- A command line is refused if its first word is longer than each command's name and does not begin with a hyphen.
 use Rattle.std.proofs.Common.{rules, arith, ◌≡◌, ◌<◌, ◌≤◌, ◌&&◌, ◌==◌, nat_eq, ℕ, List, [], ◌∷◌, Bool, Option}
 use Rattle.std.proofs.Common.{None, length, find, map, false, refl, inl, inr, is_some, lit<}
 use Rattle.std.proofs.Math.ListN.{get_or}
@@ -20,14 +20,14 @@ use Rattle.ps_program.specs.CommandLine.{Usage, NamesNothing, Says, commands, ta
 none_more : (b : Bool) {rest : Bool} → rest ≡ false → (b && rest) ≡ false
 none_more b none = grind arith
 
--- a word that is longer than a name is not this name
+-- a word that is longer than a name differs from this name
 longer : (name word : Text) → length name < length word → bytes_eq name word ≡ false
 longer [] [] more = absurd (omega arith)
 longer [] (x ∷ xs) more = refl
 longer (n ∷ name) [] more = absurd (omega arith)
 longer (n ∷ name) (x ∷ xs) more = none_more (nat_eq n x) (longer name xs (omega arith))
 
--- the names of the commands, which the parser knows
+-- the names of the commands, as the parser compares words with them
 names_met : List Usage → Names
 names_met usages = map (λ usage. (usage.name, [])) usages
 
@@ -52,19 +52,19 @@ some_longer word (usage ∷ usages) some longer =
     let first : length usage.name < length word =
     All-head (λ (other : Usage). length other.name < length word) usage usages longer in omega arith
 
--- a word that names no command and does not begin with a hyphen is a value, which no argument takes
+-- a word that names no command and does not begin with a hyphen is an error, since no argument takes it as a value
 stray : (s : Shape) (names : Names) (x : ℕ) (xs : Text) → (x == 45) ≡ false → find (answers_to (x ∷ xs)) names ≡ None →
     arg_by_index s.rules 1 ≡ None → turn_fault s names (walk_from nothing_held) (x ∷ xs) ≡ stray_fault s
 stray s names x xs plain none untaken = rw (none, plain, plain, untaken) refl
 
--- the error of the first word is the error of the line
+-- if the first word has an error, this is the error of the whole line
 first_wrong : (s : Shape) (names : Names) (h : Held) (word : Text) (rest : List Text) (inside : Bool) (below : Kinds)
     (k : ErrorKind) (ks : Kinds)
     → turn_fault s names (walk_from h) word ≡ k ∷ ks → level_fault s names h (word ∷ rest) inside below ≡ k ∷ ks
 unfolding walk_fault
 first_wrong s names h word rest inside below k ks wrong = grind arith
 
--- words that begin with a word that names nothing are refused
+-- a list of words is refused if the first is longer than each command's name and does not begin with a hyphen
 long_word_refused : (word : Text) (rest : List Text) → NamesNothing word → Says (word ∷ rest) Refused
 unfolding table clap_on_literals names_met
 long_word_refused [] rest (more, plain) = absurd (omega (arith, some_longer [] commands (lit< tt) more))
@@ -79,7 +79,7 @@ long_word_refused (x ∷ xs) rest (more, plain) =
     []) (stray a.top (names_of a) x xs no_hyphen none refl) in
     inr (UnknownArgument, rw wrong (inl refl), refl)
 
--- a line that begins with a word that names nothing is refused
+-- as `long_word_refused`, for words that the code stores
 pub first_word_refused : (words : List (Bor Text)) (default : Bor Text) → 1 ≤ length words →
     NamesNothing (get_or words 0 default).now → Says (map (λ word. word.now) words) Refused
 first_word_refused [] default some nothing = absurd (omega arith)

@@ -1,4 +1,4 @@
--- If a text of a command is missing, the command has one answer, which reports this.
+-- If the input lacks a text that its command needs, the only possible answer reports the missing text.
 use Rattle.std.proofs.Common.{◌≡◌, ◌∙◌, ◌-◌, ◌+◌, ℕ, Bool, true, false, List, [], ◌∷◌, length, Result, Ok, Err, refl}
 use Rattle.std.proofs.Common.{ap, inl, inr, subst}
 use Rattle.std.specs.Prelude.{codes, filter}
@@ -30,7 +30,7 @@ use Rattle.ps_program.specs.declared.commands.TextKind.TheVariants as kind
 use Rattle.ps_program.proofs.OneCut.{cut_one, cut_three_one}
 use Rattle.ps_program.proofs.OneStep.{err_of, err_or, ok_is_not_err}
 
--- the step fails with this line, and has no other result
+-- the only possible result of the step is the fault that this line reports
 abbrev Fails : {V : Type 0} → (Result V (List ℕ) → Type 0) → List ℕ → Type 0
 Fails {V} step line = (outcome : Result V (List ℕ)) → step outcome → outcome ≡ Err line
 
@@ -46,7 +46,7 @@ two_missing texts fewer outcome cuts = cut_one texts outcome (Err missing_text) 
 three_missing : (texts : List ℕ) → HasFewerSeparators 2 texts → Fails (CutsInThree texts) missing_text
 three_missing texts fewer outcome cuts = cut_three_one texts outcome (Err missing_text) cuts (fewer, refl)
 
--- the number of texts that `synth` reads: with `--cert` the certificate, too
+-- the number of texts that `synth` reads: the automaton and, with `--cert`, a certificate
 abbrev synth_count : Bool → ℕ
 synth_count false = 1
 synth_count true = 2
@@ -65,7 +65,7 @@ synth_counted : (cert : Bool) → 1 + length (filter (λ (each : Text × TextKin
 synth_counted false = refl
 synth_counted true = refl
 
--- ---- two texts, and three texts
+-- ---- commands that need two texts, and commands that need three texts
 
 certified_missing : (texts : List ℕ) → HasFewerSeparators 1 texts → Fails (ReadsCertified texts) missing_text
 certified_missing texts fewer =

@@ -1,4 +1,4 @@
--- Any two answers to one input are equal, or agree as far as the definitions say.
+-- Any two answers to one input are equal, or agree as far as `Determined` requires.
 use Rattle.std.proofs.Common.{rules, ◌≡◌, ◌⊎◌, ◌∙◌, ℕ, Bool, true, false, List, length, Result, Ok, Err, refl, sym, ap}
 use Rattle.std.proofs.Common.{inl, inr, arith}
 use Rattle.ps_game.specs.Games.{ParityGame, NamedGameData}
@@ -81,9 +81,9 @@ module _ (games : OneGame) (certificates : OneCertificate) (flaws : OneFlaw) (ci
   game_one : (order : Order) (text : List ℕ) → IsOne (AnswersGameText order text)
   game_one order text = then_one _ _ (game_of_one order text) (λ game. ended_one (Ok (text_reply (game_text game))))
 
-  -- ---- what a solver may choose
+  -- ---- answers that depend on which certificate a solver chooses
 
-  -- two results of a line whose answer is open
+  -- two possible results of a command whose answer is not determined: one of them is a fault, or they agree
   abbrev Alike : (Reply → Reply → Type 0) → Result Reply (List ℕ) → Result Reply (List ℕ) → Type 0
   Alike agree x y = IsFaultReply (printed x) ⊎ IsFaultReply (printed y) ⊎ agree (printed x) (printed y)
 
@@ -200,7 +200,7 @@ module _ (games : OneGame) (certificates : OneCertificate) (flaws : OneFlaw) (ci
       by (inl (l, reads, e)) (inl (m, reads', e')) =
           grind (arith, automaton_one files refusals outcomes text (Err l) (Err m) reads reads')
 
-  -- two reports on the requested text agree
+  -- two reports that `synth` may print for the same automaton's text agree
   abbrev ReportsAgree : (cert : Bool) → SynthLine → List ℕ → Reply → Reply → Type 0
   ReportsAgree cert asked texts a b =
       (text : List ℕ) × AsksFor cert texts text × AgreeAsReports asked.order asked.full text a b
@@ -240,7 +240,7 @@ module _ (games : OneGame) (certificates : OneCertificate) (flaws : OneFlaw) (ci
             (λ a b agree. (parts.0, (parts.1, cuts), agree)) alike,
       )
 
-  -- each line has one result, or it is open and any two results agree
+  -- each command line has only one result, or its result is not determined and any two results are alike
   line_one : (solvers : Solvers) (l : Line) (texts : List ℕ) (x y : Result Reply (List ℕ)) →
       AnswersLine solvers l texts x → AnswersLine solvers l texts y →
       (x ≡ y) ⊎ (IsUndetermined l texts × Alike (Agree l texts) x y)

@@ -1,5 +1,5 @@
--- With a given certificate, an automaton's text has one answer: the file, its game and the certificate determine the
--- report, or the line of the fault.
+-- Given a certificate in the input, `synth` has one answer: the automaton's file, its game and the certificate
+-- determine the report, or the line of the fault.
 use Rattle.std.proofs.Common.{rules, ◌≡◌, ◌⊎◌, ◌∙◌, ◌↔◌, ◌++◌, ℕ, Bool, true, false, List, Option, None, Some, Result}
 use Rattle.std.proofs.Common.{Ok, Err, IsTrue, refl, sym, ap, ap₂, subst, inl, inr, arith}
 use Rattle.std.specs.Prelude.{codes}
@@ -48,7 +48,7 @@ use Rattle.ps_program.proofs.OneLine.{is_line_one}
 use Rattle.ps_program.proofs.OneStage.{OneOutcome, OneRefusal, automaton_one}
 use Rattle.ps_program.proofs.OneStep.{IsOne, ok_is_not_err, then_one}
 
--- the law that the winner has one circuit
+-- the law that a certificate gives the winner at most one circuit
 abbrev pub OneWinnersCircuit : Type 0
 OneWinnersCircuit =
     (order : Order) (file : FileData) (game : NamedGameData) (first second : IsGameOfFile order file game)
@@ -63,7 +63,7 @@ CircuitOrNone = (order : Order) (file : FileData) (game : NamedGameData) (first 
 
 -- ---- lines
 
--- the result is the line of this fault
+-- the result is the line that reports this fault
 abbrev IsLineOf : SynthFault → Result Reply (List ℕ) → Type 0
 IsLineOf fault x = (line : List ℕ) × (stage_line fault ≡ Some line) × (x ≡ Err line)
 
@@ -90,7 +90,7 @@ is_reply_by : (full : Bool) (r : Report) →
     report_reply full r ≡ reply_by full r.realizable r.circuit_text.items r.game_text.items r.certificate_text.items
 is_reply_by full r = grind arith
 
--- ---- what determines an answer
+-- ---- what determines the answer of `synth`
 
 module _ (order : Order) (compact full : Bool) where
   record Reported (file : FileData) (game : NamedGameData) (c : CertificateData) (x : Result Reply (List ℕ)) : Type 0
@@ -109,7 +109,7 @@ module _ (order : Order) (compact full : Bool) where
     above : IsOutOfLiterals machine
     line : IsLineOf stage.CircuitTooLarge x
 
-  -- the result is determined by the certificate, or by the first error of its text
+  -- what `synth` answers, if parsing the certificate's text gave this certificate or this error
   abbrev Tells : FileData → NamedGameData → Result Reply (List ℕ) → Result CertificateData (Found CertCause) → Type 0
   Tells file game x (Ok c) = ((IsCertified game c → ⊥) × IsLineOf stage.NotCertified x)
       ⊎ (IsCertified game c × (Above file game c x ⊎ Reported file game c x))
@@ -165,7 +165,7 @@ module _ (order : Order) (compact full : Bool) where
 
 -- ---- the answers
 
--- what a solver that replays a text may answer
+-- what a solver may answer that only parses the certificate that it was fed
 record Replayed (game : NamedGameData) (fed : Option (List ℕ))
     (answer : Result CertificateData (Found CertCause)) : Type 0 where
   certificate : List ℕ
@@ -195,7 +195,8 @@ never_lost : (game : NamedGameData) (fed : Option (List ℕ)) (fault : SolveFaul
 never_lost game fed fault is h = grind arith
 
 module _ (solver : SolverData) (replaying : IsReplaying solver) (asked : SynthLine) (text : List ℕ) where
-  -- the text of the automaton is refused with a line, or the certificate determines the result
+  -- the text of the automaton is refused and the result is the line of its fault, or the certificate determines the
+  -- result
   abbrev Told : Result Reply (List ℕ) → Type 0
   Told x =
       ((line : List ℕ) × ReadsAutomaton text (Err line) × (x ≡ Err line)) ⊎

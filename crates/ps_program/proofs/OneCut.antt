@@ -1,4 +1,4 @@
--- A text is divided at its lines `%%` in only one way.
+-- The lines `%%` of an input divide it into texts in only one way.
 use Rattle.std.proofs.Common.{arith, ◌≡◌, ◌∙◌, ℕ, true, false, List, [], ◌∷◌, Ok, Err, sym, ap, ap₂, subst, inl, inr}
 use Rattle.std.proofs.lemmas.Bool.{cases_order}
 use Rattle.ps_program.specs.Cut.{AreTexts, Cuts, HasFewerSeparators, HasNoSeparator}
@@ -21,7 +21,7 @@ firsts_one input first rest first' rest' a b = grind (arith, separators_one)
 rests_one : (input first rest first' rest' : List ℕ) → Cuts input first rest → Cuts input first' rest' → rest ≡ rest'
 rests_one input first rest first' rest' a b = grind (arith, separators_one)
 
--- a text with two lines `%%` does not have fewer than two
+-- an input that is divided into three texts does not have fewer than two lines `%%`
 two_separators : (texts first second third : List ℕ) → AreTexts texts (first ∷ second ∷ third ∷ []) →
     HasFewerSeparators 2 texts → ⊥
 two_separators texts first second third (rest, a, (rest', b, last)) (inl none) = no_cut texts first rest none a

@@ -18,7 +18,7 @@ use Rattle.ps_program.specs.Verifying.{AnswersVerify, IsProductLine, ReadsVerifi
 use Rattle.ps_program.proofs.OneCut.{cut_one}
 use Rattle.ps_program.proofs.OneStep.{IsOne, err_of, ok_of, then_one_or}
 
--- the law that is used: no circuit both wins and loses
+-- a law of another crate, on which this file relies: no circuit both wins and loses
 abbrev pub NotBoth : Type 0
 NotBoth = (order : Order) (role : Role) (file : FileData) (c : CircuitData) (s : StimulusData) →
     IsWinning order role file c → ¬ IsLosing order role file c s
@@ -27,7 +27,7 @@ module _ (order : Order) (role : Role) (file : FileData) (c : CircuitData) where
   early : IsInTimeWhereReached order role c → IsTooEarly order role c → ⊥
   early in_time too_early = too_early.sees (in_time too_early.first)
 
-  -- a circuit that is judged has no fault
+  -- a circuit with the right symbols, whose outputs depend on inputs only where they may, has no fault to report
   no_fault : HasSymbols role file.names file.controllable c → IsInTimeWhereReached order role c → (line : List ℕ) →
       IsProductLine order role file c line → ⊥
   no_fault symbols in_time line (inl (none, e)) = none symbols

@@ -1,4 +1,4 @@
--- The first line of an input means only one line.
+-- The first line of an input means only one command line (`Line`).
 use Rattle.std.proofs.Common.{arith, ◌≡◌, ◌∙◌, ℕ, true, List, [], refl, sym, subst, inl, inr}
 use Rattle.clap.specs.Simple.{built}
 use Rattle.clap.specs.Words.{Text, IsAmong, fault_of}

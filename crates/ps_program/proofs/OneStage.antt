@@ -1,5 +1,5 @@
--- An automaton, its game and the verdict on a lasso have at most one result, by laws. The file also states which texts
--- are refused.
+-- Parsing an automaton, making its game and judging a lasso have at most one result each, by laws of other crates. The
+-- file also states which texts are refused.
 use Rattle.std.proofs.Common.{rules, ◌≡◌, ◌≢◌, ◌⊎◌, ◌∙◌, ◌<◌, ℕ, Bool, List, [], None, Some, length, Result, Ok, Err}
 use Rattle.std.proofs.Common.{sym, ap, inl, inr, arith}
 use Rattle.std.specs.Prelude.{Option}
@@ -76,7 +76,7 @@ abbrev some_or : {V : Type 0} → V → Option V → V
 some_or other None = other
 some_or other (Some v) = v
 
--- a lack of memory has no line
+-- a fault that a line reports is not `OutOfMemory`
 is_told : (fault : AutomatonFault) (line : List ℕ) → automaton_line fault ≡ Some line → fault ≢ no_memory
 is_told fault line told none = let bad : None ≡ Some line = ap automaton_line (sym none) ∙ told in cc
 
@@ -116,7 +116,7 @@ pub game_accepted : (order : Order) (text : List ℕ) (v : NamedGameData) → Re
     HasAutomaton text
 game_accepted order text v h = grind (arith, ok_is_not_err)
 
--- the text is refused with a line, which is the result, or the text is accepted
+-- the text is refused and the result is the line of its fault, or the text is accepted
 abbrev pub RefusedOr : List ℕ → Result Reply (List ℕ) → Type 0
 RefusedOr text outcome = ((line : List ℕ) × ReadsAutomaton text (Err line) × (outcome ≡ Err line)) ⊎ HasAutomaton text
 

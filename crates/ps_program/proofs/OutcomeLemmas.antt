@@ -1,4 +1,4 @@
--- The result of a command, step by step.
+-- How the results of a command's steps make up the result of the command.
 use Rattle.std.proofs.Common.{rules, arith, ◌≡◌, ℕ, List, Result, Ok, Err, IsErrAnd}
 use Rattle.std.specs.Prelude.{IfOk}
 use Rattle.ps_text.specs.Answers.{Found}
@@ -12,13 +12,13 @@ use Rattle.ps_program.specs.Outcomes.{Gives, Reading, Settles, Then, printed}
 use Rattle.ps_program.specs.Refusals.{IsRefusalOf}
 use Rattle.ps_program.specs.Replies.{Reply, reply_of}
 
--- the answer is what is printed for a result that the command may have
+-- the program's answer is what is printed for some possible result of the command
 settles_gives : (step : Result Reply (List ℕ) → Type 0) (outcome : Result Answer Refusal) (answer : Answer)
     → Gives reply_of step outcome → Settles outcome answer → (told : Result Reply (List ℕ)) × step told ×
     (reply_of answer ≡ printed told)
 settles_gives step outcome answer h same = grind arith
 
--- a property of all such answers is a property of the answer
+-- the program's answer has each property that all possible results of the command have when printed
 pub settled : {E : Type 0} (step : Result Reply (List ℕ) → Type 0) (outcome : Result Answer Refusal)
     (result : Result Answer E) (P : Answer → Type 0)
     → Gives reply_of step outcome → IfOk result (Settles outcome) →
@@ -28,20 +28,21 @@ settled step outcome (Ok answer) P gives settles from =
     let told = settles_gives step outcome answer gives settles in from answer told.0 told.1 told.2
 settled step outcome (Err e) P gives settles from = tt
 
--- a fault that is passed on unchanged
+-- if a function returns a fault unchanged, the fault is still a possible result of the step
 pub gives_passed : {X V : Type 0} (view : X → V) (step : Result V (List ℕ) → Type 0) (outcome : Result X Refusal)
     (fault : Refusal)
     → IsErrAnd outcome (λ given. given ≡ fault) → Gives view step (Err fault) → Gives view step outcome
 gives_passed view step (Ok given) fault passed h = absurd passed
 gives_passed {X} view step (Err given) fault passed h = grind arith
 
--- a fault that is passed on as another fault
+-- a function that fails returns a possible fault of the step if its fault has a property P and each fault with P is
+-- possible
 pub gives_handed : {X V : Type 0} (view : X → V) (step : Result V (List ℕ) → Type 0) (outcome : Result X Refusal)
     (P : Refusal → Type 0)
     → IsErrAnd outcome P → ((fault : Refusal) → P fault → Gives {X = X} view step (Err fault)) → Gives view step outcome
 gives_handed view step outcome P handed from = grind arith
 
--- an error of a parser is passed on as the line of the error
+-- an error of a parser becomes a fault whose line has the error's number, name and offset
 pub gives_fault : {C X V : Type 0} (number : C → ℕ) (name : C → List ℕ) (reads : Result V (Found C) → Type 0)
     (view : X → V) (given : Fault C) (refused : Refusal)
     → UnlessMemory reads (Err given) → IsRefusalOf number name given refused →
@@ -51,13 +52,13 @@ gives_fault number name reads view (fault.Text cause offset) refusal.OutOfMemory
 gives_fault number name reads view fault.OutOfMemory (refusal.Fault line) answer same = absurd same
 gives_fault number name reads view fault.OutOfMemory refusal.OutOfMemory answer same = tt
 
--- if the first step fails, so does the whole
+-- if the first of two steps fails, its fault is the result of both steps together
 pub gives_failed : {X V Y W : Type 0} (view : X → V) (step : Result V (List ℕ) → Type 0) (after : Y → W)
     (next : V → Result W (List ℕ) → Type 0) (refused : Refusal)
     → Gives {X = X} view step (Err refused) → Gives {X = Y} after (Then step next) (Err refused)
 gives_failed view step after next refused h = grind arith
 
--- if the first step succeeds, the result of the second is the result of the whole
+-- if the first of two steps succeeds, the result of the second step is the result of both together
 pub gives_after : {V Y W : Type 0} (step : Result V (List ℕ) → Type 0) (after : Y → W)
     (next : V → Result W (List ℕ) → Type 0) (value : V) (outcome : Result Y Refusal)
     → step (Ok value) → Gives after (next value) outcome → Gives after (Then step next) outcome

@@ -1,4 +1,4 @@
--- The reply of the whole program.
+-- What the whole program writes, and its exit status.
 use Rattle.std.proofs.Common.{arith, ◌≡◌, ◌≤◌, ℕ, Bool, false, List, [], length, Some, inl, inr, sym, subst}
 use Rattle.std.specs.Prelude.{Option}
 use Rattle.ps_program.specs.Input.{AgreesWith, input_limit}
@@ -7,7 +7,7 @@ use Rattle.ps_program.specs.Replies.{Reply}
 use Rattle.ps_program.specs.Solvers.{Solvers}
 use Rattle.ps_program.specs.Streams.{Breaks}
 
--- an answer to the whole input is a reply to the source from which the input was read
+-- an answer to an input is also an answer of the program that reads this input from a source
 pub replies_answer : (solvers : Solvers) (known : Option (List ℕ)) (has_failed : Bool) (input : List ℕ) (reply : Reply)
     → has_failed ≡ false → AgreesWith known input → length input ≤ input_limit → AnswersInput solvers input reply →
     Replies solvers known has_failed reply
@@ -19,7 +19,7 @@ made text status = record { text = text; status = status }
 unbroken : (has_failed : Bool) → has_failed ≡ false → Breaks has_failed false → ⊥
 unbroken has_failed sound h = grind arith
 
--- if the sink was empty, and neither failed nor stalled, what was written to it is the reply
+-- a sink that was empty before, and neither failed nor stalled, contains exactly the reply after it was written
 written_whole : (reply : Reply) (items text : List ℕ) (failed_before flushed_before failed_after flushed_after : Bool)
     (status : ℕ) → items ≡ [] → failed_after ≡ false
     → Writes (record {

@@ -1,4 +1,4 @@
--- Each input has an answer, if its line is plain, or by what a solver may answer.
+-- Each input has an answer, if its command calls no solver and is not `verify`, or if a solver may answer its game.
 use Rattle.std.proofs.Common.{ℕ, List, Ok, refl}
 use Rattle.std.specs.Prelude.{codes}
 use Rattle.ps_certificate.specs.Certificates.{IsClosed, IsValid}
@@ -24,7 +24,7 @@ use Rattle.ps_program.proofs.SomeStage.{certified_is, certified_some, game_of_so
 use Rattle.ps_program.proofs.SomeStage.{tests_some}
 use Rattle.ps_program.proofs.SomeStep.{HasSome, ended_some, then_some}
 
--- the reply to an input whose line has an outcome
+-- an input has a reply if the command in its first line has a result
 replied : (solvers : Solvers) (input : List ℕ) (asked : Line) → IsLine (first_line input) asked →
     HasSome (AnswersLine solvers asked (behind_line input)) → HasReply solvers input
 replied solvers input asked is_line (outcome, answers) = (printed outcome, (asked, is_line, (outcome, answers, refl)))
@@ -62,7 +62,7 @@ module _ (below : Below) where
   plain_some solvers input asked is_line plain =
       replied solvers input asked is_line (line_some solvers asked (behind_line input) plain)
 
-  -- ---- by a solver
+  -- ---- commands that call a solver
 
   solved_line : (solvers : Solvers) → MayCertify solvers.built_in → (asked : Line) (texts : List ℕ) →
       IsSolved asked → HasSome (AnswersLine solvers asked texts)

@@ -1,4 +1,4 @@
--- Each text can be cut at its marks, or has too few of them.
+-- Each input can be divided into texts at its lines `%%`, or has too few of these lines.
 use Rattle.std.proofs.Common.{◌≡◌, ℕ, zero, suc, ◌+◌, ◌<◌, ◌⊎◌, Bool, true, false, List, length, take, drop, Ok}
 use Rattle.std.proofs.Common.{Err, refl, inl, inr, arith, subst, sym}
 use Rattle.std.proofs.lemmas.Bool.{cases_Bool, cases_eq}
@@ -6,7 +6,7 @@ use Rattle.ps_program.specs.Cut.{Cuts, HasNoSeparator, is_separator}
 use Rattle.ps_program.specs.Texts.{CutsInTwo, CutsInThree, missing_text}
 use Rattle.ps_program.proofs.SomeStep.{HasSome}
 
--- no place below n passes the test, or there is a first one
+-- `place` is the least number less than n that passes the test
 pub record IsFirst (test : ℕ → Bool) (n place : ℕ) : Type 0 where
   pub within : place < n
   pub passes : test place ≡ true
@@ -38,7 +38,7 @@ none_or_first test (suc n) = go (none_or_first test n)
       | inr fails ↦ inl (next none fails)
     ]
 
--- a text has no mark, or is cut at its first one
+-- an input has no line `%%`, or is divided at the first one
 cuts_or_none : (text : List ℕ) →
     HasNoSeparator text ⊎ ((first : List ℕ) × (second : List ℕ) × Cuts text first second)
 cuts_or_none text = elim (none_or_first (is_separator text) (length text)) [

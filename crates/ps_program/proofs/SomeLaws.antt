@@ -1,5 +1,5 @@
--- The laws of the crates below by which an input has an answer.
---     GoodOrFlawed      a certificate is good, or has a first flaw
+-- The laws of lower crates from which it follows that each input has an answer.
+--     GoodOrFlawed      a certificate passes the test `IsGood`, or has a first flaw
 --     Below      the laws
 use Rattle.std.proofs.Common.{◌≡◌, ◌≢◌, ◌<◌, ◌⊎◌, ℕ, Bool, List, length, Option, Result, Ok}
 use Rattle.ps_text.specs.Answers.{Found}
@@ -87,7 +87,7 @@ pub record Below : Type 0 where
   pub verdict : (role : Role) (file : FileData) (c : CircuitData) (stem lap : List (List Bool)) → IsSoundFile file →
       IsAdmitted file → IsCircuit c → HasSymbols role file.names file.controllable c → AreWide c stem lap →
       0 < length lap → (verdict : Verdict) × IsVerdictOf file c stem lap verdict
-  -- the circuit of a certificate
+  -- the circuit that a certificate gives the winner
   pub winners_circuit : (order : Order) (file : FileData) (game : NamedGameData)
       (is_game : IsGameOfFile order file game) (certificate : CertificateData) → IsSoundFile file →
       IsCertified game certificate →

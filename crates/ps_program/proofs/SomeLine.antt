@@ -1,4 +1,4 @@
--- A first line is a line of the program.
+-- Each first line of an input means some command line (`Line`).
 use Rattle.std.proofs.Common.{◌≡◌, ℕ, List, [], ◌∷◌, refl, sym, subst, inl, inr, ◌∙◌}
 use Rattle.std.specs.Str.{is_utf8}
 use Rattle.std.proofs.lemmas.Bool.{cases_Bool, false≢true}
@@ -9,7 +9,7 @@ use Rattle.ps_program.specs.declared.commands.Line.TheVariants.{Refused}
 use Rattle.ps_program.specs.CommandLine.{table, words_of, Says, IsLine, line_said, line_refused}
 use Rattle.ps_program.proofs.SomeStep.{HasSome}
 
--- the words say a line
+-- any list of words means some `Line`
 says_some : (words : List Text) → HasSome (Says words)
 says_some words = go (fault_of table words) refl
   where

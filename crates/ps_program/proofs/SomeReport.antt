@@ -1,5 +1,5 @@
--- A game has a certificate, and a text a report, by what a solver may answer.
---     certifies_surely, certifies_fed      the outcome for a solver that may certify, and for one that was fed a text
+-- A game has a certificate, and a text has a report, if a solver may answer the certificate.
+--     certifies_surely, certifies_fed      the result for a solver that may certify, and for one that was fed a text
 --     solve_some, cert_some      the commands `solve` and `cert`
 --     synthesises_some      a report, or the line of a fault
 --     synth_some      the command `synth`
@@ -75,7 +75,7 @@ module _ (below : Below) where
       (game_of_some below order text)
       (λ named reads. answered_game solver compact named may (game_of_is order text named reads))
 
--- ---- a solver that was fed a text
+-- ---- the commands that use a solver which was fed a certificate's text
 
 ids_each : (order : Order) (file : FileData) (game : NamedGameData) → IsGameOfFile order file game →
     length game.ids ≡ vertex_count game.game
@@ -129,7 +129,7 @@ module _ (below : Below) where
 
 -- ---- reports
 
--- each fault but want of memory has a line
+-- each fault except `OutOfMemory` has a line that reports it
 told_some : (fault : AutomatonFault) → fault ≢ automaton.OutOfMemory →
     (line : List ℕ) × (stage_line (synth_fault.Automaton fault) ≡ Some line)
 told_some automaton.ComplementedSet known = (_, refl)
@@ -137,7 +137,7 @@ told_some automaton.NonParity known = (_, refl)
 told_some (automaton.Nondeterministic state first second) known = (_, refl)
 told_some automaton.OutOfMemory known = absurd (known refl)
 
--- a solver's fault is a fault of an accepted text
+-- a fault of the solver, for the game of an accepted text, is a fault of synthesis for this text
 solver_faults : (solver : SolverData) (order : Order) (text : List ℕ) (file : FileData) (game : NamedGameData) →
     IsAcceptedText text file → IsGameOfFile order file game → (fault : SynthFault) (line : List ℕ) →
     IsSolverFault (answers_now solver) game fault → stage_line fault ≡ Some line →

@@ -1,4 +1,4 @@
--- A circuit has a trace for each list of letters, and a verdict on each lasso, by laws of the crates below.
+-- A circuit has a trace for each list of input letters, and each lasso has a verdict, by laws of lower crates.
 --     sim_some, lasso_some      the commands `sim` and `lasso`
 use Rattle.std.proofs.Common.{◌≡◌, ◌<◌, ◌⊎◌, ℕ, Bool, true, false, List, [], ◌∷◌, All, length, Result, Ok, Err, refl}
 use Rattle.std.proofs.Common.{sym, ap, subst, inl, inr, flat_map, arith}
@@ -47,11 +47,11 @@ module _ (below : Below) where
       then_some (ReadsStimulusText (length c.inputs) false parts.1) _ (stimulus_some (length c.inputs) false parts.1)
       (λ s read. ended_some (Ok (c, s)))))
 
-  -- a circuit, and letters that have its width
+  -- a circuit, and a stem whose letters have one bit for each input of the circuit
   abbrev IsRunnable : CircuitData × StimulusData → Type 0
   IsRunnable both = IsCircuit both.0 × All (λ letter. length letter ≡ length both.0.inputs) both.1.stem
 
-  -- a stimulus for the circuit, behind the circuit
+  -- parses a stimulus for the circuit, and returns the circuit and the stimulus
   abbrev WithStimulus : List ℕ → CircuitData → Result (CircuitData × StimulusData) (List ℕ) → Type 0
   WithStimulus text c = Then (ReadsStimulusText (length c.inputs) false text) (λ s outcome. outcome ≡ Ok (c, s))
 

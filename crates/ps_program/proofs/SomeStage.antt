@@ -1,4 +1,4 @@
--- Texts, automata and games have outcomes, by laws of the crates below.
+-- Reading a text, making an automaton's game and testing a certificate have results, by laws of lower crates.
 --     game_text_some      the game of a text
 --     certified_some, certified_is      a game and a certificate from two texts, and what is known of them
 --     tests_some, judge_some      a test of a certificate, and the command `judge`
@@ -52,7 +52,7 @@ module _ (below : Below) where
   abbrev IsFitting : NamedGameData × CertificateData → Type 0
   IsFitting both = IsGame both.0.game × Fits both.0.game both.1
 
-  -- a certificate of the game, behind the game
+  -- parses a certificate of the game, and returns the game and the certificate
   abbrev WithCertificate : List ℕ → NamedGameData → Result (NamedGameData × CertificateData) (List ℕ) → Type 0
   WithCertificate text named =
       Then (ReadsCertificateText named text) (λ given outcome. outcome ≡ Ok (named, given))
@@ -86,7 +86,7 @@ module _ (below : Below) where
   abbrev OfGame : NamedGameData × SolutionData → Type 0
   OfGame both = IsGame both.0.game
 
-  -- a solution of the game, behind the game
+  -- parses a solution of the game, and returns the game and the solution
   abbrev WithSolution : List ℕ → NamedGameData → Result (NamedGameData × SolutionData) (List ℕ) → Type 0
   WithSolution text named = Then (ReadsSolutionText named text) (λ given outcome. outcome ≡ Ok (named, given))
 
@@ -113,7 +113,7 @@ module _ (below : Below) where
 
 -- ---- automata
 
--- each fault but want of memory has a line
+-- each fault except `OutOfMemory` has a line that reports it
 told_some : (fault : AutomatonFault) → fault ≢ automaton.OutOfMemory →
     (line : List ℕ) × (automaton_line fault ≡ Some line)
 told_some automaton.ComplementedSet known = (_, refl)

@@ -1,4 +1,4 @@
--- A step has an outcome, if what it reads has one, and what comes next has one for each value.
+-- Two steps in a row have a result if the first has one, and the second has one for each value of the first.
 --     HasSome step      the step has an outcome
 --     then_some, ended_some, reading_some      a step and the next one, a step that ends with a value, a parser
 --     HasOnly, then_only      each value of a step is good
@@ -11,7 +11,7 @@ use Rattle.ps_program.proofs.OneStep.{ok_is_not_err}
 abbrev pub HasSome : {V : Type 0} → (V → Type 0) → Type 0
 HasSome {V} step = (outcome : V) × step outcome
 
--- an outcome of both steps; the next one need only have an outcome for the values of the first
+-- two steps in a row have a result if the first has one, and the second has one for each value of the first
 pub then_some : {V W : Type 0} (step : Result V (List ℕ) → Type 0) (next : V → Result W (List ℕ) → Type 0) →
     HasSome step → ((v : V) → step (Ok v) → HasSome (next v)) → HasSome (Then step next)
 then_some {V} {W} step next (Err line, s) more = (Err line, inl (line, s, refl))
@@ -26,7 +26,7 @@ reading_some number name reads (Ok v, h) = (Ok v, h)
 reading_some number name reads (Err found, h) =
     (Err (text_line (number found.cause) (name found.cause) found.offset), (found, h, refl))
 
--- each value of the step is good
+-- each value that the step may return has the property `Good`
 abbrev pub HasOnly : {V : Type 0} → (Result V (List ℕ) → Type 0) → (V → Type 0) → Type 0
 HasOnly {V} step Good = (v : V) → step (Ok v) → Good v
 

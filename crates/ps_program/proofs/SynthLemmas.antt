@@ -1,4 +1,4 @@
--- The result of synthesis: which faults are the solver's, and which answers of the solver the result depends on.
+-- The result of synthesis: which faults come from the solver, and that the result depends only on its possible answers.
 use Rattle.std.proofs.Common.{rules, arith, ◌≡◌, ℕ, Bool, true, false, List, Result, Ok, Err, inl, inr, subst}
 use Rattle.std.specs.Prelude.{Option}
 use Rattle.ps_hoa.specs.Files.{FileData}
@@ -21,7 +21,7 @@ use Rattle.ps_program.specs.StageFaults.{IsOfSolver, IsTold}
 use Rattle.ps_program.specs.Synthesis.{AnswersReport, Synthesises}
 use Rattle.ps_program.proofs.SolverLemmas.{unsure}
 
--- a sure solver has no fault of its own
+-- if a fault of synthesis comes from the solver, the solver is not sure
 pub unsure_of : (May : MayAnswer) (order : Order) (compact : Bool) (text : List ℕ) (sure : Bool) (fault : SynthFault) →
     IsSynthFault May order text fault
     → (sure ≡ true → (file : FileData) → IsAcceptedText text file →
@@ -29,7 +29,7 @@ pub unsure_of : (May : MayAnswer) (order : Order) (compact : Bool) (text : List 
     IsOfSolver fault → sure ≡ false
 unsure_of May order compact text sure fault cause surely lies = grind (arith, unsure, sure_in)
 
--- the result if there is no report
+-- if synthesis returns a fault in place of a report, this fault is the result of the command
 pub gives_told : (solver : SolverData) (order : Order) (compact : Bool) (text : List ℕ) (fault : SynthFault)
     (refused : Refusal)
     → IsSynthFault (answers_now solver) order text fault
@@ -38,7 +38,7 @@ pub gives_told : (solver : SolverData) (order : Order) (compact : Bool) (text : 
     → IsTold fault refused → Gives (λ (report : Report). report) (Synthesises solver order compact text) (Err refused)
 gives_told solver order compact text fault refused cause surely told = grind (arith, unsure_of)
 
--- ---- a solver that is the same after a call
+-- ---- a solver whose possible answers are the same after a call as before
 
 module _ (old new : SolverData) (kept : IsKept old new) where
   synthesises_kept : (order : Order) (compact : Bool) (text : List ℕ) (outcome : Result Report (List ℕ))
@@ -53,7 +53,7 @@ module _ (old new : SolverData) (kept : IsKept old new) where
   answers_kept asked text outcome (inl (line, h, e)) = inl (line, search (rules, synthesises_kept), e)
   answers_kept asked text outcome (inr (report, h, e)) = inr (report, search (rules, synthesises_kept), e)
 
-  -- what the solver may return after the call, it could have returned before the call
+  -- whatever `synth` may answer with the solver after a call, it could also have answered before the call
   pub gives_kept : (asked : SynthLine) (text : List ℕ) (result : Result Answer Refusal)
       → Gives reply_of (AnswersReport new asked text) result → Gives reply_of (AnswersReport old asked text) result
   gives_kept asked text (Ok answer) h = answers_kept asked text (Ok (reply_of answer)) h

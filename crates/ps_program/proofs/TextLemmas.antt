@@ -10,7 +10,7 @@ use Rattle.ps_program.specs.Faults.{fault_text}
 use Rattle.ps_program.specs.Outcomes.{Gives}
 use Rattle.ps_program.specs.Texts.{CutsInTwo, ReadsGameText, ReadsCertificateText, ReadsCertified, NamesVertices}
 
--- a flaw names only vertices of the game
+-- a flaw of a certificate names only vertices of the game
 remains_within : (game : ParityGame) (given : CertificateData) (v w : ℕ) → IsGame game → Remains game given v w
     → (v < vertex_count game) × (w < vertex_count game)
 remains_within game given v w is_game remains = (remains.edge.0, is_game.within v w remains.edge)
@@ -28,14 +28,14 @@ Both = NamedGameData × CertificateData
 abbrev pub both_view : Both → Both
 both_view both = (both.0, both.1)
 
--- a fault of the game's text is a fault of the two texts together
+-- a fault in the game's text is also the fault that reading the game and the certificate together reports
 pub certified_game_fault : (texts first second : List ℕ) (fault : Refusal) → CutsInTwo texts (Ok (first, second))
     → Gives {X = NamedGameData} (λ named. named) (ReadsGameText first) (Err fault) →
     Gives both_view (ReadsCertified texts) (Err fault)
 certified_game_fault texts first second (refusal.Fault fault) cuts h = inr ((first, second), cuts, grind arith)
 certified_game_fault texts first second refusal.OutOfMemory cuts h = tt
 
--- a fault of the certificate after a correct game is a fault of the two texts together
+-- if the game's text is correct, a fault in the certificate is the fault that reading both texts reports
 pub certified_certificate_fault : (texts first second : List ℕ) (named : NamedGameData) (fault : Refusal) →
     CutsInTwo texts (Ok (first, second))
     → ReadsGameText first (Ok named) → Gives {X = CertificateData} (λ given. given)

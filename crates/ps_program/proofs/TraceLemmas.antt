@@ -36,7 +36,7 @@ pub PrintsTrace-end : (c : CircuitData) (letters : List (List Bool)) (text : Lis
     HasPrinted c letters text latches → PrintsTrace c letters text
 PrintsTrace-end c letters text latches h = grind arith
 
--- ---- one letter of many
+-- ---- the trace after one more letter
 
 pub HasPrinted-letter : (c : CircuitData) (letters : List (List Bool)) (i : ℕ) (text text' : List ℕ)
     (before after : Simulation) (letter : List Bool)

@@ -1,4 +1,4 @@
--- The result of `verify`, text by text, and why it is determined.
+-- The result of the command `verify`, given the results of parsing the automaton and the circuit.
 use Rattle.std.proofs.Common.{arith, ◌≡◌, ◌≢◌, ℕ, List, Result, Ok, Err, refl, inl, inr}
 use Rattle.ps_automaton.specs.Automata.{AutomatonData, IsBuiltFrom}
 use Rattle.ps_automaton.specs.Chains.{Chain}
@@ -27,7 +27,7 @@ module _ (order : Order) (role : Role) (texts first second : List ℕ) (cuts : C
   verify_automaton_fault (refusal.Fault fault) h = inr ((first, second), cuts, inl (fault_text fault, h, refl))
   verify_automaton_fault refusal.OutOfMemory h = tt
 
-  -- the result for the circuit after a correct automaton
+  -- if the automaton's text is correct, the result of `verify` is the result for the circuit
   pub verify_run : (file : FileData) → ReadsAutomaton first (Ok file) → (outcome : Result Answer Refusal) →
       Gives reply_of (VerifiesText order role file second) outcome → Gives reply_of (AnswersVerify order role texts) outcome
   verify_run file is_file (Ok answer) h = inr ((first, second), cuts, inr (file, is_file, h))
@@ -42,14 +42,14 @@ module _ (role : Role) (file : FileData) (chain : Chain) (a : AutomatonData) (c 
   to_file : HasSymbols role a.names a.controllable c → HasSymbols role file.names file.controllable c
   to_file has = grind arith
 
-  -- the line of a fault of the product
+  -- the line that reports why a circuit and an automaton have no product
   pub refusal_told : (order : Order) (fault : ProductFault) (line : List ℕ) → fault ≢ product.OutOfMemory →
       IsProductRefusal order role a c fault → line ≡ product_line fault → IsProductLine order role file c line
   refusal_told order product.Symbols line memory not is = inl (λ has. not (from_file has), is)
   refusal_told order product.Timing line memory both is = inr (to_file both.0, both.1, is)
   refusal_told order product.OutOfMemory line memory any is = absurd (memory refl)
 
--- the result for the text of a circuit
+-- the result of `verify` for the text of a circuit, once the automaton is known
 module _ (order : Order) (role : Role) (file : FileData) (text : List ℕ) where
   pub text_fault : (fault : Refusal) → Gives {X = CircuitData} (λ circuit. circuit) (ReadsCircuitText text) (Err fault) →
       Gives {X = Answer} reply_of (VerifiesText order role file text) (Err fault)

@@ -1,8 +1,8 @@
--- Inputs have answers, so the definitions of answers are not met by having none.
+-- Inputs have answers: no definition of an answer in this crate excludes every reply.
 --     HasReply solvers input      some reply is an answer to the input
 --     IsPlainLine line      the line calls no solver, and is not `verify`
---     HasSomeLine      each first line asks for something
---     HasSomeAnswer solvers      each input whose first line is plain has an answer
+--     HasSomeLine      each first line has a meaning as a `Line`
+--     HasSomeAnswer solvers      each input has an answer, if its first line is plain (`IsPlainLine`)
 --     MayCertify solver      the solver may answer a valid certificate of each game
 --     MayReplay solver      the solver may answer the result of parsing each text that it is fed, and is not sure
 --     HasSomeSolved solvers      if the first solver may certify, each input with `solve` or `cert` has an answer
@@ -36,7 +36,7 @@ use Rattle.ps_program.specs.Texts.{CutsInTwo}
 abbrev pub HasReply : Solvers → List ℕ → Type 0
 HasReply solvers input = (reply : Reply) × AnswersInput solvers input reply
 
--- ---- without a solver
+-- ---- commands that call no solver
 
 abbrev pub IsPlainLine : Line → Type 0
 IsPlainLine Refused = ⊤
@@ -56,7 +56,7 @@ abbrev pub HasSomeAnswer : Solvers → Type 0
 HasSomeAnswer solvers =
     (input : List ℕ) (line : Line) → IsLine (first_line input) line → IsPlainLine line → HasReply solvers input
 
--- ---- with a solver
+-- ---- commands that call a solver
 
 abbrev pub MayCertify : SolverData → Type 0
 MayCertify solver = (game : NamedGameData) → IsGame game.game →
@@ -83,7 +83,7 @@ IsPrintable compact game certificate circuit =
     × PrintsCertificate compact report.certificate_text.items game certificate
     × PrintsCircuit report.circuit_text.items circuit × (IsTrue report.realizable ↔ (winner_at_start certificate ≡ 0))
 
--- each report that the solver may lead to is printable
+-- each report is printable that a certificate from this solver leads to
 abbrev pub IsPrintedBy : SolverData → SynthLine → List ℕ → Type 0
 IsPrintedBy solver asked text = (file : FileData) (game : NamedGameData) (is_game : IsGameOfFile asked.order file game)
     (certificate : CertificateData) (circuit : CircuitData) → IsAcceptedText text file →
@@ -91,7 +91,7 @@ IsPrintedBy solver asked text = (file : FileData) (game : NamedGameData) (is_gam
     IsWinnersCircuit asked.order file game is_game certificate circuit →
     IsPrintable asked.compact game certificate circuit
 
--- the solver that is asked may answer, and what it answers is printable
+-- the solver that `synth` calls may answer a certificate, and each report that follows from it is printable
 abbrev pub MaySynthesise : (cert : Bool) → Solvers → SynthLine → List ℕ → Type 0
 MaySynthesise false solvers asked texts = MayCertify solvers.built_in × IsPrintedBy solvers.built_in asked texts
 MaySynthesise true solvers asked texts = MayReplay solvers.replay

@@ -54,15 +54,15 @@ full_flag = codes "full"
 abbrev pub cert_flag : Text
 cert_flag = codes "cert"
 
--- the role of a circuit
+-- the role of a circuit: environment if the flag `--env` is given, and otherwise controller
 abbrev pub role_given : (Text → Bool) → Role
 role_given given = if given env_flag then Environment else Controller
 
--- who moves first
+-- the order of moves: Moore if the flag `--moore` is given, and otherwise Mealy
 abbrev pub order_given : (Text → Bool) → Order
 order_given given = if given moore_flag then Moore else Mealy
 
--- which circuit is asked for, and what is printed with it
+-- what `synth` is asked for, by its flags: the order of moves, and what is printed besides the circuit
 abbrev pub synth_given : (Text → Bool) → SynthLine
 synth_given given = record {
   full = given full_flag;
@@ -146,22 +146,22 @@ commands =
     } ∷ record { name = codes "help"; flags = []; texts = []; added = []; line = λ given. Help; says = ON_HELP.now } ∷
     []
 
--- the line of the command with this name
+-- the `Line` that a command's name and flags mean; `Refused` if no command has this name
 abbrev pub line_named : Text → (Text → Bool) → Line
 line_named name given =
     option_map_or (λ usage. usage.line given) (find (λ usage. bytes_eq usage.name name) commands) Refused
 
--- ---- the meaning of the words
+-- ---- what the words of a command line mean
 
 -- the words of a line, which are separated by spaces
 abbrev pub words_of : List ℕ → List Text
 words_of line = filter (λ word. not (length word == 0)) (slice_split (λ byte. byte == 32) line)
 
--- the flag with this name
+-- the flag with this name, as the parser clap stores it
 abbrev pub flag : Text → Rule
 flag name = record (new_rule name) { long = Some name; action = Some SetTrue }
 
--- the command with the given name and flags
+-- the command with the given name and flags, as the parser clap stores it
 abbrev pub command_with : Text → List Text → Shape
 command_with name flags = record (new_shape name) { rules = map flag flags }
 
@@ -170,11 +170,11 @@ pub record HasFlags (name : Text) (flags : List Text) (command : Command) : Type
   pub shape : (app_of command).top ≡ command_with name flags
   pub local : (out-Command command).has_globals ≡ false
 
--- the program without commands; the words of a line don't begin with the program's name
+-- clap's description of the program without commands; the words of a line don't begin with the program's name
 abbrev pub program : App
 program = on_top (λ top. record top { no_binary_name = true; disable_help_subcommand = true }) (new_app (codes "psyn"))
 
--- the program with the given commands, added one after the other
+-- clap's description of the program, with the given commands added one after the other
 abbrev pub with_commands : App → List Usage → App
 with_commands app [] = app
 with_commands app (usage ∷ more) = with_commands (with_subcommand app (command_with usage.name usage.flags)) more
@@ -182,21 +182,22 @@ with_commands app (usage ∷ more) = with_commands (with_subcommand app (command
 unfoldable pub table : App
 table = with_commands program commands
 
--- the flag is given
+-- whether the parsed words contain the flag
 abbrev pub is_given : Text → List Row → Bool
 is_given name rows = option_map_or (λ text. bytes_eq text (codes "true")) (first_of name rows) false
 
--- the line of the parsed words, if they contain a command
+-- the `Line` that parsed words mean; `Refused` if they contain no command
 abbrev pub line_said : Option (Text × List Row) → Line
 line_said (Some command) = line_named command.0 (λ name. is_given name command.1)
 line_said None = Refused
 
--- the line for words that the parser refuses; `--help` and `-h` ask for help, and all other lines are refused
+-- the `Line` for words that the parser refuses: `Help` if they ask for help by `--help` or `-h`, and otherwise
+-- `Refused`
 abbrev pub line_refused : ErrorKind → Line
 line_refused DisplayHelp = Help
 line_refused _ = Refused
 
--- the words mean this line
+-- the words of a command line mean this `Line`
 abbrev pub Says : List Text → Line → Type 0
 Says words line = ((fault_of table words ≡ []) × (line ≡ line_said (subcommand_of table words)))
     ⊎ ((kind : ErrorKind) × IsAmong kind (fault_of table words) × (line ≡ line_refused kind))
@@ -205,43 +206,43 @@ Says words line = ((fault_of table words ≡ []) × (line ≡ line_said (subcomm
 abbrev pub NamesNothing : Text → Type 0
 NamesNothing word = All (λ usage. length usage.name < length word) commands × (slice_index word 0 ≢ 45)
 
--- the first line of the input means this line
+-- the first line of the input means this `Line`; a line that is not UTF-8 means `Refused`
 abbrev pub IsLine : List ℕ → Line → Type 0
 IsLine first_line line = (IsUtf8 first_line × Says (words_of first_line) line)
     ⊎ (¬ (IsUtf8 first_line) × (line ≡ Refused))
 
--- ---- the lines that are read
+-- ---- the command lines that are accepted
 
--- the flag is in the list
+-- whether a flag's name is in the list
 abbrev pub is_among : List Text → Text → Bool
 is_among [] name = false
 is_among (flag ∷ flags) name = if bytes_eq name flag then true else is_among flags name
 
--- all lists that result if the word is inserted somewhere in the list
+-- all lists that result from inserting the word at some index of the list
 abbrev pub insertions : Text → List Text → List (List Text)
 insertions word [] = (word ∷ []) ∷ []
 insertions word (x ∷ xs) = (word ∷ (x ∷ xs)) ∷ map (λ rest. x ∷ rest) (insertions word xs)
 
--- all lists of different words of the given list, in any order
+-- all lists of some words of the given list, each at most once, in any order
 abbrev pub arrangements : List Text → List (List Text)
 arrangements [] = [] ∷ []
 arrangements (x ∷ xs) = arrangements xs ++ flat_map (insertions x) (arrangements xs)
 
--- a command and some flags, as they occur in a line
+-- the words of a command line with a command's name and some flags
 abbrev pub words_with : Text → List Text → List Text
 words_with name flags = name ∷ map (λ flag. codes "--" ++ flag) flags
 
--- the parser accepts the words, and they mean this line
+-- the parser accepts the words of a command line, and they mean this `Line`
 abbrev pub AreRead : List Text → Line → Type 0
 AreRead words line = (fault_of table words ≡ []) × (line_said (subcommand_of table words) ≡ line)
 
--- a command with different flags of its own, in any order, is read as this command
+-- a line with a command's name and some of its own flags, each once, in any order, is accepted as this command
 abbrev pub LinesAreRead : Type 0
 LinesAreRead =
     AllByRecursion (λ usage. AllByRecursion (λ flags. AreRead (words_with usage.name flags)
     (usage.line (is_among flags))) (arrangements usage.flags)) commands
 
--- words that ask for help, and for nothing else
+-- the words `--help` and `-h`, each of which asks for help and for nothing else
 abbrev pub AskForHelp : Type 0
 AskForHelp =
     (fault_of table (codes "--help" ∷ []) ≡ DisplayHelp ∷ []) × (fault_of table (codes "-h" ∷ []) ≡ DisplayHelp ∷ [])

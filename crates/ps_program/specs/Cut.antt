@@ -3,7 +3,7 @@ use Rattle.std.specs.Prelude.{◌≡◌, ◌⊎◌, ◌+◌, ◌-◌, ◌<◌, �
 use Rattle.std.specs.Prelude.{length, take, drop, slice_index, nat_le}
 use Rattle.std.specs.List.{before_first, after_first}
 
--- the first line, without its newline
+-- the first line of the input, without its newline
 abbrev pub first_line : List ℕ → List ℕ
 first_line input = before_first (λ byte. byte == 10) input
 
@@ -11,20 +11,20 @@ first_line input = before_first (λ byte. byte == 10) input
 abbrev pub behind_line : List ℕ → List ℕ
 behind_line input = after_first (λ byte. byte == 10) input
 
--- a line begins at the offset `place`
+-- whether a line of the text begins at the offset `place`
 abbrev pub begins_line : List ℕ → ℕ → Bool
 begins_line text place = place == 0 || slice_index text (place - 1) == 10
 
--- the text or a line ends at the offset `place`
+-- whether the text or one of its lines ends at the offset `place`
 abbrev pub ends_line_at : List ℕ → ℕ → Bool
 ends_line_at text place = nat_le (length text) place || slice_index text place == 10
 
--- the line `%%` begins at the offset `place`
+-- whether a line `%%` begins at the offset `place` of the text
 abbrev pub is_separator : List ℕ → ℕ → Bool
 is_separator text place = begins_line text place
     && (slice_index text place == 37 && (slice_index text (place + 1) == 37 && ends_line_at text (place + 2)))
 
--- no line is `%%`
+-- no line of the text is `%%`
 abbrev pub HasNoSeparator : List ℕ → Type 0
 HasNoSeparator text = (place : ℕ) → place < length text → is_separator text place ≡ false
 

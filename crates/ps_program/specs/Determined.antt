@@ -1,14 +1,14 @@
 -- The program's answer is determined, with three exceptions: the lost cycle that `judge` reports, the stimulus that
 -- `verify` reports, and the certificate that a solver chooses. Even in these three cases, the answer is partly
 -- determined.
---     IsUndetermined line texts      the line may have more than one correct answer
+--     IsUndetermined line texts      the command in the line may have more than one correct answer
 --     IsReplaying solver      the solver may only answer the result of parsing the text that it was fed
 --     AgreeAsReports order full text a b      two reports for a text have the same winner and the automaton's game
 --     AgreeInWinners compact game a b      the answers a and b print certificates of the game with the same winners
---     AgreeAsLosing order role file c a b      on both stimuli, the circuit has the wrong verdict
---     HasOneAnswer solvers      any two answers are equal, or agree as above, or one of them is the line of a fault
+--     AgreeAsLosing order role file c a b      both answers show a stimulus on which the circuit loses
+--     HasOneAnswer solvers      any two answers are equal, or one of the above holds, or one of them reports a fault
 --     HasOneCertified solvers      with a given certificate, `synth` has one answer if the solver replays it
---     NeedsItsTexts solvers      a command with fewer texts than the table wants has one answer, the missing text
+--     NeedsItsTexts solvers      a command with fewer texts than it needs has one answer: a text is missing
 use Rattle.std.specs.Prelude.{◌≡◌, ◌<◌, ◌⊎◌, ◌+◌, ◌-◌, ℕ, Bool, true, false, List, Option, Result, Ok, Err, filter}
 use Rattle.std.specs.Prelude.{length}
 use Rattle.std.specs.List.{AllByRecursion}
@@ -52,8 +52,9 @@ abbrev pub AsksFor : (cert : Bool) → List ℕ → List ℕ → Type 0
 AsksFor false texts text = texts ≡ text
 AsksFor true texts text = (certificate : List ℕ) × CutsInTwo texts (Ok (text, certificate))
 
--- The answer is open in two cases. If the text of a game or of an automaton is accepted, it is open which winning moves
--- are printed. If a player loses a cycle, it is open which cycle is reported.
+-- The answer to a command is not determined in three cases. If a solver is called for a game or an automaton, any
+-- winning moves may be printed. If a judged solution loses a cycle, any such cycle may be reported; if a verified
+-- circuit loses, any losing stimulus.
 abbrev pub IsUndetermined : Line → List ℕ → Type 0
 IsUndetermined (Judge compact) texts =
     (named : NamedGameData) × (given : SolutionData) × ReadsSolved texts (Ok (named, given)) × LosesCycle named given
@@ -69,8 +70,8 @@ abbrev pub IsReplaying : SolverData → Type 0
 IsReplaying solver = (fed : Option (List ℕ)) (game : NamedGameData) (answer : Result CertificateData SolveFault) →
     solver.may_answer fed game answer → Replays game fed answer
 
--- Two printed reports for a text have the same winner and the same game, which is the automaton's. So two reports for a
--- text have the same status and the same first line.
+-- Two reports that `synth` may print for one automaton have the same winner, and both print the automaton's game. So
+-- two reports for a text have the same status and the same first line.
 pub record AgreeAsReports (order : Order) (full : Bool) (text : List ℕ) (a b : Reply) : Type 0 where
   pub file : FileData
   pub accepted : IsAcceptedText text file
@@ -84,7 +85,7 @@ pub record AgreeAsReports (order : Order) (full : Bool) (text : List ℕ) (a b :
   pub other_game : other.game_text.items ≡ game_text game
   pub winner : one.realizable ≡ other.realizable
 
--- in two printed certificates of the game, each vertex has the same winner
+-- two answers print certificates of the game that assign the same winner to each vertex
 pub record AgreeInWinners (compact : Bool) (game : NamedGameData) (a b : Reply) : Type 0 where
   pub one : CertificateData
   pub other : CertificateData
@@ -94,7 +95,7 @@ pub record AgreeInWinners (compact : Bool) (game : NamedGameData) (a b : Reply) 
   pub is_other : b ≡ text_reply (text_in compact game other)
   pub winners : IsGame game.game → (v : ℕ) → v < vertex_count game.game → winner_of one v ≡ winner_of other v
 
--- two stimuli on which the circuit loses, as they are printed
+-- each of two answers prints a stimulus on which the circuit loses
 pub record AgreeAsLosing (order : Order) (role : Role) (file : FileData) (c : CircuitData) (a b : Reply) : Type 0 where
   pub one : StimulusData
   pub other : StimulusData
@@ -103,7 +104,8 @@ pub record AgreeAsLosing (order : Order) (role : Role) (file : FileData) (c : Ci
   pub is_one : a ≡ loses_reply one
   pub is_other : b ≡ loses_reply other
 
--- what two answers to a line have in common if neither is the line of a fault; `text` or `texts` follows the line
+-- what two answers to a command have in common if neither reports a fault; `text` or `texts` is the input after its
+-- first line
 abbrev pub Agree : Line → List ℕ → Reply → Reply → Type 0
 Agree (Verify order role) texts a b =
     (file : FileData) × (c : CircuitData) × ReadsVerified texts file c × AgreeAsLosing order role file c a b
@@ -117,14 +119,15 @@ Agree line texts a b = a ≡ b
 abbrev pub IsFaultReply : Reply → Type 0
 IsFaultReply reply = (line : List ℕ) × (reply ≡ fault_reply line)
 
--- Any two answers to one input are equal, unless the answer to the input's line is open. Two answers to an open line
--- agree, or one of them is the line of a fault.
+-- Any two answers to one input are equal, unless the answer to its command is not determined. If it is not determined,
+-- two answers agree, or one of them is the line of a fault.
 abbrev pub HasOneAnswer : Solvers → Type 0
 HasOneAnswer solvers = (input : List ℕ) (a b : Reply) → AnswersWhole solvers input a → AnswersWhole solvers input b
     → (a ≡ b) ⊎ ((line : Line) × IsLine (first_line input) line × IsUndetermined line (behind_line input) ×
     (IsFaultReply a ⊎ IsFaultReply b ⊎ Agree line (behind_line input) a b))
 
--- if a certificate follows the text and the solver parses that certificate, the whole answer is determined
+-- if `synth` is given a certificate, and its solver only returns the result of parsing that certificate, there is one
+-- answer
 abbrev pub HasOneCertified : Solvers → Type 0
 HasOneCertified solvers = IsReplaying solvers.replay → (asked : SynthLine) → asked.cert ≡ true → (input : List ℕ) →
     IsLine (first_line input) (Synth asked)
@@ -134,7 +137,7 @@ HasOneCertified solvers = IsReplaying solvers.replay → (asked : SynthLine) →
 abbrev pub text_count : Usage → (Text → Bool) → ℕ
 text_count usage given = length usage.texts + length (filter (λ each. given each.0) usage.added)
 
--- a command to which a text is missing has one answer
+-- a command with fewer texts than it needs has one answer, which reports the missing text
 abbrev pub NeedsItsTexts : Solvers → Type 0
 NeedsItsTexts solvers =
     AllByRecursion (λ usage. (given : Text → Bool) (texts : List ℕ) (outcome : Result Reply (List ℕ)) →

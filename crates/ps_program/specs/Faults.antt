@@ -5,7 +5,7 @@ use Rattle.ps_program.specs.declared.fault.FaultLine.{FaultLine}
 use Rattle.ps_program.specs.declared.fault.Place.{Place}
 use Rattle.ps_program.specs.declared.fault.Place.TheVariants.{Nowhere, Byte, Edges, Cycle, Move, Edge, Count}
 
--- a number in decimal digits, after a space
+-- a space, and then a number in decimal digits
 abbrev pub spaced : ℕ → List ℕ
 spaced n = codes " " ++ decimal n
 
@@ -18,7 +18,7 @@ abbrev pub choice_text : Option ℕ → List ℕ
 choice_text (Some id) = spaced id
 choice_text None = codes " -"
 
--- the place of a fault, which is written after the fault's name
+-- the offset of a fault in a text, as it is written after the fault's name
 abbrev pub byte_text : ℕ → List ℕ
 byte_text offset = codes " at" ++ spaced offset
 
@@ -34,11 +34,11 @@ place_text (Move vertex choice) = spaced vertex ++ choice_text choice
 place_text (Edge vertex successor) = spaced vertex ++ spaced successor
 place_text (Count vertex successor priority) = spaced vertex ++ spaced successor ++ spaced priority
 
--- the line of a fault from its number, name and place, without the newline that ends the line
+-- the line that reports a fault, made of its number, name and place, without the newline that ends the line
 abbrev pub line_text : ℕ → List ℕ → List ℕ → List ℕ
 line_text number name place = codes "fault" ++ spaced number ++ codes " " ++ name ++ place
 
--- the line of a fault at a byte of a text, from the number and the name of its cause
+-- the line that reports a fault at an offset of a text, given the number and the name of its cause
 abbrev pub text_line : ℕ → List ℕ → ℕ → List ℕ
 text_line number name offset = line_text number name (byte_text offset)
 

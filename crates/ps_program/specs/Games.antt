@@ -1,6 +1,6 @@
 -- The commands that print the game of an automaton, and a certificate of that game.
---     AnswersGameText order text      the answer to `game`
---     AnswersCert solver order compact text      the answer to `cert`
+--     AnswersGameText order text      what the program answers to the command `game`
+--     AnswersCert solver order compact text      what the program answers to the command `cert`
 use Rattle.std.specs.Prelude.{◌≡◌, ℕ, Bool, List, Result, Ok, Err}
 use Rattle.ps_game.specs.Games.{NamedGameData}
 use Rattle.ps_hoa.specs.Files.{FileData}
@@ -13,7 +13,7 @@ use Rattle.ps_program.specs.Outcomes.{Then}
 use Rattle.ps_program.specs.Replies.{Reply, text_reply}
 use Rattle.ps_program.specs.Solving.{AnswersGame}
 
--- every automaton has a game
+-- the game of a file's automaton; making the game reports no fault
 abbrev pub MakesGame : Order → FileData → Result NamedGameData (List ℕ) → Type 0
 MakesGame order file (Ok game) = IsGameOfFile order file game
 MakesGame order file (Err line) = ⊥
@@ -24,6 +24,6 @@ ReadsGameOf order text = Then (ReadsAutomaton text) (MakesGame order)
 abbrev pub AnswersGameText : Order → List ℕ → Result Reply (List ℕ) → Type 0
 AnswersGameText order text = Then (ReadsGameOf order text) (λ game outcome. outcome ≡ Ok (text_reply (game_text game)))
 
--- the certificate is printed with all counts, or as a compact text
+-- the answer to `cert`: the certificate of an automaton's game, printed with all counts or as a compact text
 abbrev pub AnswersCert : SolverData → Order → Bool → List ℕ → Result Reply (List ℕ) → Type 0
 AnswersCert solver order compact text = Then (ReadsGameOf order text) (AnswersGame solver compact)

@@ -14,20 +14,20 @@ kind_text Solution = codes "a solution"
 kind_text Circuit = codes "a circuit"
 kind_text Stimulus = codes "a stimulus"
 
--- further kinds of texts, each after a comma
+-- the kinds of a command's texts after the first, each with a comma before it
 abbrev pub further_kinds : List TextKind → List ℕ
 further_kinds kinds = flat_map (λ kind. codes ", " ++ kind_text kind) kinds
 
--- the kinds of a command's texts
+-- the kinds of a command's texts, separated by commas
 abbrev pub kinds_text : List TextKind → List ℕ
 kinds_text [] = []
 kinds_text (kind ∷ kinds) = kind_text kind ++ further_kinds kinds
 
--- the command's name in a column of nine bytes, the kinds of its texts, and what `help` says about the command
+-- the line of `help` for a command: its name in a column of nine bytes, the kinds of its texts, and a description
 abbrev pub usage_text : Usage → List ℕ
 usage_text usage =
     usage.name ++ replicate (9 - length usage.name) 32 ++ kinds_text usage.texts ++ usage.says ++ codes "\n"
 
--- the lines of the commands, between the text above them and the text below
+-- the help text: an introduction, a line for each command, and a description of the formats
 unfoldable pub help_text : List ℕ
 help_text = ABOUT.now ++ flat_map usage_text commands ++ FORMATS.now

@@ -9,11 +9,11 @@ use Rattle.ps_program.specs.declared.reading.InputFault.TheVariants.{Unreadable,
 abbrev pub input_limit : ℕ
 input_limit = 67108864
 
--- if the remaining bytes of the source are known, they are the given bytes
+-- if it is known which bytes a source still has, they are the given bytes
 abbrev pub AgreesWith : Option (List ℕ) → List ℕ → Type 0
 AgreesWith known bytes = IfSome known (λ left. left ≡ bytes)
 
--- the remaining bytes of the source are more than an input may have, or are not known
+-- the source still has more bytes than an input may have, or it is not known which bytes it has
 abbrev pub IsTooLong : Option (List ℕ) → Type 0
 IsTooLong known = (bytes : List ℕ) × AgreesWith known bytes × (input_limit < length bytes)
 

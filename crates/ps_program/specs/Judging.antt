@@ -1,7 +1,7 @@
 -- The command that judges a solution of a game.
 --     ReadsSolved texts      the text of a game, and the text of a solution of that game
---     Judges compact named given      the solution's certificate, or its first flaw, or a lost cycle
---     AnswersJudge compact texts      the answer to `judge`
+--     Judges compact named given      prints the solution's certificate, or why there is none
+--     AnswersJudge compact texts      what the program answers to the command `judge`
 use Rattle.std.specs.Prelude.{◌≡◌, ◌⊎◌, ◌<◌, ⊤, ℕ, Bool, List, length, Result, Ok, Err, codes, map}
 use Rattle.std.specs.List.{All}
 use Rattle.ps_game.specs.Games.{NamedGameData, IsGame, vertex_count}
@@ -21,7 +21,7 @@ use Rattle.ps_program.specs.Outcomes.{Then, Reading}
 use Rattle.ps_program.specs.Replies.{Reply, text_reply}
 use Rattle.ps_program.specs.Texts.{CutsInTwo, ReadsGameText, NamesVertices, id_of, flaw_text}
 
--- the solution of a game in a text, or the line of the first error
+-- the result of parsing a text as a solution of the game: the solution, or the line of the first error
 abbrev pub ReadsSolutionText : NamedGameData → List ℕ → Result SolutionData (List ℕ) → Type 0
 ReadsSolutionText named text =
     Reading certificate.cause_number certificate.cause_name (ReadsSolution named.ids text)
@@ -31,28 +31,28 @@ ReadsSolved texts =
     Then (CutsInTwo texts) (λ parts. Then (ReadsGameText parts.0) (λ named.
     Then (ReadsSolutionText named parts.1) (λ given outcome. outcome ≡ Ok (named, given))))
 
--- the solution as a certificate without counts: both players move by the same list of moves
+-- the solution as a certificate without counts, in which the solution's list has the moves of both players
 abbrev pub claim : NamedGameData → SolutionData → CertificateData
 claim named given = claimed named.game given.won given.moves given.moves
 
--- the line of a cycle, in which vertices are named by their ids
+-- the line that reports a lost cycle; the vertices are named by their ids
 abbrev pub cycle_text : NamedGameData → List ℕ → List ℕ
 cycle_text named cycle = line_text 40 (codes "BadCycle") (ids_text (map (id_of named) cycle))
 
--- the player loses the cycle, and no move or edge is wrong
+-- no move or edge of the solution is wrong, but the player loses this cycle
 abbrev pub Loses : NamedGameData → SolutionData → ℕ → List ℕ → Type 0
 Loses named given player cycle = IsCycleOf named.game given.won given.moves given.moves player cycle
 
 abbrev pub LosesCycle : NamedGameData → SolutionData → Type 0
 LosesCycle named given = (player : ℕ) × (cycle : List ℕ) × Loses named given player cycle
 
--- the line of the first flaw, or of a cycle that a player loses
+-- the line that reports why a solution is refused: its first flaw, or a cycle that a player loses
 abbrev pub IsRefusalLine : NamedGameData → SolutionData → List ℕ → Type 0
 IsRefusalLine named given line =
     ((flaw : Flaw) × IsFirstFlaw named.game (claim named given) flaw × (line ≡ flaw_text named flaw))
     ⊎ ((player : ℕ) × (cycle : List ℕ) × Loses named given player cycle × (line ≡ cycle_text named cycle))
 
--- the certificate is printed with all counts, or as a compact text
+-- what `judge` prints: the solution's certificate, with all counts or compact, or the line that refuses the solution
 abbrev pub Judges : Bool → NamedGameData → SolutionData → Result Reply (List ℕ) → Type 0
 Judges compact named given (Ok reply) = IsSolution named.game given.won given.moves given.moves
     × ((certificate : CertificateData) × IsCertificateOf named.game given.won given.moves given.moves certificate ×
@@ -64,24 +64,24 @@ AnswersJudge compact texts = Then (ReadsSolved texts) (λ both. Judges compact b
 
 -- ---- definitions for the functions of the code
 
--- both lists have an entry for each vertex, and the moves are vertices
+-- the solution's lists of winners and of moves have an entry for each vertex, and each move leads to a vertex
 pub record HasPlaces (named : NamedGameData) (given : SolutionData) : Type 0 where
   pub won : length given.won ≡ vertex_count named.game
   pub moves : length given.moves ≡ vertex_count named.game
   pub within : AreMoves (vertex_count named.game) given.moves
 
--- the vertices in the fault are less than `count`
+-- the vertices that a fault of `judge` names are less than `count`
 abbrev pub Names : ℕ → JudgeFault → Type 0
 Names count (Unclosed flaw) = NamesVertices count flaw
 Names count (BadCycle player cycle) = All (λ v. v < count) cycle.items
 Names count OutOfMemory = ⊤
 
--- the result is the line of the cycle, or `OutOfMemory`
+-- the fault that is returned is the line of the cycle, or `OutOfMemory`
 abbrev pub IsCycleTold : NamedGameData → List ℕ → Refusal → Type 0
 IsCycleTold named cycle (refusal.Fault line) = fault_text line ≡ cycle_text named cycle
 IsCycleTold named cycle refusal.OutOfMemory = ⊤
 
--- the result is the line of the fault, or `OutOfMemory`
+-- the fault that is returned is the line that reports the solution's fault, or `OutOfMemory`
 abbrev pub IsTold : NamedGameData → JudgeFault → Refusal → Type 0
 IsTold named (Unclosed flaw) (refusal.Fault line) = fault_text line ≡ flaw_text named flaw
 IsTold named (BadCycle player cycle) refused = IsCycleTold named cycle.items refused

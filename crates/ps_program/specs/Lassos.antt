@@ -16,18 +16,18 @@ use Rattle.ps_program.specs.Outcomes.{Then}
 use Rattle.ps_program.specs.Replies.{Reply, line_reply}
 use Rattle.ps_program.specs.Texts.{CutsInThree, ReadsCircuitText, ReadsStimulusText}
 
--- whether the lasso is accepted, and the lengths of its stem and its lap
+-- the text of a verdict: whether the automaton accepts the lasso, and the lengths of the lasso's stem and lap
 abbrev pub verdict_text : Verdict → List ℕ
 verdict_text v =
     (if v.accepted then codes "accepted" else codes "rejected") ++ codes " stem" ++ spaced v.stem ++
     codes " lap" ++ spaced v.lap
 
--- the line of a fault in the lap or in the symbols
+-- the line that reports an empty lap, or circuit symbols that the role does not allow
 abbrev pub lasso_line : LassoFault → List ℕ
 lasso_line fault = line_text (fault_number fault) (fault_name fault) []
 
--- The verdict, if the lap is not empty and the circuit has the symbols of the role; otherwise the line of the fault. An
--- empty lap is reported before wrong symbols.
+-- The verdict on a lasso, if the lap is not empty and the circuit has the symbols of the role; otherwise the line of
+-- the fault. An empty lap is reported before wrong symbols.
 abbrev pub TellsVerdict : Role → FileData → CircuitData → StimulusData → Result Reply (List ℕ) → Type 0
 TellsVerdict role file c s (Ok reply) =
     IsCircuit c × (0 < length s.lap) × HasSymbols role file.names file.controllable c
@@ -35,13 +35,13 @@ TellsVerdict role file c s (Ok reply) =
 TellsVerdict role file c s (Err line) = ((s.lap ≡ []) × (line ≡ lasso_line EmptyLap))
     ⊎ ((0 < length s.lap) × ¬ HasSymbols role file.names file.controllable c × (line ≡ lasso_line Symbols))
 
--- the verdict for a circuit with this role and a stimulus with a divider, which are parsed from two texts
+-- parses a circuit with this role, and a stimulus whose stem and lap are divided by a line `-`, and states the verdict
 abbrev pub RunsCircuit : Role → FileData → List ℕ → List ℕ → Result Reply (List ℕ) → Type 0
 RunsCircuit role file text letters =
     Then (ReadsCircuitText text) (λ c. Then (ReadsStimulusText (length c.inputs) true letters)
     (TellsVerdict role file c))
 
--- the answer to `lasso`, for an automaton, a circuit with this role and a stimulus with a divider
+-- what the program answers to `lasso`, given the texts of an automaton, a circuit with this role and a stimulus
 abbrev pub AnswersLasso : Role → List ℕ → Result Reply (List ℕ) → Type 0
 AnswersLasso role texts =
     Then (CutsInThree texts) (λ parts. Then (ReadsAutomaton parts.0) (λ file. RunsCircuit role file parts.1 parts.2))

@@ -1,5 +1,5 @@
--- The result of a step towards an answer: a value, or the line of the first fault, without the newline that ends the
--- line.
+-- A command is answered in steps. The result of a step is a value, or the line of the first fault, without the newline
+-- that ends it.
 use Rattle.std.specs.Prelude.{◌≡◌, ◌⊎◌, ⊤, ℕ, List, Result, Ok, Err}
 use Rattle.ps_text.specs.Answers.{Found}
 use Rattle.ps_program.specs.declared.answer.Answer.{Answer}
@@ -8,13 +8,13 @@ use Rattle.ps_program.specs.declared.answer.Refusal.TheVariants as refusal
 use Rattle.ps_program.specs.Faults.{fault_text, text_line}
 use Rattle.ps_program.specs.Replies.{Reply, reply_of, fault_reply}
 
--- two steps in a row: the second step takes the value of the first, and a fault of the first step is the fault of both
+-- two steps in a row: the second takes the value of the first; if the first fails, its fault is the result of both
 abbrev pub Then : {V W : Type 0} → (Result V (List ℕ) → Type 0) → (V → Result W (List ℕ) → Type 0) →
     Result W (List ℕ) → Type 0
 Then {V} {W} step next outcome = ((line : List ℕ) × step (Err line) × (outcome ≡ Err line))
     ⊎ ((value : V) × step (Ok value) × next value outcome)
 
--- the result of a parser, with an error as a line: the number and the name of its cause, and its offset
+-- the result of a parser, in which an error is a line with the number and the name of its cause and its offset
 abbrev pub Reading : {V C : Type 0} → (C → ℕ) → (C → List ℕ) → (Result V (Found C) → Type 0) →
     Result V (List ℕ) → Type 0
 Reading number name reads (Ok value) = reads (Ok value)
@@ -32,7 +32,7 @@ Gives view step (Ok value) = step (Ok (view value))
 Gives view step (Err (refusal.Fault fault)) = step (Err (fault_text fault))
 Gives view step (Err refusal.OutOfMemory) = ⊤
 
--- the answer is what is printed for the result of a command
+-- the program's answer is what is printed for the result of a command
 abbrev pub Settles : Result Answer Refusal → Answer → Type 0
 Settles (Ok given) answer = reply_of answer ≡ reply_of given
 Settles (Err (refusal.Fault fault)) answer = reply_of answer ≡ fault_reply (fault_text fault)

@@ -43,22 +43,22 @@ AnswersInput solvers input reply =
     × ((outcome : Result Reply (List ℕ)) × AnswersLine solvers line (behind_line input) outcome ×
     (reply ≡ printed outcome))
 
--- the answer to an input, which may be too long
+-- the answer to an input; an input that is too long is answered by the line of a fault
 abbrev pub AnswersWhole : Solvers → List ℕ → Reply → Type 0
 AnswersWhole solvers input reply = ((input_limit < length input) × (reply ≡ read_fault))
     ⊎ ((length input ≤ input_limit) × AnswersInput solvers input reply)
 
--- the answer to an input, which may be too long, or the reply `out_of_memory`
+-- an answer to an input of any length, or the reply `out_of_memory`
 abbrev pub RepliesTo : Solvers → List ℕ → Reply → Type 0
 RepliesTo solvers input reply = (reply ≡ out_of_memory) ⊎ AnswersWhole solvers input reply
 
--- the answer to an input that is read from a source, of which a read may fail; or the reply `out_of_memory`
+-- the answer to the input that a source gives; a failed read and a lack of memory have replies of their own
 abbrev pub Replies : Solvers → Option (List ℕ) → Bool → Reply → Type 0
 Replies solvers known true reply = reply ≡ read_fault
 Replies solvers known false reply = (reply ≡ out_of_memory)
     ⊎ ((input : List ℕ) × AgreesWith known input × AnswersWhole solvers input reply)
 
--- the whole answer was written and flushed
+-- the program has written and flushed the whole answer
 pub record WritesAll (before after : SinkState) (reply : Reply) (status : ℕ) : Type 0 where
   pub sound : after.has_failed ≡ false
   pub moving : after.has_stalled ≡ false
@@ -66,13 +66,13 @@ pub record WritesAll (before after : SinkState) (reply : Reply) (status : ℕ) :
   pub flushed : after.is_flushed ≡ true
   pub answered : status ≡ reply.status
 
--- a write or the flush failed, or a write took no bytes; the bytes written before are a prefix of the answer
+-- a write or the flush failed, or a write accepted no bytes; the bytes written before are a prefix of the answer
 pub record WritesPart (before after : SinkState) (reply : Reply) (status : ℕ) : Type 0 where
   pub broken : Breaks after.has_failed after.has_stalled
   pub text : AppendsSome before.contents after.contents reply.text
   pub refused : status ≡ 1
 
--- the bytes that were written, and the exit status
+-- what the program wrote, and its exit status: the whole answer, or a prefix of it after a fault
 abbrev pub Writes : SinkState → SinkState → Reply → ℕ → Type 0
 Writes before after reply status =
     WritesAll before after reply status ⊎ WritesPart before after reply status

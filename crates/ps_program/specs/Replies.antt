@@ -3,7 +3,7 @@ use Rattle.std.specs.Prelude.{ℕ, List, ◌++◌, codes}
 use Rattle.ps_program.specs.Help.{help_text}
 use Rattle.ps_program.specs.declared.answer.Answer.{Answer}
 
--- the bytes that are written, and the exit status
+-- an answer of the program: the bytes that it writes, and its exit status
 pub record Reply : Type 0 where
   pub text : List ℕ
   pub status : ℕ
@@ -11,11 +11,11 @@ pub record Reply : Type 0 where
 abbrev pub reply_of : Answer → Reply
 reply_of answer = record { text = answer.text.items; status = answer.status }
 
--- an answer with the given text
+-- the answer that consists of the given text, with the exit status 0
 abbrev pub text_reply : List ℕ → Reply
 text_reply text = record { text = text; status = 0 }
 
--- an answer of one line
+-- the answer that consists of the given line, with the exit status 0
 abbrev pub line_reply : List ℕ → Reply
 line_reply line = text_reply (line ++ codes "\n")
 

@@ -8,7 +8,7 @@ use Rattle.ps_program.specs.Outcomes.{Then}
 use Rattle.ps_program.specs.Replies.{Reply, text_reply}
 use Rattle.ps_program.specs.Texts.{ReadsSimulated}
 
--- one step as a line: the latches' bits before the step, the inputs' bits and the outputs' bits
+-- one step of a circuit as a line: the bits of the latches before the step, of the inputs and of the outputs
 abbrev pub moment_line : Moment → List ℕ
 moment_line m = digits_of m.latches ++ codes "|" ++ digits_of m.inputs ++ codes "|" ++ digits_of m.outputs ++ codes "\n"
 
@@ -19,12 +19,12 @@ pub record PrintsTrace (c : CircuitData) (letters : List (List Bool)) (text : Li
   pub inputs_are : map (λ m. m.inputs) moments ≡ letters
   pub text_is : text ≡ flat_map moment_line moments
 
--- the answer to `sim`: the trace of a circuit
+-- what the program answers to the command `sim`: the trace of a circuit
 abbrev pub AnswersSim : List ℕ → Result Reply (List ℕ) → Type 0
 AnswersSim texts = Then (ReadsSimulated texts) (λ both outcome. IsCircuit both.0
     × ((text : List ℕ) × PrintsTrace both.0 both.1.stem text × (outcome ≡ Ok (text_reply text))))
 
--- ---- during the simulation
+-- ---- the text while a circuit is simulated
 
 -- the text has the lines of the letters read so far, and `latches` are the latches after those letters
 pub record HasPrinted (c : CircuitData) (letters : List (List Bool)) (text : List ℕ) (latches : List Bool) : Type 0
@@ -34,7 +34,7 @@ pub record HasPrinted (c : CircuitData) (letters : List (List Bool)) (text : Lis
     pub inputs_are : map (λ m. m.inputs) moments ≡ letters
     pub text_is : text ≡ flat_map moment_line moments
 
--- a letter was read, and its line was appended to the text
+-- the circuit read one more letter, and the line of this step was appended to the text
 pub record PrintsStep (before after : Simulation) (inputs : List Bool) (text_before text_after : List ℕ) : Type 0 where
   pub outputs : List Bool
   pub steps : Steps before.circuit before.latches inputs outputs after.latches

@@ -12,18 +12,18 @@ use Rattle.ps_program.specs.Replies.{Reply, text_reply}
 use Rattle.ps_program.specs.StageFaults.{stage_line}
 use Rattle.ps_program.specs.Texts.{ReadsGameText}
 
--- A valid certificate that fits the game and that the solver may return, or the line of the solver's fault. There is no
--- fault if the solver is sure.
+-- The result of solving a game: a valid certificate that fits the game and that the solver may return, or the line of
+-- the solver's fault. A sure solver gives no such fault.
 abbrev pub Certifies : SolverData → NamedGameData → Result CertificateData (List ℕ) → Type 0
 Certifies solver named (Ok certificate) = IsCertified named certificate × answers_now solver named (Ok certificate)
 Certifies solver named (Err line) = (fault : SynthFault) × IsSolverFault (answers_now solver) named fault
     × (solver.is_sure ≡ false) × (stage_line fault ≡ Some line)
 
--- the text of the solver's certificate, either with all counts or compact
+-- solves the game and prints the solver's certificate, either with all counts or compact
 abbrev pub AnswersGame : SolverData → Bool → NamedGameData → Result Reply (List ℕ) → Type 0
 AnswersGame solver compact named =
     Then (Certifies solver named) (λ certificate outcome. outcome ≡ Ok (text_reply (text_in compact named certificate)))
 
--- the answer to `solve`; `compact` states whether `--compact` is given
+-- what the program answers to the command `solve`; `compact` states whether the flag `--compact` is given
 abbrev pub AnswersSolve : SolverData → Bool → List ℕ → Result Reply (List ℕ) → Type 0
 AnswersSolve solver compact text = Then (ReadsGameText text) (AnswersGame solver compact)

@@ -13,7 +13,7 @@ use Rattle.ps_program.specs.declared.answer.Refusal.{Refusal}
 use Rattle.ps_program.specs.declared.answer.Refusal.TheVariants as refusal
 use Rattle.ps_program.specs.Faults.{byte_text, edges_text, fault_text, ids_text, line_text}
 
--- the place in the line of a fault, or None for `OutOfMemory`, which has no line
+-- the place that the line of a fault names, or None for `OutOfMemory`, which has no line
 abbrev pub automaton_place : AutomatonFault → Option (List ℕ)
 automaton_place automaton.ComplementedSet = Some []
 automaton_place automaton.NonParity = Some []
@@ -47,7 +47,7 @@ IsOfSolver (Certificate cause offset) = ⊤
 IsOfSolver NotCertified = ⊤
 IsOfSolver fault = ⊥
 
--- a fault with a line is reported by this line, and a fault without a line as `OutOfMemory`
+-- a fault that has a line is reported by this line; a fault without a line is reported as `OutOfMemory`
 abbrev pub IsToldAs : Option (List ℕ) → Refusal → Type 0
 IsToldAs line (refusal.Fault told) = line ≡ Some (fault_text told)
 IsToldAs line refusal.OutOfMemory = line ≡ None

@@ -1,19 +1,18 @@
--- What the calls to a sink do, and the state of a sink.
+-- What calls do to a sink, to which the answer is written, and the state of a sink.
 use Rattle.std.specs.Prelude.{◌≡◌, ◌⊎◌, ◌==◌, ◌&&◌, ℕ, Bool, true, false, List, length, Option, Result, Ok, Err, nat_lt}
 use Rattle.std.specs.Io.{StartsWith}
 use Rattle.std.specs.Io.KnownBytes.{Appends}
 
--- the write was given some bytes, and accepted none of them
+-- whether a write was given some bytes and accepted none of them
 abbrev pub stalls : {E : Type 0} → Result ℕ E → List ℕ → Bool
 stalls (Ok n) bytes = n == 0 && nat_lt 0 (length bytes)
 stalls (Err e) bytes = false
 
--- if the old contents are known, a prefix of the text is appended to them
+-- if it is known what a sink contained before, its new contents are these bytes and then a prefix of the text
 abbrev pub AppendsSome : Option (List ℕ) → Option (List ℕ) → List ℕ → Type 0
 AppendsSome before after text = (sent : List ℕ) × StartsWith text sent × Appends before after sent
 
--- Either a call failed, or a write accepted no bytes, but not both, because nothing is written after a failed call or
--- after such a write.
+-- Either a call to the sink failed, or a write accepted no bytes, but not both: after either, nothing more is written.
 abbrev pub Breaks : (has_failed has_stalled : Bool) → Type 0
 Breaks has_failed has_stalled =
     ((has_failed ≡ true) × (has_stalled ≡ false)) ⊎ ((has_failed ≡ false) × (has_stalled ≡ true))

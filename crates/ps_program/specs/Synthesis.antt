@@ -1,5 +1,5 @@
 -- The command that makes a circuit from an automaton.
---     AnswersSynth solvers asked texts      the answer to `synth`
+--     AnswersSynth solvers asked texts      what the program answers to the command `synth`
 use Rattle.std.specs.Prelude.{◌≡◌, ℕ, Bool, true, false, List, ◌++◌, codes, Some, Result, Ok, Err, if◌then◌else◌}
 use Rattle.ps_machine.specs.Solvers.{SolverData, answers_now, once_fed}
 use Rattle.ps_machine.specs.declared.key.Order.{Order}
@@ -31,7 +31,7 @@ verdict_status realizable = if realizable then 10 else 20
 abbrev pub circuit_part : Report → List ℕ
 circuit_part report = verdict_line report.realizable ++ report.circuit_text.items
 
--- the whole report, or only its part with the circuit
+-- the text of a report: if `full` is true, the whole report, and otherwise only the winner and the circuit
 abbrev pub report_text : (full : Bool) → Report → List ℕ
 report_text true report = circuit_part report ++ proof_text report
 report_text false report = circuit_part report
@@ -41,7 +41,8 @@ report_reply full report = record { text = report_text full report; status = ver
 
 -- ---- the answer
 
--- a report, or the line of the fault for which there is none; faults of the solver occur only if it is not sure
+-- the result of synthesis: a report, or the line of a fault; a fault comes from the solver only if the solver is not
+-- sure
 abbrev pub Synthesises : SolverData → Order → Bool → List ℕ → Result Report (List ℕ) → Type 0
 Synthesises solver order compact text (Ok report) = IsReport (answers_now solver) order compact text report
 Synthesises solver order compact text (Err line) =
@@ -59,7 +60,7 @@ abbrev pub AnswersCertified : SolverData → SynthLine → List ℕ → Result R
 AnswersCertified solver asked texts =
     Then (CutsInTwo texts) (λ parts. AnswersReport (once_fed parts.1 solver) asked parts.0)
 
--- the answer to `synth`, with the second solver if a certificate is given, and otherwise with the first solver
+-- what the program answers to `synth`, with the second solver if a certificate is given, and otherwise with the first
 abbrev pub AnswersBy : (cert : Bool) → Solvers → SynthLine → List ℕ → Result Reply (List ℕ) → Type 0
 AnswersBy false solvers asked texts = AnswersReport solvers.built_in asked texts
 AnswersBy true solvers asked texts = AnswersCertified solvers.replay asked texts

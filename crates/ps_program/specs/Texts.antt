@@ -37,17 +37,17 @@ CutsInThree texts (Err line) = HasFewerSeparators 2 texts × (line ≡ missing_t
 
 -- ---- game texts
 
--- the game of a text, or the line of the first error
+-- the result of parsing a text as a game: the game, or the line of the first error
 abbrev pub ReadsGameText : List ℕ → Result NamedGameData (List ℕ) → Type 0
 ReadsGameText text = Reading game.cause_number game.cause_name (Answer text)
 
 -- ---- certificate texts
 
--- the certificate of a game in a text, or the line of the first error
+-- the result of parsing a text as a certificate of the game: the certificate, or the line of the first error
 abbrev pub ReadsCertificateText : NamedGameData → List ℕ → Result CertificateData (List ℕ) → Type 0
 ReadsCertificateText named text = Reading certificate.cause_number certificate.cause_name (ReadsCertificate named text)
 
--- a game, and a certificate of this game, from two texts
+-- the result of parsing two texts of the input: a game, and a certificate of this game
 abbrev pub ReadsCertified : List ℕ → Result (NamedGameData × CertificateData) (List ℕ) → Type 0
 ReadsCertified texts =
     Then (CutsInTwo texts) (λ parts. Then (ReadsGameText parts.0) (λ named.
@@ -55,17 +55,17 @@ ReadsCertified texts =
 
 -- ---- circuit texts and stimuli
 
--- the circuit of a text, or the line of the first error
+-- the result of parsing a text as a circuit: the circuit, or the line of the first error
 abbrev pub ReadsCircuitText : List ℕ → Result CircuitData (List ℕ) → Type 0
 ReadsCircuitText text = Reading circuit.cause_number circuit_names.cause_name (circuit_text.ReadsCircuit text)
 
--- the stimulus of a text for `width` inputs, or the line of the first error; `split` states whether the text has a
--- divider
+-- the result of parsing a text as a stimulus for `width` inputs; if `split` is true, a line `-` must divide its stem
+-- from its lap
 abbrev pub ReadsStimulusText : ℕ → Bool → List ℕ → Result StimulusData (List ℕ) → Type 0
 ReadsStimulusText width split text =
     Reading stimulus.cause_number stimulus.cause_name (stimulus_text.ReadsStimulus text width split)
 
--- a circuit, and a stimulus that has only a stem, from two texts
+-- the result of parsing two texts of the input: a circuit, and a stimulus for it that has only a stem
 abbrev pub ReadsSimulated : List ℕ → Result (CircuitData × StimulusData) (List ℕ) → Type 0
 ReadsSimulated texts =
     Then (CutsInTwo texts) (λ parts. Then (ReadsCircuitText parts.0) (λ c.
@@ -76,17 +76,17 @@ ReadsSimulated texts =
 abbrev pub id_of : NamedGameData → ℕ → ℕ
 id_of named v = slice_index named.ids v
 
--- the place of a flaw in its line: vertices are named by their ids
+-- the place that the line of a flaw names: its vertices, by their ids, and the priority, if any
 abbrev pub flaw_place : NamedGameData → Flaw → List ℕ
 flaw_place named (flaw.Move v choice) = spaced (id_of named v) ++ choice_text (option_map (id_of named) choice)
 flaw_place named (flaw.Escape v w) = spaced (id_of named v) ++ spaced (id_of named w)
 flaw_place named (flaw.Rank v w p) = spaced (id_of named v) ++ spaced (id_of named w) ++ spaced p
 
--- the line of a flaw
+-- the line that reports a certificate's flaw
 abbrev pub flaw_text : NamedGameData → Flaw → List ℕ
 flaw_text named flaw = line_text (certificate.flaw_number flaw) (certificate.flaw_name flaw) (flaw_place named flaw)
 
--- the vertices in the flaw are less than `count`
+-- the vertices that a certificate's flaw names are less than `count`
 abbrev pub NamesVertices : ℕ → Flaw → Type 0
 NamesVertices count (flaw.Move v choice) = (v < count) × IfSome choice (λ w. w < count)
 NamesVertices count (flaw.Escape v w) = (v < count) × (w < count)

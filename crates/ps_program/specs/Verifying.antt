@@ -19,7 +19,7 @@ use Rattle.ps_program.specs.Outcomes.{Then}
 use Rattle.ps_program.specs.Replies.{Reply, line_reply, text_reply}
 use Rattle.ps_program.specs.Texts.{CutsInTwo, ReadsCircuitText}
 
--- a line for each letter
+-- the text of a list of letters: one line of bits for each letter
 abbrev pub letter_lines : List (List Bool) → List ℕ
 letter_lines letters = flat_map (λ letter. digits_of letter ++ codes "\n") letters
 
@@ -33,28 +33,28 @@ wins_reply = line_reply (codes "wins")
 abbrev pub loses_reply : StimulusData → Reply
 loses_reply s = text_reply (losing_text s)
 
--- the line of a fault of the symbols or of the order of moves
+-- the line that reports that a circuit has wrong symbols, or reads inputs of a step before it may
 abbrev pub product_line : ProductFault → List ℕ
 product_line fault = line_text (fault_number fault) (fault_name fault) []
 
--- wrong symbols are reported before a wrong order of moves
+-- the line for a circuit that can't be judged: wrong symbols are reported before a wrong order of moves
 abbrev pub IsProductLine : Order → Role → FileData → CircuitData → List ℕ → Type 0
 IsProductLine order role file c line =
     (¬ HasSymbols role file.names file.controllable c × (line ≡ product_line Symbols))
     ⊎ (HasSymbols role file.names file.controllable c × IsTooEarly order role c × (line ≡ product_line Timing))
 
--- the answer that the circuit wins, or a stimulus on which it loses; otherwise the line of the first fault
+-- the judgement on a circuit: it wins, or it loses on a printed stimulus, or the line of the first fault
 abbrev pub TellsJudgement : Order → Role → FileData → CircuitData → Result Reply (List ℕ) → Type 0
 TellsJudgement order role file c (Ok reply) = IsCircuit c
     × ((IsWinning order role file c × (reply ≡ wins_reply))
     ⊎ ((s : StimulusData) × IsLosing order role file c s × (reply ≡ loses_reply s)))
 TellsJudgement order role file c (Err line) = IsProductLine order role file c line
 
--- the judgement on the circuit of a text
+-- parses a text as a circuit, and judges the circuit
 abbrev pub VerifiesText : Order → Role → FileData → List ℕ → Result Reply (List ℕ) → Type 0
 VerifiesText order role file text = Then (ReadsCircuitText text) (TellsJudgement order role file)
 
--- the answer to `verify`, for an automaton and a circuit with this role
+-- what the program answers to `verify`, given the texts of an automaton and of a circuit with this role
 abbrev pub AnswersVerify : Order → Role → List ℕ → Result Reply (List ℕ) → Type 0
 AnswersVerify order role texts =
     Then (CutsInTwo texts) (λ parts. Then (ReadsAutomaton parts.0) (λ file. VerifiesText order role file parts.1))

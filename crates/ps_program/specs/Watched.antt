@@ -1,8 +1,8 @@
--- The data of a watched reader or writer, and the results of its calls.
+-- A reader or writer of std together with a record of whether its calls failed, and the results of its calls.
 use Rattle.std.specs.Prelude.{◌≤◌, ℕ, List, length, Bool, Option, IfSome, None, Some, Result, Ok, Err}
 use Rattle.ps_program.specs.declared.watched.Watched.{Watched}
 
--- the watched reader or writer
+-- the reader or writer of std that is watched
 abbrev pub watched_inner : {T : Type 0} → Watched T → T
 watched_inner watched = watched.inner
 
@@ -10,7 +10,7 @@ watched_inner watched = watched.inner
 abbrev pub watched_failed : {T : Type 0} → Watched T → Bool
 watched_failed watched = watched.has_failed
 
--- a write was given some bytes and took none
+-- whether some write was given bytes and accepted none of them
 abbrev pub watched_stalled : {T : Type 0} → Watched T → Bool
 watched_stalled watched = watched.has_stalled
 

@@ -53,7 +53,7 @@ impl Answer {
         Answer { text, status: DONE }
     }
 
-    /// An answer of one line.
+    /// An answer that consists of the given line.
     pub fn line(alloc: Global, line: &str) -> Result<Answer, AllocError>
         ensures { IfOk result (λ answer. reply_of answer ≡ line_reply line.now) }
     {
@@ -92,10 +92,10 @@ impl Answer {
     }
 }
 
-/// Why a command has no answer.
+/// Why a command gives no result: a fault, or lack of memory.
 #[derive(Drop)]
 pub enum Refusal {
-    /// A fault, whose line is the answer.
+    /// A fault, which the program reports by a line.
     Fault(FaultLine),
     /// Memory ran out.
     OutOfMemory,
@@ -111,7 +111,7 @@ impl From<AllocError> for Refusal {
     }
 }
 
-/// A fault of a parser becomes a line with the number and the name of its cause.
+/// A parser's fault is reported by a line with the number and the name of its cause.
 impl<C: Cause> From<Fault<C>> for Refusal {
     ghost use Rattle.ps_program.specs.Refusals.{IsRefusalOf};
 
@@ -129,7 +129,8 @@ impl<C: Cause> From<Fault<C>> for Refusal {
     }
 }
 
-/// The answer of a command, or the line of its fault. Fails if memory runs out.
+/// What the program prints after a command: the command's answer, or the line that reports its fault. Fails if memory
+/// runs out.
 pub fn settle(alloc: Global, outcome: Result<Answer, Refusal>) -> Result<Answer, AllocError>
     ensures { IfOk result (Settles outcome) }
 {

@@ -10,7 +10,7 @@ use std::alloc::Global;
 ///
 /// # Errors
 ///
-/// Fails with the first error of the text; else if the file has no automaton; or if memory runs out.
+/// Fails with the first error of the text, or because the file has no automaton; fails at any time if memory runs out.
 pub fn read_automaton(alloc: Global, text: &[u8]) -> Result<Automaton, Refusal>
     ensures { GivesAutomaton text.now result }
 {

@@ -16,7 +16,7 @@ use ps_machine::Order;
 use ps_simulate::Role;
 use std::alloc::{AllocError, Global};
 
-/// Reads the first line. Fails if memory runs out.
+/// Reads the first line of the input as a command line. Fails if memory runs out.
 pub fn read_line(alloc: Global, line: &[u8]) -> Result<Line, AllocError>
     ensures { IfOk result (IsLine line.now) }
 {
@@ -26,8 +26,8 @@ pub fn read_line(alloc: Global, line: &[u8]) -> Result<Line, AllocError>
     }
 }
 
-/// A law. A command with different flags of its own, in any order, is read as this command. `--help` and `-h` ask for
-/// help.
+/// A law. A line with a command's name and some of its own flags, each once, in any order, is accepted as this command.
+/// `--help` and `-h` ask for help.
 pub fn lines_are_read()
     ensures lines { LinesAreRead }
     ensures help { AskForHelp }
@@ -59,8 +59,8 @@ fn is_longer(usages: &[Usage<'_>], word: &str) -> bool
     usages.iter().all(|usage| usage.name.len() < word.len())
 }
 
-/// Reads the words of a line. If the first word names nothing (`names_nothing`), the line is refused at once, without a
-/// search for similar names.
+/// Reads the words of a command line. If the first word is too long for a command's name (`names_nothing`), the line is
+/// refused at once, without a search for similar names.
 fn read_words(alloc: Global, words: &[&str]) -> Result<Line, AllocError>
     ensures { IfOk result (Says (map (λ word. word.now) words.now)) }
 {
@@ -72,7 +72,7 @@ fn read_words(alloc: Global, words: &[&str]) -> Result<Line, AllocError>
     parse_words(alloc, words)
 }
 
-/// Reads the words of a line by the table of commands.
+/// Reads the words of a command line by means of the parser clap, which is given the table of commands.
 fn parse_words(alloc: Global, words: &[&str]) -> Result<Line, AllocError>
     ensures { IfOk result (Says (map (λ word. word.now) words.now)) }
 {
@@ -94,14 +94,14 @@ fn flag<'a>(alloc: Global, name: &'a str) -> Arg<'a>
     Arg::new(alloc, name).long(name).action(ArgAction::SetTrue)
 }
 
-/// The program with all its commands.
+/// The program with all its commands, as the parser clap needs it.
 fn table<'a>(alloc: Global) -> Result<Command<'a>, AllocError>
     ensures { IfOk result (λ command. app_of command ≡ words.table) }
 {
     with_commands(alloc, usages())
 }
 
-/// The program with these commands.
+/// The program with the given commands, as the parser clap needs it.
 fn with_commands<'a>(alloc: Global, usages: &[Usage<'a>]) -> Result<Command<'a>, AllocError>
     ensures { IfOk result (λ command. app_of command ≡ words.with_commands words.program
         (map usage_of usages.now)) }
@@ -113,7 +113,7 @@ fn with_commands<'a>(alloc: Global, usages: &[Usage<'a>]) -> Result<Command<'a>,
     Ok(psyn)
 }
 
-/// The program without commands. The words of a line don't begin with the program's name.
+/// The program without commands, as the parser clap needs it. The words of a line don't begin with the program's name.
 fn program<'a>(alloc: Global) -> Command<'a>
     ensures { app_of result ≡ words.program }
 {
@@ -160,7 +160,7 @@ fn line_of(matches: &ArgMatches) -> Line
     }
 }
 
-/// The line of the command with this name and the given flags.
+/// The `Line` that a command's name and the given flags mean.
 fn line_named(name: &str, flags: &ArgMatches) -> Line
     ensures { result ≡ words.line_named name.now (λ flag. words.is_given flag (rows_of (found_of flags.now))) }
 {
@@ -177,7 +177,7 @@ fn usage_named<'a>(usages: &'a [Usage<'a>], name: &str) -> Option<&'a Usage<'a>>
     usages.iter().find(|usage| usage.name == name)
 }
 
-/// The role of the circuit: an environment if `--env` is given.
+/// The role of the circuit: an environment if the flag `--env` is given, and otherwise a controller.
 pub fn role_given(flags: &ArgMatches) -> Role
     ensures { result ≡ words.role_given (λ name. words.is_given name (rows_of (found_of flags.now))) }
 {
@@ -188,7 +188,7 @@ pub fn role_given(flags: &ArgMatches) -> Role
     }
 }
 
-/// The order of moves: outputs first if `--moore` is given.
+/// The order of moves: outputs before inputs if the flag `--moore` is given, and otherwise inputs before outputs.
 pub fn order_given(flags: &ArgMatches) -> Order
     ensures { result ≡ words.order_given (λ name. words.is_given name (rows_of (found_of flags.now))) }
 {

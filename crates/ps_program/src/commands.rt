@@ -30,11 +30,12 @@ use std::alloc::Global;
 /// What the first line of the input asks for.
 #[derive(Clone, Copy)]
 pub enum Line {
-    /// No command: the line is not a command with flags of its own, each given at most once.
+    /// No command: a line that is not a command's name with flags of that command, each given at most once.
     Refused,
     /// Asks for the help text.
     Help,
-    /// Asks whether a certificate's moves are right, and each remaining edge leads to a vertex with the same winner.
+    /// Asks whether the winners' moves are edges, and no move of a winner or edge of the loser leaves the winner's
+    /// region.
     Closed,
     /// Asks whether a certificate of a game is valid.
     Check,
@@ -72,12 +73,12 @@ pub enum Line {
     Synth(SynthLine),
 }
 
-/// Which circuit is asked for, and what is printed with it.
+/// Which circuit the command `synth` is asked for, and what is printed with the circuit.
 #[derive(Clone, Copy)]
 pub struct SynthLine {
     /// Whether the game and its certificate are printed too.
     pub full: bool,
-    /// Whether a certificate of the game follows the automaton, and is used instead of the solver.
+    /// Whether a certificate of the game follows the automaton in the input, and is used instead of the solver.
     pub cert: bool,
     /// Who moves first.
     pub order: Order,
@@ -113,25 +114,25 @@ pub struct Usage<'a> {
     pub texts: &'a [TextKind],
     /// Flags with which the command reads a further text, and the kind of this text.
     pub added: &'a [(&'a str, TextKind)],
-    /// What the command asks for if no flag is given.
+    /// The `Line` that the command means if no flag is given.
     pub line: Line,
     /// What `help` says about the command, after the kinds of its texts.
     pub says: &'a str,
 }
 
-/// The flag of a command whose circuit is an environment.
+/// The flag which states that the circuit is an environment.
 pub const ENV_FLAG: &str = "env";
 
-/// The flag by which outputs come before inputs.
+/// The flag which states that outputs come before inputs (Moore).
 pub const MOORE_FLAG: &str = "moore";
 
-/// The flag by which a certificate is printed as a compact text.
+/// The flag which asks for a certificate as a compact text.
 pub const COMPACT_FLAG: &str = "compact";
 
-/// The flag by which the game and its certificate are printed too.
+/// The flag which asks `synth` to print the game and its certificate, too.
 pub const FULL_FLAG: &str = "full";
 
-/// The flag by which a given certificate is used.
+/// The flag which states that a certificate follows the automaton and is used instead of the solver.
 pub const CERT_FLAG: &str = "cert";
 
 /// What `help` says about `closed`, after the kinds of its texts.
@@ -302,7 +303,7 @@ pub(crate) fn usages() -> &'static [Usage<'static>]
 }
 
 impl Line {
-    /// The command with the given flags.
+    /// The `Line` that a command means if the given flags are added to it.
     pub(crate) fn with(self, flags: &ArgMatches) -> Line
         ensures { result ≡ with_flags self (λ name. is_given name (rows_of (found_of flags.now))) }
     {
@@ -334,11 +335,11 @@ impl Line {
     }
 }
 
-/// The answer to a line, given the texts that follow it.
+/// The answer to a command line, given the texts that follow it in the input.
 ///
 /// # Errors
 ///
-/// Fails with the first fault of the texts, or if memory runs out.
+/// Fails with the fault that the command reports, or if memory runs out.
 pub(crate) fn answer_line<S: Solver, T: Solver>(
     alloc: Global,
     line: Line,

@@ -4,7 +4,7 @@ ghost use Rattle.std.specs.Prelude.{◌≡◌, ◌==◌, ◌≤◌, ◌<◌, len
 ghost use Rattle.std.specs.List.{before_first, after_first, position_or_len};
 ghost use Rattle.ps_program.specs.Cut.{is_separator, ends_line_at, Cuts, HasNoSeparator};
 
-/// The first line without its newline, and the rest after the newline.
+/// The first line of an input, without its newline, and the rest of the input after that newline.
 pub fn first_line(input: &[u8]) -> (&[u8], &[u8])
     ensures line { result.0.now ≡ before_first (λ byte. byte == 10) input.now }
     ensures rest { result.1.now ≡ after_first (λ byte. byte == 10) input.now }
@@ -14,7 +14,7 @@ pub fn first_line(input: &[u8]) -> (&[u8], &[u8])
     (&input[..end], &input[behind..])
 }
 
-/// The number of bytes before the first newline, or of all bytes if there is no newline.
+/// The number of bytes before the first newline, or the number of all bytes if there is no newline.
 fn line_length(input: &[u8]) -> usize
     ensures within { result ≤ length input.now }
     ensures length { result ≡ position_or_len (λ byte. byte == 10) input.now }
@@ -27,7 +27,7 @@ fn line_length(input: &[u8]) -> usize
     input.len()
 }
 
-/// The part before the first line `%%`, and the part after it.
+/// The part of a text before its first line `%%`, and the part after that line.
 pub fn cut(texts: &[u8]) -> Option<(&[u8], &[u8])>
     ensures found { IfSome result (λ parts. Cuts texts.now parts.0.now parts.1.now) }
     ensures missing { IfNone result (HasNoSeparator texts.now) }
@@ -41,7 +41,7 @@ pub fn cut(texts: &[u8]) -> Option<(&[u8], &[u8])>
     None
 }
 
-/// Whether the line `%%` begins at `place`.
+/// Whether a line `%%` begins at the offset `place`.
 fn begins_separator(texts: &[u8], place: usize) -> bool
     requires { place < length texts.now }
     ensures { result ≡ is_separator texts.now place }
@@ -53,7 +53,7 @@ fn begins_separator(texts: &[u8], place: usize) -> bool
         && is_line_end(texts, place + 2)
 }
 
-/// Whether the byte is at `place`.
+/// Whether the given byte is at the offset `place`.
 fn is_byte(text: &[u8], place: usize, byte: u8) -> bool
     requires { 0 < byte }
     ensures { result ≡ (slice_index text.now place == byte) }
@@ -61,7 +61,7 @@ fn is_byte(text: &[u8], place: usize, byte: u8) -> bool
     place < text.len() && text[place] == byte
 }
 
-/// Whether the text or a line ends at `place`.
+/// Whether the text or one of its lines ends at the offset `place`.
 fn is_line_end(text: &[u8], place: usize) -> bool
     ensures { result ≡ ends_line_at text.now place }
 {

@@ -1,6 +1,6 @@
 //! The faults that the program reports, each in one line.
 
-/// What the program answers if there is no result: a fault's number and name, as docs/FAULTS.md lists them, and its
+/// What the program reports if there is no result: a fault's number and name, as docs/FAULTS.md lists them, and its
 /// place.
 #[derive(Drop)]
 pub struct FaultLine {
@@ -19,13 +19,13 @@ pub enum Place {
     Nowhere,
     /// A byte of a text, counted from 0.
     Byte(usize),
-    /// Two edges of a state.
+    /// Two edges of one state of an automaton, which make the automaton nondeterministic.
     Edges {
         /// The number that the state has in the text.
         state: usize,
         /// The index of the earlier edge in the state's row, counted from 0.
         first: usize,
-        /// The index of the later edge.
+        /// The index of the later edge in the state's row, counted from 0.
         second: usize,
     },
     /// A cycle of vertices.
@@ -44,7 +44,7 @@ pub enum Place {
         /// The vertex to which the edge leads.
         successor: u64,
     },
-    /// An edge of a game, with the priority whose count is wrong.
+    /// An edge of a game, and the priority for which the certificate's counts are wrong at this edge.
     Count {
         /// The vertex that the edge leaves.
         vertex: u64,

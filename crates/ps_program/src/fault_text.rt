@@ -1,4 +1,4 @@
-//! The bytes of a fault's line.
+//! The bytes of the line that reports a fault.
 
 ghost use Rattle.std.specs.Prelude.{Some};
 ghost use Rattle.ps_program.specs.Faults.{fault_text, ids_text, place_text};
@@ -21,7 +21,7 @@ impl fmt::Display for Ids<'_> {
     }
 }
 
-/// Writes the place, with a space before it if there is one.
+/// Writes the place of a fault after a space, or nothing if the fault has no place.
 impl fmt::Display for Place {
     ghost output = { λ place. Some (place_text place) };
 
@@ -56,7 +56,7 @@ impl fmt::Display for Place {
     }
 }
 
-/// Writes the line, without the newline that ends it.
+/// Writes the line that reports a fault, without the newline that ends the line.
 impl fmt::Display for FaultLine {
     ghost output = { λ line. Some (fault_text line) };
 

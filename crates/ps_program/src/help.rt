@@ -81,7 +81,7 @@ lists the faults, with an example of each and how to mend it; tools/psyn, which
 takes files by name, explains them.
 ";
 
-/// The column after the names of the commands.
+/// The width of the column with the commands' names in the help text.
 const COLUMN: usize = 9;
 
 /// The whole text. Fails if memory runs out.
@@ -94,7 +94,7 @@ pub(crate) fn help_text(alloc: Global) -> Result<String, AllocError>
     Ok(text)
 }
 
-/// Appends the lines of the given commands. Fails if memory runs out.
+/// Appends the line of the help text for each of the given commands. Fails if memory runs out.
 fn push_usages(text: &mut String, usages: &[Usage<'_>]) -> Result<(), AllocError>
     ensures { OnOk result (string_bytes text.new ≡ string_bytes text.old ++
         flat_map words.usage_text (map usage_of usages.now)) }
@@ -105,7 +105,7 @@ fn push_usages(text: &mut String, usages: &[Usage<'_>]) -> Result<(), AllocError
     Ok(())
 }
 
-/// Appends the lines of a command. Fails if memory runs out.
+/// Appends the line of the help text for a command. Fails if memory runs out.
 fn push_usage(text: &mut String, usage: &Usage<'_>) -> Result<(), AllocError>
     ensures { OnOk result (string_bytes text.new ≡ string_bytes text.old ++
         words.usage_text (usage_of usage.now)) }
@@ -117,7 +117,7 @@ fn push_usage(text: &mut String, usage: &Usage<'_>) -> Result<(), AllocError>
     text.push_str("\n")
 }
 
-/// Appends spaces. Fails if memory runs out.
+/// Appends the given number of spaces. Fails if memory runs out.
 fn push_blanks(text: &mut String, count: usize) -> Result<(), AllocError>
     ensures { OnOk result (string_bytes text.new ≡ string_bytes text.old ++ replicate count 32) }
 {
@@ -127,7 +127,7 @@ fn push_blanks(text: &mut String, count: usize) -> Result<(), AllocError>
     Ok(())
 }
 
-/// Appends the kinds of a command's texts. Fails if memory runs out.
+/// Appends the kinds of a command's texts, separated by commas. Fails if memory runs out.
 fn push_kinds(text: &mut String, kinds: &[TextKind]) -> Result<(), AllocError>
     ensures { OnOk result (string_bytes text.new ≡ string_bytes text.old ++ words.kinds_text kinds.now) }
 {
@@ -140,7 +140,7 @@ fn push_kinds(text: &mut String, kinds: &[TextKind]) -> Result<(), AllocError>
     }
 }
 
-/// Appends the kinds of further texts, each after a comma. Fails if memory runs out.
+/// Appends the kinds of a command's texts after the first, each with a comma before it. Fails if memory runs out.
 fn push_further_kinds(text: &mut String, kinds: &[TextKind]) -> Result<(), AllocError>
     ensures { OnOk result (string_bytes text.new ≡ string_bytes text.old ++ words.further_kinds kinds.now) }
 {
@@ -151,7 +151,7 @@ fn push_further_kinds(text: &mut String, kinds: &[TextKind]) -> Result<(), Alloc
     Ok(())
 }
 
-/// A kind of text, in words.
+/// The words by which the help text names a kind of input text.
 fn kind_text(kind: TextKind) -> &'static str
     ensures { result.now ≡ words.kind_text kind }
 {

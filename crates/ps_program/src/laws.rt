@@ -1,4 +1,4 @@
-//! Laws: an input has an answer, which is determined except for what a solver may choose.
+//! Laws: an input has an answer, which is determined except for what `one_answer` lists.
 
 ghost use Rattle.std.specs.Prelude.{ℕ, List};
 ghost use Rattle.ps_machine.specs.Solving.{own_solver, replay_of};
@@ -10,12 +10,12 @@ ghost use Rattle.ps_program.specs.Solvers.{solvers_of};
 use ps_machine::Solver;
 
 /// An input has at most one answer, whatever the solvers: each program that meets the definitions writes the same bytes
-/// and ends with the same status, or runs out of memory. There are three exceptions. If the line is `judge` and a
-/// player loses a cycle, it is left open which lost cycle the answer names. If the line is `verify` and the circuit
-/// loses, it is left open which losing stimulus the answer shows. If the line is `solve`, `cert` or `synth` and its
-/// text is accepted, any two answers that are not lines of faults agree on the winners. Two answers to `synth` have the
-/// same status, first line and game; two answers to `solve` or `cert` have the same regions. With `synth --cert`, the
-/// whole answer is determined if the second solver only replays the certificate that it was fed.
+/// and ends with the same status, or runs out of memory. There are exceptions for five commands. If `judge` finds that
+/// a player loses a cycle, the law does not say which lost cycle the answer names. If `verify` finds that the circuit
+/// loses, the law does not say which losing stimulus the answer shows. If `solve`, `cert` or `synth` accepts its text,
+/// any two answers that do not report a fault agree on the winners. Two such answers to `synth` have the same status,
+/// first line and game; two such answers to `solve` or `cert` have the same regions. With `synth --cert`, the whole
+/// answer is determined if the second solver only returns the certificate whose text it was fed.
 pub fn one_answer<S: Solver, T: Solver>(built_in: &S, replay: &T)
     ensures answer { HasOneAnswer (solvers_of (S.known built_in.now) (T.known replay.now)) }
     ensures certified { HasOneCertified (solvers_of (S.known built_in.now) (T.known replay.now)) }
@@ -38,22 +38,24 @@ pub fn one_answer<S: Solver, T: Solver>(built_in: &S, replay: &T)
     ps_verify::judgement_is_one();
 }
 
-/// A command reads as many texts as the table says. If a text is missing, the answer reports that.
+/// A command reads as many texts as the table of commands says. If the input lacks one of a command's texts, the answer
+/// reports the missing text.
 pub fn missing_text_is_told<S: Solver, T: Solver>(built_in: &S, replay: &T)
     ensures { NeedsItsTexts (solvers_of (S.known built_in.now) (T.known replay.now)) }
 {}
 
-/// Each first line asks for something, and each input has an answer, except that nothing is said of `verify`. Without
-/// this law, a definition that no reply meets would be kept by having no answer. The law is about inputs, not about
-/// calls, so out of memory is not one of the answers.
+/// Each first line has a meaning, and each input has an answer, except that the law says nothing about the command
+/// `verify`. Without this law, a definition of an answer that no reply meets would go unnoticed. The law is about what
+/// is a right answer, not about calls, so a lack of memory is not one of the answers.
 ///
-/// There is an answer, whatever the solvers, if the line is refused, or asks for `help`, `closed`, `check`, `judge`,
-/// `sim`, `lasso` or `game`. For `solve` and `cert` there is one if the first solver may answer a valid certificate of
-/// each game. For `synth` there is one under two conditions. The first solver may answer such a certificate or, with
-/// `--cert`, the second solver may answer what parsing its text gives. And the three texts of each report are short
-/// enough to be held and to be parsed again. psyn's own solvers meet the conditions on solvers
-/// (`own_solvers_may_answer`). `verify` is left out: the law would have to decide whether an automaton accepts all lasso
-/// traces of a circuit, which the code does.
+/// Whatever the solvers, an input has an answer if its line is refused, or asks for `help`, `closed`, `check`, `judge`,
+/// `sim`, `lasso` or `game`. An input with `solve` or `cert` has an answer if the first solver may answer a valid
+/// certificate of each game. An input with `synth` has an answer under two conditions. First, the first solver may
+/// answer a valid certificate of each game or, with `--cert`, the second solver may answer the result of parsing the
+/// text that it was fed. Second, the three texts of each report are short enough to be stored and to be parsed again.
+/// psyn's own solvers meet the conditions on solvers (`own_solvers_may_answer`). The command `verify` is left out,
+/// because a proof for it would have to decide, as the code does, whether an automaton accepts all lasso traces of a
+/// circuit.
 pub fn some_answer<S: Solver, T: Solver>(built_in: &S, replay: &T)
     ensures line { HasSomeLine }
     ensures answer { HasSomeAnswer (solvers_of (S.known built_in.now) (T.known replay.now)) }
@@ -84,8 +86,8 @@ pub fn some_answer<S: Solver, T: Solver>(built_in: &S, replay: &T)
     ps_synthesis::winners_circuit_is_there();
 }
 
-/// psyn's own solvers are such solvers: the first may answer a valid certificate of each game, and the second may answer
-/// the result of parsing any text that it is fed.
+/// psyn's own solvers meet the conditions of `some_answer`: the first may answer a valid certificate of each game, and
+/// the second may answer the result of parsing any text that it is fed.
 pub fn own_solvers_may_answer()
     ensures certify { MayCertify own_solver }
     ensures replay { (text : List ℕ) → MayReplay (replay_of text) }

@@ -1,4 +1,4 @@
-//! The program: what it reads, what it answers with the solvers that it is given, and what it writes.
+//! What the program psyn reads, what it answers with the solvers that it is given, and what it writes.
 //!
 //! | Call | What it gives |
 //! |---|---|

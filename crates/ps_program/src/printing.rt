@@ -1,4 +1,4 @@
-//! The text of a report.
+//! Prints the report of a synthesis.
 
 ghost use Rattle.std.specs.Prelude.{◌≡◌, ◌++◌, IfOk};
 ghost use Rattle.ps_program.specs.Replies.{reply_of};
@@ -8,7 +8,7 @@ use crate::answer::{Answer, REALIZABLE, UNREALIZABLE};
 use ps_synthesis::Report;
 use std::alloc::{AllocError, Global};
 
-/// The line between the parts of an answer.
+/// The line `%%`, which separates the parts of an answer.
 const DIVIDER: &[u8] = b"%%\n";
 
 /// The text that is printed for a report. Fails if memory runs out.
@@ -24,7 +24,7 @@ pub fn print(alloc: Global, report: &Report, full: bool) -> Result<Answer, Alloc
     Ok(Answer { text, status })
 }
 
-/// The line that states the winner, and the exit status.
+/// The line that states the winner, and the exit status of the answer with that line.
 fn verdict(realizable: bool) -> (&'static str, u8)
     ensures word { result.0.now ≡ verdict_line realizable }
     ensures status { result.1 ≡ verdict_status realizable }

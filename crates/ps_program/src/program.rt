@@ -12,12 +12,13 @@ use crate::cut::first_line;
 use ps_machine::Solver;
 use std::alloc::{AllocError, Global};
 
-/// The answer to an input, which consists of a command line and texts. The second solver is used if the input contains
-/// a certificate.
+/// The program's answer to an input, which consists of a command line and texts. The second solver is used if the input
+/// contains a certificate.
 ///
 /// # Errors
 ///
-/// Fails if memory runs out. Every fault but out of memory is an answer.
+/// Fails if memory runs out. A fault other than lack of memory is reported in the answer, and is no failure of this
+/// function.
 pub fn answer_to<S: Solver, T: Solver>(
     alloc: Global,
     input: &[u8],

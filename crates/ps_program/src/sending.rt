@@ -6,7 +6,7 @@ ghost use Rattle.ps_program.specs.Streams.{AppendsSome, Breaks};
 
 use crate::stream::Sink;
 
-/// A write or the flush failed, or a write accepted no bytes.
+/// Why an answer was not written whole: a write or the flush failed, or a write accepted no bytes.
 #[derive(Debug, Drop, thiserror::Error)]
 #[error("the answer could not be written whole")]
 pub struct WriteFault;

@@ -1,4 +1,4 @@
-//! The faults of synthesis, as the program answers them.
+//! How the program reports the faults of synthesis.
 
 use crate::answer::Refusal;
 use crate::fault::{FaultLine, Place};

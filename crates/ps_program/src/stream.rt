@@ -1,5 +1,5 @@
-//! The program's input and output, and what they report about their faults. Nothing is read or written after a fault,
-//! and nothing is written after a write that accepted no bytes.
+//! The program's input and output, each of which reports whether one of its calls has failed. Nothing is read after a
+//! failed read, and nothing is written after a failed call or after a write that accepted no bytes.
 
 ghost use Rattle.std.specs.Prelude.{◌≡◌, ℕ, Bool, List, Option, true, false, is_err, IsOk, OnOk};
 ghost use Rattle.std.specs.Io.{ReadsAtMost, WritesAtMost};
@@ -10,14 +10,14 @@ use std::io;
 
 /// A reader that reports whether a call has failed.
 pub trait Source {
-    // The bytes that are still to be read, if they are known.
+    // The bytes that are still to be read from this source, if it is known which they are.
     ghost remaining: { Self → Option (List ℕ) };
 
     // Whether a call has failed.
     ghost has_failed: { Self → Bool };
 
-    /// Reads some of the remaining bytes into the beginning of `buf`. No bytes are read only at the end, or if `buf` is
-    /// empty.
+    /// Reads some of the remaining bytes into the beginning of `buf`. A call that succeeds reads at least one byte,
+    /// unless no bytes remain or `buf` is empty.
     fn read(&mut self, buf: &mut [u8]) -> io::Result<usize>
         requires { has_failed self.old ≡ false }
         ensures bound { ReadsAtMost result buf.new }
@@ -31,7 +31,7 @@ pub trait Source {
 
 /// A writer that reports whether a call has failed.
 pub trait Sink {
-    // The bytes that were written, if they are known.
+    // The bytes that this sink has received, if it is known which they are.
     ghost contents: { Self → Option (List ℕ) };
 
     // Whether a call has failed.

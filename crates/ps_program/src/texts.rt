@@ -1,4 +1,4 @@
-//! Reads the texts of the commands, and makes the lines of their faults.
+//! Parses the texts that commands read, and makes the lines that report faults of these texts.
 
 ghost use Rattle.std.specs.Prelude.{◌≡◌, ◌<◌, false, length, All, IfOk};
 ghost use Rattle.ps_circuit.specs.Circuits.{IsCircuit};
@@ -31,7 +31,7 @@ fn missing_text() -> FaultLine
     }
 }
 
-/// The two texts of an input. Fails if one is missing.
+/// The two texts of an input. Fails if a text is missing.
 pub fn two_texts(texts: &[u8]) -> Result<(&[u8], &[u8]), Refusal>
     ensures { Gives (λ parts. (parts.0.now, parts.1.now)) (CutsInTwo texts.now) result }
 {
@@ -41,7 +41,7 @@ pub fn two_texts(texts: &[u8]) -> Result<(&[u8], &[u8]), Refusal>
     }
 }
 
-/// The three texts of an input. Fails if a text is missing, before any text is read.
+/// The three texts of an input. Fails if a text is missing, even if another text has an error.
 pub fn three_texts(texts: &[u8]) -> Result<(&[u8], &[u8], &[u8]), Refusal>
     ensures { Gives (λ parts. (parts.0.now, parts.1.now, parts.2.now)) (CutsInThree texts.now) result }
 {
@@ -53,7 +53,7 @@ pub fn three_texts(texts: &[u8]) -> Result<(&[u8], &[u8], &[u8]), Refusal>
     Err(Refusal::Fault(missing_text()))
 }
 
-/// The game of a text. Fails with the first error of the text, or if memory runs out.
+/// Parses a text as a game. Fails with the first error of the text, or if memory runs out.
 pub fn read_game(alloc: Global, text: &[u8]) -> Result<NamedGame, Refusal>
     ensures { Gives (λ game. game) (ReadsGameText text.now) result }
 {
@@ -63,7 +63,7 @@ pub fn read_game(alloc: Global, text: &[u8]) -> Result<NamedGame, Refusal>
     }
 }
 
-/// The certificate of the game that a text contains.
+/// Parses a text as a certificate of the given game.
 fn read_certificate(alloc: Global, game: &NamedGame, text: &[u8]) -> Result<Certificate, Refusal>
     ensures read { Gives (λ certificate. certificate) (ReadsCertificateText game.now text.now) result }
     ensures fits { IfOk result (Fits game.now.game) }
@@ -78,7 +78,8 @@ fn read_certificate(alloc: Global, game: &NamedGame, text: &[u8]) -> Result<Cert
 ///
 /// # Errors
 ///
-/// Fails if a text is missing; else with the first error of the game, else of the certificate; or if memory runs out.
+/// Fails with the first of these faults: a missing text, an error in the game's text, an error in the certificate's
+/// text. Fails at any time if memory runs out.
 pub fn read_certified(alloc: Global, texts: &[u8]) -> Result<(NamedGame, Certificate), Refusal>
     ensures read { Gives (λ both. (both.0, both.1)) (ReadsCertified texts.now) result }
     ensures fits { IfOk result (λ both. Fits both.0.game both.1) }
@@ -89,7 +90,7 @@ pub fn read_certified(alloc: Global, texts: &[u8]) -> Result<(NamedGame, Certifi
     Ok((game, certificate))
 }
 
-/// The circuit of a text. Fails with the first error of the text, or if memory runs out.
+/// Parses a text as a circuit. Fails with the first error of the text, or if memory runs out.
 pub fn read_circuit(alloc: Global, text: &[u8]) -> Result<Circuit, Refusal>
     ensures { Gives (λ circuit. circuit) (ReadsCircuitText text.now) result }
 {
@@ -99,7 +100,8 @@ pub fn read_circuit(alloc: Global, text: &[u8]) -> Result<Circuit, Refusal>
     }
 }
 
-/// The stimulus of a text, for the given number of inputs. The flag states whether the text has a line `-`.
+/// Parses a text as a stimulus for a circuit with the given number of inputs. The flag states whether the text must
+/// have a line `-`, which divides its stem from its lap.
 ///
 /// # Errors
 ///
@@ -118,7 +120,7 @@ pub fn read_stimulus(
     }
 }
 
-/// The stimulus of a text that has only a stem, for the given number of inputs.
+/// Parses a text as a stimulus that has only a stem, for a circuit with the given number of inputs.
 fn read_letters(alloc: Global, text: &[u8], width: usize) -> Result<Letters, Refusal>
     ensures { Gives stem_of (ReadsStimulusText width false text.now) result }
 {
@@ -132,7 +134,8 @@ fn read_letters(alloc: Global, text: &[u8], width: usize) -> Result<Letters, Ref
 ///
 /// # Errors
 ///
-/// Fails if a text is missing; else with the first error of the circuit, else of the stimulus; or if memory runs out.
+/// Fails with the first of these faults: a missing text, an error in the circuit's text, an error in the stimulus.
+/// Fails at any time if memory runs out.
 pub fn read_simulated(alloc: Global, texts: &[u8]) -> Result<(Circuit, Letters), Refusal>
     ensures read { Gives (λ both. (both.0, stem_of both.1)) (ReadsSimulated texts.now) result }
     ensures fits { IfOk result (λ both. All (λ letter. length letter ≡ length both.0.inputs) both.1) }
@@ -145,7 +148,7 @@ pub fn read_simulated(alloc: Global, texts: &[u8]) -> Result<(Circuit, Letters),
     Ok((circuit, letters))
 }
 
-/// The line of a flaw, in which vertices are named by their ids.
+/// The line that reports a certificate's flaw, in which vertices are named by their ids.
 pub fn flaw_line(game: &NamedGame, flaw: Flaw) -> FaultLine
     requires { NamesVertices (vertex_count game.now.game) flaw }
     ensures { fault_text result ≡ flaw_text game.now flaw }

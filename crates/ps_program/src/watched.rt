@@ -1,4 +1,4 @@
-//! A source or a sink made from a reader or a writer of std.
+//! Makes the program's input or output from a reader or a writer of std.
 
 ghost use Rattle.std.specs.Prelude.{◌≡◌, ⊤, ℕ, List, Option, OnOk, is_err, false, true, Some, min, length, drop};
 ghost use Rattle.std.specs.Io.{ReadsAtMost, WritesAtMost};
@@ -10,11 +10,11 @@ use crate::stream::{Sink, Source};
 use std::io;
 use std::io::{Read, Write};
 
-/// A reader of std, and what its calls may do. Nothing is assumed about calls of a reader, so only code that knows the
-/// reader knows what its calls did.
+/// A reader of std, and a relation, `read_gives`, between the states before and after each call. This trait requires
+/// nothing of that relation, so only code that knows the reader can learn from it what a call did.
 pub trait Reader: Read {
-    // Whether a call may return this count, and leave the reader and the buffer in this state. A call that fails
-    // returns no count.
+    // Whether a call of `read` may return this count, and leave the reader and the buffer in this state. A call of
+    // `read` that fails returns no count.
     ghost read_gives: { Self → List ℕ → Option ℕ → Self → List ℕ → Type 0 };
 
     /// Calls `read` once.
@@ -24,7 +24,7 @@ pub trait Reader: Read {
         ensures call { read_gives self.old buf.old (answered result) self.new buf.new };
 }
 
-/// A writer of std, and what its calls may do.
+/// A writer of std, and relations between the states before and after each write or flush.
 pub trait Writer: Write {
     // Whether a write may return this count, and leave the writer in this state. A write that fails returns no count.
     ghost write_gives: { Self → List ℕ → Option ℕ → Self → Type 0 };
@@ -44,7 +44,8 @@ pub trait Writer: Write {
         ensures call { flush_gives self.old (answered result) self.new };
 }
 
-/// Each reader of std is a `Reader`. `read_gives` says only that the count is at most the length of the buffer.
+/// Each reader of std is a `Reader`. For an arbitrary reader, `read_gives` says only that the returned count is at most
+/// the length of the buffer.
 impl<R: Read> Reader for R {
     ghost read_gives = { λ _ _ count _ after. CountsWithin after count };
 
@@ -53,7 +54,8 @@ impl<R: Read> Reader for R {
     }
 }
 
-/// Each writer of std is a `Writer`. `write_gives` says only that the count is at most the length of the buffer.
+/// Each writer of std is a `Writer`. For an arbitrary writer, `write_gives` says only that the returned count is at
+/// most the length of the buffer.
 impl<W: Write> Writer for W {
     ghost write_gives = { λ _ buf count _. CountsWithin buf count };
 
@@ -68,7 +70,8 @@ impl<W: Write> Writer for W {
     }
 }
 
-/// A reader or a writer of std, together with what the program must know about the calls that were made.
+/// A reader or a writer of std, with a record of whether one of its calls has failed, and whether a write accepted no
+/// bytes.
 #[derive(Drop)]
 pub struct Watched<T> {
     inner: T,
@@ -94,7 +97,7 @@ impl<T> Watched<T> {
 }
 
 impl<T> Watched<T> {
-    /// The watched reader or writer.
+    /// Returns the reader or writer of std that was watched.
     pub fn inner(&self) -> &T
         ensures { result.now ≡ watched_inner self.now }
     {

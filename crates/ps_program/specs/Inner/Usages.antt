@@ -6,7 +6,7 @@ use Rattle.ps_program.specs.declared.commands.Line.{Line}
 use Rattle.ps_program.specs.declared.commands.Line.TheVariants.{Judge, Lasso, Verify, Solve, Game, Cert, Synth}
 use Rattle.ps_program.specs.declared.commands.Usage.{Usage as Row}
 
--- the line of the command with the given flags
+-- the `Line` that a command means if the given flags are added to it
 abbrev pub with_flags : Line → (Text → Bool) → Line
 with_flags (Judge compact) given = Judge (given compact_flag)
 with_flags (Lasso role) given = Lasso (role_given given)

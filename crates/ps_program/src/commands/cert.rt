@@ -14,7 +14,7 @@ use std::alloc::Global;
 ///
 /// # Errors
 ///
-/// Fails with the first error of the text; else if the file has no automaton; else as `certify`.
+/// Fails with the first error of the text, or because the file has no automaton, or else as `certify` does.
 pub fn cert<S: Solver>(
     alloc: Global,
     order: Order,

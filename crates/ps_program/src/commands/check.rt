@@ -13,12 +13,12 @@ use ps_certificate::Flaw;
 use ps_game::NamedGame;
 use std::alloc::Global;
 
-/// Whether each path that follows the certificate's moves stays in its region.
+/// Whether the winners' moves are edges, and no move of a winner or edge of the loser leaves the winner's region.
 ///
 /// # Errors
 ///
-/// Fails if a text is missing; else with the first error of the game, else of the certificate; else with the
-/// certificate's first flaw; or if memory runs out.
+/// Fails with the first of these faults: a missing text, an error in the game's text, an error in the certificate's
+/// text, a flaw of the certificate. Fails at any time if memory runs out.
 pub fn closed(alloc: Global, texts: &[u8]) -> Result<Answer, Refusal>
     ensures { Gives reply_of (AnswersClosed texts.now) result }
 {
@@ -31,7 +31,7 @@ pub fn closed(alloc: Global, texts: &[u8]) -> Result<Answer, Refusal>
 ///
 /// # Errors
 ///
-/// Fails like `closed`; in addition, wrong counts are reported, after all other flaws.
+/// Fails like `closed`; in addition, wrong counts of a certificate are reported, after all its other flaws.
 pub fn check(alloc: Global, texts: &[u8]) -> Result<Answer, Refusal>
     ensures { Gives reply_of (AnswersCheck texts.now) result }
 {
@@ -40,7 +40,8 @@ pub fn check(alloc: Global, texts: &[u8]) -> Result<Answer, Refusal>
     tell(alloc, &game, "valid", outcome)
 }
 
-/// The given word if the test found nothing wrong, and otherwise the line of the flaw.
+/// What is printed after a test of a certificate: the given word if the test found no flaw, and otherwise the line of
+/// the flaw.
 fn tell(
     alloc: Global,
     game: &NamedGame,

@@ -32,7 +32,7 @@ pub fn game(alloc: Global, order: Order, text: &[u8]) -> Result<Answer, Refusal>
 ///
 /// # Errors
 ///
-/// Fails with the first error of the text; else if the file has no automaton; or if memory runs out.
+/// Fails with the first error of the text, or because the file has no automaton; fails at any time if memory runs out.
 pub fn read_game_of(alloc: Global, order: Order, text: &[u8]) -> Result<NamedGame, Refusal>
     ensures game { Gives (λ game. game) (ReadsGameOf order text.now) result }
     ensures some { IfOk result (λ game. 0 < vertex_count game.game) }

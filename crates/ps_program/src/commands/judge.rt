@@ -18,12 +18,12 @@ use ps_solution::Solution;
 use ps_synthesis::{certificate_text, ids_of};
 use std::alloc::Global;
 
-/// The certificate that a solution of a game gives, with the least counts.
+/// The certificate, with the least counts, of the winners and moves that a solution of a game states.
 ///
 /// # Errors
 ///
-/// Fails if a text is missing; else with the first error of the game, else of the solution; else with the first wrong
-/// move or edge; else with a cycle that its player loses; or if memory runs out.
+/// Fails with the first of these faults: a missing text, an error in the game's text, an error in the solution's text,
+/// a wrong move or edge, a cycle that a player loses by the solution's moves. Fails at any time if memory runs out.
 pub fn judge(alloc: Global, compact: bool, texts: &[u8]) -> Result<Answer, Refusal>
     ensures { Gives reply_of (AnswersJudge compact texts.now) result }
 {
@@ -31,7 +31,7 @@ pub fn judge(alloc: Global, compact: bool, texts: &[u8]) -> Result<Answer, Refus
     judged(alloc, compact, &game, &solution)
 }
 
-/// The certificate that a solution of a game gives, or the reason why it gives none.
+/// The certificate that a solution of a game gives, or the reason why the solution is refused.
 fn judged(
     alloc: Global,
     compact: bool,
@@ -52,7 +52,8 @@ fn judged(
 ///
 /// # Errors
 ///
-/// Fails if a text is missing; else with the first error of the game, else of the solution; or if memory runs out.
+/// Fails with the first of these faults: a missing text, an error in the game's text, an error in the solution's text.
+/// Fails at any time if memory runs out.
 fn read_solved(alloc: Global, texts: &[u8]) -> Result<(NamedGame, Solution), Refusal>
     ensures read { Gives (λ both. (both.0, both.1)) (ReadsSolved texts.now) result }
     ensures places { IfOk result (λ both. HasPlaces both.0 both.1) }
@@ -74,7 +75,7 @@ fn read_solution(alloc: Global, game: &NamedGame, text: &[u8]) -> Result<Solutio
     }
 }
 
-/// The line of a fault, in which vertices are named by their ids.
+/// The line that reports why a solution is refused, in which vertices are named by their ids.
 fn refused(alloc: Global, game: &NamedGame, fault: JudgeFault) -> Refusal
     requires { Names (vertex_count game.now.game) fault }
     ensures { IsTold game.now fault result }
@@ -86,7 +87,7 @@ fn refused(alloc: Global, game: &NamedGame, fault: JudgeFault) -> Refusal
     }
 }
 
-/// The line of a cycle that a player loses.
+/// The line that reports a cycle that a player loses by the solution's moves.
 fn cycle_refusal(alloc: Global, game: &NamedGame, cycle: &[usize]) -> Refusal
     requires { All (λ v. v < vertex_count game.now.game) cycle.now }
     ensures { IsCycleTold game.now cycle.now result }

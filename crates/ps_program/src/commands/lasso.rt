@@ -23,8 +23,8 @@ use std::alloc::{AllocError, Global};
 ///
 /// # Errors
 ///
-/// Fails if a text is missing; else with the first fault of the automaton, else of the circuit, else of the stimulus,
-/// else of the lasso; or if memory runs out.
+/// Fails with the first of these faults: a missing text, a fault of the automaton, of the circuit's text, or of the
+/// stimulus, an empty lap, symbols that the role does not allow. Fails at any time if memory runs out.
 pub fn lasso(alloc: Global, role: Role, texts: &[u8]) -> Result<Answer, Refusal>
     ensures { Gives reply_of (AnswersLasso role texts.now) result }
 {
@@ -33,7 +33,7 @@ pub fn lasso(alloc: Global, role: Role, texts: &[u8]) -> Result<Answer, Refusal>
     run_circuit(alloc, role, &automaton, aag, letters)
 }
 
-/// The verdict on the circuit of one text that runs on the stimulus of another text.
+/// Parses a circuit and a stimulus, runs the circuit on the stimulus, and states the automaton's verdict.
 fn run_circuit(
     alloc: Global,
     role: Role,
@@ -50,7 +50,8 @@ fn run_circuit(
     tell(alloc, role, automaton, &circuit, &stimulus)
 }
 
-/// The verdict on a stimulus, or the fault of its lap or of the circuit's symbols.
+/// The automaton's verdict on a circuit's run on a stimulus, or the fault that the lap is empty or the circuit's
+/// symbols are wrong.
 fn tell(
     alloc: Global,
     role: Role,
@@ -83,7 +84,7 @@ fn tell(
     }
 }
 
-/// The line of a verdict.
+/// The line that states whether a lasso was accepted, and the lengths of its stem and lap.
 fn verdict_line(alloc: Global, verdict: Verdict) -> Result<Vec<u8>, AllocError>
     ensures { IfOk result (λ line. line.items ≡ verdict_text verdict ++ codes "\n") }
 {

@@ -16,7 +16,8 @@ use std::alloc::{AllocError, Global};
 ///
 /// # Errors
 ///
-/// Fails if a text is missing; else with the first error of the circuit, else of the stimulus; or if memory runs out.
+/// Fails with the first of these faults: a missing text, an error in the circuit's text, an error in the stimulus.
+/// Fails at any time if memory runs out.
 pub fn sim(alloc: Global, texts: &[u8]) -> Result<Answer, Refusal>
     ensures { Gives reply_of (AnswersSim texts.now) result }
 {
@@ -40,7 +41,7 @@ fn trace_text(alloc: Global, circuit: &Circuit, letters: &Letters) -> Result<Vec
     Ok(text)
 }
 
-/// Makes the circuit's step at a letter, and appends its line.
+/// Makes the circuit's step at an input letter, and appends a line for this step.
 fn write_step(
     text: &mut Vec<u8>,
     simulator: &mut Simulator,

@@ -11,11 +11,11 @@ use ps_machine::Solver;
 use ps_synthesis::{certificate_text, certified};
 use std::alloc::Global;
 
-/// A certificate of a game, which states who wins each vertex, and by which moves.
+/// The text of a certificate of a game, which states who wins each vertex, and by which moves.
 ///
 /// # Errors
 ///
-/// Fails with the first error of the text, else as `certify`.
+/// Fails with the first error of the game's text, or else as `certify` does.
 pub fn solve<S: Solver>(
     alloc: Global,
     text: &[u8],
@@ -32,7 +32,8 @@ pub fn solve<S: Solver>(
 ///
 /// # Errors
 ///
-/// Fails with the solver's fault; else if its certificate does not fit or is not valid; or if memory runs out.
+/// Fails with the solver's fault, or because the solver's certificate does not fit the game or is not valid; fails at
+/// any time if memory runs out.
 pub fn certify<S: Solver>(
     alloc: Global,
     game: &NamedGame,

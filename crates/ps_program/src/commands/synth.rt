@@ -18,7 +18,7 @@ use std::alloc::Global;
 ///
 /// # Errors
 ///
-/// Fails if a text is missing; else with the fault of the synthesis; or if memory runs out.
+/// Fails if a text is missing, or with the fault that synthesis returns; fails at any time if memory runs out.
 pub fn synth<S: Solver, T: Solver>(
     alloc: Global,
     asked: SynthLine,

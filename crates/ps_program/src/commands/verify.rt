@@ -24,14 +24,14 @@ use ps_simulate::{Role, Stimulus};
 use ps_verify::{Judgement, verified};
 use std::alloc::{AllocError, Global};
 
-/// Whether an automaton accepts each lasso trace of a controller, or none of an environment; if not, a stimulus that
-/// shows this.
+/// Whether an automaton accepts each lasso trace of a controller, or none of an environment; if not, a stimulus on
+/// which the circuit loses.
 ///
 /// # Errors
 ///
-/// Fails if a text is missing; else with the first fault of the automaton, else of the circuit; else if the circuit's
-/// symbols are not those of its role; else if the circuit moves first, but at some latches that a trace reaches, its
-/// outputs depend on its inputs; or if memory runs out.
+/// Fails with the first of these faults: a missing text; a fault of the automaton; an error in the circuit's text;
+/// symbols that are not those of the circuit's role; outputs that depend on inputs at latches that a trace reaches,
+/// though the circuit moves first. Fails at any time if memory runs out.
 pub fn verify(alloc: Global, order: Order, role: Role, texts: &[u8]) -> Result<Answer, Refusal>
     ensures { Gives reply_of (AnswersVerify order role texts.now) result }
 {
@@ -40,7 +40,7 @@ pub fn verify(alloc: Global, order: Order, role: Role, texts: &[u8]) -> Result<A
     verify_text(alloc, order, role, &automaton, aag)
 }
 
-/// The judgement on the circuit of a text.
+/// Parses a text as a circuit, and judges the circuit.
 fn verify_text(
     alloc: Global,
     order: Order,
@@ -55,7 +55,8 @@ fn verify_text(
     tell(alloc, order, role, automaton, &circuit)
 }
 
-/// The judgement on a circuit, or the fault of its symbols or of the order of moves.
+/// The judgement on a circuit, or the fault that its symbols are wrong, or that it moves first but its outputs depend
+/// on inputs.
 fn tell(
     alloc: Global,
     order: Order,
@@ -90,7 +91,7 @@ fn text_of(alloc: Global, stimulus: &Stimulus) -> Result<Vec<u8>, AllocError>
     Ok(text)
 }
 
-/// Appends a line for each letter.
+/// Appends each letter of a stimulus as a line of bits.
 fn write_letters(text: &mut Vec<u8>, letters: &[Vec<bool>]) -> Result<(), AllocError>
     ensures { OnOk result (text.new.items ≡ text.old.items ++ letter_lines (letters_of letters.now)) }
 {

@@ -5,7 +5,7 @@ use Rattle.ps_program.specs.Help.{usage_text}
 use Rattle.ps_program.specs.Inner.Usages.{usage_of}
 use Rattle.ps_program.proofs.help.push_usages.Given as goal
 
--- the commands before this one have been appended
+-- the help lines of the commands before the loop's index have been appended
 abbrev pub invariant-loop-usage : goal.invariant-loop-usage
 invariant-loop-usage l = string_bytes l.text ≡ string_bytes l.fn.text ++
     flat_map usage_text (map usage_of (take l.usage-index l.usages))
