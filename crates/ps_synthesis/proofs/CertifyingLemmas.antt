@@ -1,4 +1,4 @@
--- What a solver's answer means for a report.
+-- Which result of synthesis follows from a solver's answer.
 use Rattle.std.proofs.Common.{arith, ◌≡◌, Bool, IsTrue, Result, Ok, Err, refl, sym, subst}
 use Rattle.std.specs.Prelude.{OnOk, is_ok}
 use Rattle.ps_certificate.specs.Certificates.{CertificateData}
@@ -12,7 +12,7 @@ use Rattle.ps_synthesis.specs.declared.fault.SynthFault.{SynthFault}
 use Rattle.ps_synthesis.specs.declared.fault.SynthFault.TheVariants.{Text, Automaton, BadCycle, Certificate}
 use Rattle.ps_synthesis.specs.declared.fault.SynthFault.TheVariants.{NotCertified, CircuitTooLarge, OutOfMemory}
 
--- a property of an Ok result, if the result is known to be Ok
+-- P holds if each Ok result implies P and the result is known to be Ok
 pub where_ok : {X E : Type 0} (P : Type 0) (result : Result X E) (ok : Bool) → OnOk result P → ok ≡ is_ok result →
     IsTrue ok → P
 where_ok P (Ok value) ok stands same is = stands
@@ -46,13 +46,13 @@ refused_as May named (solver.BadCycle cycle) OutOfMemory may names refused = tt
 refused_as May named (solver.Text cause offset) given may names refused = grind arith
 refused_as May named solver.OutOfMemory given may names refused = of_memory May named given refused
 
--- the fault of synthesis is the one for the fault that the solver returned
+-- if the solver returned a fault, synthesis returns the fault that corresponds to it
 pub solver_fault : (May : MayAnswer) (named : NamedGameData) (answer : Result CertificateData SolveFault)
     (fault : SolveFault) (given : SynthFault) → May named answer → NamesVertices named answer → answer ≡ Err fault →
     IsFaultFor named fault given → IsSolverFault May named given
 solver_fault May named answer fault given may names is refused = grind (arith, refused_as)
 
--- a fault for an answer that the solver gave is a fault for an answer that the solver may give
+-- a fault that follows from an answer which the solver gave also follows from an answer which it may give
 pub fault_might : (old new : SolverData) (named : NamedGameData) (given : SynthFault) →
     IsSolverFault (Answered old new) named given → IsSolverFault (answers_now old) named given
 fault_might old new named (BadCycle ids) h = record {

@@ -1,4 +1,4 @@
--- The reason why a machine has no circuit, as a fault of synthesis.
+-- A reason why a machine can't be made into a circuit becomes a fault of synthesis.
 use Rattle.std.proofs.Common.{arith, ◌≡◌, Result}
 use Rattle.std.specs.Prelude.{IfErr}
 use Rattle.std.specs.Result.{IsErrAnd}

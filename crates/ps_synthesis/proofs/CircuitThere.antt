@@ -1,4 +1,4 @@
--- A certificate gives the winner a circuit: it gives a machine, and the machine has a circuit.
+-- A certificate gives the winner a machine, and the machine has a circuit unless this would need too many variables.
 use Rattle.std.proofs.Common.{rules, ◌≡◌, ◌<◌, ◌≤◌, ◌⊎◌, ℕ, List, length, refl}
 use Rattle.ps_aiger.specs.Encoded.{Encodes, IsTidy}
 use Rattle.ps_aiger.specs.Wires.{IsOutOfLiterals, IsWired}

@@ -1,5 +1,5 @@
--- Properties of reports, faults and outcomes hold for every solver with at least the same possible answers. An outcome
--- determines the properties of its report or its fault.
+-- What is proved about a result of synthesis for one solver also holds for a solver with more possible answers. The
+-- three cases of `IsReportOrFault` determine what is known of the report or of the fault.
 use Rattle.std.proofs.Common.{rules, arith, ℕ, Bool, List, Result, Ok, Err, refl, subst, sym}
 use Rattle.std.specs.Prelude.{IfErr, IfOk}
 use Rattle.ps_certificate.specs.Certificates.{CertificateData}
@@ -73,7 +73,7 @@ module _ (May Other : MayAnswer) (more : AnswersMore May Other) (order : Order) 
 
 -- ## Outcomes
 
--- the faults that are possible with a sure solver
+-- the faults that synthesis can return for an accepted text if the solver is sure
 abbrev pub IsSureFault : SynthFault → Type 0
 IsSureFault CircuitTooLarge = Unit {0}
 IsSureFault OutOfMemory = Unit {0}

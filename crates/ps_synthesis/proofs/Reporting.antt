@@ -1,4 +1,4 @@
--- The results of the stages give a report, or the reason for a fault.
+-- If the stages of synthesis succeed, the report is right; if one fails, the reason for the fault is known.
 use Rattle.std.proofs.Common.{rules, arith, ◌≡◌, ◌↔◌, ℕ, Bool, List, Result, Ok, Err, subst}
 use Rattle.std.specs.Prelude.{IfErr, IfOk, IsTrue}
 use Rattle.std.specs.Result.{IsErrAnd}
@@ -88,7 +88,7 @@ module _ (order : Order) (text : List ℕ) (a : AutomatonData) (keys : List Key)
       certificate circuit
   circuit_is certificate circuit made = grind (arith, winners)
 
-  -- a report that is made with the winner's circuit is right
+  -- a report made from the game, a valid certificate and the circuit of the winner guarantees what it states
   reports : (May : MayAnswer) (compact : Bool) (certificate : CertificateData) (result : Result Report SynthFault) →
       May game (Ok certificate) → IsCertified game certificate → BothHold game.game certificate
       → NoneWinsOutside game.game certificate → IfOk result (λ report.
@@ -134,7 +134,7 @@ module _ (order : Order) (text : List ℕ) (a : AutomatonData) (keys : List Key)
 
 -- ## A problem
 
--- what is known about the report of a problem
+-- what is known about the result of making a report from a problem and a certificate
 pub record IsMade (p : ProblemData) (certificate : CertificateData) (compact : Bool)
     (result : Result Report SynthFault) : Type 0 where
   pub realizable : IfOk result (λ report. IsTrue report.realizable ↔ (winner_at_start certificate ≡ 0))
@@ -169,6 +169,6 @@ module _ (p : ProblemData) (is : IsProblem p) (certificate : CertificateData) (c
 
 -- ## A fault that is passed on
 
--- if the result is a fault, there is no report
+-- if the result is a fault, every claim about its report holds, since there is none
 pub no_report : (r : Result Report SynthFault) (P : Report → Type 0) (Q : SynthFault → Type 0) → IsErrAnd r Q → IfOk r P
 no_report r P Q is = grind arith

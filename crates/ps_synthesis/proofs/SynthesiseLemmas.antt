@@ -1,5 +1,5 @@
--- The outcome for a problem and a certificate is the outcome for the solver that returned the certificate. A solver's
--- fault gives a fault of synthesis.
+-- A result of synthesis for a given certificate is also a result for a solver that may return this certificate. A fault
+-- of the solver becomes a fault of synthesis.
 use Rattle.std.proofs.Common.{arith, ℕ, Bool, List, Result, Ok}
 use Rattle.ps_certificate.specs.Certificates.{CertificateData}
 use Rattle.ps_game.specs.Games.{NamedGameData}
@@ -24,7 +24,7 @@ module _ (May : MayAnswer) (game : NamedGameData) (certificate : CertificateData
     outcome_by order text compact result is =
         outcome_more (ReturnsOnly game certificate) May too order text compact result is
 
--- the errors of a solver's answer, for the game of a text
+-- a fault of the solver for the game of a text is a fault of synthesis for this text
 module _ (May : MayAnswer) (order : Order) (text : List ℕ) (p : ProblemData) (of : IsProblemOf order text p) where
   of_game : (P : FileData → NamedGameData → Type 0) → P of.automaton_of.file p.game → OfGame order text P
   of_game P h = grind arith

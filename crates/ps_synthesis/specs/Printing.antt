@@ -1,4 +1,5 @@
--- The texts of a report. Each text is what psyn writes for a value, and parsing the text gives the value again.
+-- The texts of a report. Each text is what psyn writes for a value, and parsing the text, unless it is too long, gives
+-- the value again.
 --     PrintsGame text game      the text of a game
 --     PrintsCertificate compact text game certificate      the plain or the compact text of a certificate
 --     PrintsCircuit text circuit      the text of a circuit
@@ -13,7 +14,7 @@ use Rattle.ps_game.specs.Games.{NamedGameData}
 use Rattle.ps_pgsolver.specs.Reading as games
 use Rattle.ps_pgsolver.specs.Written.{game_text}
 
--- the text of a game may be longer than the parser accepts
+-- the text that psyn writes for a game; parsing it gives the game again, if it is not longer than the parser accepts
 pub record PrintsGame (text : List ℕ) (game : NamedGameData) : Type 0 where
   pub written : text ≡ game_text game
   pub read_again : length text ≤ games.text_limit → games.Answer text (Ok game)

@@ -3,7 +3,7 @@
 --     IsProblem p      the game belongs to the automaton, in the problem's order of moves
 --     IsProblemOf order text p      the automaton belongs to the text
 --     ReturnsOnly game certificate      the possible answers of a solver that returns only this certificate for a game
---     IsReportFault p certificate fault      why a certificate of a problem gives no report
+--     IsReportFault p certificate fault      why a certificate for the problem's game gives no report
 use Rattle.std.specs.Prelude.{◌≡◌, ℕ, ◌<◌, List, Ok}
 use Rattle.ps_automaton.specs.Automata.{AutomatonData}
 use Rattle.ps_certificate.specs.Certificates.{CertificateData}

@@ -21,8 +21,9 @@ pub record IsAcceptedText (text : List ℕ) (file : FileData) : Type 0 where
   pub reads : ReadsFile text (Ok file)
   pub admitted : IsAdmitted file
 
--- The printed game is the automaton's. The printed certificate divides its vertices into two regions, each of which is
--- won by the printed moves. The printed circuit plays for the player who wins vertex 0.
+-- The game that a report prints is the game of the text's automaton. The certificate that a report prints divides the
+-- game's vertices into a region for each player, who wins there by the printed moves. The circuit that a report prints
+-- plays for the player who wins vertex 0.
 pub record KeepsPromise (May : MayAnswer) (order : Order) (compact : Bool) (text : List ℕ) (report : Report) : Type 0
   where
     pub file : FileData
@@ -31,16 +32,16 @@ pub record KeepsPromise (May : MayAnswer) (order : Order) (compact : Bool) (text
     pub game : NamedGameData
     pub is_game : IsGameOfFile order file game
     pub game_text : PrintsGame report.game_text.items game
-    -- the printed certificate, which the solver returned
+    -- the certificate that the report prints, which the solver returned
     pub certificate : CertificateData
     pub answered : May game (Ok certificate)
     pub certified : IsCertified game certificate
     pub certificate_text : PrintsCertificate compact report.certificate_text.items game certificate
-    -- each player wins every loop of every play from that player's region by the printed moves, and wins nothing
-    -- outside it
+    -- by the printed moves, each player wins every loop of every play from that player's region; the player wins at no
+    -- vertex outside the region
     pub both_hold : BothHold game.game certificate
     pub none_wins_outside : NoneWinsOutside game.game certificate
-    -- the printed circuit: a controller if player 0 wins vertex 0, and otherwise an environment
+    -- the circuit that the report prints: a controller if player 0 wins vertex 0, and otherwise an environment
     pub realizable : IsTrue report.realizable ↔ (winner_at_start certificate ≡ 0)
     pub circuit : CircuitData
     pub circuit_text : PrintsCircuit report.circuit_text.items circuit

@@ -6,7 +6,7 @@
 --     IsCircuitOf order a game certificate circuit      the circuit of the machine of the certificate
 --     HasNoCircuit order a game certificate      the circuit of the certificate's machine needs too many variables
 --     IsCircuitFault order a game certificate fault      why there is no circuit
---     of_text, of_automaton, of_circuit      the faults of the layers below
+--     of_text, of_automaton, of_circuit      the faults of lower crates as faults of synthesis
 use Rattle.std.specs.Prelude.{◌≡◌, ℕ, List, Err, map, slice_index}
 use Rattle.ps_aiger.specs.Wires.{IsOutOfLiterals, IsWired}
 use Rattle.ps_circuit.specs.Circuits.{CircuitData}
@@ -63,7 +63,7 @@ IsFaultFor game (solver.BadCycle cycle) (BadCycle ids) = ids.items ≡ map (λ v
 IsFaultFor game (solver.Text cause offset) fault = fault ≡ Certificate cause offset
 IsFaultFor game given fault = fault ≡ OutOfMemory
 
--- the winner's machine, which a certificate of the automaton's game determines
+-- m is the machine of the player who wins vertex 0, made from a certificate of the automaton's game
 pub record IsExtracted (order : Order) (a : AutomatonData) (game : ParityGame) (certificate : CertificateData)
     (m : Behaviour) : Type 0 where
   pub is_machine : IsMachine m

@@ -1,4 +1,4 @@
--- Why a text gets no report. Each fault has its reason.
+-- Why a text gets no report. For each fault that synthesis returns, these definitions state the reason.
 --     HasNoAutomaton text fault      the text describes a file that has no automaton
 --     OfGame order text P      an accepted text has a game for which P holds
 --     IsLost May game ids      the solver returned a cycle in the game whose vertices have these ids
@@ -44,7 +44,7 @@ pub record OfGame (order : Order) (text : List ℕ) (P : FileData → NamedGameD
   pub is_game : IsGameOfFile order file game
   pub holds : P file game
 
--- the cycle in a solver's fault
+-- the cycle that a solver's fault reports, or None for other faults
 abbrev pub cycle_of : SolveFault → Option (List ℕ)
 cycle_of (solver.BadCycle cycle) = Some cycle.items
 cycle_of fault = None
@@ -82,7 +82,7 @@ IsSynthFault May order text NotCertified = OfGame order text (λ file game. IsNo
 IsSynthFault May order text CircuitTooLarge = OfGame order text (IsTooLarge May order)
 IsSynthFault May order text OutOfMemory = Unit {0}
 
--- a report; or the circuit is too large, or out of memory
+-- the result for an accepted text if the solver is sure: a report, or the fault `CircuitTooLarge` or `OutOfMemory`
 pub data IsReportOrFault (May : MayAnswer) (order : Order) (compact : Bool) (text : List ℕ)
     (answer : Result Report SynthFault) : Type 0 where
   Reported : (report : Report) → answer ≡ Ok report → IsReport May order compact text report →

@@ -15,7 +15,8 @@ use std::alloc::Global;
 ///
 /// # Errors
 ///
-/// The first error of the text, or else the reason why its file has no automaton; or out of memory.
+/// Fails with the first error of the text, or with the reason why its file has no automaton; fails at any time if
+/// memory runs out.
 pub fn read_automaton(alloc: Global, text: &[u8]) -> Result<Automaton, SynthFault>
     ensures automaton { IfOk result (IsAutomatonOf text.now) }
     ensures refused { IfErr result (IsTextFault text.now) }

@@ -1,4 +1,4 @@
-//! Checking what a solver returns for a game.
+//! Checks the certificate that a solver returns for a game.
 
 ghost use Rattle.std.specs.Prelude.{◌≡◌, ◌<◌, ◌↔◌, IsTrue, true, map, slice_index, All, Ok, Err, IfOk, IfErr};
 ghost use Rattle.ps_certificate.specs.Regions.{BothHold, NoneWinsOutside};
@@ -18,8 +18,8 @@ use std::alloc::{AllocError, Global};
 ///
 /// # Errors
 ///
-/// The solver's fault, or `NotCertified` if its certificate does not fit or is not valid. With a sure solver, the only
-/// error is out of memory.
+/// Fails with the solver's fault, or with `NotCertified` if the solver's certificate does not fit the game or is not
+/// valid. A sure solver fails only if memory runs out.
 pub fn certified<S: Solver>(
     alloc: Global,
     game: &NamedGame,
@@ -50,7 +50,7 @@ pub fn is_certified(game: &NamedGame, certificate: &Certificate) -> bool
     fits(game.game(), certificate) && check(game.game(), certificate).is_ok()
 }
 
-/// The fault that synthesis returns for a solver's fault. Vertices are named by their ids.
+/// The fault that synthesis returns if the solver returned the given fault. Vertices are named by their ids.
 fn refused(alloc: Global, game: &NamedGame, fault: SolveFault) -> SynthFault
     requires { NamesVertices game.now (Err fault) }
     ensures { IsFaultFor game.now fault result }
@@ -65,7 +65,7 @@ fn refused(alloc: Global, game: &NamedGame, fault: SolveFault) -> SynthFault
     }
 }
 
-/// The ids of vertices. Fails if out of memory.
+/// The ids that the given vertices have in the game's text. Fails if out of memory.
 pub fn ids_of(alloc: Global, game: &NamedGame, vertices: &[usize]) -> Result<Vec<u64>, AllocError>
     requires { All (λ v. v < vertex_count game.now.game) vertices.now }
     ensures { IfOk result (λ ids. ids.items ≡ map (λ v. slice_index game.now.ids v) vertices.now) }

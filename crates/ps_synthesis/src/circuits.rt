@@ -1,4 +1,4 @@
-//! The circuit of the player who wins according to a certificate.
+//! Builds the circuit of the player who wins the start vertex according to a certificate.
 
 ghost use Rattle.std.specs.Prelude.{IfOk, IfErr};
 ghost use Rattle.ps_automaton.specs.Automata.{IsBuiltFrom};
@@ -43,8 +43,8 @@ pub fn circuit_of_certificate(
 {
     one_game();
     let machine = machine_of_certificate(alloc, automaton, order, game, certificate)?;
-    // The contract of `player` states that the value is a machine. `player` is called before the machine is freed;
-    // after that, only the circuit is needed.
+    // The proof needs the fact that this value is a machine, which the contract of `player` states. So `player` is
+    // called here, before the machine is freed.
     let _ = machine.player();
     let circuit = encode(alloc, &machine);
     drop(machine);

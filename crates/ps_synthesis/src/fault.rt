@@ -14,7 +14,7 @@ use thiserror::Error;
 /// Why a text gets no report.
 #[derive(Debug, Drop, Error)]
 pub enum SynthFault {
-    /// The text is rejected.
+    /// The HOA text has an error.
     #[error("{} at byte {offset}", .cause.name())]
     Text {
         /// The error of the text.
@@ -22,10 +22,11 @@ pub enum SynthFault {
         /// The offset of the error in bytes, from 0.
         offset: usize,
     },
-    /// The text has no automaton.
+    /// The HOA text has no error, but psyn does not accept the automaton that it describes.
     #[error("{0}")]
     Automaton(AutomatonFault),
-    /// The solver reported a cycle that a player loses. The vertices are named by their ids.
+    /// The solver reported a cycle that a player loses by the moves of a strategy. The cycle's vertices are named by
+    /// their ids.
     #[error("a cycle that its player loses")]
     BadCycle(Vec<u64>),
     /// The text that the solver was fed is not the text of a certificate of the game.
@@ -39,7 +40,7 @@ pub enum SynthFault {
     /// The solver's certificate does not fit the game, or is not valid.
     #[error("the certificate is not valid")]
     NotCertified,
-    /// The circuit needs more variables than there are literals.
+    /// The circuit needs more variables than AIGER literals can number.
     #[error("the circuit is too large")]
     CircuitTooLarge,
     /// Out of memory.

@@ -13,8 +13,8 @@ ghost use Rattle.ps_machine.specs.Solving.{IsCertified};
 ghost use Rattle.ps_machine.specs.declared.key.Order.{Order};
 ghost use Rattle.ps_synthesis.specs.Reports.{IsWinners, IsWinnersCircuit};
 
-/// A certificate of a file's game determines at most one circuit of the winner, and none if the gates of the winner's
-/// machine need too many variables.
+/// A certificate of a file's game determines at most one circuit of the winner, and none if the circuit would need too
+/// many variables.
 pub fn winners_circuit_is_one()
     ensures one { (order : Order) (file : FileData) (game : NamedGameData) (first second : IsGameOfFile order file game)
         (certificate : CertificateData) (c d : CircuitData) → IsWinnersCircuit order file game first certificate c →
@@ -30,8 +30,8 @@ pub fn winners_circuit_is_one()
     ps_aiger::circuit_has_literals();
 }
 
-/// Each certificate of a file's game that fits and is valid determines a circuit of the winner, unless the gates of the
-/// winner's machine need too many variables.
+/// Each certificate that is valid and fits a file's game determines a circuit of the winner, unless the circuit would
+/// need too many variables.
 pub fn winners_circuit_is_there()
     ensures { (order : Order) (file : FileData) (game : NamedGameData) (is_game : IsGameOfFile order file game)
         (certificate : CertificateData) → IsSoundFile file → IsCertified game certificate →

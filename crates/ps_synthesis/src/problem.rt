@@ -1,4 +1,5 @@
-//! A synthesis problem: it is made from a text, gives its game, and takes a certificate of that game.
+//! A synthesis problem is made from an HOA text, gives the game to solve, and makes a report from a certificate of that
+//! game.
 
 ghost use Rattle.std.specs.Prelude.{◌≡◌, ◌<◌, ◌↔◌, ℕ, IsTrue, List, IfOk, IfErr};
 ghost use Rattle.std.specs.Result.{IsErrAnd};
@@ -35,8 +36,8 @@ use ps_machine::{AutomatonGame, Order};
 use std::alloc::Global;
 use std::marker::Model;
 
-/// A synthesis problem: the automaton of a text, the player who moves first, and the game that they define. A
-/// certificate of the game solves the problem, since it states who wins, and how.
+/// A synthesis problem: the automaton of a text, the player who moves first, and the game that they define. A valid
+/// certificate of the game solves the problem, since it states who wins each vertex, and by which moves.
 #[derive(Drop)]
 pub struct Problem {
     order: Order,
@@ -63,11 +64,12 @@ impl Model for Problem {
 }
 
 impl Problem {
-    /// The problem that an HOA text states: to win the game of its automaton, in the given order of moves.
+    /// The problem of an HOA text: to win the game that the text's automaton defines for the given order of moves.
     ///
     /// # Errors
     ///
-    /// The first error of the text, or else the reason why its file has no automaton; or out of memory.
+    /// Fails with the first error of the text, or with the reason why its file has no automaton; fails at any time if
+    /// memory runs out.
     pub fn read(alloc: Global, text: &[u8], order: Order) -> Result<Problem, SynthFault>
         ensures problem { IfOk result (IsProblemOf order text.now) }
         ensures refused { IfErr result (IsTextFault text.now) }
@@ -83,7 +85,7 @@ impl Problem {
         })
     }
 
-    /// The game of the problem, for a solver to solve.
+    /// The game that must be solved for this problem.
     pub fn game(&self) -> &NamedGame
         ensures game { result.now ≡ self.now.game }
         ensures problem { IsProblem self.now }
@@ -91,8 +93,8 @@ impl Problem {
         &self.game.game
     }
 
-    /// Frees the problem. This function contains the proof about freeing the problem's parts, so that callers need not
-    /// repeat that proof.
+    /// Frees the problem. The proof that all fields of a problem are freed correctly is made once, here, rather than in
+    /// each caller.
     pub fn close(self) {
         drop(self);
     }
@@ -102,8 +104,8 @@ impl Problem {
     ///
     /// # Errors
     ///
-    /// `NotCertified` if the certificate does not fit the game or is not valid; otherwise `CircuitTooLarge`, or out of
-    /// memory.
+    /// Fails with `NotCertified` if the certificate does not fit the game or is not valid, and with `CircuitTooLarge`
+    /// if the circuit would need too many variables; fails at any time if memory runs out.
     pub fn report(
         &self,
         alloc: Global,
@@ -125,11 +127,11 @@ impl Problem {
         self.report_of_certified(alloc, certificate, compact)
     }
 
-    /// The report for a certificate that was checked before.
+    /// The report that a valid certificate of the game gives; the certificate is not checked again.
     ///
     /// # Errors
     ///
-    /// Fails if the circuit would need more variables than there are literals, or if out of memory.
+    /// Fails if the circuit would need more variables than AIGER literals can number, or if memory runs out.
     pub fn report_of_certified(
         &self,
         alloc: Global,

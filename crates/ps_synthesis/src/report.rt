@@ -11,7 +11,7 @@ use ps_certificate::Certificate;
 use ps_game::NamedGame;
 use std::alloc::{AllocError, Global};
 
-/// The result for a text: who wins, and three texts that show it.
+/// The result of synthesis: who wins, and the texts of a game, a certificate and a circuit, which show this.
 #[derive(Debug, Drop)]
 pub struct Report {
     /// Whether the controller wins.
@@ -24,8 +24,8 @@ pub struct Report {
     pub certificate_text: Vec<u8>,
 }
 
-/// The report of a circuit, a game and a certificate; the certificate is printed as a plain or a compact text. Fails if
-/// out of memory.
+/// Makes a report from a circuit, a game and a certificate, which is printed as a plain or a compact text. Fails if out
+/// of memory.
 pub fn report_of(
     alloc: Global,
     game: &NamedGame,
@@ -49,7 +49,7 @@ pub fn report_of(
     })
 }
 
-/// The plain or the compact text of a certificate. Fails if out of memory.
+/// The text of a certificate: compact if the flag is set, and otherwise with all counts. Fails if out of memory.
 pub fn certificate_text(
     alloc: Global,
     certificate: &Certificate,

@@ -31,16 +31,16 @@ pub fn synthesise_by<S: Solver>(
     compact: bool,
     solver: &mut S,
 ) -> Result<Report, SynthFault>
-    // With every solver, a report is right, and each fault has its reason. The clauses on reports and on faults refer
-    // to what the solver returned.
+    // Whatever the solver returns, a report is right, and a fault occurs only for the reason that `IsSynthFault`
+    // states. These two clauses refer to the answer that the solver returned.
     ensures report { IfOk result (IsReport (Answered (S.known solver.old) (S.known solver.new)) order compact
         text.now) }
     ensures refused { IfErr result (IsSynthFault (Answered (S.known solver.old) (S.known solver.new)) order
         text.now) }
-    // With a sure solver, an accepted text gets a report, unless out of memory or the circuit is too large.
+    // With a sure solver, an accepted text gets a report, unless memory runs out or the circuit is too large.
     ensures sure { (S.known solver.old).is_sure ≡ true → (file : FileData) → IsAcceptedText text.now file →
         IsReportOrFault (Answered (S.known solver.old) (S.known solver.new)) order compact text.now result }
-    // After the call, the solver is as sure as before, has the same fed text, and has no additional possible answers.
+    // The call leaves the solver as sure as before, with the same fed text, and with no additional possible answers.
     ensures kept { IsKept (S.known solver.old) (S.known solver.new) }
 {
     let problem = Problem::read(alloc, text, order)?;
@@ -49,7 +49,7 @@ pub fn synthesise_by<S: Solver>(
     report
 }
 
-/// The report of a problem, with a given solver.
+/// Solves the game of a problem with the given solver, and makes the report.
 fn report_by<S: Solver>(
     alloc: Global,
     problem: &Problem,
