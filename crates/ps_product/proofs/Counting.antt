@@ -1,4 +1,4 @@
--- The number of places whose truth is not known, and the rank of a place.
+-- How many variables of a circuit have not been evaluated yet, and the rank of a variable's place.
 use Rattle.std.proofs.Common.{◌≡◌, ℕ, zero, suc, ◌+◌, ◌-◌, ◌<◌, ◌≤◌, inl, inr, List, [], ◌∷◌, length, get_or, set}
 use Rattle.std.proofs.Common.{Option, None, Some, refl, ap, ◌∙◌, arith, nat_eq, not}
 use Rattle.std.specs.Prelude.{nat_lt, if◌then◌else◌, slice_get}
@@ -29,7 +29,7 @@ abbrev pub rank : CircuitData → List ℕ → ℕ → ℕ
 rank c order place =
     if nat_lt place (front_of c) then 0 else suc (position_or_len (λ i. nat_eq i (place - front_of c)) order)
 
--- in an order, each number is found at its own index
+-- searching an order of numbers for its k-th entry gives the index k
 position_at : {R : ℕ → ℕ → Type 0} {n : ℕ} {order : List ℕ} → IsOrder R n order → (k i : ℕ) →
     slice_get order k ≡ Some i → position_or_len (λ j. nat_eq j i) order ≡ k
 position_at {order = order} is k i at =

@@ -1,4 +1,4 @@
--- The truth of a gate, derived from the truths of the two literals that it reads.
+-- The Boolean function of a gate, derived from the functions of the two literals that it reads.
 use Rattle.std.proofs.Common.{◌≡◌, ℕ, ◌^◌, ◌<◌, ◌&&◌, Bool, false, refl, ap, ap₂, sym, ◌∙◌}
 use Rattle.ps_diagram.specs.Table.{Table, Keeps}
 use Rattle.ps_diagram.proofs.Cells.{keeps_refl}
@@ -11,7 +11,7 @@ use Rattle.ps_product.specs.declared.truth.Truth.{Truth}
 use Rattle.ps_product.specs.declared.truth.Truth.TheVariants.{Never}
 use Rattle.ps_product.proofs.TruthLemmas.{placed}
 
--- a gate is never true if one of its literals never is
+-- a gate is true at no letter if one of the literals that it reads is true at no letter
 pub never_beside : (s : Site) {t : Table} (place : ℕ) (sides : Sides) (one : Truth) → IsGateAt s.net.now place sides →
     IsTruthAt s t sides.first.place one → ((letter : ℕ) → bit_by_wire sides.first (truth_at t one letter) ≡ false) →
     IsTruthAt s t place Never
@@ -21,7 +21,7 @@ never_beside s {t} place sides one gate at never = placed s (λ letter. false) p
     ap (bit_by_wire sides.first) (sym (at.holds letter values lt are)) ∙ never letter in
     gate.meets _ s.latches.now values are ∙ ap (λ (b : Bool). b && read_at s.net.now values sides.second) first)
 
--- a gate is true at the letters at which both of its literals are
+-- a gate is true at the letters at which both literals that it reads are true
 pub gate_truth : (s : Site) {t u : Table} (place : ℕ) (sides : Sides) (one other made : Truth) → Keeps t u →
     IsGateAt s.net.now place sides → IsTruthAt s t sides.first.place one → IsTruthAt s t sides.second.place other →
     IsTruth u made → ((letter : ℕ) → letter < 2 ^ t.propositions → truth_at u made letter ≡

@@ -1,4 +1,5 @@
--- A circuit whose literals refer to variables by their places: the variable at each place.
+-- Facts about a circuit's variables and the places by which they are numbered: the constant, the inputs, the latches,
+-- the gates.
 use Rattle.std.proofs.Common.{◌≡◌, ℕ, suc, ◌+◌, ◌-◌, ◌<◌, ◌⊎◌, inl, inr, Bool, false, List}
 use Rattle.std.proofs.Common.{length, get_or, refl, ap, sym, ◌∙◌, arith}
 use Rattle.std.proofs.lemmas.Bool.{cases_lt}
@@ -20,12 +21,12 @@ use Rattle.ps_simulate.proofs.RowLemmas.{length-variables, no_latch}
 use Rattle.ps_simulate.proofs.ValueLemmas.{bit_of-definition}
 
 module _ {c : CircuitData} (is : IsCircuit c) where
-  -- a wire reads the bit of its literal
+  -- the bit that a literal given by a variable's place reads is the bit of the original literal
   pub read_is : (values : List Bool) (literal : ℕ) → IsKnown (definitions c) literal →
       read_at c values (wire_of c literal) ≡ bit_of values literal
   read_is values literal known = rw (place_known is literal known).1 refl
 
-  -- the value at the place of the k-th definition is the value of its literal
+  -- the value at the place of the k-th variable is the value of the literal that defines this variable
   value_defined : (values : List Bool) (k : ℕ) {literal : ℕ} → k < length (definitions c) →
       get_or (definitions c) k 0 ≡ literal → value_at c values (suc k) ≡ bit_of values literal
   value_defined values k {literal} lt e =
@@ -65,7 +66,7 @@ module _ {c : CircuitData} (is : IsCircuit c) where
       ∙ variables_at is (length c.inputs + length c.latches + i) 0 (omega (arith, length-definitions c))
       ∙ ap variable (definitions_gate c i lt)
 
-  -- the places that a gate reads are below the gate's place
+  -- the places of the variables that a gate reads come before the gate in the order of evaluation
   lies_below : (i place literal : ℕ) → place ≡ front_of c + i → i < length c.gates → IsKnown (definitions c) literal →
       (variable (gate i).first ≡ variable literal) ⊎ (variable (gate i).second ≡ variable literal) →
       IsBelow c place (place_of_variable c (variable literal))
@@ -111,7 +112,7 @@ module _ {c : CircuitData} (is : IsCircuit c) where
             ∙ cc (read_is values g.first known.0, read_is values g.second known.1);
       }
 
--- the two literals of a gate may be exchanged
+-- the two literals that a gate reads may be exchanged
 pub either_order : (c : CircuitData) (place : ℕ) (first second : Wire) →
     IsGateAt c place (record { first = first; second = second }) →
     IsGateAt c place (record { first = second; second = first })

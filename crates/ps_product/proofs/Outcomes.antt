@@ -1,4 +1,4 @@
--- The truths of literals, one after another.
+-- The Boolean functions of a list of literals are computed one after another.
 use Rattle.std.proofs.Common.{◌≡◌, ℕ, ◌^◌, ◌<◌, inl, inr, List, [], ◌∷◌, ◌++◌, All, length, map, Some, ap}
 use Rattle.std.proofs.Common.{refl}
 use Rattle.std.proofs.Common.{◌∙◌, arith, get_or, length-append}
@@ -20,7 +20,7 @@ use Rattle.ps_simulate.specs.Plans.{variables, wire_of}
 use Rattle.ps_simulate.proofs.PlacesLemmas.{next_known, place_known}
 use Rattle.ps_simulate.proofs.RowLemmas.{no_latch}
 
--- the truth of the literal that a wire reads, given the truth at its place
+-- the function of a literal is the function of its variable, negated if the literal is negated
 pub truth_along : (s : Site) {t u : Table} (w : Wire) (truth made : Truth) → Keeps t u → IsTruthAt s t w.place truth →
     IsTruth u made →
     ((letter : ℕ) → letter < 2 ^ t.propositions → truth_at u made letter ≡ bit_by_wire w (truth_at t truth letter)) →
@@ -46,7 +46,8 @@ along_kept s {t} ws ms k h = record {
       };
 }
 
--- if `ms` are the truths along the wires `ws`, and m is the truth along w, then `ms` and m are those along `ws` and w
+-- if `ms` are the functions of the literals `ws`, and m is the function of the literal w, then `ms` and m are those of
+-- `ws` and w
 pub along_more : (s : Site) {t : Table} (ws : List Wire) (ms : List Truth) {ws' : List Wire} {ms' : List Truth}
     (w : Wire) (m : Truth) → AreTruthsAlong s t ws ms → IsTruthAlong s t w m → ws' ≡ ws ++ w ∷ [] →
     ms' ≡ ms ++ m ∷ [] → AreTruthsAlong s t ws' ms'
@@ -64,14 +65,14 @@ along_more s {t} ws ms w m h last ew em = rw (ew, em) (record {
   ];
 })
 
--- the wires of known literals refer to places of the circuit
+-- the literals of a circuit, numbered anew, refer to variables of the circuit
 pub wires_within : {c : CircuitData} → IsCircuit c → (literals : List ℕ) → All (IsKnown (definitions c)) literals →
     All (λ w. w.place < length (variables c)) (map (wire_of c) literals)
 wires_within {c} is literals known k d lt =
     let within : k < length literals = omega (arith, lt, length-map literals (wire_of c)) in
     rw (get_or-map (wire_of c) literals k 0 d within) (place_known is _ (known k 0 within)).0
 
--- the truths along the wires are the truths of the literals
+-- the functions computed for renumbered literals are the functions of the original literals
 pub truths_of_literals : (s : Site) {t : Table} → IsCircuit s.net.now → (literals : List ℕ) (truths : List Truth) →
     All (IsKnown (definitions s.net.now)) literals → AreTruthsAlong s t (map (wire_of s.net.now) literals) truths →
     AreTruthsOf s.net.now s.propositions.now s.latches.now t truths literals

@@ -1,4 +1,4 @@
--- The propositions that symbols name.
+-- The propositions that a circuit's symbols name.
 use Rattle.std.proofs.Common.{◌≡◌, ◌≢◌, ℕ, zero, suc, ◌+◌, ◌<◌, ◌≤◌, ◌⊎◌, Bool, true, false, not, cond, List, [], ◌∷◌}
 use Rattle.std.proofs.Common.{◌++◌, Option}
 use Rattle.std.proofs.Common.{None, Some, length, get_or, refl, ap, sym, ◌∙◌, arith, inl, inr, length-append}
@@ -38,7 +38,7 @@ not_among_at p (q ∷ list) e (suc j) lt is = elim (cases_eq p q) [
 ]
 
 module _ (names : List (List ℕ)) (controllable : List ℕ) (wanted : Bool) (symbols : List (Option (List ℕ))) where
-  -- the list of propositions, with one symbol more
+  -- the list of the symbols' propositions is extended by the proposition of one more symbol
   pub listing_push : {k : ℕ} (p : ℕ) {name : List ℕ} {list more : List ℕ} →
       IsListing names controllable wanted symbols k list → get_or symbols k None ≡ Some name → p < length names →
       get_or names p [] ≡ name → is_among p controllable ≡ wanted → is_among p list ≡ false →
@@ -65,7 +65,7 @@ module _ (names : List (List ℕ)) (controllable : List ℕ) (wanted : Bool) (sy
         differ = λ i j lt less is. differ i (omega (arith, lt, size)) j (omega (arith, less, size)) is;
       }
 
-  -- a symbol names the same proposition as an earlier one
+  -- if a symbol names the same proposition as an earlier symbol, the symbols are not the names that are needed
   pub twice : {k : ℕ} (p : ℕ) {name : List ℕ} {list : List ℕ} → IsListing names controllable wanted symbols k list →
       get_or symbols k None ≡ Some name → p < length names → get_or names p [] ≡ name → is_among p list ≡ true →
       ¬ AreNamesOnce names controllable wanted symbols
@@ -79,7 +79,7 @@ module _ (names : List (List ℕ)) (controllable : List ℕ) (wanted : Bool) (sy
 
   module _ (differ : AreNames names) {list : List ℕ}
       (h : IsListing names controllable wanted symbols (length symbols) list) where
-    -- the proposition that a symbol names is at the symbol's index in the list
+    -- the proposition that a symbol names is at this symbol's index in the list of propositions
     pub listed_at : (k p : ℕ) → IsSymbol names symbols k p → (k < length list) × (get_or list k 0 ≡ p)
     listed_at k p s =
         let lt : k < length list = omega (arith, h.one_each, within symbols k (get_or names p []) s.is) in
@@ -117,7 +117,7 @@ contained p list e =
     let at = among_at p list e in
     (at.0, at.1, get_or_default list at.0 p 0 at.1 ∙ at.2)
 
--- ## Both sides
+-- ## Inputs and outputs together
 
 same_or_not : (b r : Bool) → (b ≡ r) ⊎ (b ≡ not r)
 same_or_not true true = inl refl

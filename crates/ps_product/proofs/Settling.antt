@@ -1,4 +1,5 @@
--- The stack of places whose truths are still needed. Each place has a lower rank than those before it.
+-- The stack of the variables that must still be evaluated, as places. Each place on the stack has a lower rank than
+-- those below it.
 use Rattle.std.proofs.Common.{◌≡◌, ℕ, suc, ◌+◌, ◌-◌, ◌*◌, ◌<◌, inl, inr, List, [], ◌∷◌, ◌++◌, length, get_or, set}
 use Rattle.std.proofs.Common.{All, AllPairs, Option, None, Some, refl, take, ap, sym, ◌∙◌, arith}
 use Rattle.std.proofs.Common.{get_or-set_same, get_or-set_other, length-append}
@@ -18,12 +19,12 @@ use Rattle.ps_product.specs.declared.truth.Truth.{Truth}
 use Rattle.ps_product.proofs.Counting.{rank, rank_bound, rank_falls, unknown, unknown-set}
 use Rattle.ps_simulate.specs.Plans.{variables}
 
--- a place whose truth is not known
+-- the variable at this place has not been evaluated yet
 abbrev IsOpen : CircuitData → List (Option Truth) → ℕ → Type 0
 IsOpen c known p = (get_or known p None ≡ None) × (p < length (variables c))
 
--- The first entry of the stack is the place whose truth was asked for; if the stack is empty, the truth at this place
--- is known.
+-- The stack's first entry is the variable whose value was asked for; if the stack is empty, this variable has been
+-- evaluated.
 pub record Waits (c : CircuitData) (order : List ℕ) (known : List (Option Truth)) (place : ℕ) (stack : List ℕ) : Type 0
   where
     pub falls : AllPairs (λ x y. rank c order y < rank c order x) stack
@@ -31,7 +32,7 @@ pub record Waits (c : CircuitData) (order : List ℕ) (known : List (Option Trut
     pub root : (d : ℕ) → 0 < length stack → get_or stack 0 d ≡ place
     pub done : stack ≡ [] → IsSome (get_or known place None)
 
--- the rank of the last place of the stack; `left` is a measure that falls with each step
+-- the rank of the place on top of the stack; the measure `left`, below, falls with each step of the evaluation
 abbrev pub top_rank : CircuitData → List ℕ → List ℕ → ℕ
 top_rank c order [] = 0
 top_rank c order (x ∷ xs) = rank c order (get_or (x ∷ xs) (length xs) 0)
@@ -62,12 +63,12 @@ module _ (c : CircuitData) (order : List ℕ) where
 
   module _ {known : List (Option Truth)} {place : ℕ} (top : ℕ) (stack : List ℕ)
       (w : Waits c order known place (stack ++ top ∷ [])) where
-    -- the last place has the lowest rank
+    -- the place on top of the stack has the lowest rank
     top_below : (k d : ℕ) → k < length stack → rank c order top < rank c order (get_or stack k d)
     top_below k d lt = rw (get_or_append_left stack (top ∷ []) d k lt, get_or_push stack top d (length stack) refl) at
         (w.falls k (length stack) d lt (omega (arith, many stack top)))
 
-    -- the last place needs a lower one, which is pushed
+    -- the gate on top of the stack needs a variable that has not been evaluated, and this variable is pushed
     pub waits_more : {more : List ℕ} {lower : ℕ} → IsOrder (ReadsGate c.gates) (length c.gates) order →
         IsBelow c top lower → get_or known lower None ≡ None → more ≡ (stack ++ top ∷ []) ++ lower ∷ [] →
         Waits c order known place more
@@ -95,7 +96,7 @@ module _ (c : CircuitData) (order : List ℕ) where
     left_more {lower = lower} is below e = rw (e, top_rank_push (stack ++ top ∷ []) lower, top_rank_push stack top)
         (omega (arith, rank_falls is top lower below))
 
-    -- the truth at the last place becomes known
+    -- the variable on top of the stack is evaluated
     module _ {new : List (Option Truth)} (truth : Truth) (size : length known ≡ length (variables c))
         (e : new ≡ set known top (Some truth)) where
       top_open : IsOpen c known top
@@ -142,7 +143,7 @@ split_last (x ∷ y ∷ ys) d some =
     let same : length (x ∷ y ∷ ys) - 1 ≡ suc (length (y ∷ ys) - 1) = omega arith in
     rw same (ap (λ (zs : List ℕ). x ∷ zs) (split_last (y ∷ ys) d (omega arith)))
 
--- a list that has a last entry consists of the entries before it, and of this entry
+-- a list that ends with x consists of the entries before this x, and of x
 pub ends_with : (xs : List ℕ) (x : ℕ) → slice_get xs (length xs - 1) ≡ Some x →
     xs ≡ take (length xs - 1) xs ++ x ∷ []
 ends_with xs x at =

@@ -1,4 +1,4 @@
--- Entries with an old stamp are not valid.
+-- Table entries with an old stamp are not valid: they count as forgotten.
 use Rattle.std.proofs.Common.{◌≡◌, ℕ, zero, suc, ◌<◌, List, [], ◌∷◌, All, map, get_or, set, Option, None}
 use Rattle.std.proofs.Common.{Some}
 use Rattle.std.proofs.Common.{refl, ap, arith}
@@ -25,7 +25,7 @@ put_in stamp (e ∷ es) zero truth = rw (eq-eqb stamp stamp refl) refl
 put_in stamp (e ∷ es) (suc place) truth =
     ap (λ (xs : List (Option Truth)). truth_in stamp e ∷ xs) (put_in stamp es place truth)
 
--- copies of an entry with an old stamp are not valid
+-- a table that consists of copies of an entry with an old stamp has no valid entry
 pub forgotten_copies : (stamp n : ℕ) (e : Entry) → e.stamp < stamp → (place : ℕ) →
     get_or (map (truth_in stamp) (replicate n e)) place None ≡ None
 forgotten_copies stamp zero e low place = refl

@@ -1,4 +1,4 @@
--- Truths at a letter give the bits of a step.
+-- The values that the computed functions have at a letter are the outputs and the next latches of the circuit's step.
 use Rattle.std.proofs.Common.{◌≡◌, ℕ, ◌^◌, ◌<◌, Bool, false, List, [], ◌∷◌, length, map, get_or, refl, ap, sym, ◌∙◌}
 use Rattle.std.proofs.Common.{arith}
 use Rattle.std.proofs.lemmas.List.{ext_get_or, get_or-map, length-map}

@@ -1,4 +1,4 @@
--- The numbers and the names of the faults of a product.
+-- The numbers and the names of the faults for which a circuit and an automaton have no product.
 use Rattle.std.specs.Prelude.{ℕ, List, codes}
 use Rattle.ps_simulate.specs.LassoFaultNames as lasso
 use Rattle.ps_simulate.specs.declared.lassos.LassoFault.TheVariants as lasso_fault

@@ -1,9 +1,9 @@
--- Truths, which are Boolean functions of letters, in a store of diagrams.
---     truth_at t truth letter      whether the truth is true at the letter
---     IsTruth t truth      the truth is `Never`, `Always`, or a node that is true at some but not all letters
+-- Boolean functions of letters (truths), stored as decision diagrams.
+--     truth_at t truth letter      the value of the function `truth` at the letter
+--     IsTruth t truth      `truth` is `Never`, `Always`, or a node that is true at some but not all letters
 --     bits_at propositions letter      the bits of these propositions at a letter
---     MakesTruth old new result bit      a call made the truth with the given bit at each letter
---     IsTruthOf c propositions latches t truth literal      the truth is the literal's bit at each letter
+--     MakesTruth old new result bit      a call made the function with the given bit at each letter
+--     IsTruthOf c propositions latches t truth literal      the function `truth` has the literal's bit at each letter
 --     AreTruthsOf, IsOutcome      like `IsTruthOf`, for lists of literals; for the outputs and the next latches
 use Rattle.std.specs.Prelude.{◌≡◌, ℕ, ◌^◌, ◌<◌, Bool, true, false, not, is_some, if◌then◌else◌, List, length, map}
 use Rattle.std.specs.Prelude.{slice_get, IfOk, Result, Some}
@@ -21,7 +21,7 @@ truth_at t Never letter = false
 truth_at t Always letter = true
 truth_at t (Sometimes node) letter = is_some (leaf_of t node letter)
 
--- each leaf is 1; some letter has a leaf, and some letter has none
+-- the diagram of a function that is not constant: each leaf is 1; some letter has a leaf, and some letter has none
 pub record IsVarying (t : Table) (node : ℕ) : Type 0 where
   pub held : IsNode t node
   pub leaves : (letter : ℕ) → IsOneOrNone (leaf_of t node letter)
@@ -32,11 +32,11 @@ IsTruth t Never = Unit {0}
 IsTruth t Always = Unit {0}
 IsTruth t (Sometimes node) = IsVarying t node
 
--- the bit that a wire reads, given the bit at its place
+-- the bit of a literal, given the bit of its variable
 abbrev pub bit_by_wire : Wire → Bool → Bool
 bit_by_wire w b = if w.is_negated then not b else b
 
--- the nodes so far remain, also if memory runs out; the truth holds exactly at the letters at which `bit` is true
+-- what a call returns that makes the function `bit`; all earlier nodes of the table remain, also if memory runs out
 pub record MakesTruth {E : Type 0} (old new : Table) (result : Result Truth E) (bit : ℕ → Bool) : Type 0 where
   pub keeps : Keeps old new
   pub is_truth : IfOk result (IsTruth new)
@@ -46,8 +46,8 @@ pub record MakesTruth {E : Type 0} (old new : Table) (result : Result Truth E) (
 abbrev pub bits_at : List ℕ → ℕ → List Bool
 bits_at propositions letter = map (λ p. is_in p letter) propositions
 
--- At each letter, the circuit reads the bits of these propositions as its inputs, and the truth is the bit of the
--- literal at these latches.
+-- If the circuit's inputs are the bits of these propositions at a letter, and its latches are as given, the literal has
+-- the value of `truth` at this letter.
 pub record IsTruthOf (c : CircuitData) (propositions : List ℕ) (latches : List Bool) (t : Table) (truth : Truth)
     (literal : ℕ) : Type 0 where
   pub is_truth : IsTruth t truth
@@ -60,11 +60,11 @@ pub record AreTruthsOf (c : CircuitData) (propositions : List ℕ) (latches : Li
   pub each : (k literal : ℕ) (truth : Truth) → slice_get truths k ≡ Some truth → slice_get literals k ≡ Some literal →
       IsTruthOf c propositions latches t truth literal
 
--- whether each of the truths is true at the letter
+-- the values of a list of functions at a letter
 abbrev pub bits_of : Table → List Truth → ℕ → List Bool
 bits_of t truths letter = map (λ truth. truth_at t truth letter) truths
 
--- the truths of the outputs and of the next latches
+-- these functions of the inputs are the circuit's outputs and next latches at the given latches
 pub record IsOutcome (c : CircuitData) (propositions : List ℕ) (latches : List Bool) (t : Table)
     (outputs nexts : List Truth) : Type 0 where
   pub outputs_are : AreTruthsOf c propositions latches t outputs c.outputs

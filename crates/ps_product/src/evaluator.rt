@@ -1,4 +1,4 @@
-//! Computes outputs and next latches as truths.
+//! Computes a circuit's outputs and next latches as Boolean functions of its inputs.
 
 ghost use Rattle.std.specs.Prelude.{◌≡◌, ◌<◌, length, All, IfOk};
 ghost use Rattle.ps_diagram.specs.Table.{Keeps};
@@ -15,16 +15,17 @@ use ps_simulate::Wire;
 use std::alloc::{AllocError, Global};
 use std::marker::Model;
 
-/// The outputs and the next latches of a circuit whose latches have given values.
+/// The outputs and the next latches of a circuit whose latches have given values, as Boolean functions of the inputs.
 #[derive(Drop)]
 pub struct Outcome {
-    /// The truth of each output.
+    /// Each output, as a Boolean function of the inputs.
     pub outputs: Vec<Truth>,
-    /// The truth of each latch in the next step.
+    /// The next value of each latch, as a Boolean function of the inputs.
     pub nexts: Vec<Truth>,
 }
 
-/// Computes the outputs and the next latches of a circuit at given latches, for all letters at the same time.
+/// Computes the outputs and the next latches of a circuit at given latches, for all values of the inputs at the same
+/// time.
 #[derive(Drop)]
 pub struct Evaluator<'a> {
     alloc: Global,
@@ -60,8 +61,8 @@ impl<'a> Evaluator<'a> {
         })
     }
 
-    /// The truths of the outputs and of the next latches, if the latches have the given values. The letters are over
-    /// the propositions of the inputs. Fails if memory runs out.
+    /// The outputs and the next latches as Boolean functions of the inputs, if the latches have the given values. Each
+    /// input has the value of its proposition in the letter. Fails if memory runs out.
     pub fn at(
         &mut self,
         propositions: &[u32],
@@ -89,7 +90,7 @@ impl<'a> Evaluator<'a> {
     }
 }
 
-/// The truths of literals, computed from their wires.
+/// Computes the Boolean functions of the literals that the given wires describe.
 fn truths_of(
     alloc: Global,
     site: Site,

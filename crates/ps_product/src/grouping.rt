@@ -1,4 +1,4 @@
-//! Refines a diagram so that its leaves also distinguish the bits of truths.
+//! Refines a diagram so that its leaves also distinguish the values of given Boolean functions (truths).
 
 ghost use Rattle.std.specs.Prelude.{All, [], ◌∷◌};
 ghost use Rattle.ps_product.specs.Inner.Edges.{Groups, IsWhole};
@@ -9,8 +9,8 @@ use indexmap::IndexSet;
 use ps_diagram::{Node, Store};
 use std::alloc::{AllocError, Global};
 
-/// A node that has the same leaf at two letters exactly if the given node has the same leaf at both, and each truth has
-/// the same bit at both.
+/// A node that has the same leaf at two letters exactly if `node` has the same leaf at both, and each function in
+/// `truths` has the same value at both.
 pub(crate) fn grouped(
     alloc: Global,
     store: &mut Store,
@@ -28,7 +28,7 @@ pub(crate) fn grouped(
     Ok(made)
 }
 
-/// Like `grouped`, but for a single truth.
+/// Like `grouped`, but for a single Boolean function.
 fn split_by(alloc: Global, store: &mut Store, node: Node, truth: Truth) -> Result<Node, AllocError>
     requires whole { IsWhole store.old node }
     requires truth { IsTruth store.old truth }

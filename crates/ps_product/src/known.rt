@@ -1,4 +1,4 @@
-//! The truths that are known, by the places of their variables.
+//! A table of a circuit's variables that have been evaluated, as Boolean functions of the inputs.
 
 ghost use Rattle.std.specs.Prelude.{◌≡◌, ℕ, ◌<◌, length, slice_index_or, slice_set, IfOk, None, Some};
 ghost use Rattle.ps_product.specs.Inner.Knowing.{IsForgotten};
@@ -7,7 +7,8 @@ use crate::truth::Truth;
 use std::alloc::{AllocError, Global};
 use std::marker::Model;
 
-/// A truth with a stamp. The truth is valid if the table has the same stamp.
+/// An entry of the table: a Boolean function (truth) with a stamp. The entry is valid if the table's current stamp
+/// equals its stamp.
 #[derive(Clone, Copy)]
 struct Entry {
     stamp: u64,
@@ -20,7 +21,8 @@ const FORGOTTEN: Entry = Entry {
     truth: Truth::Never,
 };
 
-/// For each place the truth of its variable, if it is known. All truths are forgotten in constant time, by a new stamp.
+/// For the place (index) of each variable, the variable as a Boolean function of the inputs, if it has been evaluated.
+/// A new stamp makes the table forget all entries in constant time.
 #[derive(Drop)]
 pub(crate) struct Known {
     entries: Vec<Entry>,
@@ -40,7 +42,7 @@ impl Model for Known {
 }
 
 impl Known {
-    /// A table of `places` places, at which no truth is known.
+    /// A table for `places` variables, none of which has been evaluated.
     pub fn new(alloc: Global, places: usize) -> Result<Self, AllocError>
         ensures size { IfOk result (λ known. length known ≡ places) }
         ensures none { IfOk result IsForgotten }
@@ -49,7 +51,7 @@ impl Known {
         Ok(Known { entries, stamp: 1 })
     }
 
-    /// The truth at a place, if it is known.
+    /// The function of the variable at a place, if it has been evaluated.
     pub fn get(&self, place: u32) -> Option<Truth>
         requires { place < length self.now }
         ensures { result ≡ slice_index_or self.now place None }
@@ -62,7 +64,7 @@ impl Known {
         }
     }
 
-    /// Records the truth at a place.
+    /// Records the function of the variable at a place.
     pub fn put(&mut self, place: u32, truth: Truth)
         requires { place < length self.old }
         ensures { self.new ≡ slice_set self.old place (Some truth) }
@@ -71,7 +73,7 @@ impl Known {
         self.entries[place as usize] = Entry { stamp, truth };
     }
 
-    /// Forgets all truths.
+    /// Makes the table forget all its entries.
     pub fn forget(&mut self)
         ensures size { length self.new ≡ length self.old }
         ensures none { IsForgotten self.new }

@@ -1,8 +1,9 @@
-//! The product of a circuit and an automaton: the two run together, as a game in which only one player moves.
+//! The product of a circuit and an automaton, which run in lockstep, as a game in which only one player has moves to
+//! choose.
 //!
 //! A vertex of the product consists of values of the latches, a state, and the priority of the edge that led to it
 //! (`IsProductOf`). A truth is a Boolean function of the letters that the circuit reads. The edges of a vertex are
-//! computed from the truths of the outputs and of the next latches.
+//! computed from the truths (Boolean functions) of the outputs and of the next latches.
 //!
 //! | Call | What it gives |
 //! |---|---|
@@ -15,9 +16,10 @@
 //! The law `outcome_is_the_step` says that at each letter the truths of an evaluator give the bits of the circuit's
 //! step.
 //!
-//! A truth that is true at no letter, or at every letter, has no diagram and needs no call of the store; almost all
-//! gates have such a truth. At given latches, each gate is computed at most once, and only if its truth is needed. The
-//! literal with the lower place is computed first; if it is never true, the gate's other literal is not computed.
+//! A constant truth has no decision diagram and needs no call of the store; at given latches, almost all gates are
+//! constant. At given latches, each gate is computed at most once, and only if some output or next latch needs it. Of
+//! the two literals that a gate reads, the one whose variable comes first is computed first; if it is false at every
+//! letter, the other one is not computed.
 #![tactic(auto)]
 
 mod edges;

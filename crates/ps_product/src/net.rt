@@ -1,4 +1,4 @@
-//! A circuit whose literals refer to variables by their places.
+//! A circuit whose literals refer to variables by consecutive numbers, their places.
 
 ghost use Rattle.std.specs.Prelude.{◌≡◌, ℕ, ◌<◌, length, map, IfOk, MatchOption};
 ghost use Rattle.ps_circuit.specs.Circuits.{CircuitData, IsCircuit};
@@ -20,7 +20,7 @@ pub(crate) struct Sides {
 }
 
 impl Sides {
-    /// The two literals in the order of their places.
+    /// The two literals, in the order of their variables' places.
     pub fn lower_first(self) -> Self
         ensures { (c : CircuitData) (place : ℕ) → IsGateAt c place self → IsGateAt c place result }
     {
@@ -34,8 +34,8 @@ impl Sides {
     }
 }
 
-/// A circuit in which each literal refers to the place of its variable. The constant has the place 0, and then come the
-/// inputs, the latches and the gates.
+/// A circuit in which each literal refers to its variable by a place: an index of the circuit's variables. The constant
+/// has the place 0, and then come the inputs, the latches and the gates.
 #[derive(Drop)]
 pub(crate) struct Net<'a> {
     circuit: &'a Circuit,
@@ -57,7 +57,7 @@ impl<'a> Model for Net<'a> {
 }
 
 impl<'a> Net<'a> {
-    /// The net of a circuit.
+    /// Makes the form of a circuit in which literals refer to places of variables.
     pub fn new(alloc: Global, circuit: &'a Circuit) -> Result<Self, AllocError>
         ensures { IfOk result (λ net. net ≡ circuit.now) }
     {
@@ -65,7 +65,7 @@ impl<'a> Net<'a> {
         Net::by_places(alloc, &places)
     }
 
-    /// The net of a circuit, given the places of its variables.
+    /// Makes the form of a circuit in which literals refer to places, given the place of each variable.
     fn by_places(alloc: Global, places: &Places<'a>) -> Result<Self, AllocError>
         ensures { IfOk result (λ net. net ≡ places.now) }
     {
@@ -90,14 +90,14 @@ impl<'a> Net<'a> {
         self.circuit
     }
 
-    /// The number of places.
+    /// The number of the circuit's variables, each of which has a place.
     pub fn size(&self) -> usize
         ensures { result ≡ length (variables self.now) }
     {
         self.front + self.gates.len()
     }
 
-    /// The literals that the gate at a place reads, if the place is a gate's.
+    /// The literals that a gate reads, given the gate's place; `None` if the place is not a gate's.
     pub fn gate(&self, place: u32) -> Option<Sides>
         requires { place < length (variables self.now) }
         ensures { MatchOption result (place < front_of self.now) (λ sides. IsGateAt self.now place sides) }

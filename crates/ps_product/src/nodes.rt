@@ -1,4 +1,4 @@
-//! The nodes of truths, and the bits of truths at a letter.
+//! Decision diagrams of Boolean functions (truths), and the values of these functions at a letter.
 
 ghost use Rattle.std.specs.Prelude.{◌≡◌, ◌≢◌, ◌+◌, ◌^◌, ◌<◌, ◌≤◌, ℕ, All, IfNone, IfOk, IfSome, is_some, length};
 ghost use Rattle.std.specs.Prelude.{slice_index};
@@ -12,7 +12,7 @@ use crate::truth::Truth;
 use ps_diagram::{Node, Store};
 use std::alloc::{AllocError, Global};
 
-/// The node of a truth, which has a leaf at the letters at which the truth is true.
+/// The decision diagram of a Boolean function (truth): it has a leaf at the letters at which the function is true.
 fn node_of(store: &mut Store, truth: Truth) -> Result<Node, AllocError>
     requires { IsTruth store.old truth }
     ensures keeps { Keeps store.old store.new }
@@ -27,8 +27,8 @@ fn node_of(store: &mut Store, truth: Truth) -> Result<Node, AllocError>
     }
 }
 
-/// A node for each proposition. For the proposition of an output, it is the node of the output's truth; for any other,
-/// it is the node of the proposition itself.
+/// For each proposition, a diagram of its value as a function of the inputs. For the proposition of an output, this is
+/// the output's function; for any other, it is the proposition itself.
 pub(crate) fn nodes_of(
     alloc: Global,
     store: &mut Store,
@@ -80,7 +80,7 @@ pub(crate) fn letter_at(store: &Store, nodes: &[Node], letter: u64) -> u64
     whole
 }
 
-/// A letter over the first p propositions, with the bit of one more proposition.
+/// Adds the bit of the proposition p to a letter over the p propositions before it.
 fn with_bit(letter: u64, p: usize, bit: bool) -> u64
     requires named { p < 64 }
     requires few { letter < 2 ^ p }
@@ -91,7 +91,7 @@ fn with_bit(letter: u64, p: usize, bit: bool) -> u64
     if bit { letter + (1 << p) } else { letter }
 }
 
-/// The bits of truths at a letter.
+/// The values of a list of Boolean functions (truths) at a letter.
 pub(crate) fn bits_of(
     alloc: Global,
     store: &Store,
@@ -108,7 +108,7 @@ pub(crate) fn bits_of(
     Ok(bits)
 }
 
-/// Whether a truth is true at a letter.
+/// The value of a Boolean function (truth) at a letter.
 fn holds(store: &Store, truth: Truth, letter: u64) -> bool
     requires { IsTruth store.now truth }
     ensures { result ≡ truth_at store.now truth letter }

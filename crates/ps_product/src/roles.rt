@@ -13,7 +13,7 @@ use ps_circuit::Circuit;
 use ps_simulate::{Role, input_symbols, is_in_list, output_symbols, proposition_of};
 use std::alloc::{AllocError, Global};
 
-/// The propositions of a circuit's inputs and outputs.
+/// The automaton's propositions that a circuit's inputs and outputs stand for.
 #[derive(Drop)]
 pub(crate) struct Roles {
     /// The proposition of each input.
@@ -22,8 +22,8 @@ pub(crate) struct Roles {
     pub outputs: Vec<u32>,
 }
 
-/// The propositions of a circuit's inputs and outputs, if the circuit's symbols are those that the role needs. Fails if
-/// memory runs out.
+/// Finds the propositions of a circuit's inputs and outputs; `None` if the circuit's symbols are not those that its
+/// role needs. Fails if memory runs out.
 pub(crate) fn roles_of(
     alloc: Global,
     circuit: &Circuit,
@@ -50,8 +50,8 @@ pub(crate) fn roles_of(
     Ok(Some(Roles { inputs, outputs }))
 }
 
-/// The proposition of each symbol, if the symbols name exactly the controllable propositions (or, if `wanted` is false,
-/// exactly the others), each once.
+/// The proposition of each symbol; `None` unless the symbols name exactly the controllable propositions (or, if
+/// `wanted` is false, exactly the others), each once.
 fn propositions_of(
     alloc: Global,
     names: &[Vec<u8>],

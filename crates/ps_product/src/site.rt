@@ -27,7 +27,8 @@ pub(crate) struct Site<'s, 'c> {
 }
 
 impl<'s, 'c> Site<'s, 'c> {
-    /// Makes the truth at a place known, and before that the truths at lower places that it needs.
+    /// Evaluates the variable at a place, as a Boolean function of the inputs, and before that the gates on which it
+    /// depends.
     pub fn settle(
         self,
         known: &mut Known,
@@ -47,7 +48,7 @@ impl<'s, 'c> Site<'s, 'c> {
         stack.clear();
         stack.push(place)?;
         while let Some(&top) = stack.last() {
-            // in `order`, a gate comes after the gates that it reads, so the loop ends
+            // the loop ends, since in `order` each gate comes after the gates that it reads
             let _ = order;
             let Some(lower) = self.step(known, truths, top)? else {
                 let _ = stack.pop();
@@ -58,8 +59,8 @@ impl<'s, 'c> Site<'s, 'c> {
         Ok(())
     }
 
-    /// One step for a place whose truth is not known. Either the truth becomes known, or the result is a lower place
-    /// whose truth must be known first.
+    /// Makes one step in the evaluation of a variable that has not been evaluated. Either the variable is evaluated, or
+    /// the result is the place of a variable that must be evaluated first.
     fn step(
         self,
         known: &mut Known,
@@ -93,7 +94,7 @@ impl<'s, 'c> Site<'s, 'c> {
         Ok(None)
     }
 
-    /// The truth at a place that belongs to the constant, an input or a latch.
+    /// The Boolean function of a variable that is the constant, an input or a latch.
     fn given(self, truths: &mut Truths, place: u32) -> Result<Truth, AllocError>
         requires site { IsSite self truths.old }
         requires front { place < front_of self.net.now }
@@ -113,7 +114,7 @@ impl<'s, 'c> Site<'s, 'c> {
     }
 }
 
-/// Whether the truth, negated if the flag is set, is known to be false at every letter.
+/// Whether a Boolean function, negated if the flag is set, is the constant false.
 fn is_never(truth: &Truth, is_negated: bool) -> bool
     ensures { IsTrue result → (table : Table) (letter : ℕ) →
         (if is_negated then not (truth_at table truth.now letter) else truth_at table truth.now letter) ≡ false }
@@ -125,7 +126,7 @@ fn is_never(truth: &Truth, is_negated: bool) -> bool
     }
 }
 
-/// The truth of a gate that reads the two given literals, from the truths at their places.
+/// The Boolean function of a gate that reads the two given literals, computed from the functions of their variables.
 fn conjunction(
     truths: &mut Truths,
     sides: Sides,

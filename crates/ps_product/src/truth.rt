@@ -14,16 +14,16 @@ use std::marker::Model;
 /// A truth: a Boolean function of letters.
 #[derive(Debug, Clone, Copy)]
 pub enum Truth {
-    /// True at no letter.
+    /// The function that is true at no letter.
     Never,
-    /// True at every letter.
+    /// The function that is true at every letter.
     Always,
-    /// True exactly at the letters at which the node has a leaf: at some, but not at all letters.
+    /// A function that is not constant: it is true at the letters at which this node has a leaf.
     Sometimes(Node),
 }
 
 impl Truth {
-    /// The truth that has the given bit at every letter.
+    /// The constant function that has the given value at every letter.
     pub fn constant(bit: bool) -> Self
         ensures truth { (table : Table) (letter : ℕ) → truth_at table result letter ≡ bit }
         ensures is_truth { (table : Table) → IsTruth table result }
@@ -32,8 +32,8 @@ impl Truth {
     }
 }
 
-/// Makes truths over the letters of a number of propositions, in a store of its own. Calls that make truths fail if
-/// memory runs out.
+/// Makes Boolean functions (truths) of the letters over some propositions, in a store of its own. Calls that make
+/// functions fail if memory runs out.
 #[derive(Drop)]
 pub struct Truths {
     store: Store,
@@ -53,7 +53,7 @@ impl Model for Truths {
 }
 
 impl Truths {
-    /// A maker of truths with an empty store.
+    /// Creates a maker of Boolean functions, whose store has only the two constants.
     pub fn new(alloc: Global, propositions: u32) -> Result<Self, AllocError>
         requires few { propositions ≤ 64 }
         ensures { IfOk result (λ truths. truths.propositions ≡ propositions) }
@@ -64,21 +64,21 @@ impl Truths {
         Ok(Truths { store, none, one })
     }
 
-    /// The store of the truths' nodes.
+    /// The store of the functions' decision diagrams.
     pub fn store(&self) -> &Store
         ensures { result.now ≡ self.now }
     {
         &self.store
     }
 
-    /// The store, without the rest.
+    /// Returns the store of the functions' decision diagrams, and frees the other fields.
     pub(crate) fn into_store(self) -> Store
         ensures { result ≡ self }
     {
         self.store
     }
 
-    /// The truth of a proposition.
+    /// The function that is true at the letters in which the proposition is true.
     pub fn proposition(&mut self, proposition: u32) -> Result<Truth, AllocError>
         requires named { proposition < self.old.propositions }
         ensures { MakesTruth self.old self.new result (λ letter. is_in proposition letter) }
@@ -87,7 +87,7 @@ impl Truths {
         Ok(self.truth_of(node))
     }
 
-    /// The conjunction of two truths.
+    /// The conjunction of two Boolean functions.
     pub fn both(&mut self, first: Truth, second: Truth) -> Result<Truth, AllocError>
         requires first { IsTruth self.old first }
         requires second { IsTruth self.old second }
@@ -108,7 +108,7 @@ impl Truths {
         Ok(self.truth_of(node))
     }
 
-    /// The negation of a truth.
+    /// The negation of a Boolean function.
     pub fn negated(&mut self, truth: Truth) -> Result<Truth, AllocError>
         requires held { IsTruth self.old truth }
         ensures { MakesTruth self.old self.new result (λ letter. not (truth_at self.old truth letter)) }
@@ -123,7 +123,7 @@ impl Truths {
         }
     }
 
-    /// The truth of a wire's literal: the given truth, negated if the wire is negated.
+    /// The function of a literal: the given function of its variable, negated if the literal is negated.
     pub(crate) fn along(&mut self, truth: Truth, wire: Wire) -> Result<Truth, AllocError>
         requires held { IsTruth self.old truth }
         ensures { MakesTruth self.old self.new result (λ letter. bit_by_wire wire (truth_at self.old truth letter)) }
@@ -134,7 +134,7 @@ impl Truths {
         Ok(truth)
     }
 
-    /// The truth of a diagram each of whose leaves is 1.
+    /// The Boolean function of a diagram each of whose leaves is 1.
     fn truth_of(&self, node: Node) -> Truth
         requires held { IsNode self.now node }
         requires leaves { (letter : ℕ) → IsOneOrNone (leaf_of self.now node letter) }

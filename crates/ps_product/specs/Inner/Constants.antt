@@ -1,4 +1,4 @@
--- The nodes of the truths that are true at no letter and at every letter.
+-- The diagrams of the two constant functions, false at every letter and true at every letter.
 use Rattle.std.specs.Prelude.{◌≡◌, ℕ, None, Some}
 use Rattle.ps_diagram.specs.Table.{Table, IsNode, leaf_of}
 

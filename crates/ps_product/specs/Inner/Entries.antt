@@ -1,4 +1,4 @@
--- Truths with stamps. A truth is valid if it has the table's present stamp.
+-- Truths with stamps. An entry of the table is valid if its stamp is the table's current stamp.
 use Rattle.std.specs.Prelude.{ℕ, ◌==◌, Option, None, Some, if◌then◌else◌}
 use Rattle.ps_product.specs.declared.known.Entry.{Entry}
 use Rattle.ps_product.specs.declared.truth.Truth.{Truth}

@@ -1,4 +1,4 @@
--- The truths that are known at the places of a circuit, if its latches have given values.
+-- Which of a circuit's variables have been evaluated, as functions of the inputs, for given values of the latches.
 use Rattle.std.specs.Prelude.{◌≡◌, ℕ, ◌^◌, ◌<◌, Bool, List, length, Option, None, Some, All, slice_get}
 use Rattle.std.specs.Prelude.{slice_index_or, slice_set}
 use Rattle.ps_circuit.specs.Circuits.{CircuitData, IsCircuit}
@@ -11,30 +11,30 @@ use Rattle.ps_product.specs.declared.truth.Truth.{Truth}
 use Rattle.ps_simulate.specs.declared.plan.Wire.{Wire}
 use Rattle.ps_simulate.specs.Plans.{variables}
 
--- no truth is known
+-- the table has no valid entry: no variable has been evaluated
 abbrev pub IsForgotten : List (Option Truth) → Type 0
 IsForgotten known = (place : ℕ) → slice_index_or known place None ≡ None
 
--- there is a proposition for each input, and a bit for each latch
+-- the conditions for evaluating a circuit: a proposition for each input, and a bit for each latch
 pub record IsSite (s : Site) (t : Table) : Type 0 where
   pub is_circuit : IsCircuit s.net.now
   pub inputs : length s.propositions.now ≡ length s.net.now.inputs
   pub named : All (λ p. p < t.propositions) s.propositions.now
   pub latches : length s.latches.now ≡ length s.net.now.latches
 
--- the truth is the value of the variable at the place
+-- at each letter of the inputs, the function `truth` has the value of the variable at this place
 pub record IsTruthAt (s : Site) (t : Table) (place : ℕ) (truth : Truth) : Type 0 where
   pub is_truth : IsTruth t truth
   pub holds : (letter : ℕ) (values : List Bool) → letter < 2 ^ t.propositions →
       AreValues s.net.now (bits_at s.propositions.now letter) s.latches.now values → truth_at t truth letter ≡ value_at
       s.net.now values place
 
--- the table has an entry for each place, and each truth that is known is right
+-- the table has an entry for each variable of the circuit, and each function that it has is right
 pub record Knows (s : Site) (t : Table) (known : List (Option Truth)) : Type 0 where
   pub size : length known ≡ length (variables s.net.now)
   pub each : (place : ℕ) (truth : Truth) → slice_index_or known place None ≡ Some truth → IsTruthAt s t place truth
 
--- IsReady must hold before truths are found; Learns holds afterwards, also if memory ran out
+-- `IsReady` must hold before a circuit is evaluated; `Learns` holds afterwards, also if memory ran out
 pub record IsReady (s : Site) (t : Table) (known : List (Option Truth)) : Type 0 where
   pub site : IsSite s t
   pub knows : Knows s t known
@@ -43,13 +43,13 @@ pub record Learns (s : Site) (old new : Table) (known : List (Option Truth)) : T
   pub keeps : Keeps old new
   pub knows : Knows s new known
 
--- the truth at the place becomes known, or nothing changes and the place needs a lower place whose truth is not known
+-- one step evaluates the variable at `place`, or changes nothing and returns a variable that must be evaluated first
 abbrev pub IsStep : CircuitData → ℕ → List (Option Truth) → List (Option Truth) → Option ℕ → Type 0
 IsStep c place old new None = (truth : Truth) × (new ≡ slice_set old place (Some truth))
 IsStep c place old new (Some lower) =
     (new ≡ old) × IsBelow c place lower × (slice_index_or old lower None ≡ None)
 
--- the truth is the value of the literal that the wire reads
+-- at each letter of the inputs, the function `truth` has the value of the literal
 pub record IsTruthAlong (s : Site) (t : Table) (w : Wire) (truth : Truth) : Type 0 where
   pub is_truth : IsTruth t truth
   pub holds : (letter : ℕ) (values : List Bool) → letter < 2 ^ t.propositions →

@@ -1,4 +1,5 @@
--- A circuit whose literals are found by the places of their variables.
+-- A circuit whose variables are numbered anew: the constant, the inputs, the latches, the gates. This number is a
+-- variable's place.
 use Rattle.std.specs.Prelude.{◌≡◌, ℕ, ◌+◌, ◌-◌, ◌<◌, ◌≤◌, ◌⊎◌, ◌&&◌, Bool, List, length, map, slice_index_or}
 use Rattle.ps_circuit.specs.declared.parts.Gate.{Gate}
 use Rattle.ps_circuit.specs.Circuits.{CircuitData, IsCircuit, ReadsGate}
@@ -8,7 +9,7 @@ use Rattle.ps_product.specs.Truths.{bit_by_wire}
 use Rattle.ps_simulate.specs.declared.plan.Wire.{Wire}
 use Rattle.ps_simulate.specs.Plans.{variables, wire_of}
 
--- the place of the first gate
+-- the place of the first gate: the number of variables that are not gates
 abbrev pub front_of : CircuitData → ℕ
 front_of c = 1 + length c.inputs + length c.latches
 
@@ -22,21 +23,21 @@ pub record IsNet (c : CircuitData) (front : ℕ) (gates : List Sides) (outputs n
   pub outputs_are : outputs ≡ map (wire_of c) c.outputs
   pub nexts_are : nexts ≡ map (λ l. wire_of c l.next) c.latches
 
--- the value of the variable at a place, and the bit that a wire reads there
+-- the value of the variable at a place, and the bit of a literal given by such a place
 abbrev pub value_at : CircuitData → List Bool → ℕ → Bool
 value_at c values place = value_of values (slice_index_or (variables c) place 0)
 
 abbrev pub read_at : CircuitData → List Bool → Wire → Bool
 read_at c values w = bit_by_wire w (value_at c values w.place)
 
--- the place belongs to a gate; the lower place belongs to no gate, or to a gate that this gate reads
+-- `place` is a gate, and `lower` is either no gate, or a gate that the first one reads
 pub record IsBelow (c : CircuitData) (place lower : ℕ) : Type 0 where
   pub behind : front_of c ≤ place
   pub within : lower < length (variables c)
   pub below : (lower < front_of c) ⊎ ((front_of c ≤ lower) × ReadsGate c.gates (place - front_of c)
       (lower - front_of c))
 
--- the place belongs to a gate, which reads the two given literals
+-- the variable at this place is a gate, which reads the two given literals
 pub record IsGateAt (c : CircuitData) (place : ℕ) (s : Sides) : Type 0 where
   pub first_below : IsBelow c place s.first.place
   pub second_below : IsBelow c place s.second.place

@@ -6,7 +6,8 @@ use Rattle.ps_hoa.specs.Files.{is_among}
 use Rattle.ps_product.specs.declared.roles.Roles.{Roles}
 use Rattle.ps_simulate.specs.Symbols.{IsSymbol}
 
--- the propositions of the first `count` symbols, which are different and all on the wanted side: controllable or not
+-- the list has the propositions that the first `count` symbols name; they differ, and all are controllable, or, if
+-- `wanted` is false, none is
 pub record IsListing (names : List (List ℕ)) (controllable : List ℕ) (wanted : Bool)
     (symbols : List (Option (List ℕ))) (count : ℕ) (list : List ℕ) : Type 0 where
   pub one_each : length list ≡ count
@@ -14,12 +15,12 @@ pub record IsListing (names : List (List ℕ)) (controllable : List ℕ) (wanted
   pub side : (k : ℕ) → k < length list → is_among (slice_index list k) controllable ≡ wanted
   pub differ : (j k : ℕ) → j < length list → k < length list → slice_index list j ≡ slice_index list k → j ≡ k
 
--- every proposition on the wanted side is in the list
+-- the list has every controllable proposition, or, if `wanted` is false, every proposition that is not controllable
 abbrev pub IsFull : List (List ℕ) → List ℕ → Bool → List ℕ → Type 0
 IsFull names controllable wanted list =
     (p : ℕ) → p < length names → is_among p controllable ≡ wanted → Contains list p
 
--- the propositions of the inputs and of the outputs; each proposition occurs exactly once
+-- each proposition is the proposition of exactly one input or output of the circuit
 pub record AreRoles (names : List (List ℕ)) (c : CircuitData) (roles : Roles) : Type 0 where
   pub few : length names ≤ 64
   pub inputs_each : length roles.inputs.items ≡ length c.input_names
