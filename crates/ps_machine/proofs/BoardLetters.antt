@@ -87,7 +87,7 @@ module _ (board : Board) where
       IsSecondLetter board y → AgreeOff mask (x + y) (w + y)
   agree_second m hx hw hy p isnt = sym (agree_off m hx hy p isnt) ∙ agree_off m hw hy p isnt
 
-  -- a letter that has only propositions of the mask belongs to the first player
+  -- a letter in which only propositions of the first player's mask are true is a letter of the first player
   pub masked_first : {mask x : ℕ} → IsMaskOf board mask → x < 2 ^ board.propositions →
       ((p : ℕ) → is_in p mask ≡ false → is_in p x ≡ false) → IsFirstLetter board x
   masked_first {x} m lt masked = search (rules, cases_lt, no_bit)
@@ -106,7 +106,7 @@ module _ (board : Board) where
   second_off : (mask y : ℕ) → IsMaskOf board mask → y < 2 ^ board.propositions → AgreeOff mask y (second_of y)
   second_off mask y m lt p isnt = search (rules, cases_lt, second_bit, no_bit, second_is)
 
-  -- a letter that agrees with x on the mask is the sum of x and its own second-player part
+  -- a letter that agrees with the first player's letter x on the mask is the sum of x and of its own second-player bits
   pub as_sum : {mask x : ℕ} (u p : ℕ) → IsMaskOf board mask → IsFirstLetter board x → AgreeOn mask x u →
       p < board.propositions → is_in p u ≡ is_in p (x + second_of u)
   as_sum u p m hx on lt = elim (bool_cases (board.is_first p)) [
@@ -114,7 +114,8 @@ module _ (board : Board) where
     | inr isnt ↦ cc (second_bit u p lt isnt, sum_second p hx (second_is u) lt isnt)
   ]
 
-  -- a letter that agrees with x on the mask is the sum of x and the part of any letter that agrees off the mask
+  -- a letter v that agrees with x on the mask is the sum of x and of the second-player bits of any letter u that agrees
+  -- with v off the mask
   pub as_other_sum : {mask x : ℕ} (u v p : ℕ) → IsMaskOf board mask → IsFirstLetter board x → AgreeOn mask x v →
       AgreeOff mask u v → p < board.propositions → is_in p v ≡ is_in p (x + second_of u)
   as_other_sum u v p m hx on off lt = elim (bool_cases (board.is_first p)) [
@@ -183,7 +184,7 @@ neither_before n {x} {y} lx ly a b = search (rules, compared)
 pub not_before_itself : {x : ℕ} → IsBefore x x → ⊥
 not_before_itself b = true_is_not_false (sym b.is_true ∙ b.is_false)
 
--- a letter belongs to the second player if its second-player part does not come before it
+-- a letter is a letter of the second player if dropping the first player's bits does not give an earlier letter
 pub second_itself : (board : Board) (y : ℕ) → y < 2 ^ board.propositions → (IsBefore (second_of board y) y → ⊥) →
     IsSecondLetter board y
 second_itself board y lt never =

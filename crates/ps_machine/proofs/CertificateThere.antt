@@ -1,5 +1,5 @@
--- Each game has a certificate: the game is divided into two regions that the players hold, and a solution that holds has
--- a certificate.
+-- Each game has a certificate: its vertices divide into two regions, each won by one player's moves, and such regions
+-- and moves have a certificate.
 use Rattle.std.proofs.Common.{◌≡◌, ◌⊎◌, inl, inr, ℕ, ◌<◌, List, map, Option, IsSomeAnd, Bool, not, Ok}
 use Rattle.std.proofs.Common.{sym, subst, ◌∙◌, arith, rules}
 use Rattle.std.specs.Prelude.{slice_index}
@@ -15,7 +15,8 @@ use Rattle.ps_referee.proofs.Parts.{holds_same}
 use Rattle.ps_zielonka.specs.Divisions.{Division}
 use Rattle.ps_machine.specs.Solving.{AnswersLeast}
 
--- a player holds a set by any table that agrees at the vertices of the game
+-- if a player wins everywhere in a set by a table of moves, so does the player by any table with the same moves at the
+-- game's vertices
 holds_by : {game : ParityGame} {player : ℕ} {set : ℕ → Bool} {table : ℕ → Option ℕ} (other : ℕ → Option ℕ) →
     ((v : ℕ) → v < vertex_count game → other v ≡ table v) → Holds game player set table → Holds game player set other
 holds_by {game} {player} {set} {table} other same h = record {
@@ -60,7 +61,7 @@ module _ (game : ParityGame) (d : Division game) where
     second_holds = holds_by (move_at second) second_is (holds_same rest_is d.second_holds);
   }
 
--- laws that the lemma below takes as arguments
+-- laws of other crates that `certificate_there` takes as arguments
 abbrev pub GameDivided : Type 0
 GameDivided = (game : ParityGame) → IsGame game → Division game
 

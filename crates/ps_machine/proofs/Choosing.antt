@@ -1,5 +1,5 @@
--- Several properties of letters and of steps are decidable, so each first-player letter has a class, and each
--- second-player letter has a move.
+-- Equality of steps is decidable, so each letter of the first player has a class, and each letter of the second player
+-- has a move of the game.
 use Rattle.std.proofs.Common.{arith, rules, ◌≡◌, ◌⊎◌, inl, inr, ℕ, ◌+◌, ◌^◌, ◌<◌, Bool, true, false, not, refl, ap, sym}
 use Rattle.std.proofs.Common.{◌∙◌}
 use Rattle.std.specs.Prelude.{◌&&◌}
@@ -18,11 +18,11 @@ use Rattle.ps_machine.proofs.LeastLetters.{least_there}
 -- ## Letters of one player
 
 module _ (n : ℕ) (mine : ℕ → Bool) where
-  -- the part of a letter that consists of the player's propositions
+  -- the letter that has only those bits of x which belong to one player's propositions
   pub part : ℕ → ℕ
   part x = letter_of n (λ p. mine p && is_in p x)
 
-  -- the part of a letter has only the propositions of its player
+  -- in the part of a letter that belongs to a player, only propositions of this player are true
   pub part_over : (x : ℕ) → IsOver n mine (part x)
   unfolding part
   part_over x = search (rules, letter_lt, cases_lt, letter_is, no_bit, part)
@@ -56,7 +56,7 @@ module _ (n : ℕ) (mine : ℕ → Bool) where
 pub not_false : (b : Bool) → not b ≡ false → b ≡ true
 not_false b h = search rules
 
--- if each of two facts can be decided, both together can be decided
+-- if each of two facts can be decided, their conjunction can be decided
 pub both_or_not : (P Q : Type 0) → P ⊎ (P → ⊥) → Q ⊎ (Q → ⊥) → (P × Q) ⊎ (P × Q → ⊥)
 both_or_not P Q h k = search rules
 
@@ -105,7 +105,7 @@ module _ (board : Board) where
   pub steps_sym : (q a b : ℕ) → SameSteps board q a b → SameSteps board q b a
   steps_sym q a b same y second = record { state = sym (same y second).state; priority = sym (same y second).priority }
 
-  -- each letter of the first player has a class
+  -- each letter of the first player belongs to a class, whose least letter leads to the same steps
   pub class_there : (q : ℕ) {x : ℕ} → IsFirstLetter board x →
       (class : ℕ) × IsClassLetter board q class × SameSteps board q x class
   class_there q {x} first =
@@ -122,7 +122,7 @@ module _ (board : Board) where
         steps_sym q class x here.1,
       )
 
-  -- after a class, each letter of the second player has a move that leads to the same step
+  -- after the letter of a class, each letter of the second player leads to the same step as some move of the game
   pub move_there : {q : ℕ} (class : ℕ) {y : ℕ} → IsSecondLetter board y →
       (move : ℕ) × IsMove board q class move × SameStep board q (class + move) (class + y)
   move_there {q} class {y} second =

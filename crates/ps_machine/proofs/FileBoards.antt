@@ -1,4 +1,4 @@
--- The board of an automaton that was built from a file is the board of the file.
+-- An automaton that was built from a file defines the same game as the file.
 use Rattle.std.proofs.Common.{◌≡◌, List, subst, rules}
 use Rattle.ps_hoa.specs.Files.{FileData}
 use Rattle.ps_automaton.specs.Automata.{AutomatonData, IsBuiltFrom, auto_of}

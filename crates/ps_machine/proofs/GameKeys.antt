@@ -1,4 +1,4 @@
--- The game of an automaton: keys are visited and get their numbers.
+-- How the game of an automaton is built: vertices, known by their keys, are visited and numbered breadth first.
 
 pub mod KeyTests
 pub mod NamingLemmas

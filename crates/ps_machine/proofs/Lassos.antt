@@ -1,4 +1,5 @@
--- A machine that reads letters for ever plays the game, and the winner of vertex 0 wins each of its lassos.
+-- A machine that reads letters for ever plays in the automaton's game, and the winner of vertex 0 wins each of its
+-- lassos.
 
 pub mod Rounds
 pub mod ListedPaths

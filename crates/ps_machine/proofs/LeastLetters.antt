@@ -17,7 +17,7 @@ use Rattle.ps_automaton.proofs.Deciding.{some_or_none}
 
 -- ## The order
 
--- the number of letters before y, if letters are compared only by the n propositions from `from` on
+-- how many letters over the n propositions from `from` on come before y
 pub rank : ℕ → ℕ → ℕ → ℕ
 rank from zero y = 0
 rank from (suc n) y = cond (is_in from y) (2 ^ n) 0 + rank (from + 1) n y
@@ -66,7 +66,7 @@ goes_down n P within none (suc bound) y here small = none y (record {
       goes_down n P within none bound x at (omega arith);
 })
 
--- a property for which there is no least letter holds for no letter
+-- if no letter is the least letter with a property, no letter has the property
 pub none_without_least : (n : ℕ) (P : ℕ → Type 0) → ((y : ℕ) → P y → y < 2 ^ n) → ((y : ℕ) → IsLeastLetter P y → ⊥) →
     (y : ℕ) → P y → ⊥
 none_without_least n P within none y here = goes_down n P within none (rank 0 n y + 1) y here (omega arith)
@@ -121,7 +121,7 @@ sum_within (suc n) x y a b apart =
 
 -- ## Lists
 
--- a number is in a list, or it is not
+-- it is decidable whether a number is in a list
 pub contained_or_not : (xs : List ℕ) (x : ℕ) → Contains xs x ⊎ (Contains xs x → ⊥)
 contained_or_not xs x = elim (cases_Bool (list_any (nat_eq x) xs)) [
   | inl is ↦ inl (Contains-from_any (λ a b h. eqb-true a b h) x xs is)

@@ -1,8 +1,8 @@
 -- What the finite machine of a player does, for one order of moves, and the words that the machine makes.
---     Behaviour      a machine's propositions and player, and its steps at the letters of the other player
---     IsMachine b      this is the behaviour of a finite machine
+--     Behaviour      a machine's propositions and player, and its step at each letter of the other player
+--     IsMachine b      b is the behaviour of a finite machine
 --     IsLasso b stem lap      a run from memory state 0 is in the same memory state before and after the lap
---     LassosWon file b      all words of a controller's machine are accepted, or none of an environment's
+--     LassosWon file b      all words of a controller's machine are accepted; of an environment's machine, none is
 use Rattle.std.specs.Prelude.{◌≡◌, ◌≢◌, ℕ, ◌+◌, ◌^◌, ◌<◌, ◌≤◌, ◌⊎◌, ◌↔◌, Bool, false, IsTrue, List, ◌++◌, length}
 use Rattle.std.specs.Prelude.{slice_index}
 use Rattle.std.specs.List.{AllPairs}
@@ -25,7 +25,7 @@ pub record Behaviour : Type 0 where
 
 -- ## Letters
 
--- only propositions in the list are true
+-- x is a letter in which only propositions of the list are true
 pub record IsLetterOver (propositions : ℕ) (list : List ℕ) (x : ℕ) : Type 0 where
   pub within : x < 2 ^ propositions
   pub own : (p : ℕ) → is_among p list ≡ false → is_in p x ≡ false
@@ -42,9 +42,9 @@ AreSameOn list x y = (p : ℕ) → IsTrue (is_among p list) → is_in p x ≡ is
 
 -- ## Machines
 
--- Each proposition is either read or output, never both. A step leads to a memory state and outputs a letter; both
--- depend only on the propositions that are read. If the player moves first, the output letter does not depend on the
--- letter read.
+-- Each proposition is either read or output, never both. A step of the machine enters a memory state and outputs a
+-- letter; both depend only on the propositions that are read. If the player moves first, the output letter does not
+-- depend on the letter read.
 pub record IsMachine (b : Behaviour) : Type 0 where
   pub few_names : length b.names ≤ 64
   pub are_names : AreNames b.names
@@ -63,7 +63,7 @@ pub record IsMachine (b : Behaviour) : Type 0 where
 
 -- ## Words
 
--- one step: the letter is the sum of the letter that the machine reads and the letter that it outputs
+-- one step of the machine: `letter` is the sum of the letter that the machine reads and the letter that it outputs
 pub record Makes (b : Behaviour) (memory letter next : ℕ) : Type 0 where
   pub input : ℕ
   pub is_input : IsInput b input

@@ -1,4 +1,4 @@
--- The board of an automaton that was built from a file.
+-- The board (automaton and owners of propositions) of an automaton that the code has built from a file.
 use Rattle.std.specs.Prelude.{length}
 use Rattle.ps_automaton.specs.Automata.{AutomatonData, auto_of}
 use Rattle.ps_machine.specs.Boards.{Board, is_first_of}

@@ -1,10 +1,10 @@
 -- The machine of a certificate: its memory states, the letters that it outputs, and its next memory states.
---     IsUsed game certificate v      v ends a path from vertex 0 that follows the table of the winner of vertex 0
---     IsRepresentative .. v      v is the smallest of the used first-player vertices that share its memory state
---     IsMachineOf board mover keys game certificate m      the machine, whose memory states are the kept vertices
+--     IsUsed game certificate v      a path from vertex 0 that follows the moves of the winner of vertex 0 ends at v
+--     IsRepresentative .. v      v is the smallest used first-player vertex with its memory state
+--     IsMachineOf board mover keys game certificate m      m is the machine of the certificate
 --
--- A winner who moves first remembers the current vertex. A winner who moves second remembers only the state of the
--- vertex.
+-- The machine of a winner who moves first has a memory state for each used vertex of the first player. The machine of a
+-- winner who moves second has a memory state for each state of the automaton at a used vertex of the first player.
 use Rattle.std.specs.Prelude.{◌≡◌, ℕ, ◌+◌, ◌-◌, ◌<◌, ◌==◌, Bool, true, false, not, List, length, Some, slice_index}
 use Rattle.std.specs.Prelude.{slice_get}
 use Rattle.std.specs.List.{All, AllPairs, Contains}
@@ -27,12 +27,13 @@ pub record IsUsed (game : ParityGame) (certificate : CertificateData) (v : ℕ) 
   pub follows : Follows game (winner_at_start certificate) (choice_of certificate) path
   pub ends : slice_index path (length path - 1) ≡ v
 
--- a used vertex at which the first player moves
+-- v is a used vertex, at which the first player moves and the automaton is in the state q
 pub record IsUsedFirst (keys : List Key) (game : ParityGame) (certificate : CertificateData) (v q p : ℕ) : Type 0 where
   pub used : IsUsed game certificate v
   pub stands : StandsAt keys v (First q p)
 
--- if the player moves first, each vertex has its own memory state; otherwise, all vertices of a state share one
+-- whether two vertices share a memory state: only equal ones do if the machine's player moves first; otherwise, those
+-- with equal states do
 abbrev pub Shares : Bool → ℕ → ℕ → ℕ → ℕ → Type 0
 Shares true v q w r = v ≡ w
 Shares false v q w r = q ≡ r
@@ -44,7 +45,7 @@ pub record IsRepresentative (is_first : Bool) (keys : List Key) (game : ParityGa
   pub here : IsUsedFirst keys game certificate v state priority
   pub least : (w r p : ℕ) → w < v → IsUsedFirst keys game certificate w r p → ¬ Shares is_first v state w r
 
--- the memory state `memory` belongs to the vertex w, whose state is r
+-- the memory state `memory` is the one of the vertex w, whose state is r
 pub record StandsFor (is_first : Bool) (keys : List Key) (kept : List ℕ) (memory w r : ℕ) : Type 0 where
   pub vertex : ℕ
   pub state : ℕ
@@ -53,7 +54,7 @@ pub record StandsFor (is_first : Bool) (keys : List Key) (kept : List ℕ) (memo
   pub stands : StandsAt keys vertex (First state priority)
   pub shares : Shares is_first vertex state w r
 
--- the game continues at the vertex `next`, which stands for the state and the priority of this step
+-- the vertex `next` stands for the state and the priority to which `letter` leads from the state q
 pub record GoesTo (keys : List Key) (board : Board) (q letter next : ℕ) : Type 0 where
   pub stands : StandsAt keys next (First (board.auto.next q letter) (board.auto.priority q letter))
 
@@ -64,7 +65,8 @@ pub record StepsFirst (board : Board) (keys : List Key) (certificate : Certifica
     pub choice : choice_of certificate v ≡ Some chosen
     pub stands : StandsAt keys chosen (Second q letter)
 
--- A winner who moves second outputs its least letter that leads from the class to the vertex of the winner's move.
+-- A winner who moves second outputs the winner's least letter that leads from the class of x to the vertex of the
+-- winner's move.
 pub record StepsSecond (board : Board) (keys : List Key) (certificate : CertificateData) (v q x letter : ℕ) : Type 0
   where
     pub class : ℕ
@@ -81,7 +83,7 @@ abbrev pub IsPlayed : Bool → Board → List Key → CertificateData → ℕ �
 IsPlayed true board keys certificate v q x letter = StepsFirst board keys certificate v q x letter
 IsPlayed false board keys certificate v q x letter = StepsSecond board keys certificate v q x letter
 
--- a letter of the other player
+-- x is a letter of the machine's opponent
 abbrev pub IsOtherLetter : Bool → Board → ℕ → Type 0
 IsOtherLetter true board x = IsSecondLetter board x
 IsOtherLetter false board x = IsFirstLetter board x

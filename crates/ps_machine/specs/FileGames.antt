@@ -1,4 +1,4 @@
--- The game of a file is the game of the file's automaton.
+-- The game of a file is the game of an automaton that the file describes.
 --     board_of_file order file auto      the board of an automaton of the file
 --     IsGameOfFile order file game      the game that an automaton of the file defines, for the given order of moves
 use Rattle.std.specs.Prelude.{◌≡◌, List, length, Some}
@@ -21,7 +21,7 @@ board_of_file order file auto =
       is_first = is_first_of order file.controllable;
     }
 
--- the game of an automaton of the file, with a key for each vertex; each vertex has the name of its key
+-- the game is the game of an automaton of the file, and each vertex is named by what it stands for, its key
 pub record IsGameOfFile (order : Order) (file : FileData) (game : NamedGameData) : Type 0 where
   pub chain : Chain
   pub is_chain : chain_of file.condition ≡ Some chain

@@ -2,7 +2,7 @@
 --     MachineData      a machine's propositions, its player, whether that player moves first, its diagrams and its rows
 --     machine_row m memory x      the row for a memory state, if x is the other player's letter
 --     behaviour m      the behaviour of the machine, without its diagrams
---     IsWholeMachine m      this is a machine, and its diagrams name a row for each memory state and letter
+--     IsWholeMachine m      m is a machine whose diagrams name a row for each memory state and letter
 use Rattle.std.specs.Prelude.{◌≡◌, ℕ, ◌<◌, Bool, List, length, slice_index, slice_index_or, IsSomeAnd}
 use Rattle.std.specs.Option.{unwrap_or}
 use Rattle.ps_diagram.specs.Table.{Table, IsNode, leaf_of}
@@ -41,8 +41,9 @@ behaviour m =
       plays = λ memory x. (machine_row m memory x).letter;
     }
 
--- Each memory state and letter lead to a leaf that names a row. The leaf depends only on the propositions that are
--- read. Each row leads to a memory state, and outputs a letter of the player.
+-- In the stored machine, the diagram of each memory state leads each letter to the index of a row. This index depends
+-- only on the propositions that the machine reads. Each row has a memory state to enter, and a letter of the machine's
+-- player to output.
 pub record IsWholeMachine (m : MachineData) : Type 0 where
   pub is_machine : IsMachine (behaviour m)
   pub letters : m.store.propositions ≡ length m.names

@@ -1,10 +1,10 @@
--- What a solver may answer, and the text that it was fed.
+-- What a solver may answer for a game, and the text that was given to it before (fed).
 --     MayAnswer      what a solver may answer for a game
 --     SolverData      what is known about a solver
 --     once_fed text solver      the solver after it was fed `text`
---     answers_now solver      what the solver may answer, given the text that it was fed
+--     answers_now solver      what the solver may answer, with the text that it was fed last
 --     Answered old new      what the solver was allowed to answer, and did answer
---     IsKept old new      what a call keeps: everything except the record of the last answer
+--     IsKept old new      what a call keeps: all but the record of the last answer
 use Rattle.std.specs.Prelude.{◌≡◌, ℕ, Bool, List, Option, None, Some, Result}
 use Rattle.ps_certificate.specs.Certificates.{CertificateData}
 use Rattle.ps_game.specs.Games.{NamedGameData}
@@ -18,7 +18,7 @@ pub record SolverData : Type 1 where
   pub is_sure : Bool
   -- the text that the solver was fed last, at first the empty text; None for a solver that ignores every text
   pub fed : Option (List ℕ)
-  -- what the solver may answer for a game, if it was fed this text
+  -- what the solver may answer for a game, if the given text was the last one that it was fed
   pub may_answer : Option (List ℕ) → MayAnswer
   -- whether a given answer for a game was the solver's last one; always true if the solver keeps no record
   pub gave : MayAnswer

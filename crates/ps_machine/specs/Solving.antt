@@ -3,10 +3,10 @@
 --     winner_at_start c      the winner of vertex 0
 --     AnswersSurely game r      what a sure solver answers: a valid certificate that fits the game, or out of memory
 --     AnswersLeast game r      what psyn's own solver answers: as a sure solver, with the least counts
---     NamesVertices game r      if the answer is a cycle, it is not empty and has only vertices of the game
+--     NamesVertices game r      if the answer is a cycle, it consists of vertices of the game
 --     Replays game fed r      the answer is the result of parsing the text that was fed
 --     own_solver      what is known about psyn's own solver
---     replay_of text      what is known about a solver that was fed `text` and returns the result of parsing it
+--     replay_of text      what is known about a solver that only parses the text that it was fed
 use Rattle.std.specs.Prelude.{◌≡◌, ℕ, ◌<◌, true, false, List, length, Option, None, Some, Result, Ok, Err}
 use Rattle.std.specs.List.{All}
 use Rattle.ps_game.specs.Games.{NamedGameData, vertex_count}

@@ -15,37 +15,37 @@ use ps_referee::{JudgeFault, certificate_of_solution, judge};
 use ps_zielonka::{regions, regions_within};
 use std::alloc::{AllocError, Global};
 
-/// The number of rounds in which the work is limited. After them, one more round is made without a limit.
+/// The number of rounds in which the solver's work is limited. After these rounds, one more is made without a limit.
 const ROUNDS: u64 = 8;
 
-/// The factor by which the limits grow from round to round.
+/// The factor by which the limits on the solver's work grow from round to round.
 const GROWTH: u64 = 64;
 
-/// How many times the recursion may place a vertex in the first round, for each vertex of the game. In practical games,
-/// a vertex is placed about ten times on average.
+/// How many times the solver's recursion may assign a vertex to a player in the first round, for each vertex of the
+/// game. In practical games, a vertex is assigned about ten times on average.
 const PLACED_EACH: u64 = 256;
 
-/// How many times the recursion may place a vertex in the first round, in addition to `PLACED_EACH` for each vertex of
-/// the game.
+/// How many times the recursion may assign a vertex to a player in the first round, in addition to `PLACED_EACH` for
+/// each vertex of the game.
 const PLACED_BESIDE: u64 = 1024;
 
-/// How many cells an attempt may read or write, for each time that the recursion may place a vertex. With this value of
-/// `CELLS_EACH`, an attempt takes longer than the recursion of its own round, and less time than the recursion of the
-/// next round.
+/// How many array cells an attempt at strategy improvement may read or write, for each time that the recursion may
+/// assign a vertex to a player. With this value, an attempt takes longer than the recursion of its own round, and less
+/// time than the recursion of the next round.
 const CELLS_EACH: u64 = 64;
 
-/// The limits for the recursion and for the attempt in one round.
+/// The limits, in one round, for the recursion and for the attempt at strategy improvement.
 #[derive(Drop)]
 struct Budget {
-    /// The number of times that the recursion may place a vertex.
+    /// The number of times that the recursion may assign a vertex to a player.
     placed: u64,
-    /// The number of cells that an attempt may read or write. The number is 0 after an attempt has failed for a reason
-    /// that more cells would not remove.
+    /// The number of array cells that an attempt at strategy improvement may read or write. It is 0 after an attempt
+    /// has failed for a reason that more cells would not remove.
     cells: u64,
 }
 
 impl Budget {
-    /// The budget of the first round.
+    /// The limits of the first round.
     fn first<A: Arena>(arena: &A) -> Budget {
         let count = arena.count() as u64;
         let placed = count
@@ -57,7 +57,7 @@ impl Budget {
         }
     }
 
-    /// The budget of the next round.
+    /// The limits of the next round.
     fn grow(&mut self) {
         self.placed = self.placed.saturating_mul(GROWTH);
         self.cells = self.cells.saturating_mul(GROWTH);
@@ -65,7 +65,8 @@ impl Budget {
 }
 
 /// psyn's own solver. The solver computes the regions and the moves of both players, and then the least counts for
-/// these moves. psyn's own solver is sure, and ignores every text that it is fed.
+/// these moves. It is sure (each of its certificates is valid, and it fails only if memory runs out), and ignores every
+/// text that it is fed.
 #[derive(Drop)]
 pub struct BuiltIn {
     alloc: Global,
@@ -110,10 +111,10 @@ fn certificate_in<W: Width>(alloc: Global, game: &Game) -> Result<Certificate, S
     certificate_of(alloc, &flat)
 }
 
-/// The certificate of a game. In each round, the number of times that the recursion may place a vertex is limited;
-/// practical games stay within the first limit. When the recursion reaches its limit, an attempt at strategy
-/// improvement follows. An attempt guarantees nothing, so its result is judged. Both limits grow from round to round,
-/// and the last round has no limit.
+/// The certificate of a game. In each round, the number of times that the recursion may assign a vertex to a player is
+/// limited; practical games stay within the first limit. When the recursion reaches its limit, an attempt at strategy
+/// improvement follows. Nothing guarantees that an attempt's result is right, so it is checked. Both limits grow from
+/// round to round, and the last round has no limit.
 fn certificate_of<A: Arena>(alloc: Global, arena: &A) -> Result<Certificate, SolveFault>
     ensures certificate { IfOk result (IsLeastCertificate (A.game arena.now)) }
     ensures memory { IfErr result (λ fault. fault ≡ faults.OutOfMemory) }
@@ -128,7 +129,8 @@ fn certificate_of<A: Arena>(alloc: Global, arena: &A) -> Result<Certificate, Sol
     certificate_without_bound(alloc, arena)
 }
 
-/// The certificate of a game, or None if neither the recursion nor the attempt finds one within the budget.
+/// The certificate of a game, or None if neither the recursion nor the attempt at strategy improvement finds one within
+/// the round's limits.
 fn certificate_within<A: Arena>(
     alloc: Global,
     arena: &A,
@@ -161,8 +163,8 @@ fn solved_within<A: Arena>(
     Ok(Some(certificate))
 }
 
-/// The certificate from an attempt, or None if the cells do not suffice or the attempt's result is rejected. If more
-/// cells would not help, the budget has no cells left afterwards.
+/// The certificate that an attempt at strategy improvement finds, or None if the limit on array cells does not suffice
+/// or the result is wrong. If a higher limit would not help, the limit is 0 afterwards.
 fn attempted<A: Arena>(
     alloc: Global,
     arena: &A,
@@ -184,9 +186,9 @@ fn attempted<A: Arena>(
     }
 }
 
-/// The certificate that a region and two tables of moves give. The region and the tables may be wrong: the result is
-/// None exactly if some player who moves by that player's table does not win all vertices that the region gives to the
-/// player.
+/// The certificate for a division of the vertices into two regions, and a table of moves for each player. The regions
+/// and the moves may be wrong: the result is None exactly if some player, moving by that player's table, does not win
+/// at all vertices of that player's region.
 fn tried<A: Arena>(
     alloc: Global,
     arena: &A,

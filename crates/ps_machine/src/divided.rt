@@ -1,4 +1,4 @@
-//! The classes of an automaton's states.
+//! The classes of letters for the states of an automaton.
 
 ghost use Rattle.std.specs.Prelude.{◌≡◌, ◌<◌, ◌≤◌, ℕ, IsSome, None, Some, nat_eq};
 ghost use Rattle.indexmap.specs.IndexMap.{get};
@@ -7,18 +7,18 @@ use indexmap::IndexMap;
 use ps_diagram::{Classes, Store};
 use std::alloc::Global;
 
-/// The classes of the first player's letters, for each state whose classes were computed. Letters of one class lead to
-/// the same steps.
+/// For each state whose classes were computed, the classes of the first player's letters. Letters of one class lead
+/// from this state to the same steps.
 #[derive(Drop)]
 pub struct Divided {
     /// The store of the classes' diagrams.
     pub store: Store,
-    /// The classes of each state that has been divided.
+    /// For each state whose letters have been divided into classes, these classes.
     pub classes: IndexMap<u32, Classes>,
 }
 
 impl Divided {
-    /// Creates a value in which no state has been divided yet. Letters are over `propositions` propositions.
+    /// Creates a value in which no state has classes yet. The automaton has `propositions` propositions.
     pub fn new(alloc: Global, propositions: u32) -> Self
         requires few { propositions ≤ 64 }
         ensures propositions { result.store.propositions ≡ propositions }
@@ -30,7 +30,7 @@ impl Divided {
         }
     }
 
-    /// The classes of a state that has been divided.
+    /// The classes of a state, if they have been computed.
     pub fn of(&self, state: u32) -> &Classes
         requires { IsSome (get nat_eq self.now.classes state) }
         ensures { get nat_eq self.now.classes state ≡ Some result.now }

@@ -1,4 +1,5 @@
-//! The diagrams of a machine. Each memory state has a diagram that leads each letter of the other player to a row.
+//! Makes the diagrams of a machine. Each memory state has a diagram that leads each letter of the other player to a
+//! row.
 
 ghost use Rattle.std.specs.Prelude.{◌≡◌, ◌≢◌, ℕ, ◌<◌, true, false, Any, IfOk, OnOk, Some, length, slice_get};
 ghost use Rattle.std.specs.List.{All, Contains};
@@ -22,8 +23,8 @@ use ps_diagram::{Class, Node, Store};
 use std::alloc::{AllocError, Global};
 
 /// The data from which a machine is made. The certificate has the moves of the machine's player. The keys state what
-/// the vertices stand for. The automaton gives the steps from each state. The memories list the vertices for which the
-/// machine has memory states. The data of a plan do not change while the diagrams are made.
+/// the game's vertices stand for. The automaton gives the steps from each state. The field `memories` lists the game's
+/// vertices for which the machine has memory states. These data do not change while the machine's diagrams are made.
 #[derive(Drop)]
 pub(crate) struct Plan<'a> {
     /// Who moves first.
@@ -32,9 +33,9 @@ pub(crate) struct Plan<'a> {
     pub automaton: &'a Automaton,
     /// The key of each vertex of the automaton's game.
     pub keys: &'a IndexSet<Key>,
-    /// The classes of the states that occur in the keys.
+    /// The classes of letters for each state that occurs in the keys.
     pub divided: &'a Divided,
-    /// The winner of each vertex, and the moves.
+    /// The certificate of the game: the winner of each vertex, and the winners' moves.
     pub certificate: &'a Certificate,
     /// Whether the winner of vertex 0 moves first.
     pub moves_first: bool,
@@ -42,15 +43,15 @@ pub(crate) struct Plan<'a> {
     pub memories: &'a Memories,
 }
 
-/// The machine's diagrams and rows so far. The function `node` adds the diagram of one memory state, and the rows that
-/// the diagram names.
+/// The machine's diagrams and rows so far. The function `node` adds the diagram of one memory state, and the rows to
+/// which this diagram leads.
 #[derive(Drop)]
 pub(crate) struct Drawing {
     /// The store of the diagrams.
     pub store: Store,
     /// The rows. Each leaf of the diagrams is the index of its row.
     pub rows: IndexSet<Row>,
-    /// For each leaf of the automaton, the index of its row. Only the entries that the last call of `place_rows` set
+    /// For each leaf of the automaton, the index of its row. Only entries that the last call of `place_rows` has set
     /// are valid.
     pub places: Vec<u64>,
 }
@@ -70,8 +71,8 @@ impl Plan<'_> {
         self.memories.anchors.get_index_of(&anchor).unwrap()
     }
 
-    /// The letter that a player who moves first outputs at the vertex of a memory state. It is the least letter of the
-    /// class to which the player's move leads.
+    /// The letter that a player who moves first outputs at the vertex of a memory state. This is the least letter of
+    /// the class to which the player's move leads.
     fn letter_at(&self, vertex: usize) -> u64
         requires plan { IsPlanned self.now }
         requires kept { Contains self.now.memories.now.kept.items vertex }
@@ -88,7 +89,7 @@ impl Plan<'_> {
 }
 
 impl Drawing {
-    /// Draws the diagram of the memory state of a vertex. Fails if out of memory.
+    /// Makes the diagram of the memory state that a vertex has. Fails if out of memory.
     pub fn node(
         &mut self,
         alloc: Global,
@@ -115,8 +116,8 @@ impl Drawing {
         }
     }
 
-    /// Draws the diagram of a memory state for a player who moves first. The diagram is the rest of the class to which
-    /// the player's move leads, with the index of a row in place of each step.
+    /// Makes the diagram of a memory state for a player who moves first. It is the diagram of the steps after the class
+    /// to which the player's move leads, with the index of a row in place of each step.
     fn first_node(&mut self, plan: &Plan<'_>, vertex: usize, state: u32) -> Result<Node, AllocError>
         requires plan { IsPlanned plan.now }
         requires kept { Contains plan.now.memories.now.kept.items vertex }
@@ -138,8 +139,8 @@ impl Drawing {
             .relabel_from(&plan.divided.store, rest, &self.places)
     }
 
-    /// Adds the rows of the given leaves, in which the machine outputs `letter`, and records the index of each leaf's
-    /// row.
+    /// Adds a row, in which the machine outputs `letter`, for each of the given leaves of the automaton, and records
+    /// the row's index.
     fn place_rows(
         &mut self,
         plan: &Plan<'_>,
@@ -165,7 +166,7 @@ impl Drawing {
     }
 }
 
-/// The rest of the class with a given letter: the diagram of the steps that can follow this letter.
+/// The diagram of the steps that can follow the given letter, which is the least letter of a class.
 fn rest_of(classes: &[Class], letter: u64) -> Node
     requires { Any (λ class. class.letter ≡ letter) classes.now }
     ensures { Any (λ class. (class.letter ≡ letter) × (class.rest ≡ result)) classes.now }
@@ -176,7 +177,8 @@ fn rest_of(classes: &[Class], letter: u64) -> Node
     }
 }
 
-/// Records the index of a leaf's row. The list grows as needed; any new entries of smaller leaves are 0.
+/// Records the index of the row for a leaf of the automaton's diagrams. The list of indices grows as needed; new
+/// entries for smaller leaves are 0.
 fn note(places: &mut Vec<u64>, leaf: u64, place: u64) -> Result<(), AllocError>
     ensures noted { OnOk result (slice_get places.new.items leaf ≡ Some place) }
     ensures others { OnOk result ((other n : ℕ) → other ≢ leaf → slice_get places.old.items other ≡ Some n →

@@ -34,11 +34,11 @@ use ps_diagram::{Node, Store};
 use ps_game::{Game, NamedGame};
 use std::alloc::{AllocError, Global};
 
-/// Builds the machine of the player who wins vertex 0 in the game of an automaton. The machine makes the moves of a
-/// valid certificate. A winner who moves first remembers the current vertex. A winner who moves second remembers only
-/// the state of the automaton. If the winner is player 0, the automaton accepts every word of the machine; if the
-/// winner is player 1, it accepts none. This function builds the game again to get its keys; `machine_of_certificate`
-/// takes a game with its keys.
+/// Builds the machine of the player who wins vertex 0 in the game of an automaton. The machine plays by the moves of a
+/// valid certificate. If the winner moves first, the machine remembers the current vertex. If the winner moves second,
+/// the machine remembers only the current state of the automaton. If the winner is player 0, the automaton accepts
+/// every word of the machine; if the winner is player 1, the automaton accepts none. This function builds the game
+/// again to get its keys; `machine_of_certificate` takes a game with its keys.
 ///
 /// # Errors
 ///
@@ -141,7 +141,7 @@ fn machine_by(alloc: Global, plan: &Plan<'_>) -> Result<Machine, AllocError>
     Ok(Machine::new(player, plan.moves_first, propositions, diagrams))
 }
 
-/// The diagrams of all memory states, and the rows that these diagrams name.
+/// Makes the diagrams of all memory states, and the rows to which these diagrams lead.
 fn draw(alloc: Global, plan: &Plan<'_>) -> Result<Diagrams, AllocError>
     requires plan { IsPlanned plan.now }
     requires divided { AreDividedBy plan.now }
@@ -162,7 +162,7 @@ fn draw(alloc: Global, plan: &Plan<'_>) -> Result<Diagrams, AllocError>
     })
 }
 
-/// Draws the diagrams of all memory states.
+/// Makes the diagrams of all memory states.
 fn nodes_of(alloc: Global, plan: &Plan<'_>, drawing: &mut Drawing) -> Result<Vec<Node>, AllocError>
     requires plan { IsPlanned plan.now }
     requires divided { AreDividedBy plan.now }
@@ -179,7 +179,7 @@ fn nodes_of(alloc: Global, plan: &Plan<'_>, drawing: &mut Drawing) -> Result<Vec
     Ok(nodes)
 }
 
-/// The propositions that a machine reads, and those that it outputs. The flag `moves_first` states whether the
+/// Finds the propositions that a machine reads, and those that it outputs. The flag `moves_first` states whether the
 /// machine's player moves first.
 fn roles(
     alloc: Global,

@@ -12,10 +12,11 @@ use thiserror::Error;
 /// Why a solver gives no certificate.
 #[derive(Debug, Drop, Error)]
 pub enum SolveFault {
-    /// A strategy that the solver returned allows a cycle that its player loses. The cycle is a list of vertex numbers.
+    /// The moves that the solver found for a player allow a cycle that this player loses. The cycle is a list of vertex
+    /// numbers.
     #[error("a cycle that its player loses")]
     BadCycle(Vec<usize>),
-    /// The text that was fed is not a certificate of the game.
+    /// The text that the solver was fed is not the text of a certificate of the game.
     #[error("{} at byte {offset}", .cause.name())]
     Text {
         /// The reason why the text is rejected.

@@ -1,4 +1,4 @@
-//! Laws about the definitions.
+//! Laws about games of automata, their certificates and their machines.
 
 ghost use Rattle.std.specs.Prelude.{◌≡◌, ℕ, ◌<◌, ◌≤◌, List, Ok, length};
 ghost use Rattle.ps_hoa.specs.Files.{FileData};
@@ -30,7 +30,7 @@ pub fn lassos_won()
         IsMachineOf (board_of order a) (mover_of order) keys game certificate m → LassosWon file m }
 {}
 
-/// As `lassos_won`, for the game of a file: the law holds whichever automaton of the file is taken.
+/// The law `lassos_won` for the game of a file, whichever automaton of the file is taken.
 pub fn lassos_of_file_won()
     ensures { (order : Order) (file : FileData) (game : NamedGameData) (is_game : IsGameOfFile order file game)
         (certificate : CertificateData) (m : Behaviour) → Fits game.game certificate → IsValid game.game certificate →
@@ -39,14 +39,15 @@ pub fn lassos_of_file_won()
         LassosWon file m }
 {}
 
-/// A board has at most one game: any two games of a board have the same keys and are equal.
+/// An automaton with given owners of its propositions (a board) has at most one game: any two have the same keys and
+/// are equal.
 pub fn one_game()
     ensures { (board : Board) (mover : ℕ) (keys others : List Key) (game other : ParityGame) →
         IsGameOf board mover keys game → IsGameOf board mover others other → (keys ≡ others) × (game ≡ other) }
 {}
 
-/// For each order of moves, a file has at most one game, including its names and ids. The file may have several
-/// automata, but two automata of one file differ only in parts that no play reaches.
+/// For each order of moves, a file has at most one game, including its names and ids. Several automata may be automata
+/// of one file, but they differ only at states and letters that no play reaches.
 pub fn one_game_of_file()
     ensures { (order : Order) (file : FileData) (game other : NamedGameData) → IsGameOfFile order file game →
         IsGameOfFile order file other → game ≡ other }
@@ -58,13 +59,13 @@ pub fn game_is_there()
         (game : NamedGameData) × IsGameOfFile order file game }
 {}
 
-/// The game that a file defines is a game.
+/// The game that a file defines meets the definition of a game: each vertex has a successor, for example.
 pub fn game_of_file_is_game()
     ensures { (order : Order) (file : FileData) (game : NamedGameData) → IsGameOfFile order file game →
         IsGame game.game }
 {}
 
-/// Each valid certificate of a board's game has a machine whose propositions have the given names.
+/// Each valid certificate of an automaton's game has a machine whose propositions have the given names.
 pub fn machine_is_there()
     ensures { (names : List (List ℕ)) (board : Board) (mover : ℕ) (keys : List Key) (game : ParityGame)
         (certificate : CertificateData) →
@@ -74,8 +75,8 @@ pub fn machine_is_there()
         IsMachineOf board mover keys game certificate m }
 {}
 
-/// A certificate has at most one machine. Any two machines of a board's game and one certificate have the same
-/// propositions and player. From each memory state, at every letter that is read, they take the same step.
+/// A certificate has at most one machine. Any two machines of one certificate of an automaton's game have the same
+/// propositions and player. Two such machines take the same step from each memory state at every letter that they read.
 pub fn one_machine()
     ensures { (names : List (List ℕ)) (board : Board) (mover : ℕ) (keys : List Key) (game : ParityGame)
         (certificate : CertificateData) → IsGameOf board mover keys game → (m o : Behaviour) →
@@ -84,8 +85,8 @@ pub fn one_machine()
         BehavesAs m o }
 {}
 
-/// A certificate of a file's game has at most one machine, although the automata of a file may differ in parts that no
-/// play reaches.
+/// A certificate of a file's game has at most one machine, although the file's automata may differ at states and
+/// letters that no play reaches.
 pub fn one_machine_of_file()
     ensures { (order : Order) (file : FileData) (game : NamedGameData) (first second : IsGameOfFile order file game)
         (certificate : CertificateData) (m o : Behaviour) → IsMachine m → IsMachine o →
@@ -96,8 +97,8 @@ pub fn one_machine_of_file()
         BehavesAs m o }
 {}
 
-/// Each game has a certificate that psyn's own solver may answer: one that fits, is valid and has the least counts. This
-/// law is about games, not about calls: a call may also fail because it is out of memory.
+/// Each game has a certificate that psyn's own solver may return: one that fits, is valid and has the least counts.
+/// This law does not say that a call of the solver returns it: a call may fail because memory runs out.
 pub fn each_game_has_a_certificate()
     ensures { (game : NamedGameData) → IsGame game.game →
         (certificate : CertificateData) × AnswersLeast game (Ok certificate) }

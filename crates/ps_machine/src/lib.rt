@@ -2,9 +2,9 @@
 //!
 //! The vertices of the game are numbered breadth first from the start. A vertex at which the first player moves stands
 //! for a state and the priority by which the state was entered. A vertex at which the second player moves stands for a
-//! state and a class of the first player's letters. Letters of one class lead to the same steps. The classes are
-//! computed from the automaton's decision diagrams, and one vertex stands for all letters of its class. If no player has
-//! more than four letters, `game_of` compares the letters one by one, and needs no classes.
+//! state and a class of the first player's letters. Letters of one class lead to the same steps. Classes of letters are
+//! computed from the automaton's decision diagrams, and one vertex stands for all letters of its class. If no player
+//! has more than four letters, `game_of` compares the letters one by one, and computes no classes.
 //!
 //! | Call | What it gives |
 //! |---|---|

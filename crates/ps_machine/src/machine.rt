@@ -42,9 +42,9 @@ pub(crate) struct Diagrams {
 }
 
 /// A player's finite machine. The machine begins in memory state 0. In each step the machine reads an input letter,
-/// which is a letter of the other player. The input letter and the memory state determine a row. The machine outputs
-/// the letter of the row, and enters the memory state of the row. If the machine's player moves first, the output
-/// letter does not depend on the input letter. Each leaf of the diagrams names a row.
+/// which is a letter of the other player. The input letter and the memory state determine a row of the machine. The
+/// machine outputs the letter of the row, and enters the memory state of the row. If the machine's player moves first,
+/// the output letter does not depend on the input letter. Each leaf of the diagrams names a row.
 #[derive(Drop)]
 pub struct Machine {
     names: Vec<Vec<u8>>,
@@ -178,7 +178,7 @@ impl Machine {
         self.nodes[memory]
     }
 
-    /// The row that a leaf names.
+    /// The row whose index a leaf of the diagrams is.
     pub fn row(&self, leaf: u64) -> Row
         requires { leaf < length self.now.rows }
         ensures row { result ≡ row_at_leaf self.now leaf }

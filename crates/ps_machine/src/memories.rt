@@ -10,15 +10,16 @@ use std::alloc::{AllocError, Global};
 /// The memory states of a machine.
 #[derive(Drop)]
 pub(crate) struct Memories {
-    /// For each memory state, its smallest vertex: a used vertex of the first player at which the machine is in that
-    /// state. The list ascends.
+    /// For each memory state, the smallest vertex that it stands for: a used vertex of the first player. The list
+    /// ascends.
     pub kept: Vec<usize>,
-    /// The anchor of each memory state: its vertex if the player moves first, and otherwise the automaton's state.
+    /// What each memory state remembers, its anchor: a vertex if the machine's player moves first, and otherwise a
+    /// state of the automaton.
     pub anchors: IndexSet<usize>,
 }
 
-/// A memory state for each used vertex of the first player, or, if the machine's player moves second, for each state
-/// that a used vertex of the first player has.
+/// Makes a memory state for each used vertex of the first player or, if the machine's player moves second, for each
+/// state of these vertices.
 pub(crate) fn remembered(
     alloc: Global,
     keys: &[Key],
@@ -43,8 +44,8 @@ pub(crate) fn remembered(
     Ok(memories)
 }
 
-/// The anchor of a first-player vertex: the vertex itself or, if the machine's player moves second, the state of the
-/// vertex.
+/// What the machine remembers at a first-player vertex, its anchor: the vertex itself or, if the machine's player moves
+/// second, the vertex's state.
 pub(crate) fn anchor(moves_first: bool, vertex: usize, state: u32) -> usize
     ensures { result ≡ anchor_of moves_first vertex state }
 {

@@ -8,8 +8,8 @@ use ps_certificate::{CertFault, Certificate, read};
 use ps_game::NamedGame;
 use std::alloc::{AllocError, Global};
 
-/// Parses the text that was fed as a certificate. As a solver, a `Replay` is not sure: the certificate fits the game,
-/// but may be wrong.
+/// A solver that parses the text that it was fed as a certificate of the game. A `Replay` is not sure: the certificate
+/// that it returns fits the game, but may be wrong.
 #[derive(Drop)]
 pub struct Replay {
     alloc: Global,

@@ -19,7 +19,7 @@ use ps_diagram::{Class, Node};
 use std::alloc::{AllocError, Global};
 
 impl Plan<'_> {
-    /// The step to which the move of the winner, who moves second, leads after the least letter of a class.
+    /// The step of the automaton that the winner, who moves second, chooses after the least letter of a class.
     fn reply(&self, state: u32, letter: u64) -> Step
         requires turn { self.now.moves_first ≡ false }
         requires entered { (p : ℕ) × CanEnterBy self.now state p }
@@ -57,8 +57,8 @@ impl Plan<'_> {
 }
 
 impl Drawing {
-    /// Draws the diagram of a memory state for a player who moves second. The diagram is made from the diagram of the
-    /// classes of the first player's letters, with the index of a row in place of each class. Fails if out of memory.
+    /// Makes the diagram of a memory state for a player who moves second. It is the diagram that divides the first
+    /// player's letters into classes, with the index of a row in place of each class. Fails if out of memory.
     pub fn second_node(
         &mut self,
         alloc: Global,
@@ -114,7 +114,7 @@ impl Drawing {
     }
 }
 
-/// The letter of the leaf that names a given step.
+/// In a list of leaves with letters, the letter of the leaf that names the given step.
 fn letter_to(automaton: &Automaton, leaves: &[(u64, u64)], step: Step) -> u64
     requires named { All (λ leaf. leaf.0 < length automaton.now.steps) leaves.now }
     requires there { Any (λ leaf. pair_of automaton.now leaf.0 ≡ step) leaves.now }

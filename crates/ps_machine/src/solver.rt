@@ -1,4 +1,4 @@
-//! What every solver guarantees.
+//! The trait of solvers, and what every solver guarantees.
 
 ghost use Rattle.std.specs.Prelude.{◌≡◌, true, None, IsOk, OnOk, OnErr};
 ghost use Rattle.ps_machine.specs.Solvers.{Answered, IsKept, SolverData, once_fed};
@@ -14,14 +14,14 @@ pub trait Solver: Drop {
     /// What is known about the solver.
     ghost known: { Self → SolverData };
 
-    /// Replaces the text that was fed before. Fails if out of memory; then the earlier text stays. A solver that keeps
-    /// no text accepts every text.
+    /// Gives the solver a text (feeds it), which replaces the text that it was fed before. If memory runs out, this
+    /// call fails, and the solver keeps the earlier text. A solver that ignores texts accepts every text.
     fn feed(&mut self, text: &[u8]) -> Result<(), AllocError>
         ensures unkept { (known self.old).fed ≡ None → IsOk result }
         ensures ok { OnOk result (IsKept (once_fed text.now (known self.old)) (known self.new)) }
         ensures err { OnErr result (IsKept (known self.old) (known self.new)) };
 
-    /// A certificate of the game, or why there is none.
+    /// The solver's certificate of the game, or the reason why it returns none.
     fn solve(&mut self, game: &NamedGame) -> Result<Certificate, SolveFault>
         ensures surely { (known self.old).is_sure ≡ true → AnswersSurely game.now result }
         ensures cycle { NamesVertices game.now result }

@@ -1,4 +1,4 @@
--- The rest of a class depends only on the second player's propositions.
+-- The diagram of the steps after a first-player letter depends only on the second player's propositions.
 use Rattle.std.proofs.Common.{◌≡◌, ℕ, zero, suc, ◌+◌, ◌^◌, ◌<◌, Bool, true, false, cond, List, length, get_or, rules}
 use Rattle.std.proofs.Common.{option_map, Option, Some, refl, ap, sym, ◌∙◌, arith, inl, inr}
 use Rattle.std.specs.Prelude.{IfSome, slice_get, slice_index, Any}
@@ -38,7 +38,7 @@ other_bit c {d} e = ap (λ x. cond x c d) e
 cond_alike : (b c : Bool) {d e : Bool} → (b ≡ false → d ≡ e) → cond b c d ≡ cond b c e
 cond_alike b c h = search rules
 
--- the letter with the bits of one letter on the mask, and the bits of another letter elsewhere
+-- the letter that has the bits of `class` on the mask, and the bits of u elsewhere
 module _ (n mask class : ℕ) (small : mask < 2 ^ n) where
   bits : ℕ → ℕ → Bool
   bits u p = cond (is_in p mask) (is_in p class) (is_in p u)
@@ -66,13 +66,13 @@ module _ (n mask class : ℕ) (small : mask < 2 ^ n) where
   unfolding bits
   joint_same u v p alike = joint_bit u p ∙ cond_alike (is_in p mask) (is_in p class) alike ∙ sym (joint_bit v p)
 
--- the rest depends only on the second player's propositions
+-- the diagram `rest` depends only on the second player's propositions
 unfoldable pub Heeds : Order → AutomatonData → Table → ℕ → Type 0
 Heeds order a t rest =
     (x y : ℕ) → ((p : ℕ) → p < length a.names → (board_of order a).is_first p ≡ false → is_in p x ≡ is_in p y) →
     leaf_of t rest x ≡ leaf_of t rest y
 
--- the rest for the letter of a class; it depends only on the second player's propositions
+-- `rest` is the diagram of the steps after the letter of a class, and depends only on the second player's propositions
 pub record Left (order : Order) (a : AutomatonData) (mask : ℕ) (t : Table) (q letter rest : ℕ) : Type 0 where
   pub fit : IsFit order a mask t
   pub is_rest : IsRest order a mask t q letter rest
@@ -105,7 +105,7 @@ module _ {order : Order} {a : AutomatonData} {mask : ℕ} {t : Table} {q : ℕ} 
       let at : slice_get classes.list.items any.0 ≡ Some c = search (rules, slice_get-get_or) in
       grind (arith, class_rest f of any.0 at, class_heeds any.0 c at)
 
--- the leaves of a relabelled diagram stay the same if an equal list of new labels is used
+-- if a diagram's leaves are replaced by the entries of a list, an equal list gives the same leaves
 pub renamed : (t u : Table) (places values : List ℕ) (rest made : ℕ) → values ≡ places →
     ((x : ℕ) → leaf_of u made x ≡ option_map (λ k. slice_index values k) (leaf_of t rest x)) →
     (x : ℕ) → leaf_of u made x ≡ option_map (λ k. slice_index places k) (leaf_of t rest x)
@@ -116,12 +116,13 @@ pub renamed_within : (t : Table) {places values : List ℕ} (rest : ℕ) → val
     (x : ℕ) → x < 2 ^ t.propositions → IfSome (leaf_of t rest x) (λ k. k < length values)
 renamed_within t rest same within = search rules
 
--- if c is at an index of the list, then some class of the list has c's letter and c's rest
+-- if the class c is in the list, then some class of the list has c's letter and c's diagram
 pub any_class : (list : List Class) {letter : ℕ} {c : Class} → c.letter ≡ letter → (k : ℕ) → k < length list →
     ((d : Class) → get_or list k d ≡ c) → Any (λ (d : Class). (d.letter ≡ letter) × (d.rest ≡ c.rest)) list
 any_class list {c} is k within at = (k, c, within, at c, (is, refl))
 
--- the classes of a vertex's state include the class of the move, and this class has a rest
+-- if the move at a vertex leads to the vertex of a class, then this class is stored for the state, with its diagram of
+-- steps
 module _ {order : Order} {a : AutomatonData} {keys : List Key} {t : Table} {classes : ℕ → Option Classes} (v : ℕ)
     {q p : ℕ} {c : Classes} {l : List Class} (d : AreDivided order a keys t classes) (at : StandsAt keys v (First q p))
     (of : classes q ≡ Some c) (same : l ≡ c.list.items) where

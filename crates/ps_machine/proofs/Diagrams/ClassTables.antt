@@ -1,4 +1,4 @@
--- The classes that are stored for states.
+-- The classes of letters that are stored for each state of an automaton.
 use Rattle.std.proofs.Common.{◌≡◌, ◌≢◌, ◌∙◌, ℕ, ◌<◌, ◌≤◌, cond, eqb, Option, Some, Result, List}
 use Rattle.std.proofs.Common.{length, get_or, ap, subst, sym, inl, inr, rules}
 use Rattle.std.specs.Prelude.{IsSome, IsSomeAnd, OnOk}
@@ -24,7 +24,7 @@ use Rattle.ps_machine.specs.declared.key.Order.{Order}
 use Rattle.ps_machine.proofs.BoardSteps.{class_different, class_leads, class_some, known_first, still_known}
 use Rattle.ps_machine.proofs.Diagrams.Remembering.{fit_kept}
 
--- what is known stays known when the table of diagrams grows
+-- what is known about stored classes stays true when the table of diagrams grows
 module _ {order : Order} {a : AutomatonData} {mask : ℕ} {t u : Table} {rests now : ℕ × ℕ → Option ℕ}
     (keeps : Keeps t u) (before : (k : Key) → IsKnown order a mask t rests k → IsKnown order a mask u now k) where
   remembered_kept : (q : ℕ) (c : Classes) → AreRemembered order a mask t rests q c →
@@ -35,14 +35,14 @@ module _ {order : Order} {a : AutomatonData} {mask : ℕ} {t u : Table} {rests n
   }
 
   module _ {classes : ℕ → Option Classes} {key : Key} (is : KnowsMoves order a mask t rests classes key) where
-    -- a known key stays known if no classes are added
+    -- the successors of a vertex can still be computed if no classes are added
     pub moves_kept : {new : ℕ → Option Classes} → ((r : ℕ) → new r ≡ classes r) → KnowsMoves order a mask u now new key
     moves_kept same = record {
       is_known = before key is.is_known;
       are = λ r c e. remembered_kept r c (is.are r c (sym (same r) ∙ e));
     }
 
-    -- a known key stays known if the classes of one more state are added
+    -- the successors of a vertex can still be computed after the classes of one more state have been stored
     pub moves_more : {new : ℕ → Option Classes} {q : ℕ} {added : Classes} →
         ((r : ℕ) → new r ≡ cond (eqb q r) (Some added) (classes r)) → AreRemembered order a mask u now q added →
         KnowsMoves order a mask u now new key
@@ -54,7 +54,7 @@ module _ {order : Order} {a : AutomatonData} {mask : ℕ} {t u : Table} {rests n
       ];
     }
 
--- the classes of one more state are computed while the table grows, and their rests are stored
+-- the classes of one more state are computed, and the diagrams of the steps after them are stored
 module _ {order : Order} {a : AutomatonData} {mask : ℕ} {s t u : Table} {rests now : ℕ × ℕ → Option ℕ} {q node : ℕ}
     (c : Classes) {l : List Class} (keeps : Keeps t u) (fit : IsFit order a mask t) (state : q ≤ a.states)
     (same : s ≡ a.store) (is : node ≡ node_of a q) (made : AreClasses s u node mask c.places c.list.items)
@@ -68,7 +68,7 @@ module _ {order : Order} {a : AutomatonData} {mask : ℕ} {s t u : Table} {rests
   pub remembered : All (λ (k : Class). HasClass q l now (q, k.letter)) l → AreRemembered order a mask u now q c
   remembered has = record { are = of_state; known = known_first (fit_kept keeps fit) of_state named has }
 
--- the keys of a state's classes
+-- the successors of a first-player vertex are the vertices of the classes that are stored for its state
 module _ {order : Order} {a : AutomatonData} {mask : ℕ} {t : Table} {rests : ℕ × ℕ → Option ℕ}
     {classes : ℕ → Option Classes} {key : Key} {q p : ℕ} (known : KnowsMoves order a mask t rests classes key)
     (is_first : key ≡ First q p) {c : Classes} (at : classes q ≡ Some c) {l : List Class} (same : l ≡ c.list.items)
@@ -91,7 +91,7 @@ module _ {order : Order} {a : AutomatonData} {mask : ℕ} {t : Table} {rests : �
   pub different_behind : AllPairs (λ x y. x ≢ y) next
   different_behind = rw e (class_different known.is_known.fit of)
 
--- ## Keys that were answered
+-- ## Keys whose successors were computed
 
 pub answered_by : {order : Order} {a : AutomatonData} {mask : ℕ} {t : Table} {rests : ℕ × ℕ → Option ℕ}
     {classes : ℕ → Option Classes} {any key : Key} → KnowsMoves order a mask t rests classes any →
@@ -108,7 +108,7 @@ on_ok r P h = search (rules, e)
 some_of : (o : Option Classes) (P : Classes → Type 0) → IsSome o → ((c : Classes) → o ≡ Some c → P c) → IsSomeAnd o P
 some_of o P h k = search (rules, true_is_not_false)
 
--- if `successors` succeeded for every key, the classes of all their states are stored
+-- if `successors` succeeded for the key of every vertex, the classes of all their states are stored
 pub all_divided : {order o : Order} {a b : AutomatonData} {mask : ℕ} {t : Table} {classes : ℕ → Option Classes}
     {keys : List Key} (key : Key) → o ≡ order → b ≡ a → StandsAt keys 0 key →
     ((v : ℕ) (k : Key) → StandsAt keys v k → HasAnswered o b mask t classes k) → AreDivided order a keys t classes
@@ -129,7 +129,7 @@ is_divided o P h = search rules
 pub classes_at : {o : Option Classes} (P : Classes → Type 0) {c : Classes} → IsSomeAnd o P → o ≡ Some c → P c
 classes_at P h e = rw e at h
 
--- the stored classes for the state of a vertex are right
+-- the classes that are stored for the state of a vertex are the classes of that state
 pub classes_there : {order : Order} {a : AutomatonData} {keys : List Key} {t : Table} {classes : ℕ → Option Classes}
     (v : ℕ) {q p : ℕ} {c : Classes} → (d : AreDivided order a keys t classes) → StandsAt keys v (First q p) →
     classes q ≡ Some c → AreClassesOf a d.mask t q c

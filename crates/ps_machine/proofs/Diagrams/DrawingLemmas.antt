@@ -1,5 +1,5 @@
--- Lemmas for the diagrams of either player's machine: memory states of vertices, used vertices, keys to which keys
--- lead, and rows.
+-- Lemmas for the diagrams of either player's machine: the vertices of its memory states, the vertices that it can
+-- reach, their successors, and rows.
 use Rattle.std.proofs.Common.{if◌then◌else◌, ◌≡◌, ◌≢◌, ℕ, ◌+◌, ◌<◌, Bool, true, List, length, get_or, map, Some, ap}
 use Rattle.std.proofs.Common.{sym, ◌∙◌, arith, rules, eqb}
 use Rattle.std.specs.Prelude.{slice_get}
@@ -45,7 +45,7 @@ at_position test xs d {i} e =
     let there = position-Some test xs i d e in
     (get_or xs i d, slice_get-get_or xs i d there.0, there.1)
 
--- the key of a vertex is found in the list of keys
+-- a search finds the key of each vertex in the list of keys
 pub has_key : (keys : List Key) (v : ℕ) (key : Key) → StandsAt keys v key →
     list_any ((key_eq.eq-value).it key) keys ≡ true
 has_key keys v key at = list_any_at ((key_eq.eq-value).it key) keys v key (slice_get_within keys v key at)
@@ -57,7 +57,7 @@ has_anchor anchors memory {anchor} at =
     list_any_at (eqb anchor) anchors memory anchor (slice_get_within anchors memory anchor at)
     (eq-eqb anchor (get_or anchors memory anchor) (sym (get_or_from_slice_get anchors memory anchor anchor at)))
 
--- a memory state with the anchor of a vertex belongs to this vertex
+-- a memory state whose anchor is the anchor of a vertex is the memory state of this vertex
 pub stands_for : {is_first : Bool} {keys : List Key} {used kept anchors : List ℕ} {memory : ℕ} (v : ℕ) {q : ℕ} (p : ℕ) →
     AllPairs (λ x y. x ≢ y) keys → AreMemories is_first keys used kept anchors → StandsAt keys v (First q p) →
     slice_get anchors memory ≡ Some (anchor_of is_first v q) → {w : ℕ} → StandsAt keys w (First q p) →
@@ -73,7 +73,7 @@ stands_for {is_first} {keys} {kept} {anchors} {memory} v {q} p differ m at is {w
 
 -- ## Used vertices
 
--- a path can continue by any edge, except that at a vertex of the winner it can continue only by the winner's move
+-- a successor of a used vertex is used, too, unless the winner owns the first vertex and moves elsewhere
 pub used_more : {game : ParityGame} {certificate : CertificateData} {v : ℕ} {w : ℕ} → IsUsed game certificate v →
     HasEdge game v w → w < vertex_count game →
     (owner_of game v ≡ winner_at_start certificate → choice_of certificate v ≡ Some w)
@@ -91,9 +91,9 @@ pub setting : {order : Order} {a : AutomatonData} {keys : List Key} {certificate
     Setting (board_of order a) (mover_of order) keys plan.game certificate
 setting {order} plan = search (rules, small_mover)
 
--- ## Where keys lead
+-- ## Successors
 
--- the numbers of the vertices of some keys, each of which belongs to a letter of the list
+-- a list of vertices, which has one vertex for each letter of another list
 module _ (keys : List Key) (key : ℕ → Key) (numbers : List ℕ) {P : ℕ → Type 0} {letters : List ℕ} {next : List Key}
     (listed : IsListOf P letters) (are : next ≡ map key letters) (zip : AllZip (StandsAt keys) numbers next) where
   letter_of_number : {w : ℕ} → Contains numbers w → (x : ℕ) × P x × StandsAt keys w (key x)
@@ -111,25 +111,25 @@ module _ (keys : List Key) (key : ℕ → Key) (numbers : List ℕ) {P : ℕ →
       let m = rw (← are) at (map_contains key letters c.0 c.1 c.2) in
       zip_vertex keys numbers next zip m
 
--- a successor that stands for a key
+-- v has a successor whose key is k
 pub record Leads (keys : List Key) (game : ParityGame) (v : ℕ) (k : Key) : Type 0 where
   pub vertex : ℕ
   pub edge : HasEdge game v vertex
   pub stands : StandsAt keys vertex k
 
--- the class for which a vertex stands
+-- the vertex w stands for the state q and a class of first-player letters
 pub record ClassAt (board : Board) (keys : List Key) (q w : ℕ) : Type 0 where
   pub letter : ℕ
   pub is_class : IsClassLetter board q letter
   pub stands : StandsAt keys w (Second q letter)
 
--- the second player's letter that leads from a class to a vertex
+-- the vertex w stands for the step that a move of the second player makes after the letter x
 pub record MoveTo (board : Board) (keys : List Key) (q x w : ℕ) : Type 0 where
   pub letter : ℕ
   pub is_move : IsMove board q x letter
   pub goes : GoesTo keys board q (x + letter) w
 
--- the winner's move at a vertex
+-- the certificate has a move at the vertex v, and this move is an edge
 pub record Chosen (game : ParityGame) (certificate : CertificateData) (v : ℕ) : Type 0 where
   pub chosen : ℕ
   pub choice : choice_of certificate v ≡ Some chosen
@@ -150,7 +150,7 @@ module _ {board : Board} {mover : ℕ} {keys : List Key} {game : ParityGame} {ce
       some_and (choice_of certificate v) (HasEdge game v) ((s.valid.closed.moves v within).own (own ∙ sym won)) in
       grind (arith, used_more)
 
-  -- the keys to which a vertex's key leads
+  -- the successors of a vertex are the vertices of the keys to which its own key leads
   next_keys : (v : ℕ) (k : Key) → StandsAt keys v k → (next : List Key) × LeadsTo board k next ×
       AllZip (StandsAt keys) (successors_of game v) next
   next_keys v k at =
@@ -189,7 +189,7 @@ not_both e = search rules
 
 module _ {order : Order} {a : AutomatonData} {keys : List Key} {certificate : CertificateData} {is_first : Bool}
     {kept anchors : List ℕ} (plan : IsPlan order a keys certificate is_first kept anchors) where
-  -- the vertex of a memory state is used, and the first player moves at this vertex
+  -- v is the vertex of a memory state: a used vertex at which the first player moves
   pub record KeptAt (v : ℕ) : Type 0 where
     pub state : ℕ
     pub priority : ℕ
@@ -226,7 +226,7 @@ module _ {order : Order} {a : AutomatonData} {keys : List Key} {certificate : Ce
 by_case : (P : List Row → Type 0) (b : Bool) (old more : List Row) → P old → P more → P (if b then old else more)
 by_case P b old more h k = search rules
 
--- inserting a row does not change the index of any old row
+-- inserting a row into the list of rows does not change the index of any old row
 pub keeps_rows : (eq : Row → Row → Bool) {old : List Row} (row : Row) {new : List Row} → new ≡ insert_key eq old row →
     KeepsRows old new
 keeps_rows eq {old} row e = search (rules, by_case, slice_get-left)

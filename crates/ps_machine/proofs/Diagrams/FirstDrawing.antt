@@ -1,4 +1,4 @@
--- The diagram of a memory state of a player who moves first.
+-- The diagram of a memory state, for a machine whose player moves first.
 use Rattle.std.proofs.Common.{not, is_some, ◌≡◌, ◌≢◌, ℕ, ◌+◌, ◌^◌, ◌<◌, Bool, true, List, length, get_or, option_map}
 use Rattle.std.proofs.Common.{Option, Some, None, refl, ap, sym, ◌∙◌, arith, rules}
 use Rattle.std.specs.Prelude.{IfSome, slice_get, slice_index}
@@ -33,9 +33,10 @@ use Rattle.ps_machine.proofs.Diagrams.DrawingLemmas.{move_at, class_at, to_pair_
 use Rattle.ps_machine.proofs.Lassos.Rounds.{within_game, first_owner, second_owner}
 use Rattle.ps_machine.proofs.Diagrams.ClassRests.{Heeds, Left}
 
--- ## Rows that are noted
+-- ## Rows whose indices are recorded
 
--- the rows of the first n leaves are noted, and all rows have the player's letters and existing memory states
+-- for the first n leaves, the index of the leaf's row has been recorded; each row has a letter of the player and an
+-- existing memory state
 pub record AreNoted (a : AutomatonData) (keys : List Key) (is_first : Bool) (board : Board) (kept : List ℕ) (letter : ℕ)
     (found : List (ℕ × ℕ)) (old rows : List Row) (places : List ℕ) (n : ℕ) : Type 0 where
   pub same_rows : KeepsRows old rows
@@ -44,14 +45,14 @@ pub record AreNoted (a : AutomatonData) (keys : List Key) (is_first : Bool) (boa
 
 module _ {a : AutomatonData} {keys : List Key} {is_first : Bool} {board : Board} {kept : List ℕ} {letter : ℕ}
     {found : List (ℕ × ℕ)} {old : List Row} where
-  -- the row of a leaf is added
+  -- adding one more row keeps all recorded indices right
   pub add_row : (eq : Row → Row → Bool) {rows : List Row} {places : List ℕ} {n : ℕ} {row : Row} {new : List Row} →
       AreNoted a keys is_first board kept letter found old rows places n → new ≡ insert_key eq rows row →
       IsRow is_first board kept row → AreNoted a keys is_first board kept letter found old new places n
   add_row eq {rows} {row} {new} h e is =
       grind (arith, keeps_rows eq row e, all_rows (IsRow is_first board kept) eq rows row e h.each is)
 
-  -- the index of the leaf's row is noted
+  -- the index of one more leaf's row is recorded
   pub note_more : {rows : List Row} {places more : List ℕ} {n leaf place : ℕ} {row : Row} →
       AreNoted a keys is_first board kept letter found old rows places n → ((d : ℕ × ℕ) → (get_or found n d).0 ≡ leaf) →
       slice_get rows place ≡ Some row → row.letter ≡ letter → ((v : ℕ) → StandsAt keys v (step_key (pair_of a leaf)) →
@@ -115,7 +116,7 @@ module _ {order : Order} {a : AutomatonData} {keys : List Key} {certificate : Ce
     plays_class v chosen r letter is_kept choice is q p at =
         search (rules, class_chosen, same_letter, get_or_from_slice_get)
 
-    -- each leaf of the class's rest names a step to a used vertex
+    -- each step that can follow the class's letter leads to a used vertex
     pub entered : {mask : ℕ} {t : Table} {v q p letter rest : ℕ} {found : List (ℕ × ℕ)} → Contains kept v →
         StandsAt keys v (First q p) → PlaysClass (board_of order a) keys certificate v q letter →
         Left order a mask t q letter rest → AreLeaves t rest found →
@@ -147,7 +148,7 @@ module _ {order : Order} {a : AutomatonData} {keys : List Key} {certificate : Ce
         (plays : PlaysClass (board_of order a) keys certificate v q letter) (l : Left order a mask t q letter rest)
         (are : AreLeaves t rest found) (placed : All (λ leaf. IsPlaced a keys is_first kept rows places letter leaf.0)
         found) where
-      -- the leaf of the rest at the letter x, its step, and its row
+      -- the leaf to which the letter x leads in the diagram of the class, and the row that is recorded for this leaf
       record Noted (x : ℕ) : Type 0 where
         leaf : ℕ
         is_leaf : leaf_of t rest x ≡ Some leaf
@@ -163,7 +164,7 @@ module _ {order : Order} {a : AutomatonData} {keys : List Key} {certificate : Ce
           let any = are.each there.0 x (below_back l.fit x second.within, is) in
           grind (arith, entered is_kept at plays l are any.0 any.1 any.2)
 
-      -- each leaf of the rest has an entry in the list of noted indices
+      -- each leaf of the class's diagram has an entry in the list of recorded indices
       pub all_noted : (x : ℕ) → x < 2 ^ t.propositions → IfSome (leaf_of t rest x) (λ leaf. leaf < length places)
       all_noted x below = by (leaf_of t rest x) refl
         where

@@ -56,7 +56,7 @@ use Rattle.ps_machine.proofs.GameKeys.Standing.{same_some}
 not_same : (x y : ℕ) → (x == y) ≡ false → x ≢ y
 not_same x y e same = cc (eq-eqb x y same)
 
--- the number that the table of keys gives for a key is the number of this key
+-- the number that a search in the table of keys gives is the number of the key's vertex
 pub found_at : (keys : List Key) (key : Key) {i : ℕ} → position ((key_eq.eq-value).it key) keys ≡ Some i →
     StandsAt keys i key
 found_at keys key {i} e =
@@ -68,7 +68,8 @@ pair a q l = step_key (step_of a q l)
 
 module _ (order : Order) (a : AutomatonData) (keys : List Key) (certificate : CertificateData) (is_first : Bool)
     (kept anchors : List ℕ) where
-  -- the vertex to which the winner moves after the letter x at the state q, and a letter that leads to this vertex
+  -- the vertex to which the winner, who moves second, moves after the letter x at the state q, and a letter that leads
+  -- there
   pub record Replies (q x : ℕ) : Type 0 where
     pub at : ℕ
     pub stands : StandsAt keys at (Second q x)
@@ -108,7 +109,7 @@ module _ {order : Order} {a : AutomatonData} {keys : List Key} {certificate : Ce
     pub reply_choice : (at : ℕ) → StandsAt keys at (Second q x) → choice_of certificate at ≡ Some r.chosen
     reply_choice at there = cc (r.apart at r.at (Second q x) there r.stands, r.choice)
 
-    -- the key of the vertex to which the winner moves
+    -- the vertex to which the winner moves stands for the step that the winner's letter makes
     pub reply_key : (at : ℕ) {chosen : ℕ} {slice : List Key} {k : Key} (d : Key) → StandsAt keys at (Second q x) →
         choice_of certificate at ≡ Some chosen → slice ≡ keys → get_or slice chosen d ≡ k → k ≡ pair a q (x + r.letter)
     reply_key at {chosen} d there choice e is = search (rules, some_nat, reply_choice, get_or_from_slice_get)
@@ -139,7 +140,7 @@ module _ {order : Order} {a : AutomatonData} {mask : ℕ} {t : Table} {keys : Li
         same_pair reply.state reply.priority,
       )
 
-  -- the row with the least letter that leads to the winner's step is right
+  -- the row with the least letter that makes the step of the winner's move is right
   answer_by : {kept : List ℕ} (letter memory : ℕ) → IsClassLetter (board_of order a) q x →
       IsMove (board_of order a) q x letter → step_of a q (x + letter) ≡ step →
       ((v : ℕ) → StandsAt keys v (First step.state step.priority) → StandsFor false keys kept memory v step.state) →
@@ -227,7 +228,7 @@ module _ {board : Board} {keys : List Key} {kept : List ℕ} {certificate : Cert
       let here = rw is at answer in
       rw (e, take_more classes i d within) (grind (arith, AllZip-push, still_named))
 
-  -- a row that is right for a letter is right for each letter with the same steps
+  -- a row that is right for a letter of the first player is right for each letter that leads to the same steps
   alike_row : {v x c : ℕ} {row : Row} → SameSteps board q x c → IsRowAt false board keys kept certificate v q c row →
       IsRowAt false board keys kept certificate v q x row
   alike_row {v} {x} {c} {row} same r =

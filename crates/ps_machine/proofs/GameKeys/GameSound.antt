@@ -1,4 +1,4 @@
--- The game of a file is a game: each key leads to at least one key, and to different ones.
+-- The game of a file meets the definition of a game: each vertex has at least one successor, and its successors differ.
 use Rattle.std.proofs.Common.{◌≢◌, ℕ, ◌+◌, ◌<◌, Bool, not, List, length, map, get_or, sym, subst, arith}
 use Rattle.std.specs.List.{AllPairs}
 use Rattle.std.proofs.lemmas.List.{length-map}
@@ -21,7 +21,7 @@ use Rattle.ps_machine.proofs.Choosing.{same_states}
 use Rattle.ps_machine.proofs.GameKeys.Standing.{stand-apart, stand-within}
 use Rattle.ps_machine.proofs.Movers.{small_mover}
 
--- at least one key, and no key twice
+-- the list of a vertex's successors, as keys, is not empty and has no key twice
 record IsFull (next : List Key) : Type 0 where
   some : 0 < length next
   differ : AllPairs (λ x y. x ≢ y) next

@@ -1,4 +1,4 @@
--- Each accepted file has a game: the keys can be visited one after another, and there are only finitely many keys.
+-- Each accepted file has a game: vertices can be visited one after another, and only finitely many can occur.
 use Rattle.std.proofs.Common.{rules, ◌≡◌, ◌≢◌, ◌⊎◌, inl, inr, ℕ, zero, suc, ◌+◌, ◌^◌, ◌<◌, ◌≤◌, Bool, true, not, List}
 use Rattle.std.proofs.Common.{[], ◌∷◌, ◌++◌, length, map, take, get_or, refl, sym, subst, arith, add-one}
 use Rattle.std.specs.Bool.{Decides}
@@ -44,7 +44,7 @@ use Rattle.ps_machine.proofs.GameKeys.Visiting.{visits_next, visits_none}
 -- ## Letters in their order
 
 module _ (n : ℕ) (P : ℕ → Type 0) (tell : (y : ℕ) → P y ⊎ (P y → ⊥)) (within : (y : ℕ) → P y → y < 2 ^ n) where
-  -- the list has, in order, the letters with the property P that have fewer than `count` letters before them
+  -- the list has, in order, all letters with the property P among the first `count` letters
   record ListedBelow (letters : List ℕ) (count : ℕ) : Type 0 where
     each : All P letters
     low : All (λ y. rank 0 n y < count) letters
@@ -92,7 +92,7 @@ module _ (n : ℕ) (P : ℕ → Type 0) (tell : (y : ℕ) → P y ⊎ (P y → �
     grind (arith, rank_lt),
   ))
 
-  -- it can be decided whether a letter is the least letter with a property
+  -- it is decidable whether a letter is the least letter with the property P
   pub least_or_not : (y : ℕ) → IsLeastLetter P y ⊎ (IsLeastLetter P y → ⊥)
   least_or_not y = elim (tell y) [
     | inr not_so ↦ inr (λ least. not_so least.here)
@@ -151,7 +151,7 @@ module _ (mover : ℕ) (old : DraftData) (key : Key) (next : List Key) where
 module _ (board : Board) (mover : ℕ) (start : board.auto.start ≤ board.states)
     (goes_on : (q letter : ℕ) → q ≤ board.states → letter < 2 ^ board.propositions →
     board.auto.next q letter ≤ board.states) where
-  -- the keys to which letters less than a given number can lead from the state q
+  -- the states and priorities to which the letters less than a given number lead from the state q
   abbrev keys_at : ℕ → ℕ → List Key
   keys_at q zero = []
   keys_at q (suc letter) =
@@ -186,7 +186,8 @@ module _ (board : Board) (mover : ℕ) (start : board.auto.start ≤ board.state
     | inr other ↦ search (rules, Contains-append_right, below_state q count k (omega arith) c)
   ]
 
-  -- a key that can occur: its state is a state of the board or the sink, and its letter is a letter of the first player
+  -- a key that a vertex can have: its state is one of the automaton's or the sink, and its letter is a letter of the
+  -- first player
   abbrev Known : Key → Type 0
   Known (First q p) = (q ≤ board.states) × Contains all_keys (First q p)
   Known (Second q x) = (q ≤ board.states) × IsFirstLetter board x × Contains all_keys (Second q x)
@@ -217,7 +218,7 @@ module _ (board : Board) (mover : ℕ) (start : board.auto.start ≤ board.state
             (below_state q (suc board.states) k (omega arith) (at_letter q (2 ^ board.propositions) letter within).0),
       )
 
-  -- the keys to which a known key leads
+  -- the successors of a vertex exist, and are keys that can occur
   record Next (key : Key) : Type 0 where
     next : List Key
     leads_to : LeadsTo board key next

@@ -1,4 +1,4 @@
--- The names of keys, as the code writes them.
+-- The names of vertices, as the code writes them from the vertices' keys.
 use Rattle.std.proofs.Common.{◌≡◌, ◌≢◌, ℕ, suc, ◌+◌, ◌^◌, ◌<◌, Bool, List, [], ◌∷◌, ◌++◌, Some, rules}
 use Rattle.std.proofs.Common.{decimal, refl, subst, arith, append_assoc}
 use Rattle.std.specs.List.{AllPairs, range_with_len}
@@ -21,7 +21,7 @@ plain_decimal n small k d lt e = let digit = (number_text n small).all k d lt in
 pub plain_digit : (is_played is_true : Bool) → IsPlain (digit_if is_played is_true)
 plain_digit is_played b = grind (arith, plain_one, All-nil)
 
--- the digits of one more proposition
+-- a vertex's name after the digit of one more proposition has been written
 pub digits_more : (board : Board) (x p : ℕ) (start : List ℕ) {old new : List ℕ} {is_played is_true : Bool} →
     is_played ≡ board.is_first p → is_true ≡ is_in p x → old ≡ start ++ first_digits board x p →
     new ≡ old ++ digit_if is_played is_true → new ≡ start ++ first_digits board x (p + 1)
@@ -36,7 +36,7 @@ plain_more board x p h =
 pub no_quote : (bytes : List ℕ) → IsPlain bytes → HasNoQuote (Some bytes)
 no_quote bytes plain has = All-contains (λ b. b ≢ quote) bytes quote plain has refl
 
--- the ids are all different
+-- the ids of a game's vertices, which are their numbers, are all different
 pub ids_differ : (n : ℕ) → AllPairs (λ x y. x ≢ y) (range_with_len 0 n)
 ids_differ n i j d less lt e = search (rules, length-range_with_len, get_or-range_with_len)
 

@@ -1,4 +1,4 @@
--- A machine's lasso can be repeated for ever, and its letters are letters of the automaton.
+-- The lap of a machine's lasso can be repeated for ever, and the lasso's letters are letters of the automaton.
 use Rattle.std.proofs.Common.{◌≡◌, ℕ, zero, suc, ◌+◌, ◌-◌, ◌*◌, ◌/◌, ◌%◌, ◌^◌, ◌<◌, ◌≤◌, ◌⊎◌, inl, inr, Bool, true}
 use Rattle.std.proofs.Common.{false, cond, ltb, List, ◌++◌, length, ap, arith, add-one, rules}
 use Rattle.std.specs.Prelude.{slice_index}
@@ -19,7 +19,7 @@ use Rattle.ps_machine.proofs.Lassos.Walking.{IsEndless}
 
 -- ## Indices
 
--- the index in the stem followed by one lap that corresponds to an index in the endless word
+-- maps an index of the endless word (the stem, then the lap repeated for ever) to an index of the stem and one lap
 folded : ℕ → ℕ → ℕ → ℕ
 folded stem lap t = cond (ltb t stem) t (stem + (t - stem) % lap)
 

@@ -1,5 +1,5 @@
--- The same for the game of a file, whose automaton need not have been built from diagrams: the winner of vertex 0 wins
--- each word of the machine of a valid certificate.
+-- In the game of a file, too, the winner of vertex 0 wins each word of the machine of a valid certificate; the
+-- automaton need not be built by the code.
 use Rattle.std.proofs.Common.{rules, ◌≡◌, ℕ, ◌+◌, ◌*◌, ◌%◌, ◌^◌, ◌<◌, List, ◌++◌, length, ap, arith}
 use Rattle.std.specs.Prelude.{All, slice_index}
 use Rattle.std.proofs.Math.ListN.{get_or-append}

@@ -1,4 +1,4 @@
--- If the values of a function follow edges, the list of these values is a path.
+-- If there is an edge from f n to f (n + 1) for each n, then the list of f's first values is a path.
 use Rattle.std.proofs.Common.{◌≡◌, ℕ, zero, suc, ◌+◌, ◌<◌, List, [], ◌∷◌, length, get_or, Option, Some, refl, ap}
 use Rattle.std.proofs.Common.{◌∙◌, arith, add-one, rules}
 use Rattle.std.specs.Prelude.{slice_index}

@@ -38,7 +38,8 @@ pub record Setting (board : Board) (mover : ℕ) (keys : List Key) (game : Parit
   pub fits : Fits game certificate
   pub valid : IsValid game certificate
 
--- two moves in the game, each of which is the certificate's move if the winner of vertex 0 makes it
+-- two edges in a row, from v to w, each of which is the certificate's move if the winner of vertex 0 owns its first
+-- vertex
 pub record Round (game : ParityGame) (certificate : CertificateData) (v w : ℕ) : Type 0 where
   pub between : ℕ
   pub there : HasEdge game v between
@@ -49,7 +50,7 @@ pub record Round (game : ParityGame) (certificate : CertificateData) (v w : ℕ)
 
 module _ {board : Board} {mover : ℕ} {keys : List Key} {game : ParityGame} {certificate : CertificateData}
     (s : Setting board mover keys game certificate) where
-  -- the index of a key is a vertex of the game
+  -- each index in the list of keys is a vertex of the game
   pub within_game : (v : ℕ) {k : Key} → StandsAt keys v k → v < vertex_count game
   within_game v {k} at = omega (arith, slice_get_within keys v k at, s.by_keys.count)
 
@@ -66,7 +67,7 @@ module _ {board : Board} {mover : ℕ} {keys : List Key} {game : ParityGame} {ce
       let vertex = s.by_keys.vertices v (within_game v at) in
       vertex.priority ∙ ap priority_of_key (same_some (sym vertex.stands ∙ at))
 
-  -- a vertex has an edge to the vertex of each key to which its own key leads
+  -- if a vertex's key leads to another vertex's key, the game has an edge between the two vertices
   edge_by_key : (v w : ℕ) (k l : Key) → StandsAt keys v k → StandsAt keys w l →
       ((next : List Key) → LeadsTo board k next → (Contains next l → ⊥) → ⊥) → HasEdge game v w
   edge_by_key v w k l at there leads =

@@ -1,5 +1,5 @@
--- A machine that reads letters for ever walks through the game by the winner's moves. The automaton runs along with the
--- machine.
+-- A machine that reads letters for ever walks through the game by the winner's moves. The automaton reads the machine's
+-- letters at the same time.
 use Rattle.std.proofs.Common.{◌≡◌, ℕ, zero, suc, ◌+◌, ◌-◌, ◌%◌, ◌<◌, ◌≤◌, Bool, true, false, List, length, get_or}
 use Rattle.std.proofs.Common.{Option, Some, refl, ap, ap₂, sym, ◌∙◌, arith, rules, add-one, add-zero, ◌==◌}
 use Rattle.std.specs.Prelude.{IsTrue, slice_index}
@@ -34,7 +34,7 @@ use Rattle.ps_machine.proofs.Lassos.ListedPaths.{greatest_shift, list_is_path, l
 same_number : {a b : ℕ} {o : Option ℕ} → o ≡ Some a → o ≡ Some b → a ≡ b
 same_number e f = cc
 
--- the kept vertex of the memory state that belongs to a vertex has the same state as this vertex
+-- the vertex that is kept for a memory state has the same state as each vertex to which this memory state belongs
 same_state : {first : Bool} {keys : List Key} {kept : List ℕ} {memory v q : ℕ} (p : ℕ) {u r : ℕ} (o : ℕ) →
     StandsFor first keys kept memory v q → StandsAt keys v (First q p) → slice_get kept memory ≡ Some u →
     StandsAt keys u (First r o) → r ≡ q
@@ -162,7 +162,7 @@ module _ {board : Board} {mover : ℕ} {keys : List Key} {game : ParityGame} {ce
     unfolding walk vertex_at
     round_at t = (advance t (walk t)).round
 
-    -- the vertices of the walk from the step t on
+    -- the vertices that the walk through the game visits from its step t on
     pub place : ℕ → ℕ → ℕ
     place t zero = vertex_at t
     place t (suc zero) = (round_at t).between
@@ -212,7 +212,8 @@ module _ {board : Board} {mover : ℕ} {keys : List Key} {game : ParityGame} {ce
       pub state_returns : state_at board.auto w (from + count) ≡ state_at board.auto w from
       state_returns = grind (arith, walk from, walk (from + count), same_state, entering)
 
-      -- the walk is at the same vertex one step after the part begins and one step after the part ends
+      -- if two steps of the machine have the same memory state and the same letter, the walk is at the same vertex one
+      -- step after each of them
       vertex_returns : vertex_at (suc from + count) ≡ vertex_at (suc from)
       unfolding vertex_at entering
       vertex_returns =
@@ -282,6 +283,7 @@ module _ {board : Board} {mover : ℕ} {keys : List Key} {game : ParityGame} {ce
               (rules, path_at, twice, place_even, vertex_at) in
               rw is at bound
 
-      -- if a part of the run returns to its first state, the greatest priority of the part has the winner's parity
+      -- if a part of the endless run begins and ends with the same memory state and letter, its greatest priority has
+      -- the winner's parity
       pub parity_of_part : greatest_from (priority_at board.auto w) from count % 2 ≡ winner_at_start certificate
       parity_of_part = cc (top_is, won_loop)

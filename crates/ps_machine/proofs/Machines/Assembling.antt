@@ -1,4 +1,4 @@
--- A machine is assembled from its diagrams, its propositions, and the vertices of its certificate.
+-- A machine is assembled from its diagrams, its propositions, and the vertices that its memory states stand for.
 use Rattle.std.proofs.Common.{◌≡◌, ℕ, ◌+◌, Bool, true, false, List, [], ◌∷◌, ◌++◌, map, Vec, refl, ap₂, rules}
 use Rattle.std.specs.Prelude.{slice_index, vec_len}
 use Rattle.std.specs.Global.{Global}

@@ -27,7 +27,7 @@ pub some_vertices : {board : Board} {mover : ℕ} {keys : List Key} {game : Pari
     0 < vertex_count game
 some_vertices {keys} is = search (rules, slice_get_within)
 
--- the plan is right before any diagram is drawn
+-- the data from which a machine is built are right before any diagram is made
 unfoldable pub plan_is : {order : Order} {a : AutomatonData} {keys seen : List Key} {game shown : ParityGame}
     {certificate : CertificateData} {first : Bool} {found kept anchors : List ℕ} →
     IsGameOf (board_of order a) (mover_of order) keys game → Fits game certificate → IsValid game certificate →
@@ -54,7 +54,7 @@ module _ {order : Order} {a : AutomatonData} {keys : List Key} {certificate : Ce
       let zero = used_first game certificate (some_vertices plan.is_game) in
       some_kept plan.memories 0 a.start plan.is_game.by_keys.begins ((plan.are_used 0).1 zero)
 
-  -- the facts that must be shown about the machine that the code builds
+  -- what must be proved about the machine that the code builds
   pub record IsMade (n : MachineData) : Type 0 where
     pub is_machine : IsWholeMachine n
     pub has : HasPropositions a.names (board_of order a) (behaviour n)

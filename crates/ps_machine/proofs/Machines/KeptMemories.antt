@@ -1,4 +1,4 @@
--- The used vertices have the same memory states as the machine's kept vertices.
+-- Each used vertex shares its memory state with one of the machine's kept vertices.
 use Rattle.std.proofs.Common.{◌≡◌, ◌≢◌, inl, inr, ℕ, ◌<◌, ◌≤◌, Bool, List, length, get_or, Some, ap, ◌∙◌, arith, rules}
 use Rattle.std.specs.Prelude.{slice_get}
 use Rattle.std.specs.List.{All, AllPairs, Contains}
@@ -16,7 +16,7 @@ use Rattle.ps_machine.specs.declared.key.Key.TheVariants.{First}
 use Rattle.ps_machine.proofs.Diagrams.DrawingLemmas.{stands_for}
 use Rattle.ps_machine.proofs.Lassos.Rounds.{one_place}
 
--- Vertices share a memory state exactly if their anchors are equal.
+-- Two vertices share a memory state exactly if they are equal, or, for a player who moves second, have the same state.
 pub shares_anchor : (is_first : Bool) (v q w r : ℕ) → Shares is_first v q w r →
     anchor_of is_first v q ≡ anchor_of is_first w r
 shares_anchor is_first v q w r h = search rules
@@ -28,7 +28,7 @@ anchor_shares is_first v q w r h = search rules
 module _ {is_first : Bool} {keys : List Key} {used kept anchors : List ℕ}
     (m : AreMemories is_first keys used kept anchors)
   where
-    -- memory states with the same anchor are equal
+    -- two memory states with the same anchor are equal
     one_memory : {i j x : ℕ} → slice_get anchors i ≡ Some x → slice_get anchors j ≡ Some x → i ≡ j
     one_memory {i} {j} at there = one_place anchors m.different i j at there
 
@@ -42,7 +42,7 @@ module _ {is_first : Bool} {keys : List Key} {used kept anchors : List ℕ}
           stands_for w p differ m stands h.is_anchored stands,
         )
 
-    -- memory state 0 is kept at vertex 0
+    -- the vertex that is kept for memory state 0 is vertex 0
     pub first_kept : (p q : ℕ) → StandsAt keys 0 (First q p) → Contains used 0 → slice_get kept 0 ≡ Some 0
     first_kept p q stands is_used =
         let h = m.found 0 q p is_used stands in
@@ -55,7 +55,7 @@ module _ {is_first : Bool} {keys : List Key} {used kept anchors : List ℕ}
     some_kept p q stands is_used = slice_get_within kept 0 0 (first_kept p q stands is_used)
 
     module _ {game : ParityGame} {certificate : CertificateData} (are_used : AreUsed game certificate used) where
-      -- no smaller vertex shares the memory state of a kept vertex
+      -- no smaller used vertex shares the memory state of the vertex that is kept for it
       kept_at : (memory : ℕ) → memory < length kept →
           IsRepresentative is_first keys game certificate (get_or kept memory 0)
       kept_at memory within =
@@ -73,7 +73,7 @@ module _ {is_first : Bool} {keys : List Key} {used kept anchors : List ℕ}
       pub all_kept : All (IsRepresentative is_first keys game certificate) kept
       all_kept memory d within = rw (get_or_default kept memory 0 d within) at (kept_at memory within)
 
-      -- the smallest of the used vertices that share a memory state is kept
+      -- of the used vertices that share a memory state, the smallest is the one that is kept for it
       pub each_kept : (v : ℕ) → IsRepresentative is_first keys game certificate v → Contains kept v
       each_kept v k =
           let h = m.found v k.state k.priority ((are_used v).1 k.here.used) k.here.stands in

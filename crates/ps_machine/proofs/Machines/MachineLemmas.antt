@@ -1,4 +1,5 @@
--- If the parts of an assembled machine are right, it keeps the rules of machines and is the machine of the certificate.
+-- An assembled machine whose diagrams, rows and propositions are right is a finite machine, and is the machine of the
+-- certificate.
 use Rattle.std.proofs.Common.{◌≡◌, ℕ, ◌^◌, ◌<◌, ◌⊎◌, Bool, true, false, not, List, length, Some, ap, arith, rules}
 use Rattle.std.specs.Prelude.{slice_get, slice_index}
 use Rattle.std.proofs.lemmas.Bool.{cases_Bool, cases_lt}
@@ -41,14 +42,14 @@ module _ {board : Board} {keys : List Key} {kept : List ℕ} {certificate : Cert
       IsDrawn m.is_first board keys kept certificate m.store m.rows (slice_index kept memory)
       (slice_index m.nodes memory)
 
-  -- the other player's part of a letter
+  -- the letter that consists of the other player's bits of x
   abbrev read : ℕ → ℕ
   read x = part board.propositions (is_others m.is_first board) x
 
   read_other : (x : ℕ) → IsOtherLetter m.is_first board (read x)
   read_other x = over_other m.is_first board (part_over board.propositions (is_others m.is_first board) x)
 
-  -- each letter leads to the row for the other player's part of the letter
+  -- a letter leads to the same row as the letter that has only the other player's bits of it
   leads : (memory x : ℕ) → (d : Drawn memory) → LeadsToRow m.is_first board keys kept certificate m.store m.rows
       (slice_index m.nodes memory) (slice_index kept memory) d.state (read x)
   leads memory x d = d.leads (read x) (read_other x)
@@ -130,7 +131,7 @@ module _ {board : Board} {keys : List Key} {kept : List ℕ} {certificate : Cert
     rows = row_is;
   }
 
-  -- each step of the machine follows the certificate
+  -- each step of the machine makes the moves of the certificate
   pub is_step : (memory x : ℕ) → memory < length m.nodes → IsOtherLetter m.is_first board x →
       IsStep board keys kept certificate (behaviour m) memory x
   is_step memory x within other =

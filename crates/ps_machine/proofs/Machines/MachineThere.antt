@@ -1,5 +1,5 @@
--- Each valid certificate of a board's game has a machine. Definitions compute the used vertices, the memory states and
--- the steps of the machine.
+-- Each valid certificate of a board's game has a machine. The proof computes the used vertices, the memory states and
+-- the steps of the machine by definitions of its own.
 use Rattle.std.proofs.Common.{◌≡◌, ◌≢◌, ◌⊎◌, inl, inr, ℕ, ◌+◌, ◌-◌, ◌<◌, ◌≤◌, Bool, true, false, not, List, length}
 use Rattle.std.proofs.Common.{get_or, refl, ap, sym, ◌∙◌, arith, rules}
 use Rattle.std.specs.Prelude.{◌==◌}
@@ -128,7 +128,7 @@ module _ (names : List (List ℕ)) {board : Board} {mover : ℕ} {keys : List Ke
     (turn : first ≡ (mover == winner_at_start certificate)) {used : List ℕ} (are_used : AreUsed game certificate used)
     {kept anchors : List ℕ} (m : AreMemories first keys used kept anchors)
   where
-    -- the other player's part of a letter
+    -- the letter that consists of the other player's bits of x
     read : ℕ → ℕ
     read x = part board.propositions (is_others first board) x
 
@@ -140,7 +140,8 @@ module _ (names : List (List ℕ)) {board : Board} {mover : ℕ} {keys : List Ke
     unfolding read
     read_itself x other = part_itself board.propositions (is_others first board) x (other_over first board x other)
 
-    -- the row is right at the vertex of the memory state, if the other player's letter is z
+    -- the row has the right output and next memory state, if the machine is in this memory state and the other player's
+    -- letter is z
     record IsRowOf (memory z : ℕ) (row : Row) : Type 0 where
       state : ℕ
       priority : ℕ

@@ -1,4 +1,4 @@
--- The memory states of the vertices that were visited so far, and how one more vertex changes them.
+-- The memory states that the vertices visited so far need, and how one more vertex changes them.
 use Rattle.std.proofs.Common.{◌≡◌, ◌≢◌, ℕ, ◌+◌, ◌<◌, ◌≤◌, Bool, true, false, List, [], ◌∷◌, ◌++◌, length}
 use Rattle.std.proofs.Common.{get_or, refl, ap, sym, ◌∙◌, arith, not, nat_eq, rules}
 use Rattle.std.specs.List.{All, AllPairs, Contains, list_any}
@@ -23,7 +23,7 @@ not_not b = search rules
 
 -- ## One memory state
 
--- if the table's test finds a number, the number is in the list
+-- if a search with the table's equality test finds a number, the number is in the list
 pub is_there : (xs : List ℕ) (x : ℕ) {b : Bool} → b ≡ list_any (nat_eq x) xs → b ≡ true → Contains xs x
 is_there xs x told is = Contains-from_any (λ y z h. eqb-true y z h) x xs (sym told ∙ is)
 
@@ -42,7 +42,7 @@ keeps_known {anchors} {anchor} {new} {b} told is e = grind (
 -- ## The memory states of the first vertices
 
 module _ (is_first : Bool) (keys : List Key) (used : List ℕ) where
-  -- the memory states of the first n vertices
+  -- the memory states that the used vertices less than n need
   pub record AreMemoriesBelow (kept anchors : List ℕ) (n : ℕ) : Type 0 where
     pub many : length anchors ≡ length kept
     pub rising : AllPairs (λ v w. v < w) kept
@@ -63,7 +63,7 @@ module _ (is_first : Bool) (keys : List Key) (used : List ℕ) where
       AreMemoriesBelow kept anchors n → AreMemoriesBelow kept anchors (n + 1)
   below_skip {kept} {n} none m = search (rules, all_less, less_or_last)
 
-  -- an anchor that has occurred has a memory state
+  -- each anchor in the list belongs to a memory state
   came_has : {kept anchors : List ℕ} {n anchor : ℕ} → AreMemoriesBelow kept anchors n → Contains anchors anchor →
       HasMemory kept anchors n anchor
   came_has {kept} {anchors} {anchor} m came = search (rules, slice_get-get_or)
@@ -85,7 +85,7 @@ module _ (is_first : Bool) (keys : List Key) (used : List ℕ) where
     kept_last : get_or new_kept (length kept) 0 ≡ n
     kept_last = get_or_push kept n 0 (length kept) refl
 
-    -- the first n + 1 vertices have memory states if the first n have them and the anchor of the vertex n has one
+    -- the used vertices up to n have memory states, if those before n have them and the anchor of n has one
     found_more : (kept' anchors' : List ℕ) → ((v x : ℕ) → HasMemory kept anchors v x → HasMemory kept' anchors' v x) →
         HasMemory kept' anchors' n new_anchor → (v r l : ℕ) → v < n + 1 → Contains used v →
         StandsAt keys v (First r l) →

@@ -1,4 +1,4 @@
--- Lists whose numbers, without repeats, are 0, 1, and so on up to a count.
+-- Lists of numbers which, after repeats are removed, are 0, 1, and so on up to some number.
 use Rattle.std.proofs.Common.{◌≡◌, ℕ, ◌+◌, ◌<◌, ◌⊎◌, inl, inr, true, not, ◌==◌, filter, List, [], ◌∷◌, ◌++◌}
 use Rattle.std.proofs.Common.{length, get_or, ap, sym, ◌∙◌, arith, rules}
 use Rattle.std.specs.List.{All, Contains, range_with_len, list_any}
@@ -55,7 +55,7 @@ counts_new list c e = search (rules, distinct-push, not_come, counts_below, rang
 pub none : (n : ℕ) → 0 + n ≡ n
 none n = omega arith
 
--- if the different numbers of a list, followed by x, count up from 0, then the list counts up to x
+-- if a list without its repeats, followed by x, is 0, 1, and so on, then the list without repeats ends just before x
 last_one : (list : List ℕ) (x m : ℕ) → distinct list ++ x ∷ [] ≡ range_with_len 0 m → Counts list x
 last_one list x m e =
     let c = length (distinct list) in

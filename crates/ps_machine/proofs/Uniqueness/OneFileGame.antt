@@ -98,7 +98,8 @@ module _ (order : Order) (file : FileData) (chain : Chain) where
   -- ## Keys
 
   module _ {a b : Auto} (is : IsAutoOf file chain a) (too : IsAutoOf file chain b) where
-    -- the key's state is a state of the file or the sink, and its letter is a letter of the player who moves first
+    -- the state of a vertex's key is one of the file's or the sink, and its letter is a letter of the player who moves
+    -- first
     abbrev pub IsFine : Key → Type 0
     IsFine (First q p) = q ≤ file.states
     IsFine (Second q x) = (q ≤ file.states) × IsFirstLetter (on a) x

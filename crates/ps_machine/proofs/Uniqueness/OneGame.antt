@@ -1,4 +1,4 @@
--- A board has at most one game: breadth-first numbering leaves no choice.
+-- An automaton has at most one game for each order of moves: breadth-first numbering leaves no choice.
 use Rattle.std.proofs.Common.{◌≡◌, ◌≢◌, ℕ, zero, suc, ◌+◌, ◌-◌, ◌<◌, ◌≤◌, ◌⊎◌, inl, inr, not, List, [], ◌∷◌, ◌++◌}
 use Rattle.std.proofs.Common.{length, map, get_or, refl, ap, ap₂, sym, subst, ◌∙◌, rules, arith}
 use Rattle.std.specs.List.{AllPairs, AllZip, Contains, slice_get}
@@ -30,7 +30,7 @@ one_list : {P : ℕ → Type 0} {xs ys : List ℕ} → IsListOf P xs → IsListO
 one_list {P} {xs} {ys} a b = same_rising IsBefore not_both xs ys a.rising b.rising
     (λ z c. b.complete z (All-contains P xs z a.each c)) (λ z c. a.complete z (All-contains P ys z b.each c))
 
--- a key leads to only one list of keys
+-- a key has only one list of successors
 one_next : (board : Board) (key : Key) {one other : List Key} → LeadsTo board key one →
     LeadsTo board key other → one ≡ other
 one_next board (First q p) a b = a.2 ∙ ap (map (λ x. Second q x)) (one_list a.1 b.1) ∙ sym b.2
@@ -44,7 +44,7 @@ in_map f xs {key} c =
     let within : c.0 < length xs = omega (arith, c.1, length-map xs f) in
     (get_or xs c.0 0, sym (get_or-map f xs c.0 0 key within) ∙ c.2)
 
--- a key does not lead to itself
+-- a key is not its own successor
 not_itself : (board : Board) (key : Key) (next : List Key) → LeadsTo board key next → Contains next key → ⊥
 not_itself board (First q p) next a c =
     (let at = in_map (λ x. Second q x) a.0 (subst (λ l. Contains l (First q p)) a.2 c) in
@@ -135,7 +135,8 @@ module _ (board : Board) (mover : ℕ) where
       let front = listed_front game v k.0 in
       grind (arith, counts_front)
 
-  -- if at most v numbers have occurred before the vertex v is visited, then at most v have occurred afterwards
+  -- if at most v different numbers have occurred before the vertex v is visited, then at most v have occurred after the
+  -- visit
   still : (keys : List Key) (game : ParityGame) (v c d : ℕ) → IsIt keys game → v < vertex_count game →
       Counts (listed game v) c → c ≤ v → Counts (listed game (suc v)) d → d ≤ v
   still keys game v c d is lt counts le next = elim (cases_lt v d) [
@@ -243,7 +244,7 @@ module _ (board : Board) (mover : ℕ) where
   vertex_same : {x y : VertexData} → x.owner ≡ y.owner → x.priority ≡ y.priority → x.successors ≡ y.successors → x ≡ y
   vertex_same {x} {y} a b c = search rules
 
-  -- a board has one list of keys and one game
+  -- any two games of one board have the same list of keys and are equal
   pub one_game_of : (one other : List Key) (game same : ParityGame) → IsGameOf board mover one game →
       IsGameOf board mover other same → (one ≡ other) × (game ≡ same)
   unfolding vertex_count owner_of priority_of successors_of

@@ -1,5 +1,5 @@
--- A certificate has at most one machine. The kept vertices of the machine ascend, and each step has only one output
--- letter and only one next memory state.
+-- A certificate has at most one machine. The vertices that stand for its memory states ascend, and each step has only
+-- one output letter and one next memory state.
 use Rattle.std.proofs.Common.{◌≡◌, ◌≢◌, ℕ, ◌+◌, ◌<◌, Bool, true, false, not, List, length, Some, refl, ap}
 use Rattle.std.proofs.Common.{sym, ◌∙◌, arith, rules}
 use Rattle.std.specs.Prelude.{slice_get}
@@ -52,7 +52,7 @@ module _ (first : Bool) (keys : List Key) (game : ParityGame) (certificate : Cer
       → All Kept others → ((v : ℕ) → Kept v → Contains kept v) → ((v : ℕ) → Kept v → Contains others v) → kept ≡ others
   one_kept {kept} {others} r s each all whole complete = search (rules, same_numbers, All-contains)
 
-  -- no used vertex less than a kept vertex shares its memory state
+  -- no used vertex less than the vertex that is kept for a memory state shares this memory state
   none_below : {v q p : ℕ} (u r o : ℕ) → Kept u → StandsAt keys u (First r o) →
       IsUsedFirst keys game certificate v q p → anchor_of first v q ≡ anchor_of first u r → v < u → ⊥
   none_below {v} {q} {p} u r o k stands used same less =
@@ -62,7 +62,7 @@ module _ (first : Bool) (keys : List Key) (game : ParityGame) (certificate : Cer
   kept_at kept memory {v} each at =
       rw (get_or_from_slice_get kept memory v v at) at (each memory v (slice_get_within kept memory v at))
 
-  -- of two memory states that belong to one vertex, the first is not smaller than the second
+  -- of two memory states that belong to the same vertex, neither is less than the other
   not_lower : {kept : List ℕ} {i j w r : ℕ} → AllPairs (λ v w. v < w) kept → All Kept kept →
       StandsFor first keys kept i w r → StandsFor first keys kept j w r → i < j → ⊥
   not_lower {kept} {i} {j} {w} {r} rises each a b less =
@@ -119,7 +119,7 @@ module _ (names : List (List ℕ)) (board : Board) (mover : ℕ) (keys : List Ke
     same_memories : m.memories ≡ o.memories
     same_memories = cc (of.memories, same_kept, other.memories)
 
-    -- the step of the second machine, described by the kept vertices of the first machine
+    -- a step of the second machine, described by the vertices that the first machine keeps for its memory states
     record Steps (memory x : ℕ) : Type 0 where
       vertex : ℕ
       state : ℕ
@@ -164,7 +164,7 @@ module _ (names : List (List ℕ)) (board : Board) (mover : ℕ) (keys : List Ke
     same_outputs : m.outputs ≡ o.outputs
     same_outputs = one_listed (plays_listed is has) (rw same_first at (plays_listed too also))
 
-    -- the part of a letter that the machine reads
+    -- the letter that has only those bits of x which the machine reads
     read : ℕ → ℕ
     read x = part board.propositions (is_others m.is_first board) x
 

@@ -1,9 +1,9 @@
--- The parts from which a machine is assembled. (For private functions.)
---     AreDrawn .. t rows nodes n      the first n memory states have their diagrams, and the rows are the player's
---     AreListedBelow n is list      the numbers less than n that pass the test `is`, ascending
+-- The diagrams, rows and propositions from which a machine is assembled. (For private functions.)
+--     AreDrawn .. t rows nodes n      the first n memory states have their diagrams, and the rows are right
+--     AreListedBelow n is list      the list has the numbers less than n that pass the test `is`, ascending
 --     IsAssembled .. m      the machine's propositions, diagrams and rows are right
 --     machine_of player is_first propositions diagrams      the player's machine with these propositions and diagrams
---     HasRoles is_first board inputs outputs      which propositions are read and which are output
+--     HasRoles is_first board inputs outputs      which propositions the machine reads and which it outputs
 use Rattle.std.specs.Prelude.{◌≡◌, ℕ, ◌<◌, ◌≤◌, Bool, not, List, length, map, slice_index, IsTrue}
 use Rattle.std.specs.List.{All, AllPairs}
 use Rattle.ps_certificate.specs.Certificates.{CertificateData}
@@ -20,7 +20,7 @@ use Rattle.ps_machine.specs.declared.machine.Diagrams.{Diagrams}
 use Rattle.ps_machine.specs.declared.machine.Propositions.{Propositions}
 use Rattle.ps_machine.specs.declared.machine.Row.{Row}
 
--- the first n memory states have their diagrams
+-- each of the first n memory states has a diagram that leads to the right rows
 pub record AreDrawn (is_first : Bool) (board : Board) (keys : List Key) (kept : List ℕ) (certificate : CertificateData)
     (t : Table) (rows : List Row) (nodes : List ℕ) (n : ℕ) : Type 0 where
   pub rows_are : All (IsRow is_first board kept) rows

@@ -1,12 +1,12 @@
--- What is known while the machine of a certificate is built. A plan has the data from which the machine is made. The
--- diagrams are drawn one after another; each memory state has a diagram that leads each letter of the other player to a
--- row. (For private functions.)
+-- What is known while the machine of a certificate is built. A plan has the data from which the machine is made:
+-- automaton, keys, certificate, memory states. The diagrams are made one after another; each memory state has a diagram
+-- that leads each letter of the other player to a row. (For private functions.)
 --     AreUsed game certificate found      `found` are the used vertices
---     GoesOn game certificate v w      a path that follows the table of the winner of vertex 0 can continue from v to w
---     AreMemories is_first keys used kept anchors      the vertex of each memory state, and its anchor
---     IsPlan ..      the data from which the machine is made
+--     GoesOn game certificate v w      a path by the moves of the winner of vertex 0 can continue from v to w
+--     AreMemories is_first keys used kept anchors      the vertex and the anchor of each memory state are right
+--     IsPlan ..      the data from which the machine is made are right
 --     IsDrawn .. v node      the diagram leads each letter to the right row for the memory state of v
---     IsReply .. q x r p, IsReplyRow .. q x row      the second player's step after the letter x, and its row
+--     IsReply .. q x r p, IsReplyRow .. q x row      the second player's step after the letter x, and the row for it
 use Rattle.std.specs.Prelude.{◌≡◌, ◌≢◌, ℕ, ◌+◌, ◌<◌, ◌≤◌, ◌↔◌, ◌==◌, Bool, true, false, List, [], ◌∷◌, length, Some}
 use Rattle.std.specs.Prelude.{◌++◌, slice_get, slice_index}
 use Rattle.std.specs.List.{All, AllPairs, Contains}
@@ -30,11 +30,12 @@ use Rattle.ps_machine.specs.declared.machine.Row.{Row}
 abbrev pub AreUsed : ParityGame → CertificateData → List ℕ → Type 0
 AreUsed game certificate found = (v : ℕ) → Contains found v ↔ IsUsed game certificate v
 
--- a path that follows the table of the winner of vertex 0 can continue from v to w
+-- a path by the moves of the winner of vertex 0 can continue from v to w
 abbrev pub GoesOn : ParityGame → CertificateData → ℕ → ℕ → Type 0
 GoesOn game certificate v w = RemainsFor game (winner_at_start certificate) (choice_of certificate) v w
 
--- the list grew by numbers with a property, and now has all such numbers; if its entries differed before, they still do
+-- only numbers with the property `IsNext` were appended to the list, which now has all such numbers; if its entries
+-- differed before, they still do
 pub record Adds (IsNext : ℕ → Type 0) (old new : List ℕ) : Type 0 where
   pub added : List ℕ
   pub grown : new ≡ old ++ added
@@ -44,19 +45,20 @@ pub record Adds (IsNext : ℕ → Type 0) (old new : List ℕ) : Type 0 where
 
 -- ## Memories
 
--- the anchor of the vertex v of the state q: the vertex if the player moves first, the state if the player moves second
+-- the anchor of a vertex v, whose state is q: v itself if the machine's player moves first, and otherwise q
 abbrev pub anchor_of : Bool → ℕ → ℕ → ℕ
 anchor_of true v q = v
 anchor_of false v q = q
 
--- a new anchor gets a memory state, whose vertex is v; nothing changes if the anchor has a memory state already
+-- what adding a memory state does: a new anchor gets one, whose vertex is v; nothing changes if the anchor has one
+-- already
 pub data KeepsAt (old_kept old_anchors : List ℕ) (v anchor : ℕ) (kept anchors : List ℕ) : Type 0 where
   Stays : Contains old_anchors anchor → kept ≡ old_kept → anchors ≡ old_anchors →
       KeepsAt old_kept old_anchors v anchor kept anchors
   Grows : ¬ Contains old_anchors anchor → kept ≡ old_kept ++ v ∷ [] → anchors ≡ old_anchors ++ anchor ∷ [] →
       KeepsAt old_kept old_anchors v anchor kept anchors
 
--- the vertex of the memory state is a used vertex at which the first player moves
+-- the vertex that is kept for the memory state is a used vertex, at which the first player moves
 pub record IsMemory (is_first : Bool) (keys : List Key) (used kept anchors : List ℕ) (memory : ℕ) : Type 0 where
   pub state : ℕ
   pub priority : ℕ
@@ -92,7 +94,7 @@ pub record IsPlan (order : Order) (a : AutomatonData) (keys : List Key) (certifi
   pub are_used : AreUsed game certificate used
   pub memories : AreMemories is_first keys used kept anchors
 
--- a letter of the machine's player
+-- y is a letter of the machine's player
 abbrev pub IsOwn : Bool → Board → ℕ → Type 0
 IsOwn true board y = IsFirstLetter board y
 IsOwn false board y = IsSecondLetter board y
@@ -102,7 +104,8 @@ pub record IsRow (is_first : Bool) (board : Board) (kept : List ℕ) (row : Row)
   pub memory : row.memory < length kept
   pub letter : IsOwn is_first board row.letter
 
--- at the vertex v of the state q, if the other player's letter is x, the row has the right output and next memory state
+-- the row has the right output and next memory state for the vertex v, whose state is q, and the other player's letter
+-- x
 pub record IsRowAt (is_first : Bool) (board : Board) (keys : List Key) (kept : List ℕ) (certificate : CertificateData)
     (v q x : ℕ) (row : Row) : Type 0 where
   pub played : IsPlayed is_first board keys certificate v q x row.letter
@@ -110,7 +113,7 @@ pub record IsRowAt (is_first : Bool) (board : Board) (keys : List Key) (kept : L
   pub goes : GoesTo keys board q (x + row.letter) entered
   pub next : StandsFor is_first keys kept row.memory entered (board.auto.next q (x + row.letter))
 
--- at the letter x, the leaf of the diagram names the right row for the vertex v, whose state is q
+-- the diagram leads the letter x to the index of the right row for the vertex v, whose state is q
 pub record LeadsToRow (is_first : Bool) (board : Board) (keys : List Key) (kept : List ℕ)
     (certificate : CertificateData) (t : Table) (rows : List Row) (node v q x : ℕ) : Type 0 where
   pub leaf : ℕ
@@ -127,15 +130,15 @@ pub record IsDrawn (is_first : Bool) (board : Board) (keys : List Key) (kept : L
   pub stands : StandsAt keys v (First state priority)
   pub leads : (x : ℕ) → IsOtherLetter is_first board x →
       LeadsToRow is_first board keys kept certificate t rows node v state x
-  -- the leaf depends only on the other player's propositions
+  -- the leaf to which the diagram leads a letter depends only on the other player's propositions
   pub heeds : (x y : ℕ) → ((p : ℕ) → p < board.propositions → is_others is_first board p ≡ true → is_in p x ≡ is_in p y)
       → leaf_of t node x ≡ leaf_of t node y
 
--- every old row keeps its index
+-- every row of the old list keeps its index in the new list
 pub record KeepsRows (old new : List Row) : Type 0 where
   pub same : (leaf : ℕ) (row : Row) → slice_get old leaf ≡ Some row → slice_get new leaf ≡ Some row
 
--- a used vertex stands for the state q, entered by the priority p
+-- some used vertex stands for the state q, entered by an edge of priority p
 pub record CanEnter (order : Order) (a : AutomatonData) (keys : List Key) (certificate : CertificateData)
     (is_first : Bool) (kept anchors : List ℕ) (q p : ℕ) : Type 0 where
   pub plan : IsPlan order a keys certificate is_first kept anchors
@@ -158,11 +161,11 @@ pub record IsReply (board : Board) (keys : List Key) (certificate : CertificateD
   pub state : board.auto.next q (x + letter) ≡ r
   pub priority : board.auto.priority q (x + letter) ≡ p
 
--- at each vertex of the state q, the row is right if the first player's letter is x
+-- the row is right at each vertex whose state is q, if the first player's letter is x
 abbrev pub IsReplyRow : Board → List Key → List ℕ → CertificateData → ℕ → ℕ → Row → Type 0
 IsReplyRow board keys kept certificate q x row = (v : ℕ) → IsRowAt false board keys kept certificate v q x row
 
--- the value is the index of a row that is right for the letter x
+-- `value` is the index of a row that is right at the state q if the first player's letter is x
 pub record NamesAnswer (board : Board) (keys : List Key) (kept : List ℕ) (certificate : CertificateData)
     (rows : List Row) (q x value : ℕ) : Type 0 where
   pub row : Row

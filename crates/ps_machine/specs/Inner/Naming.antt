@@ -1,9 +1,9 @@
--- Names of vertices, as they are written. (For private functions.)
+-- The bytes of the vertices' names. (For private functions.)
 use Rattle.std.specs.Prelude.{◌≢◌, ℕ, List, [], ◌∷◌, Bool, if◌then◌else◌}
 use Rattle.std.specs.List.{All}
 use Rattle.ps_game.specs.Games.{quote}
 
--- the bytes can be written between two quotes
+-- the bytes contain no quote, so they can be written between two quotes
 abbrev pub IsPlain : List ℕ → Type 0
 IsPlain bytes = All (λ b. b ≢ quote) bytes
 

@@ -1,9 +1,10 @@
--- Steps of a player who moves first, and the rows that are stored for these steps. The player's move can lead to
--- certain leaves of the automaton's diagram, and `places` has the index of a row for each of these leaves. The
--- machine's diagram is the automaton's diagram, in which these indices replace the leaves. (For private functions.)
+-- The machine of a player who moves first: which steps it can take, and the rows that are stored for these steps. After
+-- the player's letter, the automaton's diagram can lead to certain leaves, and `places` has the index of a row for each
+-- of them. The machine's diagram is that part of the automaton's diagram, in which the indices of rows replace the
+-- leaves. (For private functions.)
 --     PlaysClass board keys certificate v q letter      the letter that is output at the vertex v of the state q
 --     IsEntered .. leaf      the machine can take the step that the leaf names
---     IsPlaced .. letter leaf      the leaf's row is stored
+--     IsPlaced .. letter leaf      the row for the leaf is stored
 use Rattle.std.specs.Prelude.{◌≡◌, ℕ, ◌<◌, Bool, List, length, Some, slice_get}
 use Rattle.ps_certificate.specs.Certificates.{CertificateData, choice_of}
 use Rattle.ps_automaton.specs.Automata.{AutomatonData, pair_of}
@@ -24,14 +25,14 @@ pub record PlaysClass (board : Board) (keys : List Key) (certificate : Certifica
   pub stands : StandsAt keys chosen (Second q letter)
   pub is_class : IsClassLetter board q letter
 
--- the step that the leaf names leads to a used vertex
+-- the step that the leaf of an automaton's diagram names leads to a used vertex
 pub record IsEntered (order : Order) (a : AutomatonData) (keys : List Key) (certificate : CertificateData)
     (is_first : Bool) (kept anchors : List ℕ) (leaf : ℕ) : Type 0 where
   pub within : leaf < length a.steps
   pub enters : CanEnter order a keys certificate is_first kept anchors (pair_of a leaf).state (pair_of a leaf).priority
 
--- The row at the index that `places` has for the leaf outputs the letter. The row leads to the memory state of the
--- vertex that stands for the leaf's step.
+-- In the row whose index `places` has for the leaf, the machine outputs `letter`. In this row, the machine enters the
+-- memory state of the vertex that stands for the leaf's step.
 pub record IsPlaced (a : AutomatonData) (keys : List Key) (is_first : Bool) (kept : List ℕ) (rows : List Row)
     (places : List ℕ) (letter leaf : ℕ) : Type 0 where
   pub place : ℕ

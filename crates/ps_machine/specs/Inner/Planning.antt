@@ -1,4 +1,5 @@
--- The definitions of `Drawing`, `Placing` and `Dividing`, applied to the data of a plan. (For private functions.)
+-- The definitions of `Drawing`, `Placing` and `Dividing`, applied to the fields of the struct `Plan`. (For private
+-- functions.)
 --     IsPlanned plan      the machine can be made from the plan
 --     AreDividedBy plan      each state that occurs in a key has its classes
 use Rattle.std.specs.Prelude.{ℕ, nat_eq, List}
@@ -28,7 +29,7 @@ abbrev pub AreDividedBy : Plan → Type 0
 AreDividedBy p =
     AreDivided p.order p.automaton.now p.keys.now.keys p.divided.now.store (get nat_eq p.divided.now.classes)
 
--- a used vertex stands for the state q, entered by the priority p
+-- the function that states whether some used vertex stands for a state and a priority by which it was entered
 abbrev pub CanEnterBy : Plan → ℕ → ℕ → Type 0
 CanEnterBy p =
     CanEnter p.order p.automaton.now p.keys.now.keys p.certificate.now p.moves_first p.memories.now.kept.items

@@ -6,7 +6,7 @@ use Rattle.ps_machine.proofs.Machines.MemorySteps.{below_skip, below_more, all_b
 use Rattle.ps_machine.proofs.memories.remembered.Goals as goal
 use Rattle.ps_machine.proofs.memories.remembered.Goals.{then-contains+in_ok-keep, else-contains}
 
--- the second player moves at this vertex
+-- no memory state is added, since the second player moves at this vertex
 pub loop-vertex-preserved-in_default : goal.loop-vertex-preserved-in_default
 loop-vertex-preserved-in_default c = search (rules, below_skip, get_or_from_slice_get)
 
