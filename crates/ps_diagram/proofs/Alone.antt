@@ -1,4 +1,4 @@
--- The tree of one letter, made from the last proposition to the first.
+-- The decision tree of a single letter, made from the last proposition to the first.
 use Rattle.std.proofs.Common.{◌≡◌, ℕ, zero, suc, ◌+◌, ◌-◌, ◌/◌, ◌^◌, ◌<◌, ◌≤◌, Bool, true, false, cond, nat_eq}
 use Rattle.std.proofs.Common.{Some, None, ap, sym, ◌∙◌, arith, inl, inr, ◌⊎◌}
 use Rattle.std.proofs.lemmas.Bool.{eq-eqb, eqb-true, false_from_ne_true, true_from_ne_false}
@@ -29,7 +29,8 @@ empty_blind level t e f g _ = e f ∙ sym (e g)
 bool_same : (a b : Bool) → (a ≡ b) ⊎ (a ≡ b → ⊥)
 bool_same a b = grind (arith, true_is_not_false)
 
--- the tree of one more proposition: the old tree if the proposition is as in the letter, and no leaf otherwise
+-- one more proposition is tested: the new tree has the old tree's leaves if the proposition is as in the letter, and
+-- none otherwise
 alone_step : {n : ℕ} (p letter : ℕ) (v : Bool) (node made : Tree) → IsAlone n (p + 1) letter node →
     is_in p letter ≡ v → p < n → IsBlind p made → ((f : ℕ → Bool) → f p ≡ v → leaf_at made f ≡ leaf_at node f) →
     ((f : ℕ → Bool) → (f p ≡ v → ⊥) → leaf_at made f ≡ None) → IsAlone n p letter made
@@ -76,7 +77,7 @@ alone_end {n} {letter} lt same done alone other olt =
       ]
     ]
 
--- one iteration of the loop, which counts down
+-- one iteration of the loop over the propositions, which counts down
 pub alone_next : {n m i letter : ℕ} (v : Bool) (none node made : Tree) → m ≡ n → 0 < i → i ≤ n →
     ((f : ℕ → Bool) → leaf_at none f ≡ None) → IsAlone n i letter node → is_in (i - 1) letter ≡ v →
     IsTestOf (i - 1) (cond v none node) (cond v node none) made → IsAlone m (i - 1) letter made
@@ -84,7 +85,7 @@ alone_next {n} {m} {i} {letter} v none node made same some le e a is h =
     let next : i ≡ i - 1 + 1 = omega arith in
     rw same (alone_made (i - 1) letter v none node made e (rw next at a) is (omega arith) h)
 
--- the test of a bit, as the code does it
+-- the code's test of a bit of a letter tells whether the proposition is true
 pub bit_true : (letter p : ℕ) → bit_and (letter / 2 ^ p) 1 ≡ 1 → is_in p letter ≡ true
 bit_true letter p e = eq-eqb (bit_at letter p) 1 (sym (shr_and_one letter p) ∙ e)
 

@@ -1,5 +1,5 @@
--- Ordered and reduced trees with the same leaves are equal. A tree whose leaves depend only on propositions from a
--- level on tests no earlier proposition.
+-- Ordered and reduced trees with the same leaves are equal. An ordered and reduced tree whose leaves depend only on
+-- propositions from a level on tests no earlier proposition.
 use Rattle.std.proofs.Common.{◌≡◌, ℕ, ◌+◌, ◌<◌, ◌≤◌, Bool, true, false, cond, Option, Some, None, eqb, refl, ap}
 use Rattle.std.proofs.Common.{sym, ◌∙◌, arith, inl, inr}
 use Rattle.std.proofs.lemmas.Bool.{cases_lt, cases_order, eq-eqb, eqb-false}
@@ -8,7 +8,7 @@ use Rattle.ps_diagram.specs.Tree.{IsTestOf}
 use Rattle.ps_diagram.specs.Table.{Table, IsNode, IsSoundTable, tree_of}
 use Rattle.ps_diagram.proofs.Cells.{bool_cases}
 
--- a letter that is changed at one proposition
+-- the letter f in which the proposition p is set to b
 abbrev pub changed : (ℕ → Bool) → ℕ → Bool → ℕ → Bool
 changed f p b q = cond (eqb q p) b (f q)
 
@@ -24,7 +24,8 @@ changed-later f p b q le = changed-other f p b q (λ e. omega arith)
 pub same_cond : (b : Bool) (x : Option ℕ) → x ≡ cond b x x
 same_cond b x = grind arith
 
--- the leaves depend only on propositions that are at least `level` and less than n
+-- the leaves of an ordered tree depend only on the propositions that it may test, which are at least `level` and less
+-- than n
 pub from-blind : (level n : ℕ) (t : Tree) → IsFrom level n t → (f g : ℕ → Bool) →
     ((q : ℕ) → level ≤ q → q < n → f q ≡ g q) → leaf_at t f ≡ leaf_at t g
 from-blind level n empty o f g e = refl
@@ -36,7 +37,8 @@ from-blind level n (choice p low high) o f g e =
 pub blind-from : (level n : ℕ) (t : Tree) → IsFrom level n t → IsBlind level t
 blind-from level n t o f g e = from-blind level n t o f g (λ q h b. e q h)
 
--- at a letter in which the tested proposition is set to v, a test has the leaf of its side for v
+-- at a letter in which p is set to v, a tree that tests p has the leaf of its high side if v is true, and of its low
+-- side otherwise
 pub side_leaf : (p : ℕ) (v : Bool) (t low high : Tree) → IsTestOf p low high t → IsBlind (p + 1) low →
     IsBlind (p + 1) high → (f : ℕ → Bool) → leaf_at t (changed f p v) ≡ cond v (leaf_at high f) (leaf_at low f)
 side_leaf p v t low high h bl bh f = grind (arith, changed-here, changed-later)
@@ -58,7 +60,7 @@ only_leaf level n (choice p low high) o r x e =
     let same = λ (v : Bool) (f : ℕ → Bool). sym (choice_side n p v low high o.2 o.3 f) ∙ e (changed f p v) in
     absurd (r.0 (only_leaf (p + 1) n low o.2 r.1 x (same false) ∙ sym (only_leaf (p + 1) n high o.3 r.2 x (same true))))
 
--- every ordered and reduced tree that has the same leaves as the given tree is equal to it
+-- every ordered and reduced tree with the same leaves as the tree t is equal to t
 abbrev Only : ℕ → Tree → Type 0
 Only n t = (u : Tree) (b : ℕ) → IsFrom b n u → IsReduced u → HaveSameLeaves t u → t ≡ u
 

@@ -1,4 +1,4 @@
--- A table with one more cell.
+-- A table of decision-diagram nodes (cells) to which one more cell is added.
 use Rattle.std.proofs.Common.{◌≡◌, ℕ, ◌+◌, ◌-◌, ◌^◌, ◌<◌, ◌≤◌, Bool, true, false, List, [], ◌∷◌, ◌++◌, length, get_or}
 use Rattle.std.proofs.Common.{refl}
 use Rattle.std.proofs.Common.{ap, sym, ◌∙◌, arith, length-append, inl, inr, ◌⊎◌, fold, Some, rules}
@@ -45,7 +45,7 @@ tree_at-old cells cell k h = grind (arith, trees_push, get_or_append_left, lengt
 pub tree_at-new : (cells : List View) (cell : View) → tree_at (cells ++ cell ∷ []) (length cells) ≡ tree_in cells cell
 tree_at-new cells cell = search (rules, trees_push, get_or_push, length_trees)
 
--- the tree of a cell does not change when a cell is added, if the nodes of the cell are in the table
+-- adding a cell to the table does not change the tree of any cell whose children are in the table
 pub tree_in-old : (cells : List View) (cell c : View) → IsCellWithin (length cells) c →
     tree_in (cells ++ cell ∷ []) c ≡ tree_in cells c
 tree_in-old cells cell c h = search (rules, tree_at-old)
@@ -67,15 +67,16 @@ bool_cases b = cases_Bool b
 pub true_is_not_false : true ≡ false → ⊥
 true_is_not_false e = cc
 
--- each table keeps its own nodes
+-- each table keeps all nodes of itself
 pub keeps_refl : (t : Table) → Keeps t t
 keeps_refl t = record { propositions = refl; held = λ node h. h; same = λ node h. refl }
 
--- an index of the longer list is an old index or the new one
+-- a number less than n + 1 is less than n, or is n
 pub old_or_new : (k n : ℕ) → k < n + 1 → (k < n) ⊎ (k ≡ n)
 old_or_new k n h = elim (cases_lt k n) [ inl lt ↦ inl lt | inr ge ↦ inr (omega arith) ]
 
--- a property of each entry and its index also holds after an entry with the property is appended
+-- if each entry of a list has a property at its index, and so has an appended entry, each entry of the longer list has
+-- it
 pub push_each : {X : Type 0} (P : ℕ → X → Type 0) (d : X) (xs : List X) {more : List X} (x : X) {count : ℕ} →
     length xs ≡ count → more ≡ xs ++ x ∷ [] → ((i : ℕ) → i < count → P i (get_or xs i d)) → P count x → (i : ℕ) →
     i < count + 1 → P i (get_or more i d)
@@ -85,7 +86,7 @@ pub keeps_more : (t : Table) (cell : View) → Keeps t (more t cell)
 unfolding tree_of
 keeps_more t cell = grind (arith, length-append, tree_at-old)
 
--- a property of the old cells and their trees, and of the new cell, is a property of all cells
+-- if all old cells with their trees have a property, and so has the added cell, all cells of the new table have it
 each_cell : (P : ℕ → View → Tree → Type 0) (cells : List View) (cell : View) →
     ((k : ℕ) → k < length cells → P k (get_or cells k Nothing) (tree_at cells k)) →
     P (length cells) cell (tree_in cells cell) → (k : ℕ) → k < length (cells ++ cell ∷ []) →
@@ -93,7 +94,7 @@ each_cell : (P : ℕ → View → Tree → Type 0) (cells : List View) (cell : V
 each_cell P cells cell old new k h =
     search (rules, old_or_new, length-append, get_or_append_left, tree_at-old, get_or_push, tree_at-new)
 
--- a sound table stays sound when a well-made new cell is added
+-- a sound table stays sound when a cell is added that is new, ordered and reduced
 pub sound_more : {t : Table} {cell : View} → IsSoundTable t → IsCellWithin (length t.cells) cell →
     IsFrom 0 t.propositions (tree_in t.cells cell) → IsReduced (tree_in t.cells cell) →
     ((k : ℕ) → k < length t.cells → cell ≡ get_or t.cells k Nothing → ⊥) → IsSoundTable (more t cell)
@@ -118,20 +119,20 @@ sound_more {t} {cell} s w o r new =
           a ha;
     }
 
--- the table after a cell is interned, and the index of the cell
+-- looking up a cell, and adding it if it is new, gives the table u and the index `place` of the cell
 pub record Interned (t u : Table) (cell : View) (place : ℕ) : Type 0 where
   pub sound : IsSoundTable u
   pub keeps : Keeps t u
   pub held : IsNode u place
   pub tree : tree_of u place ≡ tree_in t.cells cell
 
--- if a sound table that keeps all nodes has the cell at an index, the cell is interned there
+-- if a sound table has all old nodes, and has the cell at an index, then this index is a right result of the look-up
 at_place : {t u : Table} {cell : View} (place : ℕ) → IsSoundTable u → Keeps t u →
     tree_in u.cells cell ≡ tree_in t.cells cell → slice_get u.cells place ≡ Some cell → Interned t u cell place
 unfolding tree_of
 at_place {u} {cell} place s keeps stays e = search (rules, slice_get_within, get_or_from_slice_get)
 
--- the cell is appended if its equal is not among the cells
+-- inserting a cell into the list of cells appends it unless an equal cell is there
 pub adds_cell : (cells : List View) (cell : View) {more : List View} (eq : View → View → Bool) →
     ((a b : View) → eq a b ≡ true → a ≡ b) → ((a : View) → eq a a ≡ true) → more ≡ insert_key eq cells cell →
     AddsCell cells cell more
@@ -146,7 +147,7 @@ adds_cell cells cell eq sound_eq refl_eq is = elim (bool_cases (list_any (eq cel
       )
 ]
 
--- a cell that is kept stays at its place
+-- adding a cell does not change the index of any other cell
 kept_at : {old new : List View} {cell : View} (place : ℕ) (x : View) → AddsCell old cell new →
     slice_get old place ≡ Some x → slice_get new place ≡ Some x
 kept_at {old} {new} {cell} place x adds at =
@@ -159,12 +160,12 @@ kept_at {old} {new} {cell} place x adds at =
           ∙ ap Some (get_or_append_left old (cell ∷ []) x place within ∙ get_or_from_slice_get old place x x at))
     ]
 
--- the table of leaves stays right when a cell is added
+-- the table that gives the index of the cell for each small leaf stays right when a cell is added
 pub leaves_kept : {old new : List View} {cell : View} (places : List ℕ) → AddsCell old cell new →
     ArePlacesOfLeaves old places → ArePlacesOfLeaves new places
 leaves_kept places adds are leaf place at less = kept_at place (Leaf leaf) adds (are leaf place at less)
 
--- the table of leaves stays right when unknown places are appended
+-- the table that gives the index of the cell for each small leaf stays right when it is extended by unknown entries
 pub leaves_roomy : (cells : List View) (old new : List ℕ) (n : ℕ) → length new ≡ n →
     ((k d : ℕ) → k < n → k < length old → get_or new k d ≡ get_or old k d) →
     ((k d : ℕ) → length old ≤ k → k < n → get_or new k d ≡ 2 ^ 32 - 1) →

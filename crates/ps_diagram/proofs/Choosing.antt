@@ -1,4 +1,4 @@
--- Trees that are chosen from two trees by a third tree.
+-- If-then-else of trees: at each letter, a tree decides from which of two other trees the leaf is taken.
 use Rattle.std.proofs.Common.{◌≡◌, ℕ, Option, Some, inl, inr, rules}
 use Rattle.ps_diagram.specs.Inner.Chosen.{IsChosen, KnowsTriples}
 use Rattle.ps_diagram.specs.Inner.Rests.{test_eq}
@@ -9,7 +9,8 @@ use Rattle.ps_diagram.proofs.Cells.{bool_cases}
 use Rattle.ps_diagram.proofs.Dividing.{test_same}
 use Rattle.ps_diagram.proofs.KnownLemmas.{MayBePut, one_more}
 
--- if both sides of a test are chosen from the sides of other tests, the test is chosen from these tests
+-- if both sides of a test are the if-then-else of the sides of three other tests, the test is the if-then-else of these
+-- tests
 chosen_test : (p : ℕ) (a al ah b bl bh c cl ch d dl dh : Tree) → IsTestOf p al ah a → IsTestOf p bl bh b →
     IsTestOf p cl ch c → IsTestOf p dl dh d → IsChosen al bl cl dl → IsChosen ah bh ch dh → IsChosen a b c d
 chosen_test p a al ah b bl bh c cl ch d dl dh ta tb tc td l h f =
@@ -18,7 +19,8 @@ chosen_test p a al ah b bl bh c cl ch d dl dh ta tb tc td l h f =
       | inr is ↦ rw is (l f)
     ])
 
--- a node is chosen if its low side is chosen in the second table, and then its high side in the third
+-- the if-then-else of three nodes is made of that of their low sides, made first, and that of their high sides, made in
+-- the grown table
 pub chosen_sides : {t u v : Table} (w : Table) → Keeps t u → Keeps u v → {a b c p al ah bl bh cl ch low : ℕ}
     (high made : ℕ) → IsSides t a p al ah → IsSides t b p bl bh → IsSides t c p cl ch → IsNode u low →
     IsChosen (tree_of t al) (tree_of t bl) (tree_of t cl) (tree_of u low) →
@@ -31,7 +33,7 @@ chosen_sides {t} {u} {v} w k m {a} {b} {c} {p} {al} {ah} {bl} {bh} {cl} {ch} {lo
     (rw (m.same low held) l)
     (rw (← k.same ah sa.high_held, ← k.same bh sb.high_held, ← k.same ch sc.high_held) h)
 
--- a choice between a tree and itself gives this tree
+-- the if-then-else with the same tree for both cases is this tree
 pub chosen_same : (a b : Tree) → IsChosen a b b b
 chosen_same a b f = search rules
 

@@ -1,4 +1,4 @@
--- If two nodes clash, they clash at a letter over the table's propositions.
+-- If two nodes have different leaves at some letter, they do so at a letter over the table's propositions.
 use Rattle.std.proofs.Common.{◌≡◌, ◌↔◌, ℕ, ◌<◌, ◌^◌, Bool, IsTrue, eqb, sym, ◌∙◌, rules}
 use Rattle.std.proofs.lemmas.Bool.{eqb-true, eq-eqb}
 use Rattle.ps_diagram.specs.Tree.{HaveSameLeaves}
@@ -23,7 +23,7 @@ tells_clash {t} s {a} {b} ha hb (Clash x y) h =
     )
 tells_clash s ha hb OutOfMemory h = tt
 
--- nodes with the same leaves are equal
+-- two nodes with the same leaf at each letter are equal
 pub one_node : {t : Table} → IsSoundTable t → {a b : ℕ} → IsNode t a → IsNode t b →
     HaveSameLeaves (tree_of t a) (tree_of t b) → a ≡ b
 one_node {t} s {a} {b} ha hb e = search (rules, same_tree)

@@ -1,4 +1,5 @@
--- The classes of letters, derived from a divided diagram and its leaves.
+-- The classes of letters, derived from a diagram whose leaves are the nodes of what remains after the mask's
+-- propositions have been read.
 use Rattle.std.proofs.Common.{◌≡◌, ◌↔◌, ℕ, ◌<◌, ◌^◌, Bool, true, false, List, length, Option, Some, rules}
 use Rattle.std.proofs.Common.{sym, ◌∙◌, arith, inl, inr}
 use Rattle.std.proofs.lemmas.Bool.{cases_lt, false_from_ne_true}
@@ -20,11 +21,11 @@ use Rattle.ps_diagram.proofs.Canon.{changed, changed-here, changed-other, blind-
 use Rattle.ps_diagram.proofs.Letters.{letter_lt, letter_is, no_bit, leaf_by_number}
 use Rattle.ps_diagram.proofs.Dividing.{divided_alike, divided_side}
 
--- the leaf belongs to a class in the list
+-- k is the diagram of a class in the list
 abbrev IsThere : List Class → ℕ → Type 0
 IsThere list k = (i : ℕ) × (i < length list) × ((class_at list i).rest ≡ k)
 
--- the classes have the leaves of a node, in the order of their least letters
+-- the diagrams of the classes are the leaves of a node, in the order of their least letters
 record IsListed (t : Table) (node : ℕ) (list : List Class) : Type 0 where
   pub least : (i : ℕ) → i < length list →
       IsLeastLetter (LeadsToLeaf t node (class_at list i).rest) (class_at list i).letter
@@ -45,7 +46,7 @@ listed t node own leaves list h o =
       rising = search (rules, o.letter, h.rising);
     }
 
--- a node has the same leaves when the table grows
+-- a letter leads from a node to the same leaf when the table grows
 leads_kept : {t u : Table} → Keeps t u → {node : ℕ} → IsNode t node → (leaf letter : ℕ) →
     LeadsToLeaf t node leaf letter ↔ LeadsToLeaf u node leaf letter
 leads_kept k {node} h leaf letter = search rules
@@ -63,8 +64,8 @@ leaves_kept k {node} h all = record {
   rising = all.rising;
 }
 
--- the diagrams made from a node of the first table: its division, the leaves of the division, and the indices of the
--- leaves
+-- the diagrams made from a node of the table s: the one whose leaves are the nodes that remain, its leaves, and the one
+-- of class indices
 record Made (s u : Table) : Type 0 where
   pub mask : ℕ
   pub node : ℕ
@@ -82,7 +83,7 @@ record Made (s u : Table) : Type 0 where
   pub placed : IsPlaced places list
   pub mapped : (f : ℕ → Bool) → leaf_at (tree_of u at) f ≡ option_and_then places (leaf_at (tree_of u divided) f)
 
--- k is the index of the letter's class, and the class has the node to which the division leads the letter
+-- k is the index of the class of the letter f, and the diagram of this class is the node that remains after f
 record IsPlaceOf (s u : Table) (m : Made s u) (f : ℕ → Bool) (k : ℕ) : Type 0 where
   within : k < length m.list
   is : leaf_at (tree_of u m.at) f ≡ Some k
@@ -90,7 +91,7 @@ record IsPlaceOf (s u : Table) (m : Made s u) (f : ℕ → Bool) (k : ℕ) : Typ
   held : IsNode u (class_at m.list k).rest
   leaf : (g : ℕ → Bool) → leaf_at (tree_of u (class_at m.list k).rest) g ≡ leaf_at (tree_of s m.node) (mixed m.mask f g)
 
--- mixed letters that agree at every proposition
+-- letters that are mixed of two letters by a mask, and agree at every proposition
 
 mixed_first : (mask x v q : ℕ) → AgreeOn mask x v → mixed mask (assignment x) (assignment v) q ≡ is_in q v
 mixed_first mask x v q on = elim (bool_cases (is_in q mask)) [ inl is ↦ rw is (on q is) | inr isnt ↦ rw isnt ]
@@ -103,7 +104,7 @@ mixed_alike : (mask : ℕ) (f g w : ℕ → Bool) (q : ℕ) → ((p : ℕ) → i
     mixed mask f w q ≡ mixed mask g w q
 mixed_alike mask f g w q on = elim (bool_cases (is_in q mask)) [ inl is ↦ rw is (on q is) | inr isnt ↦ rw isnt ]
 
--- mixed letters as numbers
+-- letters that are mixed of two letters by a mask, as numbers
 
 joined_letter : (n mask x : ℕ) (w : ℕ → Bool) → x < 2 ^ n → AgreeOn mask x (letter_of n (mixed mask (assignment x) w))
 joined_letter n mask x w h p is = search (rules, cases_lt, letter_is, no_bit, letter_lt)
@@ -124,12 +125,12 @@ module _ {s u : Table} (m : Made s u) where
   same_letters : (f g : ℕ → Bool) → ((q : ℕ) → f q ≡ g q) → leaf_at (tree_of s m.node) f ≡ leaf_at (tree_of s m.node) g
   same_letters f g e = search (rules, blind-from)
 
-  -- the division depends only on the mask
+  -- the diagram of the nodes that remain depends only on propositions of the mask
   heeds_mask : (f g : ℕ → Bool) → ((q : ℕ) → is_in q m.mask ≡ true → f q ≡ g q) →
       leaf_at (tree_of u m.divided) f ≡ leaf_at (tree_of u m.divided) g
   heeds_mask f g on = search (rules, divided_alike, same_letters, mixed_alike)
 
-  -- letters with the same class index lead alike
+  -- two letters with the same class index lead to the same leaves for all values of the other propositions
   together : (x y : ℕ) → leaf_of u m.at x ≡ leaf_of u m.at y → LeadAlike s m.node m.mask x y
   together x y e v w on_x on_y off =
       let p = (place_at (assignment x)).1 in
@@ -145,7 +146,7 @@ module _ {s u : Table} (m : Made s u) where
             (λ i. mixed_first m.mask y w i on_y),
       )
 
-  -- letters that lead alike have the same class index
+  -- two letters that lead to the same leaves for all values of the other propositions have the same class index
   apart : (x y : ℕ) → x < 2 ^ u.propositions → y < 2 ^ u.propositions → LeadAlike s m.node m.mask x y →
       leaf_of u m.at x ≡ leaf_of u m.at y
   apart x y hx hy h =
@@ -159,7 +160,8 @@ module _ {s u : Table} (m : Made s u) where
       (others_agree n m.mask x y w) ∙ sym (leaf_by_number n a own (mixed m.mask (assignment y) w)) in
       grind (arith, divided_alike m.sound m.mask a (tree_of u m.divided) m.division (assignment x) (assignment y) e)
 
-  -- the letter of a class has no proposition outside the mask, because without it the letter would come earlier
+  -- in the least letter of a class, no proposition outside the mask is true: setting it to false would give an earlier
+  -- letter
   masked : (c : Class) → IsLeastLetter (LeadsToLeaf u m.divided c.rest) c.letter → (p : ℕ) → is_in p m.mask ≡ false →
       is_in p c.letter ≡ false
   masked c first p off = false_from_ne_true (is_in p c.letter) (λ is.
@@ -187,8 +189,8 @@ module _ {s u : Table} (m : Made s u) where
         (m.listed.rising i j lt below));
   }
 
--- The node is in the first table, its division is in the second, and the diagram of indices is in the third, which
--- keeps the nodes of the second.
+-- The node is in the table s, the diagram of the nodes that remain is in v, and the diagram of class indices is in u,
+-- which keeps the nodes of v.
 pub classes_of : {s v u : Table} → Keeps v u → IsSoundTable s → IsSoundTable u → u.propositions ≡ s.propositions →
     (mask : ℕ) {node divided at : ℕ} {places : ℕ → Option ℕ} {leaves : List (ℕ × ℕ)} {list : List Class} →
     IsNode s node → IsNode v divided → IsNode u at → IsDivided v mask (tree_of s node) (tree_of v divided) →
@@ -213,7 +215,7 @@ classes_of {s} {v} {u} m node_sound sound letters mask {node} {divided} {at} {pl
       mapped = rw (m.same divided hd) mapped;
     }) ha
 
--- classes stay the same when the table keeps their diagrams
+-- a class stays right when the table of its diagram grows
 class_kept : {s t u : Table} → Keeps t u → {node mask places k : ℕ} {c : Class} → IsNode t places →
     IsClass s t node mask places k c → IsClass s u node mask places k c
 class_kept keeps {places} {c} held is = record {

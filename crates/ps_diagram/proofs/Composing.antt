@@ -1,4 +1,4 @@
--- Trees in which truths replace propositions.
+-- Trees in which Boolean functions (truths) replace propositions.
 use Rattle.std.proofs.Common.{◌≡◌, ℕ, ◌<◌, Bool, cond, List, All, Option, None, Some, length, get_or, refl, ap, sym}
 use Rattle.std.proofs.Common.{◌∙◌}
 use Rattle.std.proofs.Common.{inl, inr}
@@ -12,7 +12,8 @@ use Rattle.ps_diagram.specs.Table.{Table, IsNode, Keeps, leaf_of, tree_of}
 use Rattle.ps_diagram.specs.Tree.{Tree, leaf_at}
 use Rattle.ps_diagram.proofs.Cells.{bool_cases}
 
--- the side that is needed is an earlier node
+-- if only one side of a test is needed, since the function in place of the proposition is constant, this side is an
+-- earlier node
 pub side_of : {s : Table} (t : Table) {node p low high : ℕ} (truth : ℕ) {side : ℕ} → IsChoice s node p low high →
     IsOnlySide t truth low high side → (side < node) × IsNode s side
 side_of t {low} {high} truth {side} h only = let e = only 0 in elim (bool_cases (is_some (leaf_of t truth 0))) [
@@ -31,7 +32,7 @@ module _ {t u : Table} (truths : List ℕ) (k : Keeps t u) (held : All (IsNode t
   pub bits_after : (letter : ℕ) (f : ℕ → Bool) → AreBitsAt t truths letter f → AreBitsAt u truths letter f
   bits_after letter f bits p lt = bits p lt ∙ sym (ap is_some (leaf_same letter k (held p 0 lt)))
 
-  -- what is known stays known as the table grows
+  -- the entries of the memo table stay right when the table of nodes grows
   pub composed_kept : (s : Table) (known : ℕ → Option ℕ) → Knows (IsComposed t truths) s t known →
       Knows (IsComposed u truths) s u known
   composed_kept s known h node made e =
@@ -45,7 +46,8 @@ chosen_side : (x a b : Option ℕ) → chosen x a b ≡ cond (is_some x) a b
 chosen_side None a b = refl
 chosen_side (Some k) a b = refl
 
--- a node is composed if its low side is composed first and then its high side, and the truth chooses between the two
+-- replacing propositions in a node: in its low side first, then in its high side, and the tested proposition's function
+-- chooses between the results
 pub composed_sides : {s r u v : Table} (w : Table) (truths : List ℕ) → All (IsNode r) truths → Keeps r u → Keeps u v →
     {node p low high low' : ℕ} (high' made' : ℕ) → IsChoice s node p low high → p < length truths → IsNode u low' →
     IsComposed r truths (tree_of s low) (tree_of u low') → IsComposed u truths (tree_of s high) (tree_of v high') →

@@ -17,7 +17,7 @@ pub at_end : {X : Type 0} (xs : List X) (y : X) → slice_get (xs ++ y ∷ []) (
 at_end [] y = refl
 at_end (x ∷ xs) y = at_end xs y
 
--- an entry of a list to which y is appended is an old entry or y
+-- if y is appended to a list, each entry of the result is an old entry or y
 pub at_last : {X : Type 0} (xs : List X) (y : X) (i : ℕ) {x : X} → slice_get (xs ++ y ∷ []) i ≡ Some x →
     (slice_get xs i ≡ Some x) ⊎ ((x ≡ y) × (i ≡ length xs))
 at_last [] y zero e = inr (cc, refl)
@@ -43,7 +43,7 @@ module _ {X : Type 0} (eq : X → X → Bool) (same : (a b : X) → Decides (eq 
   pub one_place : (i j : ℕ) {x : X} → slice_get xs i ≡ Some x → slice_get xs j ≡ Some x → i ≡ j
   one_place i j a b = grind (arith, cases_order, not_before)
 
--- a stored key is the inserted key if the equality test says so
+-- if the equality test holds for an inserted key and the stored one, they are equal
 pub stored_is : {X : Type 0} (eq : X → X → Bool) (same : (a b : X) → Decides (eq a b) (a ≡ b)) (xs : List X) (i : ℕ)
     (x : X) → ((k : X) × (slice_get xs i ≡ Some k) × (eq x k ≡ true)) → slice_get xs i ≡ Some x
 stored_is eq same xs i x s = cc (s.1, (same x s.0).0 s.2)

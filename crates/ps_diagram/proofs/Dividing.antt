@@ -21,7 +21,7 @@ are_tested : {t : Table} {test : (ℕ → Bool) → Bool} {x y z : Option ℕ} {
     (leaf_at (tree_of t low) g)) → AreTested t test x y z
 are_tested {low} {high} {made} low_is high_is made_is low_held high_held held leaf = search rules
 
--- divisions and tests stay right when the table grows
+-- diagrams whose leaves are nodes stay right when the table grows
 
 pub divided_kept : {t u : Table} → Keeps t u → (mask : ℕ) (a d : Tree) → IsDivided t mask a d → IsDivided u mask a d
 divided_kept k mask a d h f = let r = h f in (r.0, r.1, k.held r.0 r.2, λ g. rw (k.same r.0 r.2) (r.3 g))
@@ -34,7 +34,8 @@ pub tested_kept : {t u : Table} → Keeps t u → {test : (ℕ → Bool) → Boo
 tested_kept k h = are_tested h.low_is h.high_is h.made_is (k.held h.low h.low_held) (k.held h.high h.high_held)
     (search rules) (λ g. rw (k.same h.made h.held, k.same h.high h.high_held, k.same h.low h.low_held) (h.leaf g))
 
--- Nodes with the same leaves are equal, and so a tree of nodes has the same node at letters with the same rest.
+-- Nodes with the same leaves are equal. So a diagram of nodes has the same node at letters after which the same
+-- remains.
 
 pub divided_alike : {t : Table} → IsSoundTable t → (mask : ℕ) (a d : Tree) → IsDivided t mask a d → (f g : ℕ → Bool) →
     ((w : ℕ → Bool) → leaf_at a (mixed mask f w) ≡ leaf_at a (mixed mask g w)) → leaf_at d f ≡ leaf_at d g
@@ -66,9 +67,9 @@ pub tested_blind : {t : Table} → IsSoundTable t → (p level : ℕ) (a b d : T
     IsBlind level b → IsBlind level d
 tested_blind {t} s p level a b d h ba bb f g e = tested_alike s p a b d h f g (ba f g e) (bb f g e)
 
--- how divided trees and tested trees are made
+-- how diagrams whose leaves are nodes are made, side by side
 
--- the rest of a diagram that tests no proposition has the diagram's leaf
+-- what remains of a diagram that tests no proposition has the diagram's leaf
 pub divided_here : {t u : Table} → Keeps t u → (mask : ℕ) {node place : ℕ} (a : Tree) {d : Tree} (leaf : Option ℕ) →
     ((f : ℕ → Bool) → leaf_at a f ≡ leaf) → IsNode t node → ((f : ℕ → Bool) → leaf_at (tree_of t node) f ≡ leaf) →
     place ≡ node → d ≡ final place → IsDivided u mask a d
@@ -82,7 +83,7 @@ divided_test t mask p a al ah d dl dh ta h il ih f =
     let r = ih f in
     search rules
 
--- dividing a test of a proposition that is in the mask, or outside it
+-- a test of a proposition stays a test if the proposition is in the mask; otherwise, the test moves into the leaves
 pub divided_in : (t : Table) (mask p level : ℕ) (a b d : Tree) → is_in p mask ≡ true → LeadsToNodes t level a →
     LeadsToNodes t level b → IsTestOf p a b d → IsDividedTest t mask p a b d
 divided_in t mask p level a b d is la lb td f =
@@ -95,12 +96,12 @@ tested_same t p level a h f =
     let x = h f in
     are_tested x.1 x.1 x.1 x.2 x.2 x.2 (λ g. same_cond (g p) (leaf_at (tree_of t x.0) g))
 
--- two trees of nodes are tested if their sides are tested
+-- the test of p can be moved into the leaves of two diagrams of nodes by moving it into the leaves of their sides
 tested_test : (t : Table) (p q : ℕ) (a al ah b bl bh d dl dh : Tree) → IsTestOf q al ah a → IsTestOf q bl bh b →
     IsTestOf q dl dh d → IsTested t p al bl dl → IsTested t p ah bh dh → IsTested t p a b d
 tested_test t p q a al ah b bl bh d dl dh ta tb td l h f = search (rules, bool_cases)
 
--- known divisions and tests stay known when the table grows, and one more becomes known
+-- the memo tables of diagrams whose leaves are nodes stay right when the table grows and when an entry is added
 
 pub known_divided_kept : (s : Table) {t u : Table} (mask : ℕ) (known : ℕ → Option ℕ) → Keeps t u →
     Knows (IsDivided t mask) s t known → Knows (IsDivided u mask) s u known
@@ -129,7 +130,7 @@ place_of t level d h node e =
     let r = h (λ _. false) in
     search rules
 
--- a test whose sides are nodes of three tables, each of which keeps the nodes of the one before
+-- a test made of a low side from one table and a high side from a later one
 pub tested_between : {t u v : Table} → Keeps t u → Keeps u v → (p : ℕ) (a b d : Tree) {low high made : ℕ} →
     ((f : ℕ → Bool) → leaf_at a f ≡ Some low) → ((f : ℕ → Bool) → leaf_at b f ≡ Some high) →
     ((f : ℕ → Bool) → leaf_at d f ≡ Some made) → IsNode t low → IsNode t high → IsNode u made →
@@ -142,7 +143,8 @@ pub side_kept : {t u : Table} → Keeps t u → (p : ℕ) {node : ℕ} → IsNod
     LeadsToNodes t (p + 1) (tree_of t node) → LeadsToNodes u (p + 1) (tree_of u node)
 side_kept {t} k p {node} held h = rw (k.same node held) (leads_kept k (p + 1) (tree_of t node) h)
 
--- two nodes are tested if their low sides are tested in the second table, and then their high sides in the third
+-- the test of p is moved into the leaves of two diagrams' low sides first, and then into those of their high sides,
+-- while the table grows
 pub sides_tested : {t u v w : Table} → Keeps t u → Keeps u v → Keeps v w → (p : ℕ) {a b q al ah bl bh low : ℕ}
     (high made : ℕ) → IsSides t a q al ah → IsSides t b q bl bh → IsNode u low →
     IsTested u p (tree_of t al) (tree_of t bl) (tree_of u low) →
@@ -154,7 +156,7 @@ sides_tested {t} {u} {v} {w} k m n p {a} {b} {q} {al} {ah} {bl} {bh} {low} high 
     (tree_of v low) (tree_of v high) sa.leaf sb.leaf test (rw (m.same low held) (λ f. search (rules, tested_kept)))
     (rw (← k.same ah sa.high_held, ← k.same bh sb.high_held) (λ f. tested_kept n (h f)))
 
--- the division of a side stays right, and gives the division of a node with two sides
+-- a diagram of the nodes that remain stays right when the table grows; those of both sides give that of the whole node
 pub divided_side : {t u : Table} → Keeps t u → (mask : ℕ) (a : Tree) {node : ℕ} → IsNode t node →
     IsDivided t mask a (tree_of t node) → IsDivided u mask a (tree_of u node)
 divided_side {t} k mask a {node} held h = rw (k.same node held) (divided_kept k mask a (tree_of t node) h)

@@ -1,4 +1,4 @@
--- Gathering the leaves of a node, low side first, each with the least letter that leads to it.
+-- How the leaves of a node are collected, low side first, each with the least letter that leads to it.
 use Rattle.std.proofs.Common.{◌≡◌, ℕ, suc, ◌+◌, ◌*◌, ◌%◌, ◌^◌, ◌<◌, ◌≤◌, Bool, true, false, List, [], ◌∷◌, ◌++◌}
 use Rattle.std.proofs.Common.{rules, Option, Some, None, nat_eq, eqb, refl, ap, sym, subst, ◌∙◌, arith, append_assoc}
 use Rattle.std.proofs.Common.{inl, inr}
@@ -67,7 +67,7 @@ some_of o h = search rules
 pub none_of : (o : Option ℕ) → is_some o ≡ false → o ≡ None
 none_of o h = search rules
 
--- ## Nodes that add no leaves
+-- ## Nodes at which no new leaves are found
 
 pub gathers_none : (n : ℕ) (t : Tree) (letter : ℕ) (old : List (ℕ × ℕ)) →
     ((f : ℕ → Bool) (leaf : ℕ) → leaf_at t f ≡ Some leaf → IsFound old leaf) → Gathers n t letter old old
@@ -185,7 +185,7 @@ pub gathers_test : {t : Table} {node p low high letter : ℕ} {old mid new : Lis
 gathers_test {t} {node} {p} {low} {high} {letter} {old} {mid} {new} h lt a b =
     search (rules, gathers_choice, begun_below, root_later)
 
--- one more node has been visited
+-- the list has all leaves of the visited nodes, also after one more node has been visited
 pub seen_more : (t : Table) (old new : ℕ → Option ℕ) (node value : ℕ) (found : List (ℕ × ℕ)) →
     MayBePut eqb old new node value → HaveFound t (λ q. is_some (old q)) found →
     ((f : ℕ → Bool) (leaf : ℕ) → leaf_at (tree_of t node) f ≡ Some leaf → IsFound found leaf) →
@@ -212,7 +212,7 @@ entry_of P (pair ∷ es) leaf {z} h e = elim (bool_cases (nat_eq leaf pair.0)) [
   | inr isnt ↦ entry_of P es leaf h.1 (rw isnt at e)
 ]
 
--- gathering from an empty list finds each leaf with its first letter
+-- collecting leaves from an empty list finds each leaf with the least letter that leads to it
 firsts : {t : Table} {node : ℕ} {found : List (ℕ × ℕ)} → IsGathered t node found →
     AllByRecursion (λ pair. IsFirstLetterTo t.propositions (tree_of t node) 0 pair.0 pair.1) found
 firsts h = rw h.all.is h.all.first

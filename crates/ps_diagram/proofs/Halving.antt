@@ -1,4 +1,4 @@
--- Rows of nodes are halved, proposition by proposition.
+-- A row of nodes is made from a row twice as long, proposition by proposition, until one node is left.
 use Rattle.std.proofs.Common.{◌≡◌, ℕ, ◌+◌, ◌*◌, ◌%◌, ◌^◌, ◌<◌, ◌≤◌, true, false, List, [], ◌∷◌, ◌++◌, rules, length}
 use Rattle.std.proofs.Common.{length-append, get_or, min, Option, None, ap, ◌∙◌, arith, inl, inr, ◌⊎◌}
 use Rattle.std.specs.List.{slice_get}
@@ -75,7 +75,7 @@ module _ {t : Table} {leaves nodes : List ℕ} (none : ℕ) (nothing : HasLeaf t
 
 -- ## A row from the row for the next proposition
 
--- a node that tests p, and whose sides are the nodes of the old row at the indices i and i + `half`
+-- `made` tests the proposition p, and its sides are the nodes of the old row at the indices i and i + `half`
 abbrev pub TestsAt : Table → Table → ℕ → ℕ → ℕ → List ℕ → ℕ → ℕ → Type 0
 TestsAt t u p none half nodes i made =
     IsNode u made × IsTestOf p (tree_of t (get_or nodes i none)) (tree_of t (get_or nodes (half + i) none))
@@ -94,7 +94,7 @@ tests_more {t} {u} {v} {p} {none} {half} {nodes} {count} {made} {more} node k a 
   each = push_each (TestsAt t v p none half nodes) 0 made node a.one_each is (λ i lt. grind arith) h;
 }
 
--- the new row is complete
+-- once the loop has ended, the new row has all its nodes
 pub all_tests : {t u : Table} {p none half : ℕ} {nodes : List ℕ} {count : ℕ} {made : List ℕ} → half ≡ 2 ^ p →
     count ≡ min (length nodes) (2 ^ p) → AreTests t u p none half nodes count made →
     AreTests t u p none (2 ^ p) nodes (min (length nodes) (2 ^ p)) made
@@ -102,7 +102,7 @@ all_tests is done a = rw (is, done) at a
 
 module _ {t u : Table} {p none : ℕ} {nodes made : List ℕ} (row : IsRow t (p + 1) none nodes) (keeps : Keeps t u)
     (a : AreTests t u p none (2 ^ p) nodes (min (length nodes) (2 ^ p)) made) where
-  -- an index for which the new row has a test, or which is past the end of the row
+  -- at the index i, the new row has a test of p, or the index is past the end of the row
   Made : ℕ → Type 0
   Made i = ((i < length nodes) × TestsAt t u p none (2 ^ p) nodes i (get_or made i none)) ⊎ (get_or made i none ≡ none)
 
@@ -117,7 +117,7 @@ module _ {t u : Table} {p none : ℕ} {nodes made : List ℕ} (row : IsRow t (p 
   unfolding Made
   half_row = search (rules, nothing_now, made_there, test_blind, empty_blind)
 
-  -- the leaf of a test in the new row is the leaf of the node in the old row to which the letter leads
+  -- at a letter, a node of the new row has the leaf of the old row's node to which the truth value of p leads
   leads_by : (letter : ℕ) → IsTestOf p (tree_of t (get_or nodes (letter % 2 ^ p) none))
       (tree_of t (get_or nodes (2 ^ p + letter % 2 ^ p) none)) (tree_of u (get_or made (letter % 2 ^ p) none)) →
       leaf_of u (get_or made (letter % 2 ^ p) none) letter ≡ leaf_of t (get_or nodes (letter % 2 ^ (p + 1)) none) letter

@@ -1,4 +1,4 @@
--- Overlays of trees.
+-- Overlays of trees: the tree that has the leaves of two trees which never have different leaves at one letter.
 use Rattle.std.proofs.Common.{◌≡◌, ℕ, Bool, cond, ◌∙◌, inl, inr}
 use Rattle.std.specs.Prelude.{Result, IfErr}
 use Rattle.std.specs.Result.{IsErrAnd}
@@ -13,7 +13,8 @@ use Rattle.ps_diagram.proofs.Cells.{bool_cases}
 use Rattle.ps_diagram.proofs.Canon.{changed}
 use Rattle.ps_diagram.proofs.Sides.{side_at}
 
--- a test whose sides are overlays of the sides of two tests is the overlay of these tests
+-- if two nodes test the same proposition, the test whose sides are the overlays of their sides is the overlay of the
+-- two nodes
 overlay_test : (p : ℕ) (a al ah b bl bh c cl ch : Tree) → IsTestOf p al ah a → IsTestOf p bl bh b →
     IsTestOf p cl ch c → IsOverlay al bl cl → IsOverlay ah bh ch → IsOverlay a b c
 overlay_test p a al ah b bl bh c cl ch ta tb tc l h f = rw (ta f, tb f, tc f) (elim (bool_cases (f p)) [
@@ -21,7 +22,8 @@ overlay_test p a al ah b bl bh c cl ch ta tb tc l h f = rw (ta f, tb f, tc f) (e
   | inr is ↦ rw is (l f)
 ])
 
--- two nodes are overlaid if their low sides are overlaid in the second table, and then their high sides in the third
+-- the overlay of two nodes is made of the overlay of their low sides, made first, and that of their high sides, made in
+-- the grown table
 pub overlay_sides : {t u v : Table} (w : Table) → Keeps t u → Keeps u v → {a b p al ah bl bh low : ℕ} (high made : ℕ) →
     IsSides t a p al ah → IsSides t b p bl bh → IsNode u low →
     IsOverlay (tree_of t al) (tree_of t bl) (tree_of u low) →
@@ -33,7 +35,7 @@ overlay_sides {t} {u} {v} w k m {a} {b} {p} {al} {ah} {bl} {bh} {low} high made 
     (tree_of w made) (tree_of v low) (tree_of v high) sa.leaf sb.leaf test (rw (m.same low held) l)
     (rw (← k.same ah sa.high_held, ← k.same bh sb.high_held) h)
 
--- a clash between sides is a clash between the nodes
+-- if the sides of two nodes have different leaves at some letter, so have the two nodes
 pub clash_side : {t : Table} {a b p al ah bl bh : ℕ} → IsSides t a p al ah → IsSides t b p bl bh → (v : Bool)
     (e : OverlayError) → IsClash (tree_of t (cond v ah al)) (tree_of t (cond v bh bl)) e →
     IsClash (tree_of t a) (tree_of t b) e

@@ -1,4 +1,4 @@
--- What is known stays known when the table grows, and one more node becomes known.
+-- The entries of a memo table stay right when the table of nodes grows, and when an entry is added.
 use Rattle.std.proofs.Common.{◌≡◌, ℕ, Bool, true, eqb, Option, Some, rules, sym, subst, ◌∙◌, ◌⊎◌, inl, inr}
 use Rattle.std.specs.Option.{unwrap_or}
 use Rattle.std.proofs.lemmas.Bool.{eqb-true}
@@ -8,20 +8,20 @@ use Rattle.ps_diagram.specs.Inner.Known.{Knows, KnowsPairs, pair_eq}
 use Rattle.ps_diagram.proofs.Cells.{keeps_refl}
 use Rattle.ps_diagram.proofs.Keys.{and_both}
 
--- a table that keeps the nodes of a second keeps those of each table that the second keeps
+-- keeping nodes is transitive: if u keeps the nodes of t, and v those of u, then v keeps those of t
 pub keeps_trans : {t u v : Table} → Keeps t u → Keeps u v → Keeps t v
 keeps_trans a b = search rules
 
--- the table that is read is either another table or the table that grows
+-- the table from which nodes are read keeps its nodes, be it another table or the one that grows
 pub read_keeps : (other : Option Table) {t u : Table} → Keeps t u → Keeps (unwrap_or other t) (unwrap_or other u)
 read_keeps other h = search (rules, keeps_refl)
 
--- a property of a node's tree stays when the table is kept
+-- a property of a node's tree still holds when the table grows
 pub kept : (P : Tree → Type 0) {t u : Table} → Keeps t u → {node : ℕ} → IsNode t node → P (tree_of t node) →
     P (tree_of u node)
 kept P k {node} h p = rw (k.same node h) p
 
--- equal options hold equal numbers
+-- if Some x equals Some y, then x equals y
 pub some_nat : (x y : ℕ) → Some x ≡ Some y → x ≡ y
 some_nat x y e = cc
 
@@ -49,7 +49,7 @@ one_more F eq same known new {key} {value} put h f q made e = elim (put q) [
   | inr is ↦ subst (λ k. F k made) (same key q is.0) (subst (F key) (some_nat value made (sym is.1 ∙ e)) f)
 ]
 
--- what is known stays sound when a related pair of nodes is added
+-- a memo table stays right when it maps one more node to a node whose tree is related to its tree by R
 pub knows_more : (R : Tree → Tree → Type 0) (s t : Table) (known new : ℕ → Option ℕ) {key value : ℕ} →
     MayBePut eqb known new key value → Knows R s t known → IsNode s key → IsNode t value →
     R (tree_of s key) (tree_of t value) → Knows R s t new

@@ -17,7 +17,7 @@ pub letter_lt : (n : ℕ) (f : ℕ → Bool) → letter_of n f < 2 ^ n
 letter_lt zero f = omega arith
 letter_lt (suc n) f = added (f n) n (letter_of n f) (letter_lt n f)
 
--- a bit above all bits of a number
+-- a number plus 2^n, written as the bit n and the number below it
 on_top : (n low : ℕ) → low + 2 ^ n ≡ 1 * 2 ^ n + low
 on_top n low = omega arith
 

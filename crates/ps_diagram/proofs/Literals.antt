@@ -21,7 +21,7 @@ in_power p m = grind (arith, bit_at-pow_same m, bit_at-pow_other m p)
 in_more : (q p bits : ℕ) → p < 64 → is_in q (bit_or bits (1 * 2 ^ p % 2 ^ 64)) ≡ (is_in q bits || nat_eq q p)
 in_more q p bits small = rw (one_shl p 64 small, in_or q bits (2 ^ p), in_power q p) refl
 
--- conjuncts are reordered
+-- the order of two conjuncts does not matter
 and_swap : (a rest here : Bool) → ((a && here) && rest) ≡ ((a && rest) && here)
 and_swap false rest here = refl
 and_swap true false false = refl
@@ -36,7 +36,8 @@ and_in true rest here = refl
 at_or_above : (level p : ℕ) → level ≤ p → (level ≡ p) ⊎ (level < p)
 at_or_above level p le = grind arith
 
--- two rules that differ only at a proposition before `level` allow the same letters
+-- two rules on the truth values of propositions from `level` on agree if they differ only at a proposition before
+-- `level`
 same_allowed : (may more : ℕ → Bool → Bool) (f : ℕ → Bool) (p level count : ℕ) →
     ((q : ℕ) (b : Bool) → (q ≡ p → ⊥) → more q b ≡ may q b) → p < level →
     all_allowed more f level count ≡ all_allowed may f level count
@@ -45,7 +46,7 @@ same_allowed may more f p level zero same before = refl
 same_allowed may more f p level (suc count) same before =
     rw (same level (f level) (omega arith), same_allowed may more f p (level + 1) count same (omega arith)) refl
 
--- a rule with one more condition, at one proposition, allows the letters that the old rule and the condition allow
+-- a rule with one more condition on one proposition allows exactly the letters that meet the old rule and the condition
 one_more_allowed : (may more : ℕ → Bool → Bool) (f : ℕ → Bool) (p level count : ℕ) (here : Bool) →
     ((q : ℕ) (b : Bool) → (q ≡ p → ⊥) → more q b ≡ may q b) → more p (f p) ≡ (may p (f p) && here) → level ≤ p →
     p < level + count → all_allowed more f level count ≡ (all_allowed may f level count && here)
@@ -145,7 +146,7 @@ unfolding all_allowed
 meets_none f level zero = refl
 meets_none f level (suc n) = rw (none_allows level (f level)) (meets_none f (level + 1) n)
 
--- The tree has the leaf `value` at letters at which the product allows the values of all propositions that are at least
+-- The tree has the leaf `value` at letters that meet all literals of the product on propositions that are at least
 -- `level` and less than n, and no leaf at other letters.
 pub record IsProduct (value n level : ℕ) (product : Product) (t : Tree) : Type 0 where
   pub leaf : (f : ℕ → Bool) → leaf_at t f ≡ leaf_where value (all_allowed (allows product) f level (n - level))
@@ -180,12 +181,12 @@ pub side_blind : (t : Table) {value n level : ℕ} {product : Product} (b : Bool
 side_blind t true none node side e empty h = rw e (λ f g same. empty f ∙ sym (empty g))
 side_blind t false none node side e empty h = rw e (product_blind h)
 
--- a choice between two leaves is a choice between their conditions
+-- choosing between two leaves that exist under conditions gives a leaf that exists under the chosen condition
 tested : (value : ℕ) (b x y rest : Bool) → cond b (leaf_where value (x && rest)) (leaf_where value (y && rest)) ≡ leaf_where value (cond b x y && rest)
 tested value true x y rest = refl
 tested value false x y rest = refl
 
--- one iteration of the loop, which counts down
+-- one iteration of the loop over the propositions, which counts down
 pub product_next : {value n m i : ℕ} {product : Product} (t : Table) (none node low high : ℕ) {made : Tree} → m ≡ n →
     0 < i → i ≤ n → ((f : ℕ → Bool) → leaf_at (tree_of t none) f ≡ None) → IsProduct value n i product (tree_of t node) →
     low ≡ cond (is_in (i - 1) product.positive) none node → high ≡ cond (is_in (i - 1) product.negative) none node →

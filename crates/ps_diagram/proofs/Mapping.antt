@@ -1,4 +1,4 @@
--- Trees whose leaves are changed by a rule.
+-- Trees whose leaves are replaced by a rule.
 use Rattle.std.proofs.Common.{ℕ, ◌<◌, ◌^◌, Bool, cond, Option, ap, sym, ◌∙◌, inl, inr}
 use Rattle.ps_diagram.specs.Tree.{Tree, leaf_at, IsBlind, IsTestOf}
 use Rattle.ps_diagram.specs.Table.{Table, IsNode, IsSoundTable, Keeps, tree_of, leaf_of}
@@ -17,7 +17,7 @@ mapped_test rule p a al ah c cl ch ta tc l h f = rw (ta f, tc f) (elim (bool_cas
   | inr is ↦ rw is (l f)
 ])
 
--- The leaves of a node are changed by changing its sides one after the other in another table, while both tables grow.
+-- The leaves of a node are replaced by replacing those of its two sides one after the other, while the tables grow.
 pub mapped_sides : (rule : Option ℕ → Option ℕ) {r s t u : Table} (v : Table) → Keeps r s → Keeps t u →
     {a p al ah low : ℕ} (high made : ℕ) → IsSides r a p al ah → IsNode t low →
     IsMapped rule (tree_of r al) (tree_of t low) → IsMapped rule (tree_of s ah) (tree_of u high) →
@@ -30,13 +30,12 @@ pub mapped_blind : (rule : Option ℕ → Option ℕ) (level : ℕ) (a c : Tree)
     IsBlind level c
 mapped_blind rule level a c m b f g e = m f ∙ ap rule (b f g e) ∙ sym (m g)
 
--- a property of all leaves of a test is a property of the leaves of its sides
+-- a property of all leaves of a node is a property of all leaves of its sides
 pub on_side : (P : Option ℕ → Type 0) (v : Bool) {t : Table} {node p low high : ℕ} → IsSides t node p low high →
     ((f : ℕ → Bool) → P (leaf_at (tree_of t node) f)) → (f : ℕ → Bool) → P (leaf_at (tree_of t (cond v high low)) f)
 on_side P v {p} s h f = rw (← side_at v s f) (h (changed f p v))
 
--- letters can be numbers or functions: a property of a node's leaf at all numbers is a property of its leaf at all
--- functions
+-- a property of a node's leaf at all letters, as numbers, also holds for all letters as functions
 pub by_numbers : (P : Option ℕ → Type 0) {t : Table} {node : ℕ} → IsSoundTable t → IsNode t node →
     ((letter : ℕ) → letter < 2 ^ t.propositions → P (leaf_of t node letter)) → (f : ℕ → Bool) →
     P (leaf_at (tree_of t node) f)

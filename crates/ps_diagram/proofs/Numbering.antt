@@ -1,4 +1,4 @@
--- Classes are made from leaves and their least letters.
+-- Classes of letters are made from the leaves of a diagram and their least letters.
 use Rattle.std.proofs.Common.{◌≡◌, ℕ, ◌+◌, ◌<◌, cond, eqb, List, [], ◌∷◌, ◌++◌, length, rules}
 use Rattle.std.proofs.Common.{Option, Some, None, refl, ap, sym, ◌∙◌, arith, inl, inr}
 use Rattle.std.proofs.lemmas.Bool.{eqb-true, eq-eqb}
@@ -50,7 +50,7 @@ placed_push {places} new letter k {at} {list} at_is new_key update h =
           ])) (rw (eq-eqb k k refl) at (update k) ∙ ap (λ m. Some m) at_is) i (omega arith);
     }
 
--- the next leaf has no index yet
+-- the next leaf in the list has no class index yet
 pub no_place : {leaves : List (ℕ × ℕ)} {n : ℕ} {places : ℕ → Option ℕ} {list : List Class} →
     AllPairs (λ a b. a.0 ≢ b.0) leaves → n < length leaves → AreOf leaves n list → IsPlaced places list →
     (x : Option ℕ) → places (pair_at leaves n).0 ≡ x → x ≡ None

@@ -1,4 +1,4 @@
--- Diagrams of pairs of leaves.
+-- Diagrams whose leaves are the indices of pairs of two diagrams' leaves.
 use Rattle.std.proofs.Common.{◌≡◌, ℕ, Bool, true, false, cond, List, Option, None, Some, ◌∙◌, sym, ap, inl, inr, rules}
 use Rattle.std.specs.Bool.{Decides}
 use Rattle.std.proofs.lemmas.Bool.{eq-eqb}
@@ -40,7 +40,7 @@ adds_as f a = record {
   added = λ place pair e. elim (a.added place pair e) [ inl old ↦ inl old | inr p ↦ inr (f pair p) ];
 }
 
--- inserting one pair into the list
+-- inserting one pair into the list of pairs keeps the indices of the others
 pub adds_one : {P : ℕ × ℕ → Type 0} (xs : List (ℕ × ℕ)) {ys : List (ℕ × ℕ)} (pair : ℕ × ℕ) →
     ys ≡ insert_key pair_eq xs pair → P pair → Adds P xs ys
 adds_one {P} xs pair keys p = rw keys (record {
@@ -66,8 +66,8 @@ knows_with_more t known h k a b made e =
     let r = k a b made e in
     (r.0, r.1, r.2, pair_of_more h (tree_of t a) (tree_of t b) (tree_of t made) r.3)
 
--- A pair has only one index, and so the diagram of pairs depends only on propositions on which one of the two diagrams
--- depends.
+-- A pair has only one index in the list, and so the diagram of pairs depends only on propositions on which one of the
+-- two diagrams depends.
 pair_decides : (a b : ℕ × ℕ) → Decides (pair_eq a b) (a ≡ b)
 pair_decides a b = ((λ e. pair_same a b e), (λ e. search (rules, eq-eqb)))
 
@@ -84,7 +84,8 @@ pair_blind xs once level a b c h ba bb f g e =
     paired_alike xs once (leaf_at a g) (leaf_at b g) (leaf_at c f) (leaf_at c g) (rw (ba f g e, bb f g e) at (h f))
     (h g)
 
--- a test whose sides are diagrams of pairs is a diagram of pairs of the two tests
+-- if two nodes test the same proposition, the test whose sides are the diagrams of pairs of their sides is the two
+-- nodes' diagram of pairs
 pair_test : (xs : List (ℕ × ℕ)) (p : ℕ) (a al ah b bl bh c cl ch : Tree) → IsTestOf p al ah a → IsTestOf p bl bh b →
     IsTestOf p cl ch c → IsPairOf xs al bl cl → IsPairOf xs ah bh ch → IsPairOf xs a b c
 pair_test xs p a al ah b bl bh c cl ch ta tb tc l h f = rw (ta f, tb f, tc f) (elim (bool_cases (f p)) [
@@ -92,7 +93,8 @@ pair_test xs p a al ah b bl bh c cl ch ta tb tc l h f = rw (ta f, tb f, tc f) (e
   | inr is ↦ rw is (l f)
 ])
 
--- two nodes are paired if their low sides are paired in the second table, and then their high sides in the third
+-- the diagram of pairs of two nodes is made of that of their low sides, made first, and that of their high sides, made
+-- in the grown table
 pub pair_sides : {P : ℕ × ℕ → Type 0} {xs ys : List (ℕ × ℕ)} → Adds P xs ys → {t u v : Table} (w : Table) → Keeps t u →
     Keeps u v → {a b p al ah bl bh low : ℕ} (high made : ℕ) → IsSides t a p al ah → IsSides t b p bl bh → IsNode u low →
     IsPairOf xs (tree_of t al) (tree_of t bl) (tree_of u low) →
@@ -105,20 +107,20 @@ pair_sides {P} {xs} {ys} more {t} {u} {v} w k m {a} {b} {p} {al} {ah} {bl} {bh} 
     (pair_of_more more (tree_of t al) (tree_of t bl) (tree_of v low) (rw (m.same low held) l))
     (rw (← k.same ah sa.high_held, ← k.same bh sb.high_held) h)
 
--- leaves that occur together on one side of two nodes occur together in the nodes
+-- if the sides of two nodes have a pair of leaves at one letter, the two nodes have it at some letter
 pub meet_side : {t : Table} {a b p al ah bl bh : ℕ} → IsSides t a p al ah → IsSides t b p bl bh → (v : Bool)
     (pair : ℕ × ℕ) → Meet (tree_of t (cond v ah al)) (tree_of t (cond v bh bl)) pair →
     Meet (tree_of t a) (tree_of t b) pair
 meet_side {p = p} sa sb v pair c = (changed c.0 p v, side_at v sa c.0 ∙ c.1, side_at v sb c.0 ∙ c.2)
 
--- pairs added for the low sides, and then for the high sides in a table that has grown, are pairs of the nodes' leaves
+-- the pairs that are added for two nodes' low sides, and then for their high sides, are pairs of the two nodes' leaves
 pub adds_sides : {t u : Table} {xs ys zs : List (ℕ × ℕ)} → Keeps t u → {a b p al ah bl bh : ℕ} → IsSides t a p al ah →
     IsSides t b p bl bh → Adds (Meet (tree_of t al) (tree_of t bl)) xs ys →
     Adds (Meet (tree_of u ah) (tree_of u bh)) ys zs → Adds (Meet (tree_of t a) (tree_of t b)) xs zs
 adds_sides k {ah = ah} {bh = bh} sa sb = adds_both (meet_side sa sb false)
     (λ pair m. meet_side sa sb true pair (rw (← k.same ah sa.high_held, ← k.same bh sb.high_held) m))
 
--- if two leaves occur at a common letter, they do so at a letter over the table's propositions
+-- if two nodes have a pair of leaves at some letter, they have it at a letter over the table's propositions
 pub meet_at : {t : Table} → IsSoundTable t → {a b : ℕ} → IsNode t a → IsNode t b → (pair : ℕ × ℕ) →
     Meet (tree_of t a) (tree_of t b) pair → MeetAt t a b pair
 meet_at {t} s {a} {b} ha hb pair m =

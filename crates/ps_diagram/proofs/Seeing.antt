@@ -1,4 +1,4 @@
--- The view of a node, derived from its cell.
+-- What a caller sees of a node, derived from the cell that the store has for it.
 use Rattle.std.proofs.Common.{ℕ, ◌+◌, ap, arith}
 use Rattle.ps_diagram.specs.declared.view.View.{View}
 use Rattle.ps_diagram.specs.declared.view.View.TheVariants.{Nothing, Leaf, Test}

@@ -1,4 +1,4 @@
--- Nodes that are split at a proposition.
+-- Nodes that are split into a low side and a high side at a proposition.
 use Rattle.std.proofs.Common.{rules, ◌≡◌, ℕ, ◌+◌, ◌<◌, ◌≤◌, Bool, cond, Some, None, refl, arith, min}
 use Rattle.std.proofs.lemmas.Bool.{cases_lt}
 use Rattle.ps_diagram.specs.Tree.{Tree, empty, final, choice, leaf_at, IsFrom}
@@ -7,7 +7,7 @@ use Rattle.ps_diagram.specs.Inner.Parts.{IsChoice}
 use Rattle.ps_diagram.specs.Split.{root_of, IsConstant, IsSides}
 use Rattle.ps_diagram.proofs.Canon.{blind-from, changed, same_cond, side_leaf}
 
--- the two nodes of a choice are the sides of its node
+-- the two child nodes of a node that tests p are its sides at p
 pub sides_of_test : {t : Table} {node p low high : ℕ} → IsChoice t node p low high → IsSides t node p low high
 sides_of_test {t} {node} {p} {low} {high} h = search (rules, blind-from)
 
@@ -23,12 +23,12 @@ constant_root n empty o h = (None, (λ f. refl))
 constant_root n (final k) o h = (Some k, (λ f. refl))
 constant_root n (choice p low high) o h = absurd (omega arith)
 
--- the leaf of a side is the node's leaf at the letter in which the proposition is changed
+-- a side's leaf at a letter is the node's leaf at the letter in which p has the side's truth value
 pub side_at : {t : Table} {node p low high : ℕ} (v : Bool) → IsSides t node p low high → (f : ℕ → Bool) →
     leaf_at (tree_of t node) (changed f p v) ≡ leaf_at (tree_of t (cond v high low)) f
 side_at v h f = search (rules, side_leaf)
 
--- The sum of two numbers falls if neither number rises, and the number that belongs to the smaller proposition falls.
+-- The sum of two nodes (as numbers) falls if neither rises, and the one that tests the smaller proposition falls.
 pub falls : (a b : ℕ) {r : ℕ} (first second x y : ℕ) → r ≡ min a b → x ≤ first → y ≤ second → (a ≡ r → x < first) →
     (b ≡ r → y < second) → x + y < first + second
 falls a b first second x y e hx hy lx ly = search (rules, cases_lt)

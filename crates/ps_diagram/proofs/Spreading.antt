@@ -1,4 +1,4 @@
--- What remains of a diagram after each letter over some propositions has been read.
+-- For each letter over some propositions, what remains of a diagram after this letter has been read (a cofactor).
 use Rattle.std.proofs.Common.{◌≡◌, ℕ, ◌+◌, ◌^◌, ◌<◌, Bool, true, false, cond, refl, sym, ◌∙◌}
 use Rattle.std.proofs.Common.{arith, inl, inr}
 use Rattle.std.proofs.lemmas.Bool.{cases_lt}
@@ -23,7 +23,7 @@ cofactor_blind mask letter level a d h b f g e = h f
     ∙ b (mixed mask (assignment letter) f) (mixed mask (assignment letter) g)
     (λ q le. cond_same (is_in q mask) (f q) (g q) (is_in q letter) (λ _. e q le)) ∙ sym (h g)
 
--- a test of a proposition in the mask is replaced by the side to which the letter leads
+-- in a cofactor, a test of a proposition in the mask is replaced by the side to which the letter leads
 pub cofactor_in : (mask letter p : ℕ) (v : Bool) (a al ah d : Tree) → is_in p mask ≡ true → is_in p letter ≡ v →
     IsTestOf p al ah a → IsCofactor mask letter (cond v ah al) d → IsCofactor mask letter a d
 cofactor_in mask letter p true a al ah d is bit test h g =
@@ -31,13 +31,14 @@ cofactor_in mask letter p true a al ah d is bit test h g =
 cofactor_in mask letter p false a al ah d is bit test h g =
     rw (test (mixed mask (assignment letter) g), is, bit) (h g)
 
--- a test of a proposition outside the mask stays a test
+-- in a cofactor, a test of a proposition outside the mask stays a test
 pub cofactor_out : (mask letter p : ℕ) (a al ah d dl dh : Tree) → is_in p mask ≡ false → IsTestOf p al ah a →
     IsTestOf p dl dh d → IsCofactor mask letter al dl → IsCofactor mask letter ah dh → IsCofactor mask letter a d
 cofactor_out mask letter p a al ah d dl dh isnt ta td l h g =
     rw (ta (mixed mask (assignment letter) g), td g, isnt, l g, h g) refl
 
--- the cofactor of a test whose sides are made one after the other while the table grows
+-- the cofactor of a test is made of the cofactors of its sides, which are made one after the other while the table
+-- grows
 pub cofactor_sides : {t u : Table} (v : Table) (mask letter p : ℕ) (a al ah : Tree) {low : ℕ} (high made : ℕ) →
     is_in p mask ≡ false → IsTestOf p al ah a → Keeps t u → IsNode t low →
     IsCofactor mask letter al (tree_of t low) → IsCofactor mask letter ah (tree_of u high) →
@@ -48,7 +49,7 @@ cofactor_sides {t} {u} v mask letter p a al ah {low} high made isnt ta k held l 
 
 -- ## All letters
 
--- letters that agree with `letter` on the mask have the same rest
+-- the same remains of a diagram after all letters that agree with `letter` on the mask
 pub spread_here : (t : Table) (n mask letter : ℕ) (a : Tree) {d : Tree} {rest : ℕ} → IsFrom 0 n a → IsNode t rest →
     IsCofactor mask letter a (tree_of t rest) → d ≡ final rest → IsSpread t mask n letter a d
 spread_here t n mask letter a {d} {rest} o held h is f agree = (
@@ -70,7 +71,7 @@ spread_kept k mask level letter a d h f agree =
 below_next : (level q : ℕ) → q < level + 1 → (q < level → ⊥) → q ≡ level
 below_next level q lt not = omega arith
 
--- one proposition more is read, which is not in the mask
+-- the proposition `level` is not in the mask, so it is not read
 pub spread_on : (t : Table) (mask level letter : ℕ) (a d : Tree) → is_in level mask ≡ false →
     IsSpread t mask (level + 1) letter a d → IsSpread t mask level letter a d
 spread_on t mask level letter a d isnt h f agree = h f (λ q lt is. elim (cases_lt q level) [
@@ -81,7 +82,7 @@ spread_on t mask level letter a d isnt h f agree = h f (λ q lt is. elim (cases_
       cc
 ])
 
--- one proposition more is read, which is in the mask
+-- the proposition `level` is in the mask, so it is read, and both its values are tried
 spread_test : (t : Table) (mask level letter : ℕ) (a dl dh d : Tree) → letter < 2 ^ level →
     IsSpread t mask (level + 1) letter a dl → IsSpread t mask (level + 1) (letter + 2 ^ level) a dh →
     IsTestOf level dl dh d → IsSpread t mask level letter a d
@@ -102,7 +103,8 @@ spread_test t mask level letter a dl dh d small low high test f agree = elim (bo
       (r.0, rw (test f, isnt) r.1, r.2, r.3)
 ]
 
--- a test is spread if its two sides are, even if they are made one after the other while the table grows
+-- the diagram of cofactors for both values of the proposition `level` is a test of it, whose sides are made one after
+-- the other
 pub spread_sides : {t u v : Table} (mask level letter next : ℕ) (a : Tree) {low : ℕ} (high made : ℕ) →
     letter < 2 ^ level → next ≡ letter + 2 ^ level → Keeps t u → Keeps u v → IsNode t low →
     IsSpread t mask (level + 1) letter a (tree_of t low) → IsSpread u mask (level + 1) next a (tree_of u high) →
@@ -114,6 +116,6 @@ spread_sides {t} {u} {v} mask level letter next a {low} high made small is k m h
     (rw (k.same low held) (spread_kept k mask (level + 1) letter a (tree_of t low) l)))
     (spread_kept m mask (level + 1) (letter + 2 ^ level) a (tree_of u high) (rw is at h)) test
 
--- at level 0, a spread tree is divided for all letters
+-- a diagram of cofactors that is right from level 0 on is right for all letters
 pub spread_divides : (t : Table) (mask : ℕ) (a d : Tree) → IsSpread t mask 0 0 a d → IsDivided t mask a d
 spread_divides t mask a d h f = h f (λ q lt is. absurd (omega arith))

@@ -1,4 +1,4 @@
--- Truth diagrams: how they are made, and that they stay the same when the table grows.
+-- Diagrams of truth values (leaf 1 or none): how they are made, and that they stay the same when the table grows.
 use Rattle.std.proofs.Common.{◌≡◌, ℕ, ◌+◌, ◌<◌, Bool, true, false, cond, List, [], ◌∷◌, ◌++◌, length, get_or, Option}
 use Rattle.std.proofs.Common.{Some, refl, ap, sym, ◌∙◌, arith, drop, drop-cons, add-one, length-append, rules}
 use Rattle.std.specs.Prelude.{option_map}
@@ -22,7 +22,7 @@ is_one b h = search rules
 one_leaf : {leaf : Option ℕ} {x : ℕ} → IsOneOrNone leaf → leaf ≡ Some x → x ≡ 1
 one_leaf {x} h e = is_one h.0 (sym h.1 ∙ e)
 
--- truth diagrams do not clash
+-- two diagrams of truth values never have different leaves at one letter, since each leaf is 1
 pub no_clash : (t : Table) (a b x y : ℕ) → ((letter : ℕ) → IsOneOrNone (leaf_of t a letter)) →
     ((letter : ℕ) → IsOneOrNone (leaf_of t b letter)) → TellsClash t a b (Clash x y) → ⊥
 no_clash t a b x y ha hb c = c.4 (one_leaf (ha c.0) c.2 ∙ sym (one_leaf (hb c.0) c.3))
@@ -48,8 +48,8 @@ opposite_of b = search rules
 pub joined_of : (a b : Bool) → either_leaf (one_where a) (one_where b) ≡ one_where (cond a true b)
 joined_of a b = search rules
 
--- The operands so far decide the truth value of the whole, or the remaining operands decide it. If one true operand
--- suffices, a true operand decides; if all operands are needed, a false operand decides.
+-- The operands of a label so far decide the label's truth value, or the remaining operands decide it. In a disjunction
+-- (`any` is true), a true operand decides; in a conjunction, a false operand decides.
 pub record IsDecided (any : Bool) (leaf : Option ℕ) (rest whole : Bool) : Type 0 where
   pub so_far : Bool
   pub is : leaf ≡ one_where so_far
@@ -71,7 +71,7 @@ drop_is items k {x} lt is = rw (add-one, drop-cons items k x, ← is)
 
 -- ## The nodes of aliases
 
--- the nodes of the aliases, with one more alias
+-- the list of the aliases' diagrams stays right when the diagram of one more alias is appended
 pub truths_push : {t u : Table} {nodes : List ℕ} {node : ℕ} {known : ℕ → List Bool} → Keeps t u →
     HaveTruths t nodes known → IsNode u node →
     ((letter : ℕ) → leaf_of u node letter ≡ one_where (get_or (known letter) (length nodes) false)) →

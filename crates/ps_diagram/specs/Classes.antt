@@ -6,14 +6,15 @@ use Rattle.ps_diagram.specs.Letters.{AgreeOff, AgreeOn, IsBefore, IsLeastLetter}
 use Rattle.ps_diagram.specs.Reached.{LeadsToLeaf}
 use Rattle.ps_diagram.specs.Table.{Table, IsNode, leaf_of}
 
--- for all truth values of the propositions outside the mask, x and y lead to the same leaf, or both to no leaf
+-- whatever the truth values of the propositions outside the mask, the letters x and y lead to the same leaf, or both to
+-- no leaf
 abbrev pub LeadAlike : Table → ℕ → ℕ → ℕ → ℕ → Type 0
 LeadAlike t node mask x y =
     (u v : ℕ) → AgreeOn mask x u → AgreeOn mask y v → AgreeOff mask u v → leaf_of t node u ≡ leaf_of t node v
 
--- The class at the index k. The letter of the class is its least letter, and has only propositions of the mask. The
--- diagram of the class depends only on the other propositions, and has the leaf of the first table's node at each
--- letter of the class.
+-- c is the class of letters with the index k. Its letter is the least letter in it, in which only propositions of the
+-- mask are true. Its diagram depends only on the other propositions, and has, at each letter of the class, the leaf of
+-- the node that was divided.
 pub record IsClass (s t : Table) (node mask places k : ℕ) (c : Class) : Type 0 where
   pub least : IsLeastLetter (LeadsToLeaf t places k) c.letter
   pub masked : (p : ℕ) → is_in p mask ≡ false → is_in p c.letter ≡ false
@@ -21,9 +22,10 @@ pub record IsClass (s t : Table) (node mask places k : ℕ) (c : Class) : Type 0
   pub others : (x y : ℕ) → AgreeOff mask x y → leaf_of t c.rest x ≡ leaf_of t c.rest y
   pub shared : (x : ℕ) → leaf_of t places x ≡ Some k → leaf_of t c.rest x ≡ leaf_of s node x
 
--- The node is in the first table; the diagrams of its classes are in the second table. The diagram `places` depends
--- only on the mask, and leads each letter to the index of its class in the list. Two letters are in one class exactly
--- if they lead alike (`LeadAlike`). The classes are in ascending order of their letters.
+-- The node that is divided is in the table s; the diagrams of its classes are in the table t. The diagram `places`
+-- depends only on the mask, and leads each letter to the index of its class in the list. Two letters are in one class
+-- exactly if they lead to the same leaves for all values of the other propositions (`LeadAlike`). The classes are in
+-- ascending order of their letters.
 pub record AreClasses (s t : Table) (node mask places : ℕ) (list : List Class) : Type 0 where
   pub held : IsNode t places
   pub read : (x y : ℕ) → AgreeOn mask x y → leaf_of t places x ≡ leaf_of t places y

@@ -1,4 +1,4 @@
--- Definitions that only private contracts use; no public clause refers to them.
+-- Definitions that only contracts of private functions use; no clause of a public function refers to them.
 
 pub mod Chosen
 pub mod Composed

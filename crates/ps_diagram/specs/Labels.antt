@@ -8,12 +8,12 @@ use Rattle.ps_label.specs.Expression.{Expression}
 use Rattle.ps_label.specs.Truth.{alias_truths}
 use Rattle.ps_diagram.specs.Table.{Table, IsNode, leaf_of}
 
--- the leaf for a truth value: 1 for true, None for false
+-- the leaf by which a diagram shows a truth value: 1 for true, None for false
 abbrev pub one_where : Bool → Option ℕ
 one_where true = Some 1
 one_where false = None
 
--- the leaf for a truth value: the given leaf for true, None for false
+-- the leaf by which a diagram shows a truth value: the given leaf for true, None for false
 abbrev pub leaf_where : ℕ → Bool → Option ℕ
 leaf_where value true = Some value
 leaf_where value false = None
@@ -21,7 +21,8 @@ leaf_where value false = None
 abbrev pub IsOneOrNone : Option ℕ → Type 0
 IsOneOrNone leaf = (b : Bool) × (leaf ≡ one_where b)
 
--- the nodes are in the table, and at each letter, each node has the leaf for its truth value
+-- the nodes are in the table, and at each letter, each node has the leaf 1 if its truth value in `known` is true, and
+-- else none
 pub record HaveTruths (t : Table) (nodes : List ℕ) (known : ℕ → List Bool) : Type 0 where
   pub held : (k : ℕ) → k < length nodes → IsNode t (slice_index nodes k)
   pub leaf : (k letter : ℕ) → k < length nodes → leaf_of t (slice_index nodes k) letter ≡ one_where

@@ -1,4 +1,4 @@
--- What the operations on diagrams make of the leaves at one letter, and when two leaves do not clash.
+-- Which leaf an operation on diagrams gives at a letter, and which pairs of leaves can be overlaid.
 use Rattle.std.specs.Prelude.{◌≡◌, ℕ, Option, Some, None}
 
 -- the first leaf if there is one, and otherwise the second
@@ -6,7 +6,7 @@ abbrev pub either_leaf : Option ℕ → Option ℕ → Option ℕ
 either_leaf None second = second
 either_leaf (Some k) second = Some k
 
--- the arguments are not two different leaves
+-- two leaves can be overlaid: at least one is missing, or they are equal
 abbrev pub AreCompatible : Option ℕ → Option ℕ → Type 0
 AreCompatible None second = Unit {0}
 AreCompatible (Some k) None = Unit {0}
@@ -17,7 +17,7 @@ abbrev pub opposite : Option ℕ → Option ℕ
 opposite None = Some 1
 opposite (Some k) = None
 
--- the second argument if the first is a leaf, and otherwise the third
+-- if-then-else of leaves: the second argument if the first is a leaf, and otherwise the third
 abbrev pub chosen : Option ℕ → Option ℕ → Option ℕ → Option ℕ
 chosen None one other = other
 chosen (Some k) one other = one

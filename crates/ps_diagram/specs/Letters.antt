@@ -1,4 +1,4 @@
--- Letters, as numbers and as functions, and the order of letters.
+-- Letters (truth values of propositions) as numbers and as functions, and the order of letters.
 use Rattle.std.specs.Prelude.{◌≡◌, ℕ, zero, suc, ◌+◌, ◌^◌, ◌<◌, Bool, true, false, cond}
 use Rattle.ps_label.specs.Truth.{is_in}
 
@@ -26,7 +26,7 @@ AgreeOn mask x y = (p : ℕ) → is_in p mask ≡ true → is_in p x ≡ is_in p
 abbrev pub AgreeOff : ℕ → ℕ → ℕ → Type 0
 AgreeOff mask x y = (p : ℕ) → is_in p mask ≡ false → is_in p x ≡ is_in p y
 
--- the letter has the property, and no earlier letter has it
+-- the letter is the first in the order of letters that has the property P
 pub record IsLeastLetter (P : ℕ → Type 0) (letter : ℕ) : Type 0 where
   pub here : P letter
   pub none_before : (x : ℕ) → P x → IsBefore x letter → ⊥

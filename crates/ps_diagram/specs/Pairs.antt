@@ -8,12 +8,12 @@ IsPaired pairs None second leaf = leaf ≡ None
 IsPaired pairs (Some k) None leaf = leaf ≡ None
 IsPaired pairs (Some k) (Some m) leaf = (place : ℕ) × (leaf ≡ Some place) × (slice_get pairs place ≡ Some (k, m))
 
--- each pair that was in the list keeps its index, and each new pair has the property
+-- each pair of the old list keeps its index in the new list, and each added pair has the property P
 pub record Adds (P : ℕ × ℕ → Type 0) (old new : List (ℕ × ℕ)) : Type 0 where
   pub stays : (place : ℕ) (pair : ℕ × ℕ) → slice_get old place ≡ Some pair → slice_get new place ≡ Some pair
   pub added : (place : ℕ) (pair : ℕ × ℕ) → slice_get new place ≡ Some pair → (slice_get old place ≡ Some pair) ⊎ P pair
 
--- at some letter, the pair consists of the leaves of the two nodes
+-- at some letter, the two nodes have the two leaves of the pair
 abbrev pub MeetAt : Table → ℕ → ℕ → ℕ × ℕ → Type 0
 MeetAt t first second pair =
     (letter : ℕ) × (letter < 2 ^ t.propositions) × (leaf_of t first letter ≡ Some pair.0) ×

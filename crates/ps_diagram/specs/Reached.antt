@@ -14,7 +14,8 @@ use Rattle.ps_diagram.specs.Tree.{Tree, leaf_at}
 abbrev pub LeadsToLeaf : Table → ℕ → ℕ → ℕ → Type 0
 LeadsToLeaf t node leaf letter = (letter < 2 ^ t.propositions) × (leaf_of t node letter ≡ Some leaf)
 
--- each pair consists of a leaf and its least letter
+-- the list has all leaves of the node, each paired with the least letter that leads to it, in the order of these
+-- letters
 pub record AreLeaves (t : Table) (node : ℕ) (found : List (ℕ × ℕ)) : Type 0 where
   pub least : All (λ pair. IsLeastLetter (LeadsToLeaf t node pair.0) pair.1) found
   pub each : (leaf letter : ℕ) → LeadsToLeaf t node leaf letter → Any (λ pair. pair.0 ≡ leaf) found
@@ -25,9 +26,9 @@ pub record AreLeaves (t : Table) (node : ℕ) (found : List (ℕ × ℕ)) : Type
 abbrev pub IsFound : List (ℕ × ℕ) → ℕ → Type 0
 IsFound found leaf = (letter : ℕ) × (lookup (nat_eq leaf) found ≡ Some letter)
 
--- The letter `place` leads to the leaf, and agrees with `letter` on all propositions before the tree's first test.
--- Every letter x before `place` that leads to the leaf is excluded by `letter`: the first proposition at which x and
--- `place` differ is true in `letter`.
+-- The letter `place` leads to the leaf in a tree that the start of `letter` reaches: they agree before the tree's first
+-- test. Every letter x before `place` that leads to the leaf is excluded by `letter`: the first proposition at which x
+-- and `place` differ is true in `letter`.
 pub record IsFirstLetterTo (n : ℕ) (t : Tree) (letter leaf place : ℕ) : Type 0 where
   pub within : place < 2 ^ n
   pub there : leaf_at t (assignment place) ≡ Some leaf
@@ -39,7 +40,7 @@ abbrev pub AreRising : List (ℕ × ℕ) → Type 0
 AreRising [] = Unit {0}
 AreRising (pair ∷ pairs) = AllByRecursion (λ later. IsBefore pair.1 later.1) pairs × AreRising pairs
 
--- the leaves of the tree that were not in the list are added to it
+-- the new list is the old list and then those leaves of the tree that were not in it
 pub record Gathers (n : ℕ) (t : Tree) (letter : ℕ) (old new : List (ℕ × ℕ)) : Type 0 where
   pub added : List (ℕ × ℕ)
   pub is : new ≡ old ++ added
@@ -52,7 +53,7 @@ pub record IsGathered (t : Table) (node : ℕ) (found : List (ℕ × ℕ)) : Typ
   pub held : IsNode t node
   pub all : Gathers t.propositions (tree_of t node) 0 [] found
 
--- the list has all leaves of the nodes that were visited
+-- the list has all leaves of all nodes that were visited
 abbrev pub HaveFound : Table → (ℕ → Bool) → List (ℕ × ℕ) → Type 0
 HaveFound t seen found = (node : ℕ) → seen node ≡ true → (f : ℕ → Bool) (leaf : ℕ) →
     leaf_at (tree_of t node) f ≡ Some leaf → IsFound found leaf

@@ -24,8 +24,8 @@ pub record IsSides (t : Table) (node p low high : ℕ) : Type 0 where
   pub high_later : IsBlind (p + 1) (tree_of t high)
   pub leaf : IsTestOf p (tree_of t low) (tree_of t high) (tree_of t node)
 
--- two nodes are split at the same proposition; the sum of their low sides is less than the sum of the nodes, and so is
--- the sum of their high sides
+-- two nodes are split at the same proposition; as numbers, their low sides have a smaller sum than the nodes, and so
+-- have their high sides
 pub record IsSplit (t : Table) (first second : ℕ) (s : Split) : Type 0 where
   pub named : s.proposition < t.propositions
   pub first_sides : IsSides t first s.proposition s.left.low s.left.high

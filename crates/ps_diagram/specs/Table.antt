@@ -1,4 +1,4 @@
--- A store of diagrams as a table of cells, and the tree of each node.
+-- A store of decision diagrams as a table of cells, one for each node, and the tree below each node.
 --
 --     Table              the number of propositions, and the cells; a node is the index of its cell
 --     IsNode t node      the node is in the table
@@ -16,13 +16,13 @@ pub record Table : Type 0 where
   pub propositions : ℕ
   pub cells : List View
 
--- the tree of a cell, given the trees of earlier cells
+-- the decision tree of a cell, given the trees of earlier cells
 abbrev pub tree_by : List Tree → View → Tree
 tree_by known Nothing = empty
 tree_by known (Leaf k) = final k
 tree_by known (Test p low high) = choice p (slice_index_or known low empty) (slice_index_or known high empty)
 
--- the trees of the cells, each made from the trees of the cells before it
+-- the decision trees of all cells, each made from the trees of the cells before it
 unfoldable pub trees_of : List View → List Tree
 trees_of cells = fold (λ known cell. known ++ tree_by known cell ∷ []) [] cells
 
@@ -48,14 +48,14 @@ pub record Keeps (old new : Table) : Type 0 where
   pub held : (node : ℕ) → IsNode old node → IsNode new node
   pub same : (node : ℕ) → IsNode old node → tree_of new node ≡ tree_of old node
 
--- the nodes in the cell are less than `count`
+-- the child nodes in the cell, as numbers, are less than `count`
 abbrev pub IsCellWithin : ℕ → View → Type 0
 IsCellWithin count Nothing = Unit {0}
 IsCellWithin count (Leaf k) = Unit {0}
 IsCellWithin count (Test p low high) = (low < count) × (high < count)
 
--- The tree of each cell is made from the trees of earlier cells, and is ordered and reduced. Equal trees have the same
--- node.
+-- In a sound table, the tree of each cell is made from the trees of earlier cells, and is ordered and reduced. Two
+-- nodes with equal trees are the same node.
 pub record IsSoundTable (t : Table) : Type 0 where
   pub few : t.propositions ≤ 64
   pub built : (node : ℕ) → IsNode t node → tree_of t node ≡ tree_in t.cells (slice_index_or t.cells node Nothing)

@@ -19,13 +19,13 @@ IsFrom level n empty = Unit {0}
 IsFrom level n (final k) = Unit {0}
 IsFrom level n (choice p low high) = (level ≤ p) × (p < n) × IsFrom (p + 1) n low × IsFrom (p + 1) n high
 
--- the two sides of each choice differ
+-- the tree is reduced: the two sides of each choice differ
 abbrev pub IsReduced : Tree → Type 0
 IsReduced empty = Unit {0}
 IsReduced (final k) = Unit {0}
 IsReduced (choice p low high) = (low ≡ high → ⊥) × IsReduced low × IsReduced high
 
--- the leaves depend only on propositions from `level` on
+-- the tree's leaves depend only on propositions from `level` on
 abbrev pub IsBlind : ℕ → Tree → Type 0
 IsBlind level t = (f g : ℕ → Bool) → ((q : ℕ) → level ≤ q → f q ≡ g q) → leaf_at t f ≡ leaf_at t g
 

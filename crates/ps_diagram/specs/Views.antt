@@ -1,4 +1,4 @@
--- The part of a node that a caller sees.
+-- What a caller sees of a node: no leaf, one leaf, or a test with two nodes.
 use Rattle.std.specs.Prelude.{◌≡◌, ℕ, ◌^◌, ◌<◌, cond, Some, None}
 use Rattle.ps_label.specs.Truth.{is_in}
 use Rattle.ps_diagram.specs.declared.view.View.{View}
@@ -11,7 +11,7 @@ HeedsBehind t node p = (x y : ℕ) → ((q : ℕ) → p < q → is_in q x ≡ is
 
 -- The node's leaf depends on p, and on no proposition before p. The node's leaf is the leaf of `low` if p is false, and
 -- the leaf of `high` if p is true. Both `low` and `high` are earlier nodes that depend only on propositions after p.
--- They differ at some letter.
+-- The leaves of `low` and `high` differ at some letter.
 pub record SeesTest (t : Table) (node p low high : ℕ) : Type 0 where
   pub named : p < t.propositions
   pub low_held : IsNode t low

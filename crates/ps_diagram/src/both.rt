@@ -1,4 +1,4 @@
-//! Joins two diagrams into one, whose leaves are indices of pairs of leaves.
+//! Joins two diagrams into one, whose leaves are the indices of pairs of their leaves.
 
 ghost use Rattle.std.specs.Prelude.{◌≡◌, ℕ, ◌+◌, IfOk, Some};
 ghost use Rattle.indexmap.specs.IndexMap.{get};
@@ -37,7 +37,7 @@ impl Store {
         self.paired(first, second, pairs, &mut known)
     }
 
-    /// Like `both`, but with a table of the pairs of nodes that were paired before.
+    /// Like `both`, but with a memo table of the pairs of nodes that were joined before.
     fn paired(
         &mut self,
         first: Node,
@@ -81,7 +81,7 @@ impl Store {
         Ok(made)
     }
 
-    /// Like `paired`, but for two diagrams that test nothing.
+    /// Like `paired`, but for two diagrams that test no proposition.
     fn paired_leaves(
         &mut self,
         first: Node,

@@ -14,12 +14,12 @@ use crate::store::Store;
 use crate::view::{Node, View};
 use std::alloc::AllocError;
 
-/// Three nodes, split at the first proposition that one of them tests.
+/// The sides of three nodes at the first proposition that one of them tests.
 #[derive(Clone, Copy)]
 pub(crate) struct Cut {
     /// The proposition.
     pub proposition: u32,
-    /// The sides of the truth, the node that decides between the other two.
+    /// The sides of the first node, which decides between the other two.
     pub truth: Sides,
     /// The sides of the node that is chosen at letters at which the truth has a leaf.
     pub one: Sides,
@@ -44,7 +44,7 @@ impl Store {
         self.chosen(truth, one, other, &mut known)
     }
 
-    /// Like `choose`, but with a table of the choices that were made before.
+    /// Like `choose`, but with a memo table of the results for three nodes that were computed before.
     fn chosen(
         &mut self,
         truth: Node,
@@ -87,7 +87,7 @@ impl Store {
         Ok(made)
     }
 
-    /// Three nodes, split at `first`, the first proposition that one of them tests; the truth tests it.
+    /// The sides of three nodes at `first`, the first proposition that one of them tests; the node `truth` tests it.
     fn cut(&self, first: u32, truth: Node, one: Node, other: Node) -> Cut
         requires truth { IsNode self.now truth }
         requires one { IsNode self.now one }

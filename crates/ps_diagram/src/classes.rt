@@ -17,7 +17,7 @@ use crate::view::{Node, View};
 use indexmap::IndexMap;
 use std::alloc::{AllocError, Global};
 
-/// If there are at most this many propositions, each letter over them is tried.
+/// If letters over at most this many propositions are divided into classes, each of these letters is tried.
 const FEW: u32 = 4;
 
 /// A class of letters over some propositions. Two letters are in one class if, for all truth values of the other
@@ -26,7 +26,7 @@ const FEW: u32 = 4;
 pub struct Class {
     /// The least letter of the class.
     pub letter: u64,
-    /// The diagram, over the other propositions, that all letters of the class share.
+    /// The diagram of what remains after each letter of the class: it tests only the other propositions.
     pub rest: Node,
 }
 
@@ -35,14 +35,14 @@ pub struct Class {
 pub struct Classes {
     /// The classes, in the order of their letters.
     pub list: Vec<Class>,
-    /// The diagram whose leaf at a letter is the index, in the list, of the letter's class.
+    /// The diagram whose leaf at a letter is the index of the letter's class in the list of classes.
     pub places: Node,
 }
 
 impl Store {
     /// The classes of the letters over the propositions of `split`. Two letters are in one class exactly if, for all
-    /// truth values of the other propositions, they lead to the same leaf, or both to none. The node is read in a copy
-    /// of the store; `classes_from` reads it in a borrowed one.
+    /// truth values of the other propositions, they lead to the same leaf, or both to none. This call copies the store
+    /// to read the node from it; `classes_from` reads the node from a borrowed store.
     pub fn classes(&mut self, node: Node, split: u64) -> Result<Classes, AllocError>
         requires held { IsNode self.old node }
         ensures keeps { Keeps self.old self.new }
@@ -53,7 +53,7 @@ impl Store {
         Ok(classes)
     }
 
-    /// Like `classes`, but for a node of another store. The diagrams of the classes are made in this store.
+    /// Like `classes`, but for a node of another store. The diagrams of the classes are made in the store `self`.
     pub fn classes_from(
         &mut self,
         other: &Store,
@@ -72,8 +72,8 @@ impl Store {
         Ok(classes)
     }
 
-    /// The diagram over the propositions of `split` whose leaves are nodes: the leaf at a letter is the node of what
-    /// remains of the given node after that letter has been read.
+    /// A diagram over the propositions of `split` whose leaves are numbers of nodes: at a letter, the node that remains
+    /// of the given one after the letter's values have been read.
     fn rests(&mut self, other: &Store, node: Node, split: u64) -> Result<Node, AllocError>
         requires held { IsNode other.now node }
         requires letters { self.old.propositions ≡ other.now.propositions }
@@ -91,7 +91,8 @@ impl Store {
         self.divided(other, node, split, &mut known, &mut tests)
     }
 
-    /// The classes of the leaves of a diagram, and the diagram that gives each letter the index of its class.
+    /// Makes a class of each leaf of a diagram, and the diagram whose leaf at a letter is the index of the letter's
+    /// class.
     fn classes_of_leaves(
         &mut self,
         divided: Node,
@@ -111,8 +112,9 @@ impl Store {
         Ok(Classes { list, places })
     }
 
-    /// Like `rests`, but with tables of what was made before. The leaf at a letter x is a node. At each letter y over
-    /// the other propositions, the node at x has the leaf that the given node has at the letter made of x and y.
+    /// Like `rests`, but with memo tables of the nodes that were made before. The resulting diagram's leaf at a letter
+    /// x is the number of a node. At each letter y over the other propositions, that node has the leaf which the given
+    /// node has at the letter made of x and y.
     fn divided(
         &mut self,
         other: &Store,
@@ -153,7 +155,8 @@ impl Store {
         }
     }
 
-    /// The diagram that gives every letter the same node, which has this leaf, or none, at every letter.
+    /// The diagram whose leaf at every letter is the number of the same node, which has the given leaf, or none, at
+    /// every letter.
     fn place_of_leaf(&mut self, leaf: Option<u64>) -> Result<Node, AllocError>
         ensures keeps { Keeps self.old self.new }
         ensures held { IfOk result (λ made. IsNode self.new made) }
@@ -195,8 +198,8 @@ impl Store {
         self.tested(proposition, low, high, tests)
     }
 
-    /// The diagram whose leaf at a letter is a node that tests the proposition; the sides of this leaf are the nodes to
-    /// which `low` and `high` lead the letter.
+    /// The diagram whose leaf at a letter is a node that tests the proposition, and whose sides are the nodes to which
+    /// `low` and `high` lead the letter.
     fn tested(
         &mut self,
         proposition: u32,
@@ -239,7 +242,7 @@ impl Store {
         Ok(made)
     }
 
-    /// Like `tested`, but for two diagrams that test nothing.
+    /// Like `tested`, but for two diagrams that test no proposition.
     fn tested_leaves(&mut self, proposition: u32, low: Node, high: Node) -> Result<Node, AllocError>
         requires named { proposition < self.old.propositions }
         requires low_held { IsNode self.old low }
@@ -260,7 +263,7 @@ impl Store {
         self.intern(View::Leaf(made.place as u64))
     }
 
-    /// The node to which a diagram that tests nothing leads every letter.
+    /// The node to which a diagram that tests no proposition leads every letter.
     fn node_at(&self, node: Node) -> Node
         requires held { IsNode self.now node }
         requires constant { IsConstant (tree_of self.now node) }
@@ -274,7 +277,7 @@ impl Store {
     }
 }
 
-/// The classes of leaves, each with its least letter, and the index of each leaf's class.
+/// Makes a class of each leaf, with the leaf's least letter, and a table of the index of each leaf's class.
 fn numbered(
     alloc: Global,
     leaves: &[(u64, u64)],

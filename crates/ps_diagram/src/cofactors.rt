@@ -1,4 +1,4 @@
-//! What remains of a diagram after a letter over a few propositions has been read.
+//! Computes what remains of a diagram after each letter over a few propositions has been read.
 
 ghost use Rattle.std.specs.Prelude.{◌≡◌, ℕ, ◌+◌, ◌^◌, ◌<◌, ◌≤◌, IfOk, nat_eq};
 ghost use Rattle.indexmap.specs.IndexMap.{get};
@@ -13,9 +13,9 @@ use crate::view::{Node, View};
 use std::alloc::AllocError;
 
 impl Store {
-    /// The diagram over the propositions of `split` whose leaf at a letter is the node of what remains of the given
-    /// node after that letter. The propositions below `level` were read before, with the values that they have in
-    /// `letter`. Each letter is tried, so `split` should have few propositions.
+    /// The diagram over the propositions of `split` whose leaf at a letter is the number of the node that remains of
+    /// the given one after that letter. The propositions less than `level` have been read already, with the values that
+    /// they have in `letter`. Each letter is tried, so `split` should have few propositions.
     pub(crate) fn spread(
         &mut self,
         other: &Store,
@@ -46,7 +46,8 @@ impl Store {
         self.spread(other, node, split, level + 1, letter)
     }
 
-    /// The diagram that gives every letter the same node: what remains of the given node after `letter`.
+    /// The diagram whose leaf at every letter is the number of the same node: what remains of the given node after
+    /// `letter`.
     fn spread_leaf(
         &mut self,
         other: &Store,
@@ -68,7 +69,8 @@ impl Store {
         self.intern(View::Leaf(rest.place as u64))
     }
 
-    /// The diagram of the other store's node, with the propositions of `split` fixed as in `letter`.
+    /// The diagram of a node of the store `other`, in which the propositions of `split` are fixed to their values in
+    /// `letter`.
     fn cofactor(
         &mut self,
         other: &Store,

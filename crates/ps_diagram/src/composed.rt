@@ -1,4 +1,4 @@
-//! Replaces the propositions of a diagram by truths.
+//! Replaces the propositions of a diagram by Boolean functions (truths), given as diagrams.
 
 ghost use Rattle.std.specs.Prelude.{◌≡◌, ◌<◌, ◌≤◌, ℕ, All, IfOk, IfSome, OnOk, length, nat_eq};
 ghost use Rattle.indexmap.specs.IndexMap.{get};
@@ -13,9 +13,9 @@ use crate::view::{Node, View};
 use std::alloc::AllocError;
 
 impl Store {
-    /// The diagram of a node of another store, in which the truth at the index p of `truths` replaces the proposition
-    /// p. A truth is true at the letters at which its node has a leaf. At each letter, the truths form a second letter,
-    /// and the diagram has the leaf of the given node at this second letter.
+    /// The diagram of a node of another store, in which the function at the index p of `truths` replaces the
+    /// proposition p. Such a function is true at the letters at which its node has a leaf. At each letter, the values
+    /// of these functions form a second letter, and the result has the leaf of the given node at the second letter.
     pub fn composed_from(
         &mut self,
         other: &Store,
@@ -34,7 +34,7 @@ impl Store {
         self.composed_by(other, node, truths, &mut known)
     }
 
-    /// Like `composed_from`, but with a table of the nodes that were composed before.
+    /// Like `composed_from`, but with a memo table of the nodes in which propositions were replaced before.
     fn composed_by(
         &mut self,
         other: &Store,
@@ -76,7 +76,8 @@ impl Store {
         Ok(made)
     }
 
-    /// The high side if the truth is true at every letter, and the low side if it is true at none.
+    /// The only side of a test that is needed: the high side if the function `truth` is true at every letter, and the
+    /// low side if it is true at none.
     fn only_side(&self, truth: Node, low: Node, high: Node) -> Option<Node>
         requires held { IsNode self.now truth }
         ensures { IfSome result (IsOnlySide self.now truth low high) }

@@ -1,4 +1,4 @@
-//! The cells of a store, and the place of each.
+//! The cells of a store, one for each node, and the index (place) of each.
 
 ghost use Rattle.std.specs.Prelude.{◌≡◌, ◌<◌, [], IfOk, IfSome, OnErr, OnOk, Some, length, slice_get, slice_index_or};
 ghost use Rattle.ps_diagram.specs.Inner.Placed.{AddsCell};
@@ -9,16 +9,17 @@ use indexmap::IndexSet;
 use std::alloc::{AllocError, Global};
 use std::marker::Model;
 
-/// In the table of leaves: the leaf's place is not known.
+/// The entry, in the table of leaves, for a leaf whose cell's index is not known.
 const UNKNOWN: u32 = u32::MAX;
 
-/// Different cells, in order. A hash table finds the place of a cell. Half of the cells that are sought are leaves, and
-/// most leaves are small numbers, so a second table has the places of small leaves, by leaf.
+/// A list of different cells. A hash table finds the index of a cell in this list. Half of the cells that are looked up
+/// are leaves, and most leaves are small numbers, so a second table, indexed by the leaf, has the indices of small
+/// leaves' cells.
 #[derive(Debug, Drop)]
 pub(crate) struct Cells {
     /// The cells.
     list: IndexSet<View>,
-    /// The place of each leaf, or `UNKNOWN`.
+    /// For each small leaf, the index of its cell, or `UNKNOWN`.
     leaves: Vec<u32>,
 }
 
@@ -54,7 +55,7 @@ impl Cells {
         Ok(Cells { list, leaves })
     }
 
-    /// The cell at a place.
+    /// The cell at an index of the list.
     pub(crate) fn at(&self, place: usize) -> View
         requires { place < length self.now }
         ensures { result ≡ slice_index_or self.now place Nothing }
@@ -62,7 +63,7 @@ impl Cells {
         self.list.as_slice()[place]
     }
 
-    /// The place of a cell. A new cell is appended to the others.
+    /// The index of a cell in the list. A new cell is appended to the others.
     pub(crate) fn place_of(&mut self, cell: View) -> Result<usize, AllocError>
         ensures adds { OnOk result (AddsCell self.old cell self.new) }
         ensures there { IfOk result (λ place. slice_get self.new place ≡ Some cell) }
@@ -74,7 +75,7 @@ impl Cells {
         }
     }
 
-    /// The same for a leaf.
+    /// The index of a leaf's cell in the list; a new cell is appended.
     fn place_of_leaf(&mut self, leaf: u64) -> Result<usize, AllocError>
         ensures adds { OnOk result (AddsCell self.old (Leaf leaf) self.new) }
         ensures there { IfOk result (λ place. slice_get self.new place ≡ Some (Leaf leaf)) }
@@ -89,7 +90,7 @@ impl Cells {
         Ok(place)
     }
 
-    /// The same, by the hash of the cell.
+    /// The index of a cell in the list, found by its hash; a new cell is appended.
     fn place_by_hash(&mut self, cell: View) -> Result<usize, AllocError>
         ensures adds { OnOk result (AddsCell self.old cell self.new) }
         ensures there { IfOk result (λ place. slice_get self.new place ≡ Some cell) }
@@ -99,7 +100,7 @@ impl Cells {
         Ok(place)
     }
 
-    /// The place of a leaf, if the table has it.
+    /// The index of a leaf's cell, if the table of small leaves has it.
     fn known(&self, leaf: u64) -> Option<usize>
         ensures { IfSome result (λ place. slice_get self.now place ≡ Some (Leaf leaf)) }
     {
@@ -109,7 +110,7 @@ impl Cells {
         }
     }
 
-    /// Makes room for a leaf in the table, unless the leaf is larger than the number of cells.
+    /// Makes room for a leaf in the table of small leaves, unless the leaf is larger than the number of cells.
     fn make_room(&mut self, leaf: u64) -> Result<(), AllocError>
         ensures { self.new ≡ self.old }
     {
@@ -120,7 +121,7 @@ impl Cells {
         Ok(())
     }
 
-    /// Notes the place of a leaf, if the table has room for it.
+    /// Records the index of a leaf's cell, if the table of small leaves has room for the leaf.
     fn note(&mut self, leaf: u64, place: usize)
         requires { slice_get self.old place ≡ Some (Leaf leaf) }
         ensures { self.new ≡ self.old }

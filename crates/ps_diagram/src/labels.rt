@@ -87,7 +87,7 @@ impl Store {
         }
     }
 
-    /// The diagram of a label, whatever truth values the nodes of its aliases represent.
+    /// The diagram of a label; the nodes of its aliases may represent any truth values.
     fn truth_by(&mut self, aliases: &[Node], label: &Label) -> Result<Node, AllocError>
         requires aliases { (known : ℕ → List Bool) × HaveTruths self.old aliases.now known }
         requires within { IsOver (length aliases.now) self.old.propositions (expression label.now) }
@@ -125,8 +125,8 @@ impl Store {
         }
     }
 
-    /// The diagram that has the leaf 1 at letters at which one of the nodes has it. Each half of the list is joined
-    /// first, so each node takes part in only logarithmically many joins.
+    /// The diagram that has the leaf 1 at letters at which at least one of the nodes has the leaf 1. Each half of the
+    /// list is joined first, so each given node takes part in only logarithmically many joins.
     fn union_of(&mut self, nodes: &[Node]) -> Result<Node, AllocError>
         requires truths { All (IsTruth self.old) nodes.now }
         ensures keeps { Keeps self.old self.new }
@@ -147,7 +147,7 @@ impl Store {
         self.either(one, other)
     }
 
-    /// The diagram of a constant.
+    /// The diagram of a constant truth value: the leaf 1 at every letter, or no leaf.
     fn of_truth(&mut self, value: bool) -> Result<Node, AllocError>
         ensures keeps { Keeps self.old self.new }
         ensures held { IfOk result (λ node. IsNode self.new node) }
@@ -170,7 +170,7 @@ impl Store {
         self.test(proposition, none, one)
     }
 
-    /// The diagram that has the leaf 1 at letters at which one of the two nodes has it.
+    /// The diagram that has the leaf 1 at letters at which at least one of the two nodes has the leaf 1.
     fn either(&mut self, first: Node, second: Node) -> Result<Node, AllocError>
         requires first { IsNode self.old first }
         requires second { IsNode self.old second }

@@ -1,8 +1,9 @@
-//! Reduced ordered decision diagrams (Bryant) over at most 64 propositions, with numbers as leaves.
+//! Reduced ordered decision diagrams (ROBDDs in the sense of Bryant) over at most 64 propositions, with numbers as
+//! leaves.
 //!
-//! Clauses see a `Store` as a `Table`, and a `Node` as a number. A letter is a number, whose bit p is the truth value
-//! of proposition p. `leaf_of table node letter` is the leaf of a node at a letter, or none. `leaf_of` describes the
-//! node that each call makes, at every letter:
+//! In contracts, a `Store` is a `Table`, and a `Node` is a number. A letter is a number, whose bit p is the truth value
+//! of proposition p. `leaf_of table node letter` is the leaf of a node at a letter, or none. The table below states,
+//! for each call, which leaf the node that it makes has at a letter:
 //!
 //! | Call | The leaf of the new node at a letter |
 //! |---|---|
@@ -24,21 +25,21 @@
 //! | `relabel_from(other, node, values)` | as `relabel`, for a node of another store |
 //! | `composed_from(other, node, truths)` | the leaf of a node of another store at the letter that the truths form |
 //!
-//! Each call of the table, also one that fails, keeps every node, with the same leaf at each letter (`Keeps`). `eval`,
-//! `same` and `view` read a node and use no memory. `leaves` lists the leaves of a node, each with the least letter
-//! that leads to it; `path_to` finds this letter for one leaf. `classes(node, split)` divides the letters over the
-//! propositions of `split` into classes. Two letters of a class lead to the same leaf for all truth values of the other
-//! propositions (`AreClasses`). `classes_from` divides the letters for a node of another store. `classes` and
-//! `classes_from` keep every node. `copy` returns a store with the same nodes.
+//! Each call in the table above, also one that fails, keeps every node of the store, with the same leaf at each letter
+//! (`Keeps`). `eval`, `same` and `view` read a node and use no memory. `leaves` lists the leaves of a node, each with
+//! the least letter that leads to it; `path_to` finds this letter for one leaf. `classes(node, split)` divides the
+//! letters over the propositions of `split` into classes. Two letters in one class lead to the same leaf, whatever the
+//! truth values of the other propositions (`AreClasses`). `classes_from` divides the letters for a node of another
+//! store. `classes` and `classes_from` keep every node of the store, too. `copy` returns a store with the same nodes.
 //!
-//! A store never drops a node. Equal diagrams are one node, which a hash table or, for small leaves, a table by leaf
-//! finds. `negated`, `guard`, `fill`,
-//! `relabel` and `relabel_from` visit each node of the given diagram once. `overlay` and `both` visit each pair of
-//! nodes that they reach once, and `choose` each triple. `composed_from` visits each node once, and chooses between its
-//! sides by the truth of its proposition; if this truth is the same at every letter, only one side is visited. The
-//! first few nodes may be visited more often, so that most calls need no table. `of_letter` makes a node for each
-//! proposition. `of_label` makes a node for each literal of a product; it joins the diagrams of other operands in
-//! halves. `classes` first copies the store.
+//! A store never drops a node. Equal diagrams are one node, which is found by a hash table or, for small leaves, by a
+//! table indexed by the leaf. `negated`, `guard`, `fill`, `relabel` and `relabel_from` visit each node of the given
+//! diagram once. `overlay` and `both` visit each reachable pair of nodes once, and `choose` visits each reachable
+//! triple once. `composed_from` visits each node once, and chooses between its sides by the function that replaces its
+//! proposition; if this function is constant, only one side is visited. The first few nodes may be visited more often,
+//! because they are not kept in a memo table: most calls need none. `of_letter` makes one node for each proposition.
+//! `of_label` makes a node for each literal of a product; it joins the diagrams of other operands in halves. `classes`
+//! first copies the store.
 #![tactic(auto)]
 
 mod both;

@@ -1,4 +1,4 @@
-//! Changes the leaves of diagrams by a rule.
+//! Replaces the leaves of diagrams by a rule.
 
 ghost use Rattle.std.specs.Prelude.{◌≡◌, ℕ, ◌+◌, ◌^◌, ◌<◌, ◌≤◌, Bool, Option, Some, None, IfOk, IfSome, length, nat_eq};
 ghost use Rattle.std.specs.Prelude.{option_map, option_and_then, unwrap_or, slice_index, is_none, cond};
@@ -15,7 +15,7 @@ use crate::view::{Node, View};
 use indexmap::IndexMap;
 use std::alloc::AllocError;
 
-/// The rule: what each leaf, or a missing leaf, is replaced by.
+/// A rule that states by what each leaf, or a missing leaf, of a diagram is replaced.
 trait LeafRule {
     ghost fits: { Self → Option ℕ → Type 0 };
 
@@ -26,7 +26,7 @@ trait LeafRule {
         ensures { result ≡ rule self.now leaf };
 }
 
-/// Each leaf becomes this leaf.
+/// The rule that replaces each leaf by the leaf that it stores.
 #[derive(Drop)]
 struct Guarded(u64);
 
@@ -43,7 +43,7 @@ impl LeafRule for Guarded {
     }
 }
 
-/// A missing leaf becomes this leaf.
+/// The rule that gives letters without a leaf the leaf that it stores.
 #[derive(Drop)]
 struct Filled(u64);
 
@@ -60,7 +60,7 @@ impl LeafRule for Filled {
     }
 }
 
-/// The leaf k becomes the value at the index k of a list.
+/// The rule that replaces the leaf k by the value at the index k of a list.
 #[derive(Drop)]
 struct Relabelled<'a>(&'a [u64]);
 
@@ -77,7 +77,7 @@ impl LeafRule for Relabelled<'_> {
     }
 }
 
-/// The leaf k becomes the value at the index k of a list, and a missing leaf becomes another leaf.
+/// The rule that replaces the leaf k by the value at the index k of a list, and a missing leaf by another leaf.
 #[derive(Drop)]
 struct Replaced<'a> {
     values: &'a [u64],
@@ -97,7 +97,7 @@ impl LeafRule for Replaced<'_> {
     }
 }
 
-/// The leaf k becomes the entry of a table for k.
+/// The rule that replaces the leaf k by the value to which a map maps k.
 #[derive(Drop)]
 struct Placed<'a>(&'a IndexMap<u64, u64>);
 
@@ -114,7 +114,7 @@ impl LeafRule for Placed<'_> {
     }
 }
 
-/// A missing leaf becomes the leaf 1, and each leaf is removed.
+/// The rule that replaces a missing leaf by the leaf 1, and removes each leaf.
 #[derive(Drop)]
 struct Negated;
 
@@ -223,7 +223,7 @@ impl Store {
         self.mapped(None, node, &Negated)
     }
 
-    /// The diagram that has, at each letter, what the table has for the node's leaf.
+    /// The diagram that has, at each letter, the value to which the map `places` maps the node's leaf.
     pub(crate) fn placed(
         &mut self,
         node: Node,
@@ -239,7 +239,8 @@ impl Store {
         self.mapped(None, node, &Placed(places))
     }
 
-    /// The diagram of a node of `other`, or of this store if there is no other, with its leaves changed by the rule.
+    /// The diagram of a node of the store `other`, or of this store if `other` is None, with its leaves replaced by the
+    /// rule.
     fn mapped<R: LeafRule>(
         &mut self,
         other: Option<&Store>,
@@ -260,7 +261,7 @@ impl Store {
         self.mapped_by(other, node, rule, &mut known)
     }
 
-    /// Like `mapped`, but with a table of the nodes that were changed before.
+    /// Like `mapped`, but with a memo table of the nodes whose leaves were replaced before.
     fn mapped_by<R: LeafRule>(
         &mut self,
         other: Option<&Store>,
@@ -302,7 +303,7 @@ impl Store {
         }
     }
 
-    /// The cell of a node of `other`, or of this store if there is no other.
+    /// The cell of a node of the store `other`, or of this store if `other` is None.
     fn cell_of(&self, other: Option<&Store>, node: Node) -> View
         requires held { IsNode (unwrap_or (option_copied other) self.now) node }
         ensures part { IsPart (unwrap_or (option_copied other.entry) self.now) node result }

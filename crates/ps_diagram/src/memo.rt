@@ -1,4 +1,4 @@
-//! A table of the nodes that were made before.
+//! A memo table for the operations on diagrams.
 
 ghost use Rattle.std.specs.Prelude.{◌≡◌, ◌⊎◌, [], OnErr, Some, true};
 ghost use Rattle.indexmap.specs.IndexMap.{get};
@@ -8,16 +8,17 @@ use indexmap::IndexMap;
 use std::alloc::{AllocError, Global};
 use std::hash::Hash;
 
-/// How many nodes are made before the table keeps any.
+/// How many results are computed before the memo table keeps any.
 const PASSED: u32 = 64;
 
-/// The nodes that were made, each by the key from which it was made. The first few nodes are not kept, so that a small
-/// diagram needs no table. A node that was not kept is made again if its key occurs again.
+/// A memo table: for each key (the nodes that an operation is given), the node that the operation made. The first few
+/// results are not kept, so that operations on small diagrams need no memo table. A result that was not kept is
+/// computed again if its key occurs again.
 #[derive(Drop)]
 pub(crate) struct Memo<K: Eq + Hash> {
-    /// The kept nodes, by their keys.
+    /// The results that are kept, by their keys.
     pub table: IndexMap<K, Node>,
-    /// The number of nodes that were not kept.
+    /// The number of results that were not kept.
     passed: u32,
 }
 
@@ -32,14 +33,14 @@ impl<K: Eq + Hash + Copy + Drop> Memo<K> {
         }
     }
 
-    /// The node of a key, if it is kept.
+    /// The result for a key, if it is kept.
     pub(crate) fn get(&self, key: K) -> Option<Node>
         ensures { result ≡ get K.eq self.now.table key }
     {
         self.table.get(&key).copied()
     }
 
-    /// Keeps the node of a key. The first `PASSED` calls keep nothing.
+    /// Keeps the result for a key. The first `PASSED` calls keep nothing.
     pub(crate) fn put(&mut self, key: K, node: Node) -> Result<(), AllocError>
         ensures put { (q : K) → (get K.eq self.new.table q ≡ get K.eq self.old.table q)
             ⊎ ((K.eq key q ≡ true) × (get K.eq self.new.table q ≡ Some node)) }

@@ -1,4 +1,4 @@
-//! Joins two diagrams into one.
+//! Overlays two diagrams that never have different leaves at one letter.
 
 ghost use Rattle.std.specs.Prelude.{◌≡◌, ◌≢◌, ℕ, ◌+◌, ◌^◌, ◌<◌, IfOk, IfErr, OnOk, Some};
 ghost use Rattle.indexmap.specs.IndexMap.{get};
@@ -37,7 +37,7 @@ impl Store {
         self.overlaid(first, second, &mut known)
     }
 
-    /// Like `overlay`, but with a table of the pairs of nodes that were joined before.
+    /// Like `overlay`, but with a memo table of the pairs of nodes that were overlaid before.
     fn overlaid(
         &mut self,
         first: Node,
@@ -78,7 +78,7 @@ impl Store {
         Ok(node)
     }
 
-    /// Like `overlaid`, but for two diagrams that test nothing.
+    /// Like `overlaid`, but for two diagrams that test no proposition.
     fn overlaid_leaves(&self, first: Node, second: Node) -> Result<Node, OverlayError>
         requires first { IsNode self.now first }
         requires second { IsNode self.now second }

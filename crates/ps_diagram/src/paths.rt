@@ -43,8 +43,8 @@ impl Store {
         Ok(found)
     }
 
-    /// Collects the leaves that were not found before, to which letters lead that begin like `letter`. The leaves of
-    /// all nodes in `seen` have been found already.
+    /// Collects the leaves of a node that were not found before; `letter` has the truth values that lead to the node.
+    /// All leaves of each node in the set `seen` have been found already.
     fn gather(
         &self,
         node: Node,
@@ -84,7 +84,7 @@ impl Store {
     }
 }
 
-/// The entries of a map.
+/// The entries of a map, as a list.
 fn listed(alloc: Global, found: IndexMap<u64, u64>) -> Result<Vec<(u64, u64)>, AllocError>
     ensures { IfOk result (λ pairs. pairs.items ≡ found.entries) }
 {

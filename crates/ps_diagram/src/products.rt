@@ -12,7 +12,7 @@ use crate::view::Node;
 use ps_label::Label;
 use std::alloc::AllocError;
 
-/// A conjunction of literals, as two sets of propositions: proposition p is bit p.
+/// A conjunction of literals, as two sets of propositions; proposition p is bit p of a set.
 #[derive(Clone, Copy)]
 pub(crate) struct Product {
     /// The propositions that must be true.
@@ -22,7 +22,7 @@ pub(crate) struct Product {
 }
 
 impl Product {
-    /// The product that also requires a proposition to be true.
+    /// This product, extended by the literal that a proposition is true.
     fn with(self, proposition: u32) -> Product
         requires named { proposition < 64 }
         ensures { (n letter : ℕ) → proposition < n →
@@ -34,7 +34,7 @@ impl Product {
         }
     }
 
-    /// The product that also requires a proposition to be false.
+    /// This product, extended by the literal that a proposition is false.
     fn without(self, proposition: u32) -> Product
         requires named { proposition < 64 }
         ensures { (n letter : ℕ) → proposition < n →
@@ -48,8 +48,8 @@ impl Product {
 }
 
 impl Store {
-    /// The diagram that has the leaf `value` at letters at which the label is true, if the label is a product of
-    /// literals.
+    /// The diagram that has the leaf `value` at letters at which the label is true; `None` unless the label is a
+    /// product of literals.
     pub(crate) fn of_literals(
         &mut self,
         label: &Label,
@@ -72,7 +72,7 @@ impl Store {
         Ok(Some(node))
     }
 
-    /// The product extended by the literals of a label, if the label is a product of literals.
+    /// The product, extended by the literals of a label; `None` unless the label is a product of literals.
     fn with_label(&self, product: Product, label: &Label) -> Option<Product>
         requires within { (aliases : ℕ) × IsOver aliases self.now.propositions (expression label.now) }
         ensures { IfSome result (λ more. (known : List Bool) (letter : ℕ) → meets self.now.propositions more letter ≡
@@ -123,7 +123,7 @@ fn side(some: u64, proposition: u32, first: Node, second: Node) -> Node
     }
 }
 
-/// The proposition of a label that is a single proposition.
+/// The proposition, if the label is a single proposition.
 fn atom_of(label: &Label) -> Option<u32>
     ensures { IfSome result (λ p. expression label.now ≡ proposition p) }
 {

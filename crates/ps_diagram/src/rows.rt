@@ -1,5 +1,5 @@
-//! Makes the diagram of a list of leaves: a row of nodes for the last proposition, then a row half as long for the
-//! proposition before it, and so on.
+//! Makes the diagram of a list of leaves by rows of nodes: one row for the last proposition, then a row half as long
+//! for the proposition before it, and so on.
 
 ghost use Rattle.std.specs.Prelude.{◌≡◌, ℕ, ◌+◌, ◌%◌, ◌^◌, ◌<◌, ◌≤◌, List, IfOk, length, slice_get, slice_index_or};
 ghost use Rattle.ps_diagram.specs.Inner.Rows.{AreLeafNodes, IsRow, LeadsOn};
@@ -10,8 +10,8 @@ use crate::view::Node;
 use std::alloc::AllocError;
 
 impl Store {
-    /// The diagram whose leaf at a letter is the entry of the list at the index that the letter is. Letters past the
-    /// end of the list have no leaf. Each entry is read once.
+    /// The diagram whose leaf at a letter is the list's entry at the index `letter` (letters are numbers). Letters past
+    /// the end of the list have no leaf. Each entry of the list is read once.
     pub fn of_leaves(&mut self, leaves: &[u64]) -> Result<Node, AllocError>
         ensures keeps { Keeps self.old self.new }
         ensures held { IfOk result (λ node. IsNode self.new node) }
@@ -27,7 +27,7 @@ impl Store {
         Ok(node_or(&nodes, 0, none))
     }
 
-    /// A node for each leaf.
+    /// For each leaf, the node that has this leaf at every letter.
     fn leaf_nodes(&mut self, leaves: &[u64]) -> Result<Vec<Node>, AllocError>
         ensures keeps { Keeps self.old self.new }
         ensures nodes { IfOk result (λ nodes. AreLeafNodes self.new leaves.now (length leaves.now) nodes.items) }
@@ -39,8 +39,8 @@ impl Store {
         Ok(nodes)
     }
 
-    /// The row whose nodes depend on propositions from `proposition` on, made from the row whose nodes depend only on
-    /// later ones.
+    /// The row of nodes that depend on propositions from `proposition` on, made from the row of nodes that depend only
+    /// on later ones.
     fn halved(
         &mut self,
         proposition: u32,
@@ -66,7 +66,7 @@ impl Store {
     }
 }
 
-/// The node at an index, or `other` if the row is too short.
+/// The node at an index of a row, or `other` if the row is too short.
 fn node_or(nodes: &[Node], place: usize, other: Node) -> Node
     ensures { result ≡ slice_index_or nodes.now place other }
 {

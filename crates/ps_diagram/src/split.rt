@@ -1,4 +1,4 @@
-//! Splits nodes at the first proposition that they test.
+//! Splits nodes into their two sides at the first proposition that they test.
 
 ghost use Rattle.std.specs.Prelude.{◌≡◌, ℕ, ◌+◌, ◌≤◌, ◌<◌, ◌↔◌, IsTrue, MatchOption};
 ghost use Rattle.ps_diagram.specs.Tree.{empty};
@@ -16,7 +16,7 @@ pub(crate) struct Sides {
     pub high: Node,
 }
 
-/// Two nodes, split at the first proposition that one of them tests.
+/// The sides of two nodes at the first proposition that one of them tests.
 #[derive(Clone, Copy)]
 pub(crate) struct Split {
     /// The proposition.
@@ -30,7 +30,7 @@ pub(crate) struct Split {
 impl Store {
     ghost use Rattle.ps_diagram.specs.Split.{IsConstant, IsSides, IsSplit, root_of};
 
-    /// The first proposition that a node tests, or the number of propositions.
+    /// The first proposition that a node tests, or the number of propositions if it tests none.
     pub(crate) fn level(&self, node: Node) -> u32
         requires held { IsNode self.now node }
         ensures root { result ≡ root_of self.now.propositions (tree_of self.now node) }
@@ -43,7 +43,7 @@ impl Store {
         }
     }
 
-    /// The sides of a node at a proposition. The node tests no earlier proposition.
+    /// The sides of a node at a proposition. The node must not test an earlier proposition.
     pub(crate) fn sides(&self, node: Node, proposition: u32) -> Sides
         requires held { IsNode self.now node }
         requires later { proposition ≤ root_of self.now.propositions (tree_of self.now node) }
@@ -73,7 +73,7 @@ impl Store {
         }
     }
 
-    /// Two nodes, split at the first proposition that one of them tests; nothing if neither tests any.
+    /// The sides of two nodes at the first proposition that one of them tests; `None` if neither tests any.
     pub(crate) fn split(&self, first: Node, second: Node) -> Option<Split>
         requires first { IsNode self.now first }
         requires second { IsNode self.now second }

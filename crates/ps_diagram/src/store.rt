@@ -13,9 +13,9 @@ use crate::view::{Node, View};
 use std::alloc::{AllocError, Global};
 use std::marker::Model;
 
-/// Reduced ordered decision diagrams over at most 64 propositions, with numbers as leaves. Equal diagrams are one node.
-/// Calls that return a `Result` fail if memory runs out; `overlay` also fails if the diagrams have different leaves at
-/// some letter.
+/// Reduced ordered decision diagrams over at most 64 propositions, with numbers as leaves. Equal diagrams in a store
+/// are one node. Calls of a store that return a `Result` fail if memory runs out; `overlay` also fails if the diagrams
+/// have different leaves at some letter.
 #[derive(Debug, Drop)]
 pub struct Store {
     alloc: Global,
@@ -117,7 +117,7 @@ impl Store {
         first == second
     }
 
-    /// The parts of a node.
+    /// What a node is: no leaf, one leaf, or a test of a proposition with two nodes.
     pub fn view(&self, node: Node) -> View
         requires held { IsNode self.now node }
         ensures { Sees self.now node result }
@@ -138,7 +138,7 @@ impl Store {
         })
     }
 
-    /// The cell of a node; the nodes in the cell are earlier ones.
+    /// The cell of a node; the child nodes in this cell are earlier nodes of the store.
     pub(crate) fn cell(&self, node: Node) -> View
         requires held { IsNode self.now node }
         ensures sound { IsSoundTable self.now }
@@ -147,7 +147,7 @@ impl Store {
         self.cells.at(node.place)
     }
 
-    /// The diagram that leads to `low` if the proposition is false, and to `high` if it is true.
+    /// The diagram that tests the proposition, and leads to `low` if it is false, and to `high` if it is true.
     pub(crate) fn test(
         &mut self,
         proposition: u32,

@@ -1,4 +1,4 @@
-//! Nodes of a store, and what a caller sees of one.
+//! Nodes of a store, and what a caller sees of a node.
 
 ghost use Rattle.std.specs.Cmp.Rules.{hashing};
 ghost use Rattle.std.proofs.Common.{rules};
@@ -22,14 +22,15 @@ impl Model for Node {
     ghost inverse = { λ n. record { place = n } };
 }
 
-/// The parts of a node.
+/// What a node is: no leaf, one leaf, or a test of a proposition with two nodes.
 #[derive(Debug, Clone, Copy, PartialEq, Eq)]
 pub enum View {
     /// No letter has a leaf.
     Nothing,
     /// Every letter has this leaf.
     Leaf(u64),
-    /// The least proposition on which the leaf depends, and the diagrams for the proposition false and true.
+    /// A test: the least proposition on which the leaf depends, the diagram if it is false, and the diagram if it is
+    /// true.
     Test {
         proposition: u32,
         low: Node,
@@ -37,7 +38,7 @@ pub enum View {
     },
 }
 
-/// At most two numbers are hashed, since a store hashes a view for each node that it is asked for.
+/// At most two numbers of a view are hashed, to save time: a store hashes a view for each node that it looks up.
 impl Hash for View {
     ghost use Rattle.ps_diagram.specs.Inner.Hashed.{hashed};
 

@@ -7,20 +7,21 @@ use Rattle.ps_diagram.specs.Split.{IsSides}
 use Rattle.ps_diagram.specs.Tree.{Tree, leaf_at}
 use Rattle.ps_diagram.specs.Table.{Table, IsNode, tree_of}
 
--- the fourth tree has the leaf of the second where the first has a leaf, and otherwise the leaf of the third
+-- at letters at which the first tree has a leaf, the fourth tree has the leaf of the second, and at others that of the
+-- third
 abbrev pub IsChosen : Tree → Tree → Tree → Tree → Type 0
 IsChosen a b c d = (f : ℕ → Bool) → leaf_at d f ≡ chosen (leaf_at a f) (leaf_at b f) (leaf_at c f)
 
--- the nodes of each known triple are in the table, and so is the node made from them; `IsChosen` relates their four
--- trees
+-- each entry of the memo table of `choose` is right: its three nodes and their result are in the table, and `IsChosen`
+-- relates the four trees
 abbrev pub KnowsTriples : Table → (ℕ × ℕ × ℕ → Option ℕ) → Type 0
 KnowsTriples t known =
     (truth one other made : ℕ) → known (truth, one, other) ≡ Some made →
     IsNode t truth × IsNode t one × IsNode t other × IsNode t made ×
     IsChosen (tree_of t truth) (tree_of t one) (tree_of t other) (tree_of t made)
 
--- three nodes are split at the same proposition; the sum of their low sides is less than the sum of the nodes, and so
--- is the sum of their high sides
+-- three nodes are split at the same proposition; as numbers, their low sides have a smaller sum than the nodes, and so
+-- have their high sides
 pub record IsCut (t : Table) (truth one other : ℕ) (c : Cut) : Type 0 where
   pub named : c.proposition < t.propositions
   pub truth_sides : IsSides t truth c.proposition c.truth.low c.truth.high
@@ -33,6 +34,6 @@ pub record IsCut (t : Table) (truth one other : ℕ) (c : Cut) : Type 0 where
 abbrev pub IsPairOf : List (ℕ × ℕ) → Tree → Tree → Tree → Type 0
 IsPairOf pairs a b c = (f : ℕ → Bool) → IsPaired pairs (leaf_at a f) (leaf_at b f) (leaf_at c f)
 
--- at some letter, the pair consists of the leaves of the two trees
+-- at some letter, the two trees have the two leaves of the pair
 abbrev pub Meet : Tree → Tree → ℕ × ℕ → Type 0
 Meet a b pair = (f : ℕ → Bool) × (leaf_at a f ≡ Some pair.0) × (leaf_at b f ≡ Some pair.1)

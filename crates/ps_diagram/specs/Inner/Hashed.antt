@@ -1,4 +1,4 @@
--- What a store hashes of a cell.
+-- The numbers that a store hashes to look up a cell.
 use Rattle.std.specs.Prelude.{ℕ, ◌+◌, ◌*◌, ◌%◌, ◌^◌, List, ◌++◌}
 use Rattle.std.specs.Hash as fed
 use Rattle.ps_diagram.specs.declared.view.View.{View}

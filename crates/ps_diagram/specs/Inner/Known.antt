@@ -6,12 +6,14 @@ use Rattle.ps_diagram.specs.Leaves.{either_leaf, AreCompatible}
 use Rattle.ps_diagram.specs.Tree.{Tree, leaf_at}
 use Rattle.ps_diagram.specs.Table.{Table, IsNode, tree_of}
 
--- each known node is in the first table, the node made from it is in the second table, and their trees are related by R
+-- each entry of a memo table is right: its node is in the table s, the node made from it is in t, and R relates their
+-- trees
 abbrev pub Knows : (Tree → Tree → Type 0) → Table → Table → (ℕ → Option ℕ) → Type 0
 Knows R s t known =
     (node made : ℕ) → known node ≡ Some made → IsNode s node × IsNode t made × R (tree_of s node) (tree_of t made)
 
--- the nodes of each known pair are in the table, and so is the node made from them; their trees are related by R
+-- each entry of a memo table of pairs is right: its two nodes and the node made from them are in the table, and R
+-- relates their trees
 abbrev pub KnowsPairs : (Tree → Tree → Tree → Type 0) → Table → (ℕ × ℕ → Option ℕ) → Type 0
 KnowsPairs R t known =
     (first second made : ℕ) → known (first, second) ≡ Some made →

@@ -1,4 +1,4 @@
--- Classes that are made from leaves and their least letters, and the indices of these classes.
+-- Classes of letters that are made from a diagram's leaves and their least letters, and the indices of these classes.
 use Rattle.std.specs.Prelude.{◌≡◌, ℕ, ◌<◌, List, length, Option, Some, option_and_then, slice_index_or}
 use Rattle.ps_diagram.specs.Inner.Known.{IsMapped}
 use Rattle.ps_diagram.specs.Tree.{Tree}
@@ -10,13 +10,13 @@ class_at list i = slice_index_or list i (record { letter = 0; rest = 0 })
 abbrev pub pair_at : List (ℕ × ℕ) → ℕ → ℕ × ℕ
 pair_at leaves i = slice_index_or leaves i (0, 0)
 
--- the list has the classes of the first n leaves
+-- the list has a class for each of the first n leaves: the leaf is its diagram, with the leaf's least letter
 pub record AreOf (leaves : List (ℕ × ℕ)) (n : ℕ) (list : List Class) : Type 0 where
   pub each : length list ≡ n
   pub rest : (i : ℕ) → i < n → (class_at list i).rest ≡ (pair_at leaves i).0
   pub letter : (i : ℕ) → i < n → (class_at list i).letter ≡ (pair_at leaves i).1
 
--- the table maps the leaf of each class to the index of the class
+-- `places` maps the diagram of each class to the index of the class
 pub record IsPlaced (places : ℕ → Option ℕ) (list : List Class) : Type 0 where
   pub found : (k i : ℕ) → places k ≡ Some i → (i < length list) × ((class_at list i).rest ≡ k)
   pub placed : (i : ℕ) → i < length list → places (class_at list i).rest ≡ Some i

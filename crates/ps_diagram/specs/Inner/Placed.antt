@@ -1,14 +1,14 @@
--- The places of cells.
+-- Looking up the index of a cell.
 use Rattle.std.specs.Prelude.{◌≡◌, ◌^◌, ◌-◌, ◌<◌, ℕ, ◌⊎◌, List, [], ◌∷◌, ◌++◌, Some, slice_get}
 use Rattle.ps_diagram.specs.declared.view.View.{View}
 use Rattle.ps_diagram.specs.declared.view.View.TheVariants.{Leaf}
 
--- the old cells have the cell and are kept, or they do not have it and it is appended
+-- looking up a cell changes the list of cells only if it lacks the cell, which is then appended
 abbrev pub AddsCell : List View → View → List View → Type 0
 AddsCell old cell new =
     (new ≡ old) ⊎ ((new ≡ old ++ cell ∷ []) × ((place : ℕ) → slice_get old place ≡ Some cell → ⊥))
 
--- the number less than 2^32 - 1 that the table has for a leaf is the place of that leaf
+-- if the table has a number less than 2^32 - 1 for a leaf, this is the index of the leaf's cell
 abbrev pub ArePlacesOfLeaves : List View → List ℕ → Type 0
 ArePlacesOfLeaves cells places = (leaf place : ℕ) → slice_get places leaf ≡ Some place → place < 2 ^ 32 - 1 →
     slice_get cells place ≡ Some (Leaf leaf)

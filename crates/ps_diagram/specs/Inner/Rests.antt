@@ -1,11 +1,12 @@
--- The rest of a diagram after the propositions of a mask have been read: diagrams whose leaves are nodes.
+-- What remains of a diagram (the rest) after the propositions of a mask have been read: diagrams whose leaves are
+-- nodes.
 use Rattle.std.specs.Prelude.{◌≡◌, ℕ, ◌<◌, Bool, true, ◌&&◌, nat_eq, cond, Option, Some}
 use Rattle.ps_label.specs.Truth.{is_in}
 use Rattle.ps_diagram.specs.Letters.{assignment}
 use Rattle.ps_diagram.specs.Tree.{Tree, leaf_at, IsBlind}
 use Rattle.ps_diagram.specs.Table.{Table, IsNode, tree_of}
 
--- the letter that has the values of f on the mask, and the values of g elsewhere
+-- the letter mixed of f and g: it has the values of f on the mask, and the values of g elsewhere
 abbrev pub mixed : ℕ → (ℕ → Bool) → (ℕ → Bool) → ℕ → Bool
 mixed mask f g p = cond (is_in p mask) (f p) (g p)
 
@@ -21,24 +22,24 @@ IsDivided t mask a d =
 abbrev pub IsCofactor : ℕ → ℕ → Tree → Tree → Type 0
 IsCofactor mask letter a d = (g : ℕ → Bool) → leaf_at d g ≡ leaf_at a (mixed mask (assignment letter) g)
 
--- The second tree is divided as in `IsDivided`, but only at letters that agree with `letter` on the propositions of the
--- mask that are less than `level`.
+-- The second tree is as in `IsDivided`, but only at letters that agree with `letter` on those propositions of the mask
+-- that are less than `level`.
 abbrev pub IsSpread : Table → (mask level letter : ℕ) → Tree → Tree → Type 0
 IsSpread t mask level letter a d =
     (f : ℕ → Bool) → ((q : ℕ) → q < level → is_in q mask ≡ true → f q ≡ is_in q letter) →
     (rest : ℕ) × (leaf_at d f ≡ Some rest) × IsNode t rest ×
     ((g : ℕ → Bool) → leaf_at (tree_of t rest) g ≡ leaf_at a (mixed mask f g))
 
--- the leaf is a node that depends only on propositions from `level` on
+-- `leaf` is the number of a node of the table, which depends only on propositions from `level` on
 abbrev pub IsPlace : Table → ℕ → Option ℕ → Type 0
 IsPlace t level leaf = (node : ℕ) × (leaf ≡ Some node) × IsNode t node × IsBlind level (tree_of t node)
 
--- each leaf of the tree is a node that depends only on propositions from `level` on
+-- each leaf of the tree is the number of a node, which depends only on propositions from `level` on
 abbrev pub LeadsToNodes : Table → ℕ → Tree → Type 0
 LeadsToNodes t level d = (f : ℕ → Bool) → IsPlace t level (leaf_at d f)
 
--- Three leaves are nodes. At letters at which the test is true, the third node has the leaf of the second; at other
--- letters, it has the leaf of the first.
+-- Three leaves are numbers of nodes. The third node has the leaf of the second at letters for which `test` is true, and
+-- the leaf of the first at other letters.
 pub record AreTested (t : Table) (test : (ℕ → Bool) → Bool) (x y z : Option ℕ) : Type 0 where
   pub low : ℕ
   pub high : ℕ
@@ -52,7 +53,8 @@ pub record AreTested (t : Table) (test : (ℕ → Bool) → Bool) (x y z : Optio
   pub leaf : (g : ℕ → Bool) → leaf_at (tree_of t made) g ≡ cond (test g) (leaf_at (tree_of t high) g)
       (leaf_at (tree_of t low) g)
 
--- at each letter, the third tree's node tests p, with the nodes of the first and second tree as sides
+-- at each letter, the leaf of the third tree is a node that tests p, and whose sides are the leaves of the first and
+-- second tree
 abbrev pub IsTested : Table → ℕ → Tree → Tree → Tree → Type 0
 IsTested t p a b d = (f : ℕ → Bool) → AreTested t (λ g. g p) (leaf_at a f) (leaf_at b f) (leaf_at d f)
 

@@ -1,4 +1,4 @@
--- Rows of nodes, from which the diagram of a list of leaves is made, proposition by proposition. (For private
+-- Rows of nodes, by which the diagram of a list of leaves is made, from the last proposition to the first. (For private
 -- functions.)
 use Rattle.std.specs.Prelude.{◌≡◌, ℕ, ◌%◌, ◌^◌, ◌<◌, Bool, List, length, Option, None, slice_get, slice_index}
 use Rattle.std.specs.Prelude.{slice_index_or}
@@ -9,19 +9,19 @@ use Rattle.ps_diagram.specs.Table.{Table, IsNode, leaf_of, tree_of}
 abbrev pub HasLeaf : Table → ℕ → Option ℕ → Type 0
 HasLeaf t node leaf = IsNode t node × ((f : ℕ → Bool) → leaf_at (tree_of t node) f ≡ leaf)
 
--- the nodes of the first `count` leaves
+-- the list has a constant node for each of the first `count` leaves
 pub record AreLeafNodes (t : Table) (leaves : List ℕ) (count : ℕ) (nodes : List ℕ) : Type 0 where
   pub one_each : length nodes ≡ count
   pub each : (i : ℕ) → i < count → HasLeaf t (slice_index nodes i) (slice_get leaves i)
 
--- the nodes of a row depend only on propositions from `level` on; past the end of the row, an index gives the node
+-- the nodes of a row depend only on propositions from `level` on; an index past the end of the row stands for the node
 -- `none`, which has no leaf
 pub record IsRow (t : Table) (level none : ℕ) (nodes : List ℕ) : Type 0 where
   pub nothing : HasLeaf t none None
   pub held : (i : ℕ) → IsNode t (slice_index_or nodes i none)
   pub later : (i : ℕ) → IsBlind level (tree_of t (slice_index_or nodes i none))
 
--- each letter reaches its leaf from the node whose index is the number of the letter's first `level` bits
+-- at each letter, the row's node whose index is the number of the letter's lowest `level` bits has the right leaf
 abbrev pub LeadsOn : Table → List ℕ → ℕ → ℕ → List ℕ → Type 0
 LeadsOn t leaves level none nodes =
     (letter : ℕ) → leaf_of t (slice_index_or nodes (letter % 2 ^ level) none) letter ≡ slice_get leaves

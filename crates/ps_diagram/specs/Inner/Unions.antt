@@ -1,4 +1,4 @@
--- Truth diagrams, in which each leaf is 1, and their unions. (For private functions.)
+-- Diagrams of truth values, in which each leaf is 1, and their disjunctions. (For private functions.)
 use Rattle.std.specs.Prelude.{ℕ, List, [], ◌∷◌, Option, None, map}
 use Rattle.ps_diagram.specs.Labels.{IsOneOrNone}
 use Rattle.ps_diagram.specs.Leaves.{either_leaf}
@@ -9,11 +9,11 @@ abbrev pub first_leaf : List (Option ℕ) → Option ℕ
 first_leaf [] = None
 first_leaf (leaf ∷ leaves) = either_leaf leaf (first_leaf leaves)
 
--- the leaves of nodes at a letter
+-- for a list of nodes, the leaf of each at the letter
 abbrev pub leaves_of : Table → List ℕ → ℕ → List (Option ℕ)
 leaves_of t nodes letter = map (λ node. leaf_of t node letter) nodes
 
--- a truth diagram: at each letter it has the leaf 1 or no leaf
+-- the node is a diagram of truth values: at each letter it has the leaf 1 or no leaf
 pub record IsTruth (t : Table) (node : ℕ) : Type 0 where
   pub held : IsNode t node
   pub leaf : (letter : ℕ) → IsOneOrNone (leaf_of t node letter)

@@ -5,7 +5,7 @@ use Rattle.ps_diagram.specs.Labels.{HaveTruths}
 use Rattle.ps_diagram.specs.Table.{Keeps}
 use Rattle.ps_diagram.proofs.store.Store.of_aliases.Given as goal
 
--- the nodes so far belong to the first aliases
+-- the nodes made so far are the diagrams of the first aliases, in order
 abbrev pub invariant-loop-alias : goal.invariant-loop-alias
 invariant-loop-alias l = record {
   keeps : Keeps l.fn.self l.self;
