@@ -28,9 +28,9 @@ use Rattle.ps_program.specs.declared.commands.TextKind.TheVariants as kind
 
 -- ---- the commands
 
--- A command: its name; its flags, each of which is written after `--`; the kinds of its texts, in order; the flags that
--- add a text, each with the kind of that text; for each choice of flags, the `Line` that the command means; and what
--- `help` says about the command.
+-- A command, with the fields: its name; its flags, each of which is written after `--`; the kinds of its texts, in
+-- order; and the flags that add a text, each with the kind of that text. For each choice of flags, `line` is the `Line`
+-- that the command means; `says` is what `help` says about the command.
 pub record Usage : Type 0 where
   pub name : Text
   pub flags : List Text

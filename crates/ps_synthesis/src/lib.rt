@@ -1,19 +1,19 @@
 //! Computes, from the text of a deterministic parity automaton, the circuit of the player who wins the automaton's
 //! game.
 //!
-//! The contracts guarantee the following. If the solver always returns a valid certificate unless memory runs out (a
-//! sure solver), every accepted text gets a report, unless memory runs out or the circuit would need more variables
-//! than AIGER literals can number. Whatever the solver returns, each report is right, in the following sense. The
-//! printed game is the game of the text's automaton. The printed certificate assigns each vertex of the printed game to
-//! one of the players. By the printed moves, the player to whom a vertex is assigned wins every loop of every play from
-//! it. At a vertex that is assigned to the other player, a player wins neither by a finite-memory strategy nor by a
-//! table of moves for histories. If player 0 wins the start vertex, the printed circuit is a controller, and the
-//! automaton accepts each of the controller's ultimately periodic traces. If player 1 wins the start vertex, the
+//! The contracts guarantee the following. A sure solver always returns a valid certificate, unless memory runs out.
+//! With such a solver, every accepted text gets a report, unless memory runs out or the circuit would need more
+//! variables than AIGER literals can number. Whatever the solver returns, each report is right, in the following sense.
+//! The printed game is the game of the text's automaton. The printed certificate assigns each vertex of the printed
+//! game to one of the players. By the printed moves, the player to whom a vertex is assigned wins every loop of every
+//! play from it. At a vertex that is assigned to the other player, a player wins neither by a finite-memory strategy
+//! nor by a table of moves for histories. If player 0 wins the start vertex, the printed circuit is a controller, and
+//! the automaton accepts each of the controller's ultimately periodic traces. If player 1 wins the start vertex, the
 //! printed circuit is an environment. The automaton accepts none of the ultimately periodic traces of such an
 //! environment, and rejects every trace of a finite-state controller against it.
 //!
 //! [`synthesise_by`] does the whole synthesis with a given solver. [`Problem`] takes the same steps one by one, for
-//! callers who solve the game in another way: a problem is made from a text, gives its game, and makes a report from a
+//! callers who solve the game in another way. A problem is made from a text, gives its game, and makes a report from a
 //! certificate of that game.
 //!
 //! | Call | What it gives |

@@ -16,9 +16,8 @@ use crate::report::Report;
 use ps_machine::{Order, Solver};
 use std::alloc::Global;
 
-/// The report of an HOA text has three texts: the game of the automaton in the given order of moves; the certificate
-/// that the given solver returns for this game, plain or compact; and the circuit of the player who wins the start
-/// vertex.
+/// Makes the report of an HOA text: the game of the automaton in the given order of moves, the certificate that the
+/// given solver returns for it, and the circuit of the player who wins the start vertex.
 ///
 /// # Errors
 ///

@@ -29,9 +29,9 @@ use std::alloc::{AllocError, Global};
 ///
 /// # Errors
 ///
-/// Fails with the first of these faults: a missing text; a fault of the automaton; an error in the circuit's text;
-/// symbols that are not those of the circuit's role; outputs that depend on inputs at latches that a trace reaches,
-/// though the circuit moves first. Fails at any time if memory runs out.
+/// Fails with the first of these faults: a missing text, a fault of the automaton, an error in the circuit's text,
+/// symbols that are not those of its role, outputs that depend on inputs too early (`Timing`). Fails at any time if
+/// memory runs out.
 pub fn verify(alloc: Global, order: Order, role: Role, texts: &[u8]) -> Result<Answer, Refusal>
     ensures { Gives reply_of (AnswersVerify order role texts.now) result }
 {
