@@ -18,7 +18,7 @@ use Rattle.ps_diagram.specs.Table.{Table, tree_by, trees_of, tree_at, tree_in, t
 use Rattle.ps_diagram.specs.Table.{IsSoundTable}
 use Rattle.ps_diagram.specs.Table.{Keeps}
 
--- the table with one more cell
+-- the table of nodes with one more cell at its end
 abbrev pub more : Table → View → Table
 more t cell = record { propositions = t.propositions; cells = t.cells ++ cell ∷ [] }
 

@@ -29,7 +29,7 @@ pub inserted_keeps : {X : Type 0} (eq : X → X → Bool) (xs : List X) (k : X) 
     slice_get (insert_key eq xs k) i ≡ Some x
 inserted_keeps eq xs k i e = grind (arith, at_left xs (k ∷ []) i e)
 
--- after an insertion, each entry is an old entry or the inserted one
+-- after an insertion into a list without repeats, each entry is an old entry or the inserted one
 pub inserted_is : {X : Type 0} (eq : X → X → Bool) (xs : List X) (k : X) (i : ℕ) {x : X} →
     slice_get (insert_key eq xs k) i ≡ Some x → (slice_get xs i ≡ Some x) ⊎ (x ≡ k)
 inserted_is eq xs k i e = grind (arith, at_last xs k i)

@@ -162,7 +162,7 @@ pub begun_low : {t : Table} {node p low high : ℕ} (letter : ℕ) → IsChoice 
     letter < 2 ^ root_of t.propositions (tree_of t node) → letter < 2 ^ root_of t.propositions (tree_of t low)
 begun_low {t} {node} {p} {low} {high} letter h lt = search (rules, root_later, begun_below, pow_mono)
 
--- the bit of a proposition, as the code computes it
+-- the code's shift of 1 by p computes 2^p, the number with only bit p
 pub set_bit : {t : Table} {node p low high : ℕ} → IsChoice t node p low high → 1 * 2 ^ p % 2 ^ 64 ≡ 2 ^ p
 set_bit {p} h = search (rules, one_bit)
 

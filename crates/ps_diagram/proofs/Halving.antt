@@ -81,7 +81,7 @@ TestsAt t u p none half nodes i made =
     IsNode u made × IsTestOf p (tree_of t (get_or nodes i none)) (tree_of t (get_or nodes (half + i) none))
     (tree_of u made)
 
--- each of the first `count` nodes of the new row tests p between two nodes of the old row
+-- each of the first `count` nodes of the new row tests p, and its sides are two nodes of the old row
 pub record AreTests (t u : Table) (p none half : ℕ) (nodes : List ℕ) (count : ℕ) (made : List ℕ) : Type 0 where
   pub one_each : length made ≡ count
   pub each : (i : ℕ) → i < count → TestsAt t u p none half nodes i (get_or made i 0)

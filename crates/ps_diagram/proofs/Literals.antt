@@ -83,7 +83,7 @@ other_number q p ne = grind arith
 same_number : (p : ℕ) → nat_eq p p ≡ true
 same_number p = grind arith
 
--- a product with one more literal
+-- a product of literals, extended by the literal that p is true
 abbrev pub with_positive : Product → ℕ → Product
 with_positive product p = record {
   positive = bit_or product.positive (1 * 2 ^ p % 2 ^ 64);

@@ -2,7 +2,8 @@
 use Rattle.std.specs.Prelude.{◌≡◌, ◌⊎◌, ℕ, ◌^◌, ◌<◌, List, Option, Some, None, slice_get}
 use Rattle.ps_diagram.specs.Table.{Table, leaf_of}
 
--- the third leaf is the index of the pair of the first two leaves, or None if one of the first two is None
+-- the third leaf is the index, in the list `pairs`, of the pair of the first two leaves, or None if one of these is
+-- None
 abbrev pub IsPaired : List (ℕ × ℕ) → Option ℕ → Option ℕ → Option ℕ → Type 0
 IsPaired pairs None second leaf = leaf ≡ None
 IsPaired pairs (Some k) None leaf = leaf ≡ None

@@ -14,7 +14,8 @@ root_of n (choice p low high) = p
 abbrev pub IsConstant : Tree → Type 0
 IsConstant t = (x : Option ℕ) × ((f : ℕ → Bool) → leaf_at t f ≡ x)
 
--- The node tests the proposition p, with the sides `low` and `high`. Both sides depend only on propositions after p.
+-- The node tests the proposition p, with the sides `low` and `high`. The leaves of both sides depend only on
+-- propositions after p.
 pub record IsSides (t : Table) (node p low high : ℕ) : Type 0 where
   pub low_held : IsNode t low
   pub high_held : IsNode t high

@@ -10,8 +10,8 @@ abbrev pub HeedsBehind : Table → ℕ → ℕ → Type 0
 HeedsBehind t node p = (x y : ℕ) → ((q : ℕ) → p < q → is_in q x ≡ is_in q y) → leaf_of t node x ≡ leaf_of t node y
 
 -- The node's leaf depends on p, and on no proposition before p. The node's leaf is the leaf of `low` if p is false, and
--- the leaf of `high` if p is true. Both `low` and `high` are earlier nodes that depend only on propositions after p.
--- The leaves of `low` and `high` differ at some letter.
+-- the leaf of `high` if p is true. Both `low` and `high` are earlier nodes of the store, whose leaves depend only on
+-- propositions after p. The leaves of `low` and `high` differ at some letter.
 pub record SeesTest (t : Table) (node p low high : ℕ) : Type 0 where
   pub named : p < t.propositions
   pub low_held : IsNode t low

@@ -167,7 +167,7 @@ impl Store {
         self.intern(View::Leaf(node.place as u64))
     }
 
-    /// Like `divided`, but for a test whose two sides have been divided.
+    /// Like `divided`, but for a node that tests a proposition, given the results for its two sides.
     fn divided_test(
         &mut self,
         proposition: u32,

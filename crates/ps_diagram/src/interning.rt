@@ -63,7 +63,7 @@ impl Cells {
         self.list.as_slice()[place]
     }
 
-    /// The index of a cell in the list. A new cell is appended to the others.
+    /// The index of a cell in the list. A cell that is not in the list is appended.
     pub(crate) fn place_of(&mut self, cell: View) -> Result<usize, AllocError>
         ensures adds { OnOk result (AddsCell self.old cell self.new) }
         ensures there { IfOk result (λ place. slice_get self.new place ≡ Some cell) }

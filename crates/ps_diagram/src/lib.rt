@@ -30,7 +30,8 @@
 //! the least letter that leads to it; `path_to` finds this letter for one leaf. `classes(node, split)` divides the
 //! letters over the propositions of `split` into classes. Two letters in one class lead to the same leaf, whatever the
 //! truth values of the other propositions (`AreClasses`). `classes_from` divides the letters for a node of another
-//! store. `classes` and `classes_from` keep every node of the store, too. `copy` returns a store with the same nodes.
+//! store. `classes` and `classes_from` keep every node of the store, too. `copy` returns a new store with the same
+//! nodes.
 //!
 //! A store never drops a node. Equal diagrams are one node, which is found by a hash table or, for small leaves, by a
 //! table indexed by the leaf. `negated`, `guard`, `fill`, `relabel` and `relabel_from` visit each node of the given

@@ -40,7 +40,7 @@ impl<K: Eq + Hash + Copy + Drop> Memo<K> {
         self.table.get(&key).copied()
     }
 
-    /// Keeps the result for a key. The first `PASSED` calls keep nothing.
+    /// Keeps the result for a key. The first `PASSED` calls of this function keep nothing.
     pub(crate) fn put(&mut self, key: K, node: Node) -> Result<(), AllocError>
         ensures put { (q : K) → (get K.eq self.new.table q ≡ get K.eq self.old.table q)
             ⊎ ((K.eq key q ≡ true) × (get K.eq self.new.table q ≡ Some node)) }

@@ -125,7 +125,7 @@ impl Store {
         self.cell(node)
     }
 
-    /// A store with the same nodes.
+    /// A copy of this store, with the same nodes.
     pub fn copy(&self) -> Result<Self, AllocError>
         ensures same { IfOk result (λ store. store ≡ self.now) }
         ensures sound { IsSoundTable self.now }
@@ -175,7 +175,7 @@ impl Store {
         })
     }
 
-    /// The node with this cell, which is added if the table has none.
+    /// The node with this cell, which is added to the store if it has no such node.
     pub(crate) fn intern(&mut self, cell: View) -> Result<Node, AllocError>
         requires within { IsCellWithin (length self.old.cells) cell }
         requires ordered { IsFrom 0 self.old.propositions (tree_in self.old.cells cell) }

@@ -6,7 +6,8 @@ ghost use Rattle.std.proofs.Common.{rules};
 use std::hash::{Hash, Hasher};
 use std::marker::Model;
 
-/// A decision diagram, as a node of a store. A node may be used with its store, and with later copies of the store.
+/// A decision diagram, as a node of a store. A node may be used with the store that made it, and with later copies of
+/// this store.
 #[derive(Debug, Clone, Copy, PartialEq, Eq, Hash)]
 pub struct Node {
     pub(crate) place: usize,

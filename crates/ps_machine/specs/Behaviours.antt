@@ -43,8 +43,8 @@ AreSameOn list x y = (p : ℕ) → IsTrue (is_among p list) → is_in p x ≡ is
 -- ## Machines
 
 -- Each proposition is either read or output, never both. A step of the machine enters a memory state and outputs a
--- letter; both depend only on the propositions that are read. If the player moves first, the output letter does not
--- depend on the letter read.
+-- letter; both depend only on the propositions that are read. If the machine's player moves first, the output letter
+-- does not depend on the letter that is read.
 pub record IsMachine (b : Behaviour) : Type 0 where
   pub few_names : length b.names ≤ 64
   pub are_names : AreNames b.names

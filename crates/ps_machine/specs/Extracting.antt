@@ -1,4 +1,5 @@
--- The machine of a certificate: its memory states, the letters that it outputs, and its next memory states.
+-- The machine of a certificate: which memory states it has, and which letter it outputs and which memory state it
+-- enters in each step.
 --     IsUsed game certificate v      a path from vertex 0 that follows the moves of the winner of vertex 0 ends at v
 --     IsRepresentative .. v      v is the smallest used first-player vertex with its memory state
 --     IsMachineOf board mover keys game certificate m      m is the machine of the certificate
@@ -112,12 +113,12 @@ pub record IsMachineOf (board : Board) (mover : ℕ) (keys : List Key) (game : P
   pub steps : (memory x : ℕ) → memory < m.memories → IsOtherLetter m.is_first board x →
       IsStep board keys kept certificate m memory x
 
--- whether a proposition belongs to the other player, who is not the machine's player
+-- whether a proposition belongs to the opponent of the machine's player
 abbrev pub is_others : Bool → Board → ℕ → Bool
 is_others true board p = not (board.is_first p)
 is_others false board p = board.is_first p
 
--- the machine has the given names, and reads the propositions of the other player
+-- the machine's propositions have the given names, and it reads those of its player's opponent
 pub record HasPropositions (names : List (List ℕ)) (board : Board) (m : Behaviour) : Type 0 where
   pub names_are : m.names ≡ names
   pub as_many : length names ≡ board.propositions

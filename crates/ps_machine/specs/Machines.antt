@@ -21,7 +21,7 @@ pub record MachineData : Type 0 where
   pub nodes : List ℕ
   pub rows : List Row
 
--- the row that a leaf names
+-- the row whose index is a leaf of the machine's diagrams
 abbrev pub row_at_leaf : MachineData → ℕ → Row
 row_at_leaf m leaf = slice_index_or m.rows leaf (record { memory = 0; letter = 0 })
 

@@ -31,7 +31,7 @@ pub(crate) struct Plan<'a> {
     pub order: Order,
     /// The automaton.
     pub automaton: &'a Automaton,
-    /// The key of each vertex of the automaton's game.
+    /// The key of each vertex of the automaton's game, which states what the vertex stands for.
     pub keys: &'a IndexSet<Key>,
     /// The classes of letters for each state that occurs in the keys.
     pub divided: &'a Divided,

@@ -38,7 +38,7 @@ use std::alloc::{AllocError, Global};
 /// valid certificate. If the winner moves first, the machine remembers the current vertex. If the winner moves second,
 /// the machine remembers only the current state of the automaton. If the winner is player 0, the automaton accepts
 /// every word of the machine; if the winner is player 1, the automaton accepts none. This function builds the game
-/// again to get its keys; `machine_of_certificate` takes a game with its keys.
+/// again, to get the keys of its vertices; `machine_of_certificate` takes a game with these keys.
 ///
 /// # Errors
 ///
@@ -65,7 +65,8 @@ pub fn extract(
     machine_of_certificate(alloc, automaton, order, &keyed, certificate)
 }
 
-/// Builds the same machine as `extract`, from an automaton's game with its keys. Fails if out of memory.
+/// Builds the same machine as `extract`, from an automaton's game with the keys of its vertices. Fails if out of
+/// memory.
 pub fn machine_of_certificate(
     alloc: Global,
     automaton: &Automaton,
@@ -122,7 +123,7 @@ fn memories_of(
     remembered(alloc, keys, &used, moves_first)
 }
 
-/// Builds the machine that a plan describes.
+/// Builds the machine from the data of a `Plan`.
 fn machine_by(alloc: Global, plan: &Plan<'_>) -> Result<Machine, AllocError>
     requires plan { IsPlanned plan.now }
     requires divided { AreDividedBy plan.now }

@@ -44,7 +44,7 @@ pub(crate) struct Diagrams {
 /// A player's finite machine. The machine begins in memory state 0. In each step the machine reads an input letter,
 /// which is a letter of the other player. The input letter and the memory state determine a row of the machine. The
 /// machine outputs the letter of the row, and enters the memory state of the row. If the machine's player moves first,
-/// the output letter does not depend on the input letter. Each leaf of the diagrams names a row.
+/// the output letter does not depend on the input letter. Each leaf of the machine's diagrams is the index of a row.
 #[derive(Drop)]
 pub struct Machine {
     names: Vec<Vec<u8>>,

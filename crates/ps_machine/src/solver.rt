@@ -11,7 +11,7 @@ use std::alloc::AllocError;
 
 /// Finds a certificate of a game. A solver may first be fed a text, such as a certificate that another program made.
 pub trait Solver: Drop {
-    /// What is known about the solver.
+    /// What is known about the solver: whether it is sure, what it may answer, and the text that it was fed.
     ghost known: { Self → SolverData };
 
     /// Gives the solver a text (feeds it), which replaces the text that it was fed before. If memory runs out, this

@@ -151,7 +151,7 @@ ends_with xs x at =
     let last : get_or xs (length xs - 1) x ≡ x = get_or_from_slice_get xs (length xs - 1) x x at in
     split_last xs x (omega (arith, lt)) ∙ ap (λ y. take (length xs - 1) xs ++ y ∷ []) last
 
--- what is popped from a list is its last entry
+-- what a successful pop returns is the last entry of the list
 pub popped : (xs rest : List ℕ) (o : Option ℕ) (x n : ℕ) → slice_get xs (length xs - 1) ≡ Some x → n ≡ length xs →
     ((d : ℕ) → 0 < n → o ≡ Some (get_or xs (n - 1) d)) → xs ≡ rest ++ option_to_list o → xs ≡ rest ++ x ∷ []
 popped xs rest o x n at many value split =

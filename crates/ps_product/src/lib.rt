@@ -2,8 +2,8 @@
 //! choose.
 //!
 //! A vertex of the product consists of values of the latches, a state, and the priority of the edge that led to it
-//! (`IsProductOf`). A truth is a Boolean function of the letters that the circuit reads. The edges of a vertex are
-//! computed from the truths (Boolean functions) of the outputs and of the next latches.
+//! (`IsProductOf`). A truth is a Boolean function of the input letters that the circuit reads. The edges of a vertex
+//! are computed from the truths (Boolean functions) of the outputs and of the next latches.
 //!
 //! | Call | What it gives |
 //! |---|---|
@@ -13,8 +13,8 @@
 //! | `Truths::new(propositions)`, `proposition`, `both`, `negated` | makes truths, in a store of their own |
 //! | `Evaluator::new(circuit)`, `at(propositions, latches, truths)` | the truths of outputs and next latches |
 //!
-//! The law `outcome_is_the_step` says that at each letter the truths of an evaluator give the bits of the circuit's
-//! step.
+//! The law `outcome_is_the_step` says that the functions which an evaluator computes have, at each letter, the values
+//! of the circuit's step.
 //!
 //! A constant truth has no decision diagram and needs no call of the store; at given latches, almost all gates are
 //! constant. At given latches, each gate is computed at most once, and only if some output or next latch needs it. Of

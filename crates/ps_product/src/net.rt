@@ -35,7 +35,7 @@ impl Sides {
 }
 
 /// A circuit in which each literal refers to its variable by a place: an index of the circuit's variables. The constant
-/// has the place 0, and then come the inputs, the latches and the gates.
+/// has the place (index) 0, and then come the inputs, the latches and the gates.
 #[derive(Drop)]
 pub(crate) struct Net<'a> {
     circuit: &'a Circuit,

@@ -1,4 +1,4 @@
-//! Truths, which are Boolean functions of letters.
+//! Boolean functions of letters, called truths.
 
 ghost use Rattle.std.specs.Prelude.{◌≡◌, ℕ, ◌^◌, ◌<◌, ◌≤◌, ◌&&◌, not, is_some, IfOk};
 ghost use Rattle.ps_label.specs.Truth.{is_in};

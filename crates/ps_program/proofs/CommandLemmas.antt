@@ -91,14 +91,14 @@ help_asked = (refl, refl)
 pub none_of : {x y z : Bool} → x ≡ (y || z) → y ≡ false → z ≡ false → x ≡ false
 none_of {x} {y} {z} is one other = is ∙ ap₂ (λ (a b : Bool). a || b) one other
 
--- whether a flag is given, according to the words that the parser found
+-- the code's test whether a flag is given agrees with the definition, for the arguments that the parser found
 pub given_is : (found : Found) (name : Text) (value : Option Text) → value ≡ first_value found name →
     option_map_or (λ text. bytes_eq text (codes "true")) value false ≡ is_given name (rows_of found)
 given_is found name value is = grind (arith, first_value-rows)
 
 -- ---- the table of commands while commands are added to it
 
--- a command with its flags, as a program of its own
+-- clap's description of a program that has only one command, with its flags
 abbrev pub app_with : Text → List Text → App
 app_with name flags = record { top = command_with name flags; subs = [] }
 
@@ -184,7 +184,7 @@ row_found rows name given row same is =
     ∙ ap (λ (usages : List Usage). option_map_or (λ usage. usage.line given)
     (find (λ usage. bytes_eq usage.name name) usages) Refused) same
 
--- a word that is longer than the name of each row is longer than the name of each command
+-- a word that is longer than the name in each row of the code's table is longer than the name of each command
 pub longer_than_each : (rows : List Row) (word : Text) → map usage_of rows ≡ commands →
     All (λ row. length row.name.now < length word) rows → All (λ usage. length usage.name < length word) commands
 longer_than_each rows word same longer =

@@ -44,7 +44,7 @@ one_option : {X : Type 0} (kinds : X → Kinds) (o : Option X) (other : Kinds) �
     MakeOne other → MakeOne (option_map_or kinds o other)
 one_option kinds o other some none = grind arith
 
--- ---- one occurrence of an argument
+-- ---- the errors at one occurrence of an argument
 
 one_value : (ignore_case : Bool) (parser : ValueParser) (text : List ℕ) → MakeOne (value_kinds ignore_case parser text)
 one_value ignore_case parser text = grind (arith, one_if, one_none, one_only)

@@ -270,7 +270,7 @@ report_one files refusals outcomes games certificates circuits apart solver repl
     by (inr a) (inr b) =
         goes_one asked.order asked.compact asked.full circuits apart files games certificates text solver.fed x y a b
 
--- ---- the whole program
+-- ---- the program's answers to inputs with `synth --cert`
 
 module _ (files : OneFile) (refusals : OneRefusal) (outcomes : OneOutcome) (games : OneFileGame)
     (certificates : OneCertificate) (circuits : OneWinnersCircuit)

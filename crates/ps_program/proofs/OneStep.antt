@@ -11,7 +11,7 @@ ok_of v = Ok v
 abbrev pub err_of : {V E : Type 0} → E → Result V E
 err_of e = Err e
 
--- at most one value has the property
+-- at most one value has the property P
 abbrev pub IsOne : {V : Type 0} → (V → Type 0) → Type 0
 IsOne {V} P = (x y : V) → P x → P y → x ≡ y
 

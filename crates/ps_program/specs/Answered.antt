@@ -67,7 +67,7 @@ pub record MayReplay (solver : SolverData) : Type 0 where
   pub replays : (text : List ℕ) (game : NamedGameData) (answer : Result CertificateData SolveFault) →
       Replays game (Some text) answer → answers_now (once_fed text solver) game answer
 
--- the line asks for the certificate of a game
+-- the command line asks for the certificate of a game: `solve` or `cert`
 abbrev pub IsSolved : Line → Type 0
 IsSolved (Solve compact) = ⊤
 IsSolved (Cert order compact) = ⊤

@@ -14,7 +14,7 @@ use Rattle.ps_program.specs.Faults.{fault_text}
 use Rattle.ps_program.specs.Outcomes.{Then, Reading}
 use Rattle.ps_program.specs.StageFaults.{automaton_line}
 
--- the file of an HOA text, or the line of the first error
+-- the result of parsing an HOA text: its contents (a file), or the line that reports the first error
 abbrev pub ReadsHoaText : List ℕ → Result FileData (List ℕ) → Type 0
 ReadsHoaText text = Reading hoa.cause_number hoa_names.cause_name (ReadsFile text)
 

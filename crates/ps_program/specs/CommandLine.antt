@@ -1,4 +1,4 @@
--- What the first line of the input asks for.
+-- What the first line of the input, the command line, asks for.
 use Rattle.std.specs.Prelude.{◌≡◌, ◌≢◌, ◌<◌, ◌⊎◌, ◌==◌, ℕ, Bool, true, false, List, [], length, slice_index, Option}
 use Rattle.std.specs.Prelude.{None, Some, All, codes, filter, find, not, IsUtf8, if◌then◌else◌, ◌∷◌, ◌++◌, map}
 use Rattle.std.specs.Prelude.{flat_map}
@@ -28,9 +28,9 @@ use Rattle.ps_program.specs.declared.commands.TextKind.TheVariants as kind
 
 -- ---- the commands
 
--- A command, with the fields: its name; its flags, each of which is written after `--`; the kinds of its texts, in
--- order; and the flags that add a text, each with the kind of that text. For each choice of flags, `line` is the `Line`
--- that the command means; `says` is what `help` says about the command.
+-- A command: its name; its flags, each of which is written after `--`; the kinds of its texts, in order; and the flags
+-- that add a text, each with the kind of that text. For each choice of flags, `line` is the `Line` that the command
+-- means; `says` is what `help` says about the command.
 pub record Usage : Type 0 where
   pub name : Text
   pub flags : List Text
@@ -153,7 +153,7 @@ line_named name given =
 
 -- ---- what the words of a command line mean
 
--- the words of a line, which are separated by spaces
+-- the words of a command line, which are separated by spaces
 abbrev pub words_of : List ℕ → List Text
 words_of line = filter (λ word. not (length word == 0)) (slice_split (λ byte. byte == 32) line)
 

@@ -1,6 +1,6 @@
 -- The program's answer is determined, with three exceptions: the lost cycle that `judge` reports, the stimulus that
--- `verify` reports, and the certificate that a solver chooses. Even in these three cases, the answer is partly
--- determined.
+-- `verify` reports, and the certificate that a solver chooses. Even in the exceptional cases, any two answers have
+-- something in common.
 --     IsUndetermined line texts      the command in the line may have more than one correct answer
 --     IsReplaying solver      the solver may only answer the result of parsing the text that it was fed
 --     AgreeAsReports order full text a b      two reports for a text have the same winner and the automaton's game
@@ -71,7 +71,7 @@ IsReplaying solver = (fed : Option (List ℕ)) (game : NamedGameData) (answer : 
     solver.may_answer fed game answer → Replays game fed answer
 
 -- Two reports that `synth` may print for one automaton have the same winner, and both print the automaton's game. So
--- two reports for a text have the same status and the same first line.
+-- these two answers have the same exit status and the same first line.
 pub record AgreeAsReports (order : Order) (full : Bool) (text : List ℕ) (a b : Reply) : Type 0 where
   pub file : FileData
   pub accepted : IsAcceptedText text file

@@ -19,7 +19,7 @@ text_reply text = record { text = text; status = 0 }
 abbrev pub line_reply : List ℕ → Reply
 line_reply line = text_reply (line ++ codes "\n")
 
--- the answer that consists of the line of a fault
+-- the answer that consists of the line that reports a fault
 abbrev pub fault_reply : List ℕ → Reply
 fault_reply line = record { text = line ++ codes "\n"; status = 1 }
 

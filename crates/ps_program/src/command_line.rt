@@ -42,7 +42,7 @@ fn split_words(alloc: Global, text: &str) -> Result<Vec<&str>, AllocError>
         .collect(alloc)
 }
 
-/// Whether the first word is longer than the name of every command, and does not begin with a hyphen.
+/// Whether the first word of a command line is longer than the name of every command, and does not begin with a hyphen.
 fn names_nothing(word: &str) -> bool
     ensures { IsTrue result → words.NamesNothing word.now }
 {

@@ -30,7 +30,7 @@ pub enum Place {
     },
     /// A cycle of vertices.
     Cycle(Vec<u64>),
-    /// A vertex and its move.
+    /// A vertex and the move that a certificate or a solution has at it.
     Move {
         /// The vertex.
         vertex: u64,

@@ -13,7 +13,7 @@ pub const INPUT_LIMIT: usize = 67_108_864;
 /// The number of bytes that each read asks for.
 const CHUNK: usize = 8192;
 
-/// Why there is no input.
+/// Why the program's input could not be read.
 #[derive(Debug, Drop, thiserror::Error)]
 pub enum InputFault {
     /// A read failed, or the input has more than `INPUT_LIMIT` bytes.

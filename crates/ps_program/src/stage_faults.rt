@@ -33,7 +33,7 @@ impl From<AutomatonFault> for Refusal {
     }
 }
 
-/// How the program reports that there is no certificate, no circuit or no report.
+/// How the program reports the fault for which synthesis made no certificate, no circuit or no report.
 impl From<SynthFault> for Refusal {
     ghost use Rattle.ps_program.specs.StageFaults.{IsTold};
 

@@ -26,10 +26,11 @@ pub trait Reader: Read {
 
 /// A writer of std, and relations between the states before and after each write or flush.
 pub trait Writer: Write {
-    // Whether a write may return this count, and leave the writer in this state. A write that fails returns no count.
+    // Whether a call of `write` may return this count, and leave the writer in this state. A write that fails returns
+    // no count.
     ghost write_gives: { Self → List ℕ → Option ℕ → Self → Type 0 };
 
-    // Whether a flush may return this result, and leave the writer in this state.
+    // Whether a call of `flush` may return this result, and leave the writer in this state.
     ghost flush_gives: { Self → Option (Unit {0}) → Self → Type 0 };
 
     /// Calls `write` once.

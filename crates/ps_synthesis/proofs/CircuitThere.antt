@@ -18,7 +18,7 @@ use Rattle.ps_machine.specs.declared.key.Order.{Order}
 use Rattle.ps_machine.proofs.Movers.{small_mover}
 use Rattle.ps_synthesis.specs.Reports.{IsWinners, IsWinnersCircuit}
 
--- laws that a lemma of this file takes as arguments
+-- laws of other crates that a lemma of this file takes as arguments
 abbrev pub MachineThere : Type 0
 MachineThere =
     (names : List (List ℕ)) (board : Board) (mover : ℕ) (keys : List Key) (game : ParityGame)

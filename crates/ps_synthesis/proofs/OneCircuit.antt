@@ -14,7 +14,7 @@ use Rattle.ps_machine.specs.Keys.{mover_of}
 use Rattle.ps_machine.specs.declared.key.Order.{Order}
 use Rattle.ps_synthesis.specs.Reports.{IsWinners, IsWinnersCircuit}
 
--- laws that the lemmas of this file take as arguments
+-- laws of other crates that the lemmas of this file take as arguments
 abbrev pub OneMachine : Type 0
 OneMachine =
     (order : Order) (file : FileData) (game : NamedGameData) (first second : IsGameOfFile order file game)

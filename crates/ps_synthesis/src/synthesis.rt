@@ -1,4 +1,4 @@
-//! The whole synthesis with a given solver, from a text to a report.
+//! The whole synthesis, from an HOA text to a report, with a given solver.
 
 ghost use Rattle.std.specs.Prelude.{◌≡◌, ℕ, true, List, IfOk, IfErr};
 ghost use Rattle.ps_hoa.specs.Files.{FileData};
@@ -16,8 +16,8 @@ use crate::report::Report;
 use ps_machine::{Order, Solver};
 use std::alloc::Global;
 
-/// Makes the report of an HOA text: the game of the automaton in the given order of moves, the certificate that the
-/// given solver returns for it, and the circuit of the player who wins the start vertex.
+/// Makes the report of an HOA text: the automaton's game for the given order of moves, the certificate that the given
+/// solver returns for it, and the circuit of the player who wins the start vertex.
 ///
 /// # Errors
 ///

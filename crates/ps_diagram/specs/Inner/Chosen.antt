@@ -30,7 +30,7 @@ pub record IsCut (t : Table) (truth one other : ℕ) (c : Cut) : Type 0 where
   pub low_falls : c.truth.low + c.one.low + c.other.low < truth + one + other
   pub high_falls : c.truth.high + c.one.high + c.other.high < truth + one + other
 
--- at each letter, the leaf of the third tree is the index of the pair of the leaves of the first two trees
+-- at each letter, the third tree has as leaf the index, in `pairs`, of the pair of the first two trees' leaves
 abbrev pub IsPairOf : List (ℕ × ℕ) → Tree → Tree → Tree → Type 0
 IsPairOf pairs a b c = (f : ℕ → Bool) → IsPaired pairs (leaf_at a f) (leaf_at b f) (leaf_at c f)
 

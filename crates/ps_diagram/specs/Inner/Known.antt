@@ -31,7 +31,7 @@ abbrev pub IsOverlay : Tree → Tree → Tree → Type 0
 IsOverlay a b c =
     (f : ℕ → Bool) → AreCompatible (leaf_at a f) (leaf_at b f) × (leaf_at c f ≡ either_leaf (leaf_at a f) (leaf_at b f))
 
--- a clash reports two different leaves that the two trees have at one letter
+-- the error `Clash` of `overlay` reports two different leaves that the two trees have at one letter
 abbrev pub IsClash : Tree → Tree → OverlayError → Type 0
 IsClash a b (Clash x y) = (f : ℕ → Bool) × (leaf_at a f ≡ Some x) × (leaf_at b f ≡ Some y) × (x ≢ y)
 IsClash a b OutOfMemory = Unit {0}

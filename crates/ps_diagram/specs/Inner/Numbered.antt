@@ -21,8 +21,8 @@ pub record IsPlaced (places : ℕ → Option ℕ) (list : List Class) : Type 0 w
   pub found : (k i : ℕ) → places k ≡ Some i → (i < length list) × ((class_at list i).rest ≡ k)
   pub placed : (i : ℕ) → i < length list → places (class_at list i).rest ≡ Some i
 
--- The list has the classes of all leaves. At each letter, the leaf of the second tree is the index of the class of the
--- first tree's leaf.
+-- The list has the classes of all leaves. At each letter, the leaf of the tree `placed` is the index of the class whose
+-- diagram is the leaf of `tree`.
 pub record AreOfLeaves (leaves : List (ℕ × ℕ)) (tree placed : Tree) (list : List Class) : Type 0 where
   pub listed : AreOf leaves (length leaves) list
   pub places : ℕ → Option ℕ

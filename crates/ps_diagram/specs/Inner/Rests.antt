@@ -10,15 +10,16 @@ use Rattle.ps_diagram.specs.Table.{Table, IsNode, tree_of}
 abbrev pub mixed : ℕ → (ℕ → Bool) → (ℕ → Bool) → ℕ → Bool
 mixed mask f g p = cond (is_in p mask) (f p) (g p)
 
--- Each leaf of the second tree is a node. The node at a letter f has, at each letter g, the leaf of the first tree at
--- the mixed letter of f and g.
+-- The second tree has a leaf at every letter, which is the number of a node of the table. The node to which it leads
+-- the letter f has, at each letter g, the leaf of the first tree at the letter `mixed` of f and g.
 abbrev pub IsDivided : Table → ℕ → Tree → Tree → Type 0
 IsDivided t mask a d =
     (f : ℕ → Bool) → (rest : ℕ) × (leaf_at d f ≡ Some rest) × IsNode t rest ×
     ((g : ℕ → Bool) → leaf_at (tree_of t rest) g ≡ leaf_at a (mixed mask f g))
 
--- The second tree is the rest of the first tree for one letter over the mask. At each letter g, the second tree has the
--- leaf of the first tree at the mixed letter of `letter` and g.
+-- The second tree is the cofactor of the first tree for one letter: what remains after the propositions of the mask
+-- have been read. At each letter g, it has the leaf of the first tree at the letter that agrees with `letter` on the
+-- mask and with g elsewhere.
 abbrev pub IsCofactor : ℕ → ℕ → Tree → Tree → Type 0
 IsCofactor mask letter a d = (g : ℕ → Bool) → leaf_at d g ≡ leaf_at a (mixed mask (assignment letter) g)
 
@@ -58,15 +59,15 @@ pub record AreTested (t : Table) (test : (ℕ → Bool) → Bool) (x y z : Optio
 abbrev pub IsTested : Table → ℕ → Tree → Tree → Tree → Type 0
 IsTested t p a b d = (f : ℕ → Bool) → AreTested t (λ g. g p) (leaf_at a f) (leaf_at b f) (leaf_at d f)
 
--- as in `IsTested`, except that if p is in the mask, the truth value of p in f selects one of the two nodes for all
--- letters
+-- as in `IsTested` if p is not in the mask; if p is in the mask, the node at f has the leaves of the one of the two
+-- nodes that p's value in f selects
 abbrev pub IsDividedTest : Table → ℕ → ℕ → Tree → Tree → Tree → Type 0
 IsDividedTest t mask p a b d =
     (f : ℕ → Bool) → AreTested t (λ g. mixed mask f g p) (leaf_at a f) (leaf_at b f) (leaf_at d f)
 
--- For each known key, the two nodes of the key and the node made from them are in the table. At each letter, the leaf
--- of the node that was made is a node that tests the key's proposition, and whose sides are the leaves of the two
--- nodes.
+-- For each key of the memo table, the two nodes of the key and the node made from them are in the table of nodes. At
+-- each letter, the made node's leaf is the number of a node that tests the key's proposition, and whose sides are the
+-- leaves of the key's two nodes.
 abbrev pub KnowsTests : Table → (ℕ × ℕ × ℕ → Option ℕ) → Type 0
 KnowsTests t known =
     (p low high made : ℕ) → known (p, low, high) ≡ Some made →

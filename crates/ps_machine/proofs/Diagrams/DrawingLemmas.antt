@@ -175,7 +175,8 @@ module _ {board : Board} {mover : ℕ} {keys : List Key} {game : ParityGame} {ce
       let there = number_of_letter keys (λ y. Second q y) (successors_of game v) n.1.1 n.1.2 n.2 is in
       record { vertex = there.0; edge = (within_game s v at, there.1); stands = there.2 }
 
-  -- a vertex of a class has, for each move, an edge to the vertex to which the move leads
+  -- a vertex that stands for a class has, for each move of the second player, an edge to the vertex to which this move
+  -- leads
   pub to_pair_of : {v q : ℕ} (x y : ℕ) → StandsAt keys v (Second q x) → IsMove board q x y →
       Leads keys game v (pair_key q x y)
   to_pair_of {v} {q} x y at is =
@@ -238,7 +239,7 @@ all_rows P eq old row e all here = grind (arith, All-push P old row all here)
 pub keeps_rows_trans : {one two three : List Row} → KeepsRows one two → KeepsRows two three → KeepsRows one three
 keeps_rows_trans k l = record { same = λ leaf r is. l.same leaf r (k.same leaf r is) }
 
--- a diagram that was drawn stays right while further diagrams are drawn
+-- the diagram of a memory state stays right while the diagrams of others are made
 pub drawn_kept : {is_first : Bool} {board : Board} {keys : List Key} {kept : List ℕ} {certificate : CertificateData}
     {t u : Table} {old new : List Row} {v node : ℕ} → Keeps t u → KeepsRows old new →
     IsDrawn is_first board keys kept certificate t old v node →

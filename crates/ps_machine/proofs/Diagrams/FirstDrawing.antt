@@ -72,7 +72,8 @@ module _ {order : Order} {a : AutomatonData} {keys : List Key} {certificate : Ce
     mover_wins : mover_of order ≡ winner_at_start certificate
     mover_wins = eqb-true (mover_of order) (winner_at_start certificate) (sym plan.turn ∙ first)
 
-    -- the move at the vertex of a memory state leads to a class of the vertex's state
+    -- the certificate's move at the vertex of a memory state leads to a vertex that stands for a class of the same
+    -- state
     pub record ToClass (v q : ℕ) : Type 0 where
       pub chosen : ℕ
       pub choice : choice_of certificate v ≡ Some chosen
@@ -87,7 +88,7 @@ module _ {order : Order} {a : AutomatonData} {keys : List Key} {certificate : Ce
         let m = move_at s at (kept_used plan is_kept) (first_owner s v at ∙ mover_wins) in
         grind (arith, class_at s v at m.edge)
 
-    -- the vertex to which the certificate's move leads stands for a class
+    -- the vertex to which the first player's move in the certificate leads stands for a class of letters
     class_chosen : (v : ℕ) {chosen : ℕ} {q p : ℕ} → Contains kept v → StandsAt keys v (First q p) →
         choice_of certificate v ≡ Some chosen → (letter : ℕ) × IsClassLetter (board_of order a) q letter ×
         StandsAt keys chosen (Second q letter)

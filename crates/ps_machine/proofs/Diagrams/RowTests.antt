@@ -1,4 +1,4 @@
--- Rows that pass the equality test of the table of rows are equal.
+-- Two rows of a machine that pass the equality test of the table of rows are equal.
 use Rattle.std.proofs.Common.{◌≡◌, true, rules}
 use Rattle.std.proofs.lemmas.Bool.{eqb-true}
 use Rattle.ps_diagram.proofs.Keys.{and_both}

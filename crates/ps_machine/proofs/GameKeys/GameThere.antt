@@ -116,7 +116,7 @@ both_ways a b h k = search rules
 key_laws : IsEquivalence is_key
 key_laws = search (rules, key_same, both_ways, told_apart, same_key)
 
--- a list of different keys, all from another list, is not longer than the other list
+-- a list of different vertex keys, all of which are in another list, is not longer than the other list
 keys_fit : (all keys : List Key) → AllPairs (λ x y. x ≢ y) keys → All (Contains all) keys → length keys ≤ length all
 keys_fit all keys differ each = length-le_from_is_member key_laws keys all
     (IsDistinct-from_AllPairs told_apart keys differ) (λ k is. (is_member-Decides told_apart all k).1

@@ -83,7 +83,7 @@ module _ {board : Board} {mover : ℕ} {keys : List Key} {game : ParityGame} {ce
       decided : (xs : List ℕ) → ((Contains xs w → ⊥) → ⊥) → Contains xs w
       decided xs so = grind (arith, contained_or_not xs w)
 
-  -- at a vertex that its winner owns, the certificate's move is an edge
+  -- if the certificate is valid, its move at a vertex that the vertex's winner owns is an edge of the game
   edge_by_move : (v : ℕ) {w : ℕ} (k : Key) → StandsAt keys v k → owner_of game v ≡ winner_of certificate v →
       choice_of certificate v ≡ Some w → HasEdge game v w
   edge_by_move v k at own is =

@@ -32,7 +32,7 @@ module _ {is_first : Bool} {keys : List Key} {used kept anchors : List ℕ}
     one_memory : {i j x : ℕ} → slice_get anchors i ≡ Some x → slice_get anchors j ≡ Some x → i ≡ j
     one_memory {i} {j} at there = one_place anchors m.different i j at there
 
-    -- each used vertex of the first player has a memory state that belongs to it
+    -- each used vertex at which the first player moves has a memory state
     pub memory_of : {w r : ℕ} (p : ℕ) → AllPairs (λ x y. x ≢ y) keys → Contains used w → StandsAt keys w (First r p) →
         (memory : ℕ) × (memory < length kept) × StandsFor is_first keys kept memory w r
     memory_of {w} {r} p differ is_used stands =

@@ -86,7 +86,7 @@ module _ {board : Board} {keys : List Key} {kept : List ℕ} {certificate : Cert
   read_or_played : (p : ℕ) → p < length m.names → (is_among p m.inputs ≡ true) ⊎ (is_among p m.outputs ≡ true)
   read_or_played p within = search (rules, cases_Bool)
 
-  -- each step leads to a memory state, and outputs a letter of the machine's player
+  -- each step of the machine enters an existing memory state, and outputs a letter of the machine's player
   row_at : (memory x : ℕ) → memory < length m.nodes → ((machine_row m memory x).memory < length m.nodes) ×
       IsOutput (behaviour m) (machine_row m memory x).letter
   row_at memory x within =

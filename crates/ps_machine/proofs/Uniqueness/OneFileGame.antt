@@ -164,7 +164,7 @@ module _ (order : Order) (file : FileData) (chain : Chain) where
                 (listed_fine v (omega arith) v vertex.key (has_come v lt) vertex.stands) vertex.leads_to,
           )
 
-      -- the game of one of the two automata is also the game of the other
+      -- of two automata of one file, each game of the first is also a game of the second
       pub game_too : IsGameOf (on b) mover keys game
       game_too = search (rules, vertex_too)
 

@@ -1,5 +1,5 @@
--- A certificate of a file's game has at most one machine: the automata of a file differ only in parts that no play
--- reaches.
+-- A certificate of a file's game has at most one machine: the automata of a file differ only at states and letters that
+-- no play reaches.
 use Rattle.std.proofs.Common.{rules, ◌≡◌, ℕ, ◌+◌, ◌^◌, ◌<◌, ◌≤◌, Bool, true, false, List, length, arith}
 use Rattle.ps_automaton.specs.Autos.{Auto, IsAutoOf}
 use Rattle.ps_automaton.specs.Chains.{Chain}

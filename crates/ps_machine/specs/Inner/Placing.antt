@@ -18,7 +18,8 @@ use Rattle.ps_machine.specs.declared.key.Key.TheVariants.{Second}
 use Rattle.ps_machine.specs.declared.key.Order.{Order}
 use Rattle.ps_machine.specs.declared.machine.Row.{Row}
 
--- the move at the vertex v, whose state is q, leads to a class whose least letter is `letter`
+-- the certificate's move at the vertex v, whose state is q, leads to the vertex of the class with the least letter
+-- `letter`
 pub record PlaysClass (board : Board) (keys : List Key) (certificate : CertificateData) (v q letter : ℕ) : Type 0 where
   pub chosen : ℕ
   pub choice : choice_of certificate v ≡ Some chosen

@@ -22,8 +22,8 @@ use std::alloc::Global;
 ///
 /// # Errors
 ///
-/// Fails with the first of these faults: a missing text, an error in the game's text or in the solution's text, a wrong
-/// move or edge, a cycle that a player loses by the solution's moves. Fails at any time if memory runs out.
+/// Fails with the first of these faults: a missing text, an error in the game's or the solution's text, a wrong move or
+/// edge, a cycle that a player loses by the solution's moves. Fails at any time if memory runs out.
 pub fn judge(alloc: Global, compact: bool, texts: &[u8]) -> Result<Answer, Refusal>
     ensures { Gives reply_of (AnswersJudge compact texts.now) result }
 {

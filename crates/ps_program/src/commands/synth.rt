@@ -13,8 +13,8 @@ use ps_machine::Solver;
 use ps_synthesis::synthesise_by;
 use std::alloc::Global;
 
-/// The circuit for the automaton of a text. The second solver is fed the certificate that follows the text, if one is
-/// given.
+/// The circuit for the automaton of a text. If a certificate follows this text in the input, the second solver is fed
+/// the certificate's text.
 ///
 /// # Errors
 ///
@@ -36,8 +36,8 @@ pub fn synth<S: Solver, T: Solver>(
     }
 }
 
-/// The circuit for the automaton of a text, made with the given solver, which is fed the certificate that follows the
-/// text.
+/// The circuit for the automaton of a text, made with the given solver, which is fed the certificate's text that
+/// follows in the input.
 fn report_by_certificate<S: Solver>(
     alloc: Global,
     asked: SynthLine,

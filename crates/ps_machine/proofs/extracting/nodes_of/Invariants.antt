@@ -3,7 +3,7 @@ use Rattle.ps_machine.specs.Inner.Assembling.{AreDrawn}
 use Rattle.ps_machine.specs.BuiltBoards.{board_of}
 use Rattle.ps_machine.proofs.extracting.nodes_of.Given as goal
 
--- the memory states that were visited so far have their diagrams
+-- each memory state that was visited so far has its diagram
 abbrev pub invariant-loop-vertex : goal.invariant-loop-vertex
 invariant-loop-vertex l = record {
   letters : l.drawing.store.propositions ≡ l.fn.drawing.store.propositions;

@@ -6,7 +6,7 @@ use Rattle.ps_machine.specs.BuiltBoards.{board_of}
 use Rattle.ps_machine.specs.KeyNames.{key_names}
 use Rattle.ps_machine.proofs.game.names_of.Given as goal
 
--- the keys that were visited so far have their names
+-- for each vertex key that was visited so far, the list has the vertex's name
 abbrev pub invariant-loop-key : goal.invariant-loop-key
 invariant-loop-key l = record {
   names : map name_bytes l.names.items ≡ key_names (board_of l.order l.automaton) (take l.key-index l.keys);

@@ -3,7 +3,7 @@ use Rattle.std.specs.Io.KnownBytes.{Consumes}
 use Rattle.ps_program.specs.Input.{input_limit}
 use Rattle.ps_program.proofs.reading.read_input.Given as goal
 
--- the input consists of the bytes read so far, no call has failed, and the limit is not exceeded
+-- the buffer has the bytes read so far, no call has failed, and the limit on the input's length is not exceeded
 abbrev pub invariant-chunks : goal.invariant-chunks
 invariant-chunks g l = record {
   within : vec_len l.input ≤ input_limit;
