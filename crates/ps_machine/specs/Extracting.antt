@@ -1,11 +1,12 @@
 -- The machine of a certificate: which memory states it has, and which letter it outputs and which memory state it
 -- enters in each step.
 --     IsUsed game certificate v      a path from vertex 0 that follows the moves of the winner of vertex 0 ends at v
---     IsRepresentative .. v      v is the smallest used first-player vertex with its memory state
+--     IsRepresentative .. v      v is the smallest reachable first-player vertex with its memory state
 --     IsMachineOf board mover keys game certificate m      m is the machine of the certificate
 --
--- The machine of a winner who moves first has a memory state for each used vertex of the first player. The machine of a
--- winner who moves second has a memory state for each state of the automaton at a used vertex of the first player.
+-- A used vertex can be reached from vertex 0 by the winner's moves. The machine of a winner who moves first has a
+-- memory state for each reachable vertex of the first player. The machine of a winner who moves second has a memory
+-- state for each state of the automaton at a reachable vertex of the first player.
 use Rattle.std.specs.Prelude.{◌≡◌, ℕ, ◌+◌, ◌-◌, ◌<◌, ◌==◌, Bool, true, false, not, List, length, Some, slice_index}
 use Rattle.std.specs.Prelude.{slice_get}
 use Rattle.std.specs.List.{All, AllPairs, Contains}
@@ -28,7 +29,7 @@ pub record IsUsed (game : ParityGame) (certificate : CertificateData) (v : ℕ) 
   pub follows : Follows game (winner_at_start certificate) (choice_of certificate) path
   pub ends : slice_index path (length path - 1) ≡ v
 
--- v is a used vertex, at which the first player moves and the automaton is in the state q
+-- v is a reachable vertex, at which the first player moves and the automaton is in the state q
 pub record IsUsedFirst (keys : List Key) (game : ParityGame) (certificate : CertificateData) (v q p : ℕ) : Type 0 where
   pub used : IsUsed game certificate v
   pub stands : StandsAt keys v (First q p)

@@ -10,7 +10,7 @@ use std::alloc::{AllocError, Global};
 /// The memory states of a machine.
 #[derive(Drop)]
 pub(crate) struct Memories {
-    /// For each memory state, the smallest vertex that it stands for: a used vertex of the first player. The list
+    /// For each memory state, the smallest vertex that it stands for: a reachable vertex of the first player. The list
     /// ascends.
     pub kept: Vec<usize>,
     /// What each memory state remembers, its anchor: a vertex if the machine's player moves first, and otherwise a
@@ -18,8 +18,8 @@ pub(crate) struct Memories {
     pub anchors: IndexSet<usize>,
 }
 
-/// Makes a memory state for each used vertex of the first player or, if the machine's player moves second, for each
-/// state of these vertices.
+/// Makes a memory state for each reachable vertex of the first player or, if the machine's player moves second, for
+/// each state of these vertices.
 pub(crate) fn remembered(
     alloc: Global,
     keys: &[Key],

@@ -73,7 +73,7 @@ stands_for {is_first} {keys} {kept} {anchors} {memory} v {q} p differ m at is {w
 
 -- ## Used vertices
 
--- a successor of a used vertex is used, too, unless the winner owns the first vertex and moves elsewhere
+-- a successor of a reachable vertex is reachable, too, unless the winner owns the first vertex and moves elsewhere
 pub used_more : {game : ParityGame} {certificate : CertificateData} {v : ℕ} {w : ℕ} → IsUsed game certificate v →
     HasEdge game v w → w < vertex_count game →
     (owner_of game v ≡ winner_at_start certificate → choice_of certificate v ≡ Some w)
@@ -190,7 +190,7 @@ not_both e = search rules
 
 module _ {order : Order} {a : AutomatonData} {keys : List Key} {certificate : CertificateData} {is_first : Bool}
     {kept anchors : List ℕ} (plan : IsPlan order a keys certificate is_first kept anchors) where
-  -- v is the vertex of a memory state: a used vertex at which the first player moves
+  -- v is the vertex of a memory state: a reachable vertex at which the first player moves
   pub record KeptAt (v : ℕ) : Type 0 where
     pub state : ℕ
     pub priority : ℕ

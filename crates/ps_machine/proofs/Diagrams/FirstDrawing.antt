@@ -117,7 +117,7 @@ module _ {order : Order} {a : AutomatonData} {keys : List Key} {certificate : Ce
     plays_class v chosen r letter is_kept choice is q p at =
         search (rules, class_chosen, same_letter, get_or_from_slice_get)
 
-    -- each step that can follow the class's letter leads to a used vertex
+    -- each step that can follow the class's letter leads to a reachable vertex
     pub entered : {mask : ℕ} {t : Table} {v q p letter rest : ℕ} {found : List (ℕ × ℕ)} → Contains kept v →
         StandsAt keys v (First q p) → PlaysClass (board_of order a) keys certificate v q letter →
         Left order a mask t q letter rest → AreLeaves t rest found →

@@ -119,7 +119,7 @@ module _ {board : Board} {mover : ℕ} {keys : List Key} {game : ParityGame} {ce
   pub second_owner : (v : ℕ) {q x : ℕ} → StandsAt keys v (Second q x) → owner_of game v ≡ 1 - mover
   second_owner v {q} {x} at = owner_at v at
 
-  -- a step of the machine is two moves in the game, because the winner of vertex 0 also wins each used vertex
+  -- a step of the machine is two moves in the game, because the winner of vertex 0 also wins each reachable vertex
   pub round_first : (v q p x letter w : ℕ) → mover ≡ winner_at_start certificate →
       winner_of certificate v ≡ winner_at_start certificate →
       StandsAt keys v (First q p) → StepsFirst board keys certificate v q x letter → IsSecondLetter board x →

@@ -1,4 +1,4 @@
--- Each used vertex shares its memory state with one of the machine's kept vertices.
+-- Each reachable vertex shares its memory state with the vertex that the machine keeps for that memory state.
 use Rattle.std.proofs.Common.{◌≡◌, ◌≢◌, inl, inr, ℕ, ◌<◌, ◌≤◌, Bool, List, length, get_or, Some, ap, ◌∙◌, arith, rules}
 use Rattle.std.specs.Prelude.{slice_get}
 use Rattle.std.specs.List.{All, AllPairs, Contains}
@@ -32,7 +32,7 @@ module _ {is_first : Bool} {keys : List Key} {used kept anchors : List ℕ}
     one_memory : {i j x : ℕ} → slice_get anchors i ≡ Some x → slice_get anchors j ≡ Some x → i ≡ j
     one_memory {i} {j} at there = one_place anchors m.different i j at there
 
-    -- each used vertex at which the first player moves has a memory state
+    -- each reachable vertex at which the first player moves has a memory state
     pub memory_of : {w r : ℕ} (p : ℕ) → AllPairs (λ x y. x ≢ y) keys → Contains used w → StandsAt keys w (First r p) →
         (memory : ℕ) × (memory < length kept) × StandsFor is_first keys kept memory w r
     memory_of {w} {r} p differ is_used stands =
@@ -55,7 +55,7 @@ module _ {is_first : Bool} {keys : List Key} {used kept anchors : List ℕ}
     some_kept p q stands is_used = slice_get_within kept 0 0 (first_kept p q stands is_used)
 
     module _ {game : ParityGame} {certificate : CertificateData} (are_used : AreUsed game certificate used) where
-      -- no smaller used vertex shares the memory state of the vertex that is kept for it
+      -- no smaller reachable vertex shares the memory state of the vertex that is kept for it
       kept_at : (memory : ℕ) → memory < length kept →
           IsRepresentative is_first keys game certificate (get_or kept memory 0)
       kept_at memory within =
@@ -73,7 +73,7 @@ module _ {is_first : Bool} {keys : List Key} {used kept anchors : List ℕ}
       pub all_kept : All (IsRepresentative is_first keys game certificate) kept
       all_kept memory d within = rw (get_or_default kept memory 0 d within) at (kept_at memory within)
 
-      -- of the used vertices that share a memory state, the smallest is the one that is kept for it
+      -- of the reachable vertices that share a memory state, the smallest is the one that is kept for it
       pub each_kept : (v : ℕ) → IsRepresentative is_first keys game certificate v → Contains kept v
       each_kept v k =
           let h = m.found v k.state k.priority ((are_used v).1 k.here.used) k.here.stands in

@@ -1,5 +1,5 @@
--- Each valid certificate of an automaton's game has a machine. The proof computes the used vertices, the memory states
--- and the steps of the machine by definitions of its own.
+-- Each valid certificate of an automaton's game has a machine. The proof computes the reachable vertices, the memory
+-- states and the steps of the machine by definitions of its own.
 use Rattle.std.proofs.Common.{◌≡◌, ◌≢◌, ◌⊎◌, inl, inr, ℕ, ◌+◌, ◌-◌, ◌<◌, ◌≤◌, Bool, true, false, not, List, length}
 use Rattle.std.proofs.Common.{get_or, refl, ap, sym, ◌∙◌, arith, rules}
 use Rattle.std.specs.Prelude.{◌==◌}

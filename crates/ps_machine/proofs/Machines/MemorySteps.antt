@@ -42,7 +42,7 @@ keeps_known {anchors} {anchor} {new} {b} told is e = grind (
 -- ## The memory states of the first vertices
 
 module _ (is_first : Bool) (keys : List Key) (used : List ℕ) where
-  -- the memory states that the used vertices less than n need
+  -- the memory states that the reachable vertices less than n need
   pub record AreMemoriesBelow (kept anchors : List ℕ) (n : ℕ) : Type 0 where
     pub many : length anchors ≡ length kept
     pub rising : AllPairs (λ v w. v < w) kept
@@ -58,7 +58,7 @@ module _ (is_first : Bool) (keys : List Key) (used : List ℕ) where
   all_less : (kept : List ℕ) (n : ℕ) → All (λ v. v < n) kept → All (λ v. v < n + 1) kept
   all_less kept n below i d within = (let less = below i d within in omega arith)
 
-  -- a vertex that is not used, or at which the second player moves, adds no memory state
+  -- a vertex that is not reachable, or at which the second player moves, adds no memory state
   pub below_skip : {kept anchors : List ℕ} {n : ℕ} → ((q p : ℕ) → Contains used n → StandsAt keys n (First q p) → ⊥) →
       AreMemoriesBelow kept anchors n → AreMemoriesBelow kept anchors (n + 1)
   below_skip {kept} {n} none m = search (rules, all_less, less_or_last)
@@ -85,7 +85,7 @@ module _ (is_first : Bool) (keys : List Key) (used : List ℕ) where
     kept_last : get_or new_kept (length kept) 0 ≡ n
     kept_last = get_or_push kept n 0 (length kept) refl
 
-    -- the used vertices up to n have memory states, if those before n have them and the anchor of n has one
+    -- the reachable vertices up to n have memory states, if those before n have them and the anchor of n has one
     found_more : (kept' anchors' : List ℕ) → ((v x : ℕ) → HasMemory kept anchors v x → HasMemory kept' anchors' v x) →
         HasMemory kept' anchors' n new_anchor → (v r l : ℕ) → v < n + 1 → Contains used v →
         StandsAt keys v (First r l) →

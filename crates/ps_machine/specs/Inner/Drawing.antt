@@ -1,7 +1,7 @@
 -- What is known while the machine of a certificate is built. A plan has the data from which the machine is made:
 -- automaton, keys, certificate, memory states. The diagrams are made one after another; each memory state has a diagram
 -- that leads each letter of the other player to a row. (For private functions.)
---     AreUsed game certificate found      `found` are the used vertices
+--     AreUsed game certificate found      `found` are the reachable vertices
 --     GoesOn game certificate v w      a path by the moves of the winner of vertex 0 can continue from v to w
 --     AreMemories is_first keys used kept anchors      the vertex and the anchor of each memory state are right
 --     IsPlan ..      the data from which the machine is made are right
@@ -58,7 +58,7 @@ pub data KeepsAt (old_kept old_anchors : List ℕ) (v anchor : ℕ) (kept anchor
   Grows : ¬ Contains old_anchors anchor → kept ≡ old_kept ++ v ∷ [] → anchors ≡ old_anchors ++ anchor ∷ [] →
       KeepsAt old_kept old_anchors v anchor kept anchors
 
--- the vertex that is kept for the memory state is a used vertex, at which the first player moves
+-- the vertex that is kept for the memory state is a reachable vertex, at which the first player moves
 pub record IsMemory (is_first : Bool) (keys : List Key) (used kept anchors : List ℕ) (memory : ℕ) : Type 0 where
   pub state : ℕ
   pub priority : ℕ
@@ -72,7 +72,8 @@ pub record HasMemory (kept anchors : List ℕ) (v anchor : ℕ) : Type 0 where
   pub is_anchored : slice_get anchors memory ≡ Some anchor
   pub behind : slice_index kept memory ≤ v
 
--- each anchor of a used vertex has one memory state, whose vertex is the smallest used vertex with that anchor
+-- each anchor of a reachable vertex has one memory state, whose vertex is the smallest reachable vertex with that
+-- anchor
 pub record AreMemories (is_first : Bool) (keys : List Key) (used kept anchors : List ℕ) : Type 0 where
   pub many : length anchors ≡ length kept
   pub rising : AllPairs (λ v w. v < w) kept
@@ -138,7 +139,7 @@ pub record IsDrawn (is_first : Bool) (board : Board) (keys : List Key) (kept : L
 pub record KeepsRows (old new : List Row) : Type 0 where
   pub same : (leaf : ℕ) (row : Row) → slice_get old leaf ≡ Some row → slice_get new leaf ≡ Some row
 
--- some used vertex stands for the state q, entered by an edge of priority p
+-- some reachable vertex stands for the state q, entered by an edge of priority p
 pub record CanEnter (order : Order) (a : AutomatonData) (keys : List Key) (certificate : CertificateData)
     (is_first : Bool) (kept anchors : List ℕ) (q p : ℕ) : Type 0 where
   pub plan : IsPlan order a keys certificate is_first kept anchors

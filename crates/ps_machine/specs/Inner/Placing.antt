@@ -26,7 +26,7 @@ pub record PlaysClass (board : Board) (keys : List Key) (certificate : Certifica
   pub stands : StandsAt keys chosen (Second q letter)
   pub is_class : IsClassLetter board q letter
 
--- the step that the leaf of an automaton's diagram names leads to a used vertex
+-- the step that the leaf of an automaton's diagram names leads to a reachable vertex
 pub record IsEntered (order : Order) (a : AutomatonData) (keys : List Key) (certificate : CertificateData)
     (is_first : Bool) (kept anchors : List ℕ) (leaf : ℕ) : Type 0 where
   pub within : leaf < length a.steps

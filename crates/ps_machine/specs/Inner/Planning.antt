@@ -29,7 +29,7 @@ abbrev pub AreDividedBy : Plan → Type 0
 AreDividedBy p =
     AreDivided p.order p.automaton.now p.keys.now.keys p.divided.now.store (get nat_eq p.divided.now.classes)
 
--- the function that states whether some used vertex stands for a state and a priority by which it was entered
+-- the function that states whether some reachable vertex stands for a state and a priority by which it was entered
 abbrev pub CanEnterBy : Plan → ℕ → ℕ → Type 0
 CanEnterBy p =
     CanEnter p.order p.automaton.now p.keys.now.keys p.certificate.now p.moves_first p.memories.now.kept.items
