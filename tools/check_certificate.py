@@ -1,7 +1,8 @@
 #!/usr/bin/env python3
 """Checks a certificate of a parity game by docs/CERTIFICATES.md alone: tools/check_certificate.py GAME CERTIFICATE
 
-It prints `valid` (status 0), the first flaw as psyn's `check` does (status 1), or why a text is malformed (status 2).
+The script prints `valid` (exit status 0) or the certificate's first flaw, worded as by `psyn check` (status 1). If a
+text is malformed, it prints the reason on standard error (status 2).
 """
 import re
 import sys
@@ -17,7 +18,8 @@ def insist(holds, why):
 
 
 def game_of(text):
-    """Of each vertex, by its id, the priority, the owner and the successors, each once."""
+    """The game as a dictionary from each vertex's id to its priority, its owner and the list of its distinct
+    successors."""
     text = re.sub(r"\A\s*(?:parity\s+\d+\s*;)?\s*(?:start\s+\d+\s*;)?", "", text)
     nodes = [(int(n[1]), int(n[2]), int(n[3]), list(dict.fromkeys(map(int, n[4].split(","))))) for n in NODE.finditer(text)]
     game = {node[0]: node[1:] for node in nodes}
@@ -27,7 +29,8 @@ def game_of(text):
 
 
 def counts_of(said, losing, is_compact):
-    """A count for each priority by which the winner loses: all of them, or those that are not 0 after their priorities."""
+    """A vertex's count for each priority of the parity by which its winner loses. The text lists all counts or, in the
+    compact form, each nonzero count after its priority."""
     if not is_compact:
         return dict(zip(losing, map(int, said), strict=True))
     pairs = [tuple(map(int, word.split(":"))) for word in said]
@@ -36,7 +39,7 @@ def counts_of(said, losing, is_compact):
 
 
 def entries_of(text, game):
-    """Of each vertex its winner, the winner's move or None, and the counts."""
+    """For each vertex of the certificate: its winner, the winner's move or None, and its counts."""
     lines = text.split("\n")
     odd, even = (sorted({p for p, _, _ in game.values() if p % 2 == parity}) for parity in (1, 0))
     head = [f"vertices {len(game)}", " ".join(map(str, ["odd", *odd])), " ".join(map(str, ["even", *even]))]
@@ -53,7 +56,8 @@ def entries_of(text, game):
 
 
 def flaws_of(game, entries):
-    """The flaws, the first one first: moves and escapes by vertex, and then counts."""
+    """Yields the certificate's flaws in order: first wrong moves and escapes, vertex by vertex, and then wrong
+    counts."""
     remaining = {}
     for v, (_, owner, successors) in game.items():
         winner, move, _ = entries[v]

@@ -1,11 +1,12 @@
-"""psyn on files: inputs are put together, faults explained, games and circuits drawn. This is what users have.
+"""The tool `psyn`, which runs the program psyn on files: it joins the input files, explains faults, and draws games and
+circuits. This package is installed for users, unlike the package `upkeep`.
 
-  main, words, command, table    the command line: taken apart, what a command is, all commands
+  main, words, command, table    parsing a command line; what a command is; the table of all commands
   commands                       the commands, one file each
-  asking, program, signals       the program is asked, and ended with the tool
-  files, kinds, console, outputs files and standard streams; what can't be read or written is refused there
-  texts                          games, certificates, automata, circuits, stimuli, solutions: a type and a reader each
-  explaining, faults             what is wrong with a text, by the words of docs/FAULTS.md
-  pictures, families             Graphviz DOT; games by name
-  pages                          a play as a page for a browser, in one file
+  asking, program, signals       running the program, and ending it together with the tool
+  files, kinds, console, outputs reading and writing files and standard streams, with the errors of doing so
+  texts                          games, certificates, automata, circuits, stimuli, solutions: types and parsers
+  explaining, faults             explanations of faults, from docs/FAULTS.md
+  pictures, families             pictures in Graphviz DOT; named families of games
+  pages                          a page for a browser, in one file, on which a user plays against a circuit
 """

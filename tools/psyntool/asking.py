@@ -1,10 +1,10 @@
-"""Asks the program about files, hands on its answer unchanged, and explains a fault."""
+"""Runs the program on files, prints its answer unchanged, and explains the fault if the answer is one."""
 from psyntool import console, explaining, files, program
 from psyntool.ends import FAULT
 
 
 def run(request):
-    """Runs a command of the program. With --quiet the tool becomes the program."""
+    """Runs a command of the program. With --quiet, the tool's process becomes the program (`exec`)."""
     texts = request.texts()
     given = files.joined(request.command.name, request.passed, texts)
     if request.quiet:
@@ -13,13 +13,14 @@ def run(request):
 
 
 def hand_on(request, texts, answer):
-    """Writes an answer and gives the status; what is wrong with it is told."""
+    """Writes the program's answer to standard output, explains a fault on standard error, and returns the exit
+    status."""
     console.write(answer.bytes)
     return told(request, texts, answer)
 
 
 def told(request, texts, answer):
-    """Tells what is wrong with an answer, and gives the status."""
+    """Explains on standard error what is wrong with an answer, and returns the exit status."""
     if answer.died:
         console.tell(f"psyn: {answer.died}")
         return FAULT
@@ -29,5 +30,5 @@ def told(request, texts, answer):
 
 
 def is_had(answer):
-    """Whether there is an answer that is not a fault."""
+    """Whether the program ended normally and its answer is not a fault."""
     return not answer.died and not answer.is_fault

@@ -1,4 +1,5 @@
-"""Programs of other people that the tool runs, each in a group of processes of its own, so that all of it can be ended."""
+"""Runs external programs, such as other solvers, each in a process group of its own, so that the whole group can be
+killed."""
 import os
 import subprocess
 
@@ -6,7 +7,8 @@ from psyntool import program, signals
 
 
 def run(words, **streams):
-    """Runs a command without a shell, waits for its end, and gives its status; raises what `Popen` does if it can't be run."""
+    """Runs a command without a shell, waits for its end, and returns its exit status. If the command can't be started,
+    the exception of `Popen` is raised."""
     child = None
     try:
         signals.hold()
@@ -21,7 +23,7 @@ def run(words, **streams):
 
 
 def end(child):
-    """Ends what is left of a command."""
+    """Kills a command's process group if the command is still running."""
     if child.poll() is None:
         os.killpg(child.pid, signals.KILL)
     child.wait()

@@ -1,7 +1,8 @@
-"""What a command of the tool is, and what a command line asks of it.
+"""The tool's commands, their flags, and parsed command lines.
 
-A command is the `COMMAND` of a file in `commands`. What a command of the program reads, and its flags, stand in the program's
-own table (`usages`); one of the tool alone has a row in `table`. Help, the manual and the completions are made from these.
+Each file in `commands` defines one command, its `COMMAND`. For a command of the program, the program's own table
+(`usages`) states which flags and which texts the command takes. The help, the manual and the completions are made from
+these definitions.
 """
 from collections.abc import Callable
 from dataclasses import dataclass, field
@@ -14,8 +15,8 @@ from psyntool.usages import USAGES
 
 @dataclass(frozen=True)
 class Flag:
-    """A flag, its dashes with it, what it says, and what its value is called, if it takes one; one with many values takes the words
-    up to the next flag, and may stand again."""
+    """A flag: its name with the dashes, its description, and the name of its value if it has one. A flag with many
+    values takes all words up to the next flag, and may be given more than once."""
 
     name: str
     says: str
@@ -39,7 +40,7 @@ TO_FILES = Flag(
     "parts to PREFIX.hoa",
     "PREFIX",
 )
-# Of games that another solver solves.
+# Flags for games that another solver solves.
 BY = Flag(
     "--by",
     "another solver solves the game: the words of a command, where {game} is the file that it reads (else its standard input), and "
@@ -47,7 +48,7 @@ BY = Flag(
     "COMMAND",
 )
 PICTURE = Flag("--picture", "where a player loses a cycle: the game, the solution and that cycle as Graphviz DOT", "FILE")
-# Of specifications in parts.
+# Flags for specifications in parts.
 ASSUME = Flag("--assume", "parts that are assumed", "PART..", many=True)
 GUARANTEE = Flag("--guarantee", "parts that are guaranteed", "PART..", many=True)
 AS = Flag("--as", "the part before it has other names for its propositions", "OLD=NEW..", many=True)
@@ -55,7 +56,7 @@ OUTS = Flag("--outs", "the controller's propositions, where the parts do not say
 STRICT = Flag("--strict", "a guarantee that breaks while no assumption has broken loses at once")
 PARTS = Flag("--parts", "a list of parts in the place of the automaton")
 OF_PARTS = (ASSUME, GUARANTEE, AS, OUTS, STRICT)
-# Of every command.
+# Flags of every command.
 QUIET = Flag("--quiet", "explain nothing")
 KEEP_RETURNS = Flag("--keep-returns", "leave carriage returns where they are")
 ZERO_RESETS = Flag("--zero-resets", "unset latches of a circuit (their own literal as reset) begin with 0")
@@ -67,10 +68,12 @@ SHORT = {"-h": "--help", "-V": "--version"}
 
 @dataclass(frozen=True)
 class Command:
-    """A command: its name, what it answers, what it reads in order (kinds of files, or other words), and what runs it.
+    """A command: its name, its description, what it reads in order (kinds of files, or names of other words), and the
+    function that runs it.
 
-    `flags` are passed to the program; `own` are the tool's. `behind` has files that a flag adds, and `instead` what is read in
-    place of all others with a flag, or not given. `least` is the least number of words, if the last ones may be left out.
+    The flags in `flags` are passed to the program; the flags in `own` are handled by the tool. `behind` maps a flag to
+    a kind of file that the flag adds. `instead` maps a flag to optional files that the command then reads in place of
+    all others. `least` is the number of words that must be given, if the last words may be left out.
     """
 
     name: str
@@ -89,12 +92,12 @@ class Command:
         return (*self.flags, *self.own)
 
     def kinds(self, given):
-        """What is read with these flags."""
+        """The kinds of files, or the other words, that the command reads with the given flags."""
         other = next((kinds for name, kinds in self.instead.items() if name in given), None)
         return other or (*self.reads, *(kind for name, kind in self.behind.items() if name in given))
 
     def wanted(self, given=()):
-        """The words for what is read, as a usage line has them."""
+        """The words of a usage line for what the command reads, with optional words in brackets."""
         words = [kind.word if isinstance(kind, Kind) else kind for kind in self.kinds(given)]
         least = 0 if set(self.instead) & set(given) else len(words) if self.least is None else self.least
         return [word if place < least else f"[{word}]" for place, word in enumerate(words)]
@@ -106,14 +109,15 @@ class Command:
 
 
 def of_the_program(name, says, run, own=(), instead=None):
-    """A command of the program, whose table says what its flags are and what it reads."""
+    """A command of the program, with the flags and the texts that the program's own table states."""
     usage = USAGES[name]
     flags = tuple(OF_THE_PROGRAM[flag] for flag in usage.flags)
     return Command(name, says, usage.texts, run, flags, own, usage.added, instead or {}, is_of_the_program=True)
 
 
 def flags_told(commands):
-    """Each flag as it is written, with what it says and whose it is; first those of single commands."""
+    """Each flag as it is written, with its description and the commands that have it. The flags of all commands come
+    last."""
     having = {}
     for command in commands.values():
         for flag in command.all_flags:
@@ -124,7 +128,8 @@ def flags_told(commands):
 
 @dataclass
 class Request:
-    """A command line, taken apart: the command, the flags with their values (True where they take none), and the other words."""
+    """A parsed command line: the command, the given flags with their values (True for a flag without a value), and the
+    other words."""
 
     command: Command
     given: dict
@@ -146,7 +151,7 @@ class Request:
 
     @property
     def passed(self):
-        """The flags that are the program's."""
+        """The given flags that are passed to the program."""
         return [name for name in self.given if name in {flag.name for flag in self.command.flags}]
 
     def has(self, flag):
@@ -156,14 +161,15 @@ class Request:
         return self.given.get(flag.name)
 
     def number(self, flag):
-        """The value of a flag, a number; None where it is not given."""
+        """A flag's value as a number, or None if the flag is not given."""
         said = self.given.get(flag.name)
         if said is not None and not (said.isdecimal() and len(said) < 10):
             raise Refused(f"{flag.shown}: {said!r} is no number")
         return None if said is None else int(said)
 
     def texts(self):
-        """The files that the command reads. A command of the tool refuses a file of a wrong kind; the program says so itself."""
+        """The files that the command reads. A file of a wrong kind is refused here for a command of the tool; otherwise
+        the program reports it."""
         texts = Reader(self).texts(self.command.kinds(self.given), self.words)
         wrong = wrong_kinds(self.command, texts)
         if wrong and not self.command.is_of_the_program:
@@ -172,6 +178,6 @@ class Request:
 
 
 def wrong_kinds(command, texts):
-    """Which files look like texts of other kinds than the command expects; empty if none does."""
+    """A message that names the files of another kind than the command expects, or an empty string if there are none."""
     said = ", ".join(f"{text.name} is {text.looks_like.with_article}" for text in texts if text.looks_like not in (None, text.kind))
     return f"{said}; {command.name} wants {' '.join(text.kind.word for text in texts)}" if said else ""

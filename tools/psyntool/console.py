@@ -1,4 +1,5 @@
-"""Standard input, output and error, by their descriptors: nothing is left in a buffer when the tool ends."""
+"""Reads and writes the standard streams by their descriptors, without buffers that could still hold data when the tool
+ends."""
 import errno
 import os
 
@@ -9,7 +10,8 @@ STEP = 1 << 20
 
 
 def fill_closed():
-    """Puts a descriptor that refuses in the place of a standard stream that is closed, so that no file gets its number."""
+    """Opens /dev/null, in the wrong direction, for each closed standard stream, so that no file gets its number and
+    each use fails."""
     for number, way in ((INPUT, os.O_WRONLY), (OUTPUT, os.O_RDONLY), (ERROR, os.O_WRONLY)):
         try:
             os.fstat(number)
@@ -18,12 +20,12 @@ def fill_closed():
 
 
 def is_terminal():
-    """Whether standard error is read by a person."""
+    """Whether standard error is a terminal."""
     return os.isatty(ERROR)
 
 
 def tell(*lines):
-    """Lines on standard error; they are lost where nobody reads it."""
+    """Writes lines to standard error; errors of writing are ignored."""
     put("".join(f"{line}\n" for line in lines))
 
 
@@ -35,7 +37,7 @@ def put(text):
 
 
 def write(answer):
-    """Bytes to standard output, whole."""
+    """Writes all given bytes to standard output."""
     rest = memoryview(answer)
     while rest:
         try:
@@ -50,7 +52,7 @@ def write_text(text):
 
 
 def lines():
-    """The lines of standard input as they are typed, without their ends."""
+    """The lines that are typed on standard input, with surrounding blanks removed."""
     rest, is_open = b"", True
     while is_open:
         part = read_some(STEP)
@@ -62,7 +64,7 @@ def lines():
 
 
 def read_some(most):
-    """What standard input has now, at most so many bytes; nothing where it is at its end."""
+    """Reads at most `most` bytes that standard input has now; returns no bytes at its end."""
     try:
         return os.read(INPUT, most)
     except OSError as error:
@@ -70,7 +72,7 @@ def read_some(most):
 
 
 def read(most):
-    """At most so many bytes of standard input, whole where it has no more."""
+    """Reads `most` bytes of standard input, or all of it if it is shorter."""
     parts, left = [], most
     while left:
         part = read_some(min(STEP, left))

@@ -1,24 +1,25 @@
-"""How a run of the tool ends: its statuses, and what it raises where it can't go on.
+"""How a run of the tool ends: the exit statuses, and the exceptions that end a run early.
 
-Whatever else is raised is a defect of the tool, and shows as one.
+A run may also end with `Unreadable` or an `OSError`; any other exception is a bug of the tool.
 """
 
 FAULT = 1
 REFUSED = 2
-# A shell tells a process that a signal ended by this and the signal's number.
+# A shell reports a process that a signal killed by this number plus the signal's number.
 BY_SIGNAL = 128
 
 
 class Refused(Exception):
-    """A command line or a file is refused; the message says why, and what to do."""
+    """A command line or a file is refused; the message says why, and what the user can do."""
 
 
 class Unwritten(Exception):
-    """An answer could not be had or written whole; the message says why, or is empty where nobody reads any more."""
+    """The program's answer is missing or could not be written completely. The message says why; it is empty if the
+    reader has closed the pipe."""
 
 
 class Stopped(KeyboardInterrupt):
-    """A signal ends the run: Ctrl-C, TERM or HUP."""
+    """The signal INT (Ctrl-C), TERM or HUP ends the run."""
 
     def __init__(self, number):
         super().__init__(number)

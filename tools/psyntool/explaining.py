@@ -1,4 +1,4 @@
-"""Explains a fault: the file, the line and the column, what only the texts can tell, and the words of docs/FAULTS.md."""
+"""Explains a fault: its file, line and column, what the input texts show about it, and what docs/FAULTS.md says."""
 import re
 from collections import Counter
 
@@ -9,17 +9,18 @@ from psyntool.marking import placed
 from psyntool.program import MOST_BYTES
 from psyntool.texts import Unreadable, automaton, circuit, labels
 
-# What the tool hands on can always be read, if it is not too long.
+# The numbers of faults with special explanations. Fault 25 can only mean that the input is too long, because the
+# program reads it from the tool.
 READ_FAULT, OTHER_GAME, SYMBOLS = 25, 54, 72
-# Longer texts are not read here, since that takes longer than the program does.
+# Longer texts are not parsed here, because parsing them in Python would take longer than the program's own run.
 LONGEST = 1 << 21
-# Faults of a certificate are those of a solution too.
+# A fault of a certificate can also be found in a solution.
 SPEAKS_TOO = {Kind.CERTIFICATE: Kind.SOLUTION}
 PLAYERS_OF_A_GAME = b"spot-state-player:"
 
 
 def lines(request, texts, answer):
-    """The lines that explain an answer: few, or none if it is not a fault."""
+    """A few lines that explain an answer; often none if the answer is not a fault."""
     found = re.fullmatch(r"fault (usage|(\d+) (\w+)(?: at (\d+))?(.*))\n", answer.text)
     if not found:
         return games_of_spot(texts)
@@ -49,11 +50,11 @@ def place_of(fault, text, offset):
     return placed(text, offset, fault.name) if text else []
 
 
-# ---- what only the texts can tell
+# ---- explanations for which the input texts are parsed
 
 
 def seen_in_texts(number, behind, request, texts):
-    """Further lines for faults without a place, where the texts can be read."""
+    """Further lines for faults without an offset, if the input texts can be parsed."""
     seen = {17: acceptance_line, 21: clashing_edges, SYMBOLS: wrong_symbols}.get(number)
     if not seen or texts[0].kind is not Kind.AUTOMATON or number == SYMBOLS and len(texts) < 2 or any(len(text.bytes) > LONGEST for text in texts):
         return []
@@ -64,7 +65,7 @@ def seen_in_texts(number, behind, request, texts):
 
 
 def seen_in_solution(number, offset, behind, texts):
-    """Further lines for what is wrong with a solution, by the names of the game's vertices."""
+    """Further lines about an error in a solution, with the names of the game's vertices."""
     if texts[-1].kind is not Kind.SOLUTION or any(len(text.bytes) > LONGEST for text in texts):
         return []
     try:
@@ -82,12 +83,12 @@ def acceptance_line(_behind, _request, texts):
 
 
 def byte_place(text, place):
-    """The byte at which a character of the string begins."""
+    """The byte offset at which the character with this index begins."""
     return len(text.string[:place].encode("utf-8", "surrogateescape"))
 
 
 def clashing_edges(behind, _request, texts):
-    """The two edges, and a letter that both of them take."""
+    """The two edges of a state that share a letter, and such a letter."""
     state, first, second = map(int, re.findall(r"\d+", behind))
     read = automaton.read(texts[0].string)
     edges = dict(enumerate(read.edges.get(state, ())))
@@ -102,7 +103,8 @@ def clashing_edges(behind, _request, texts):
 
 
 def wrong_symbols(_behind, request, texts):
-    """Which names are missing among the circuit's symbols, and which are too many."""
+    """Which of the automaton's proposition names are missing among the circuit's symbols, and which symbols are no such
+    names."""
     read, judged = automaton.read(texts[0].string), circuit.read(texts[1].string)
     names = [[name for _, name in owned] for owned in read.owners()]
     inputs, outputs = reversed(names) if request.has(ENV) else names
@@ -115,7 +117,7 @@ def wrong_symbols(_behind, request, texts):
 
 
 def differing(title, kind, wanted, judged):
-    """How the symbols of the inputs, or of the outputs, differ from the expected names."""
+    """How the symbols of the circuit's inputs, or of its outputs, differ from the expected names."""
     there = [judged.symbols.get((kind, number)) for number in range(len(judged.names(kind)))]
     spare = Counter(filter(None, there)) - Counter(wanted)
     parts = [("missing", [name for name in wanted if name not in set(there)]), ("too many", list(spare)), ("without a name", [str(there.count(None))])]

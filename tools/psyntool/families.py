@@ -1,18 +1,19 @@
-"""Families of parity games by name, each made by a rule from a number, so that the same name gives the same text everywhere."""
+"""Named families of parity games. A rule makes each game from a number, so a name and a number give the same game on
+every machine."""
 from psyntool.texts.game import Game, Vertex
 
 MOST_VERTICES = 1_000_000
-# Of the generator that `random` uses: Knuth's MMIX.
+# Constants of the random number generator of the family `random`: those of Knuth's MMIX.
 FACTOR, SUMMAND, WORD = 6364136223846793005, 1442695040888963407, 2**64
 
 
 def game_of(rows):
-    """The game of rows: priority, owner, successors; a vertex's id is its place."""
+    """The game of rows (priority, owner, successors); the index of a row is the id of its vertex."""
     return Game(tuple(Vertex(place, priority, owner, tuple(dict.fromkeys(to)), None) for place, (priority, owner, to) in enumerate(rows)))
 
 
 class Draw:
-    """Numbers that look drawn, and are the same each time."""
+    """A pseudorandom number generator, which gives the same numbers for the same seed."""
 
     def __init__(self, seed):
         self.state = seed
@@ -23,40 +24,43 @@ class Draw:
 
 
 def path(n):
-    """A path of n vertices, each of another priority, to a loop that player 0 wins."""
+    """A path of n vertices with increasing priorities, which ends in a loop that player 0 wins."""
     last = n - 1 - (n - 1) % 2
     return [(v, v % 2, [min(v + 1, last)]) for v in range(n)]
 
 
 def loops(n):
-    """n vertices with a loop each, and a priority each."""
+    """n vertices with different priorities, each with a self-loop as its only edge."""
     return [(v, v % 2, [v]) for v in range(n)]
 
 
 def ring(n):
-    """A ring of n vertices with priorities 0 to 3 in turn, each with a way back to the first."""
+    """A ring of n vertices with priorities 0, 1, 2, 3, 0 and so on; each vertex also has an edge to the first."""
     return [(v % 4, v // 2 % 2, [(v + 1) % n, 0]) for v in range(n)]
 
 
 def clique(n):
-    """n vertices with an edge to each, a priority each, owners in turn."""
+    """n vertices with an edge to every other vertex, different priorities and alternating owners."""
     return [(v, v % 2, [w for w in range(n) if w != v] or [v]) for v in range(n)]
 
 
 def buchi(n):
-    """A Büchi game of n vertices: each tenth one has priority 2, two edges each."""
+    """A random Büchi game of n vertices with two edges each: every tenth vertex has priority 2, the others have
+    priority 1."""
     draw = Draw(n)
     return [(2 if v % 10 == 0 else 1, draw.below(2), [draw.below(n), draw.below(n)]) for v in range(n)]
 
 
 def random(n):
-    """n vertices with a priority below n, drawn, as owners and two or three edges are."""
+    """A random game of n vertices, with priorities less than n, random owners, and two or three edges for each
+    vertex."""
     draw = Draw(n)
     return [(draw.below(n), draw.below(2), [draw.below(n) for _ in range(2 + draw.below(2))]) for _ in range(n)]
 
 
 def jurdzinski(n):
-    """After Jurdzinski's games, on which lifting counts one by one is slow: n rows of n boxes with priorities of their own."""
+    """Modelled on Jurdzinski's games, on which lifting measures one by one is slow: n rows of 2n + 1 vertices, each row
+    with two priorities of its own."""
     width = 2 * n + 1
     rows = []
     for row in range(n):
@@ -71,17 +75,19 @@ def jurdzinski(n):
 
 
 def ladder(n):
-    """n rungs of five vertices, after Friedmann's recursive ladder: recursion takes exponential time (docs/HARD_GAMES.md)."""
+    """n rungs of five vertices, modelled on Friedmann's recursive ladder: Zielonka's recursion takes exponential time
+    (docs/HARD_GAMES.md)."""
     return rungs(n, (1, 0, 1, 0, 0), (None, None, 4, 3, 5))
 
 
 def ladder2(n):
-    """The same shape with two priorities of a rung exchanged and other owners: half as hard."""
+    """The games of `ladder` with two priorities exchanged in each rung, and other owners: about half as hard."""
     return rungs(n, (0, 1, 0, 1, 1), (None, None, 3, 4, 5))
 
 
 def rungs(n, owners, priorities):
-    """Rungs of five vertices: the edges of each by place in the rung and how many rungs further on."""
+    """Rungs of five vertices. Each edge is given by the index of its target in the target's rung, and by how many rungs
+    further on that rung is."""
     edges = ([(1, 0)], [(0, 0), (2, 1)], [(1, 0), (3, 0)], [(4, 0), (3, -1)], [(1, 1), (3, 0)])
     rows = []
     for rung in range(n):
@@ -92,7 +98,7 @@ def rungs(n, owners, priorities):
     return rows
 
 
-# Each with how many vertices it has for a number.
+# For each family, its generator and the number of vertices of the game for n.
 FAMILIES = {
     "buchi": (buchi, lambda n: n),
     "clique": (clique, lambda n: n * n),

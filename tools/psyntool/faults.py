@@ -1,4 +1,4 @@
-"""The sections of docs/FAULTS.md: each fault's number and name, its cause, and how to mend it."""
+"""The sections of docs/FAULTS.md: for each fault its number, its name, its cause and its remedy."""
 import re
 from dataclasses import dataclass
 
@@ -10,7 +10,8 @@ KINDS = {kind.title.capitalize(): kind for kind in (Kind.AUTOMATON, Kind.GAME, K
 
 @dataclass(frozen=True)
 class Fault:
-    """A section: a fault's number (None for `usage`), its name, the kind of text that it speaks of, and what is said of it."""
+    """A section of docs/FAULTS.md: the fault's number (None for `usage`), its name, the kind of text that has the
+    fault, and the section's entries."""
 
     number: int | None
     name: str
@@ -28,7 +29,8 @@ def fault_of(heading, body):
 
 
 def examples_of(body):
-    """The inputs of a section with their answers: an indented block after `Input:` and the code after `Answer:`."""
+    """The examples of a section: each input is the indented block after `Input:`, and its answer is the code after
+    `Answer:`."""
     found = re.findall(r"(?m)^Input:\n\n((?:    .*\n|\n)+?)\nAnswer: `([^`\n]*)`", body)
     return [("\n".join(line[4:] for line in block.rstrip("\n").split("\n")) + "\n", answer + "\n") for block, answer in found]
 

@@ -1,4 +1,4 @@
-"""Reads files, and maps places of what the program reads back to them."""
+"""Reads files, and maps offsets in the program's input back to offsets in the files."""
 import bisect
 import re
 
@@ -12,20 +12,20 @@ OTHER_MARKS = (b"\xff\xfe", b"\xfe\xff")
 
 
 class Text:
-    """One text of the input: its bytes as the program reads them, and where they are in the file."""
+    """One input text: the bytes that the program reads, and how their offsets map to offsets in the file."""
 
     def __init__(self, kind, name, original):
         self.kind, self.name, self.original = kind, name, original
         self.bytes = original
         self.told = []
-        # whether the file has the binary form of AIGER, and the text is its ASCII form
+        # whether the file was in binary AIGER, so that the text is its ASCII form
         self.was_binary = False
-        # places from which on the text is shifted in the file, with the distance
+        # pairs of an offset in the text and the distance by which the text is shifted in the file from there on
         self.shifts = [(0, 0)]
 
     @property
     def string(self):
-        """The text; bytes that are not UTF-8 are kept as they are."""
+        """The text as a string; bytes that are not UTF-8 become surrogate escapes."""
         return self.bytes.decode("utf-8", "surrogateescape")
 
     @property
@@ -33,18 +33,18 @@ class Text:
         return kind_of(self.bytes)
 
     def place_in_file(self, offset):
-        """The offset in the file of a byte of the text."""
+        """The offset in the file of the byte at an offset of the text."""
         at = bisect.bisect_right([start for start, _ in self.shifts], offset) - 1
         return min(offset + self.shifts[at][1], len(self.original))
 
     def drop_mark(self):
-        """Drops a byte order mark, which belongs to no format; editors count no column for it."""
+        """Drops a byte order mark, which no format allows; editors do not count it as a column."""
         if self.original.startswith(BYTE_ORDER_MARK):
             self.original = self.bytes = self.original[len(BYTE_ORDER_MARK) :]
             self.told.append(f"{self.name}: a byte order mark is left out")
 
     def drop_returns(self):
-        """Drops the carriage return of each line's end, but none inside a name."""
+        """Drops the carriage return at the end of each line, except inside a name."""
         drop = returns_at_line_ends(self.kind, self.bytes)
         if not drop:
             return
@@ -62,7 +62,7 @@ class Text:
             self.told.append(f"{self.name}: the last line is ended by a newline")
 
     def zero_resets(self):
-        """Writes reset 0 for each unset latch of a circuit (its own literal as reset)."""
+        """Replaces the reset value of each uninitialised latch (its own literal) by 0."""
         lines = self.bytes.split(b"\n")
         header = lines[0].split()
         if len(header) < 6 or header[0] != b"aag" or not all(map(is_number, header[1:])):
@@ -71,7 +71,7 @@ class Text:
         for place in range(first, min(first + count, len(lines))):
             fields = lines[place].split()
             if len(fields) == 3 and fields[0] == fields[2]:
-                # as long as before, so that no offset moves
+                # the line keeps its length, so that no later offset changes
                 lines[place] = fields[0] + b" " + fields[1] + b" " + b"0" * len(fields[2])
                 changed += 1
         if changed:
@@ -80,7 +80,7 @@ class Text:
 
 
 def returns_at_line_ends(kind, text):
-    """The places of the carriage returns that end a line together with a newline and are in no name."""
+    """The offsets of the carriage returns that are part of a line ending, and not of a name."""
     ends = [found.start() for found in re.finditer(rb"\r\n", text)]
     if text.endswith(b"\r"):
         ends.append(len(text) - 1)
@@ -89,18 +89,18 @@ def returns_at_line_ends(kind, text):
         inside = {found.start() + at.start() for found in re.finditer(name, text, re.S) for at in re.finditer(rb"\r", found[0])}
         return [place for place in ends if place not in inside]
     if kind is Kind.CIRCUIT and len(ends) < text.count(b"\n"):
-        # lines are ended in two ways: a return at the end of a symbol may be part of its name
+        # only some lines end with a carriage return, so a return after a symbol may belong to the symbol's name
         return [place for place in ends if text[text.rfind(b"\n", 0, place) + 1 : place][:1] not in (b"i", b"l", b"o")]
     return ends
 
 
 def title_of(path):
-    """How a file is called in messages, on one line."""
+    """The name of a file in messages, on one line."""
     return "standard input" if path == "-" else path if path.isprintable() else repr(path)
 
 
 class Reader:
-    """Reads the files of one command line: all together no more than the program takes, and one byte."""
+    """Reads the files of one command line: together at most one byte more than the program accepts."""
 
     def __init__(self, settings):
         self.settings, self.left, self.has_input = settings, program.MOST_BYTES + 1, False
@@ -118,12 +118,13 @@ class Reader:
         return data
 
     def text(self, kind, path):
-        """The text of a file (`-` is standard input), mended as the settings say; a kind FILE is found by how it begins."""
+        """The text of a file (`-` is standard input), normalised as the flags ask. For the kind FILE, the beginning of
+        the text decides its kind."""
         name, original = title_of(path), self.bytes_of(path)
         return self.mended((kind_of(original) or kind) if kind is Kind.FILE else kind, name, original)
 
     def mended(self, kind, name, original):
-        """The text of some bytes, mended as the settings say."""
+        """The text with the given bytes, normalised as the flags ask."""
         was_binary = kind is Kind.CIRCUIT and original.startswith(b"aig ")
         if was_binary:
             original = self.converted(name, original)
@@ -145,7 +146,7 @@ class Reader:
         return text
 
     def converted(self, name, original):
-        """A circuit in the binary form of AIGER as an ASCII text."""
+        """The ASCII form of a circuit in binary AIGER."""
         try:
             text = binary.ascii_form(original)
         except binary.Broken as error:
@@ -161,7 +162,7 @@ class Reader:
 
 
 def joined(command, flags, texts):
-    """The whole input: the command line, and the texts with a line %% between."""
+    """The program's whole input: the command line, and the texts with a line `%%` between two of them."""
     for text in texts[:-1]:
         found = re.search(rb"(?m)^%%$", text.bytes)
         if found:

@@ -1,4 +1,5 @@
-"""What is wrong with a solution of a game, by the names of its vertices: faults 40, 50, 51 and 54 of `judge`."""
+"""Explains what is wrong with a solution of a game (faults 40, 50, 51 and 54 of `judge`), with the names of the
+vertices."""
 import re
 from dataclasses import dataclass
 
@@ -10,20 +11,20 @@ from psyntool.pictures import games
 from psyntool.pictures.dot import MOST as MOST_DRAWN
 from psyntool.texts import Unreadable, game, solution
 
-# A longer cycle is told in part.
+# Only this many vertices of a cycle are listed.
 MOST = 24
 
 
 @dataclass(frozen=True)
 class Case:
-    """A game, and what a text says about it: the entries up to the first that can't be read, and the text itself."""
+    """A game and a text with its solution: the entries up to the first that can't be parsed, and the text itself."""
 
     game: game.Game
     entries: dict
     text: object
 
     def named(self, identity):
-        """A vertex by its id and its name."""
+        """The id of a vertex, and its name if it has one."""
         vertex = self.game.by_identity[identity]
         return f"vertex {identity}" + ("" if vertex.name is None else f' "{vertex.name}"')
 
@@ -46,7 +47,7 @@ def parity(priority):
 
 
 def lost_cycle(behind, texts):
-    """The cycle, with names and priorities, and who loses it."""
+    """The vertices of a cycle, with names and priorities, and the player who loses the cycle."""
     case, cycle = case_of(texts), [int(word) for word in behind.split()]
     vertices = [case.game.by_identity[identity] for identity in cycle]
     loser, greatest = case.entry(cycle[0]).winner, max(vertex.priority for vertex in vertices)
@@ -58,7 +59,7 @@ def lost_cycle(behind, texts):
 
 
 def wrong_move(behind, texts):
-    """A vertex at which its winner, who owns it, has no move, or one along no edge."""
+    """A vertex whose owner is said to win it, but without a move, or with a move along no edge."""
     case, (word, move) = case_of(texts), behind.split()
     vertex = case.game.by_identity[int(word)]
     to = ", ".join(map(str, vertex.successors[:MOST])) + (" .." if len(vertex.successors) > MOST else "")
@@ -70,7 +71,7 @@ def wrong_move(behind, texts):
 
 
 def escape(behind, texts):
-    """An edge by which a play leaves what its winner was given."""
+    """An edge by which a play leaves the region of the player who is said to win it."""
     case, (source, target) = case_of(texts), map(int, behind.split())
     vertex, winner = case.game.by_identity[source], case.entry(source).winner
     way = "moves" if vertex.owner == winner else "can move"
@@ -82,7 +83,7 @@ def escape(behind, texts):
 
 
 def other_game(offset, texts):
-    """The id that is wrong at a place, or the vertices without an entry at the end."""
+    """The id that is wrong at an offset or, if all entries were read, the vertices without an entry."""
     case = case_of(texts)
     found = re.compile(rb"0*(\d{1,20})").match(texts[1].bytes, offset)
     if not found:
@@ -97,19 +98,19 @@ def other_game(offset, texts):
 
 
 def check_picture(request):
-    """A picture is one of another solver's cycle."""
+    """Refuses --picture without --by, because only another solver's solution can have a lost cycle."""
     if request.has(PICTURE) and not request.has(BY):
         raise Refused(f"{request.command.name} {PICTURE.name} wants {BY.shown}")
 
 
 def path_of(request):
-    """The file of the picture, where one is asked for and can be written."""
+    """The path for the picture if one is asked for and the file can be written, else None."""
     path = request.value(PICTURE)
     return outputs.checked([path], PICTURE.shown, path)[0] if request.has(PICTURE) else None
 
 
 def draw(request, path, answer, texts, automaton=None):
-    """Writes the picture, if an answer is a lost cycle; a line on standard error tells it."""
+    """Writes the picture if the answer is a lost cycle, and says so on standard error."""
     found = re.fullmatch(r"fault 40 BadCycle((?: \d+)+)\n", answer.text)
     if not path or not found:
         return
@@ -120,7 +121,8 @@ def draw(request, path, answer, texts, automaton=None):
 
 
 def drawn(read, said, automaton, cycle):
-    """All of a small game, else what lies a step from the cycle, or the cycle alone."""
+    """A picture of the whole game if the game is small; otherwise the cycle and the vertices one step from it, or only
+    the cycle."""
     for reach in (None, 1, 0):
         try:
             return games.picture(read, said, automaton, reach, cycle)

@@ -1,13 +1,13 @@
-"""Kinds of texts: what each is called, what its files end in, and by what its beginning is known."""
+"""Kinds of texts: the name of each kind, its file name endings, and how its texts begin."""
 import enum
 import re
 
-# So much of a text is looked at.
+# The number of bytes at the start of a text that decide its kind.
 BEGINNING = 4096
 
 
 class Kind(enum.Enum):
-    """A kind of text: its name, and the endings that names of its files mostly have, the one that psyn writes first."""
+    """A kind of text: its name, and the usual file name endings, beginning with the one that psyn writes."""
 
     AUTOMATON = ("automaton", ("hoa",))
     GAME = ("game", ("pg", "gm"))
@@ -24,7 +24,7 @@ class Kind(enum.Enum):
 
     @property
     def word(self):
-        """As a command line has it."""
+        """The name of the kind on a usage line."""
         return self.title.upper()
 
     @property
@@ -45,6 +45,7 @@ SIGNS = [
 
 
 def kind_of(data):
-    """What a text looks like by how it begins, comments of an automaton left out; None where that says nothing."""
+    """The kind of a text, as its beginning shows; None if the beginning fits no kind. A leading comment of an automaton
+    is skipped."""
     beginning = re.sub(rb"(?s)\A\s*/\*.*?\*/", b"", data[:BEGINNING])
     return next((kind for kind, sign in SIGNS if re.match(sign, beginning)), None)

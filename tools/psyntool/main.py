@@ -1,4 +1,4 @@
-"""The command line of the tool: takes it apart, runs the command, and ends with its status."""
+"""The tool's main function: parses the command line, runs the command, and returns the exit status."""
 from psyntool import console, signals, words
 from psyntool.ends import FAULT, REFUSED, Refused, Stopped, Unwritten
 from psyntool.table import COMMANDS
@@ -6,7 +6,7 @@ from psyntool.texts import Unreadable
 
 
 def main(line):
-    """Runs a command line; gives the status."""
+    """Runs a command line, and returns the exit status."""
     console.fill_closed()
     signals.take()
     try:

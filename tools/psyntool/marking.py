@@ -1,10 +1,10 @@
-"""Places of texts as people read them: file, line and column, and the line with a mark below."""
+"""Positions in texts as people read them: file, line and column, and the line with a mark below it."""
 
 WIDTH = 100
 
 
 def line_and_column(data, offset):
-    """The line and the column of a byte, both from 1."""
+    """The line and the column of a byte, both counted from 1."""
     return data.count(b"\n", 0, offset) + 1, offset - data.rfind(b"\n", 0, offset)
 
 
@@ -20,7 +20,7 @@ def shown(data, offset, width=WIDTH):
 
 
 def placed(text, offset, what):
-    """A place of a text in its file, and its line."""
+    """The position in the file of a byte of the text, and the marked line."""
     at = text.place_in_file(offset)
     row, column = line_and_column(text.original, at)
     return [f"{text.name}:{row}:{column}: {what}", *shown(text.original, at)]

@@ -1,11 +1,11 @@
-"""Files that are written whole or not at all: under names of their own first, and renamed when all are there."""
+"""Writes several files completely, or none of them: first under temporary names, and then renames them."""
 import os
 
 from psyntool.ends import Refused, Unwritten
 
 
 def checked(paths, flag, prefix):
-    """The paths, where files can be there: so that a long run is not in vain."""
+    """The paths, after a check that files can be written there, so that no long run is wasted."""
     folder, begin = os.path.split(prefix)
     if not begin or begin in (os.curdir, os.pardir):
         wanted = "the name of a file" if [*paths] == [prefix] else "the beginning of the names of files"
@@ -17,14 +17,14 @@ def checked(paths, flag, prefix):
     for path in paths:
         if os.path.isdir(path):
             raise Refused(f"{flag}: {path} is a folder")
-        # a device or a pipe would be replaced by a file
+        # renaming the finished file to this path would replace a device or a pipe
         if os.path.exists(path) and not os.path.isfile(path):
             raise Refused(f"{flag}: {path} is no plain file")
     return paths
 
 
 def write_all(texts):
-    """Writes texts, or bytes, to the files that they are given for: all of them, or none is touched."""
+    """Writes each text, or bytes, to its path. If a text can't be written, no file is changed."""
     drafts = {}
     try:
         for path, text in texts.items():

@@ -1,4 +1,4 @@
-"""The program: where it is, what it answers to an input, and how the tool becomes it."""
+"""Finds and runs the program: gives it an input and returns its answer, or replaces the tool by it (`exec`)."""
 import os
 import signal
 import subprocess
@@ -15,7 +15,7 @@ except ImportError:
     ctypes = None
 
 PR_SET_PDEATHSIG = 1
-# The program reads no more, and answers fault 25 to one byte more.
+# The largest input that the program accepts; it answers fault 25 to a longer one.
 MOST_BYTES = 67_108_864
 STATUSES = {0: b"", 10: b"REALIZABLE\n", 20: b"UNREALIZABLE\n", 1: b"fault ", 2: b"fault "}
 CLOCK_FROM = 2
@@ -23,7 +23,7 @@ CLOCK_FROM = 2
 
 @dataclass(frozen=True)
 class Answer:
-    """What the program wrote, its status, and what ended it too early, or an empty word."""
+    """What the program wrote, its exit status, and a message if something killed it early."""
 
     bytes: bytes
     status: int
@@ -39,7 +39,7 @@ class Answer:
 
 
 def path():
-    """The path of the program: $PSYN, or the one that was installed or built."""
+    """The path of the program: $PSYN or, if that is unset, the program that was built or installed."""
     named = os.environ.get("PSYN")
     if named and not os.path.isfile(named):
         raise Refused(f"PSYN={named}: {'this is a folder' if os.path.isdir(named) else 'there is no such file'}, and no program")
@@ -49,13 +49,14 @@ def path():
 
 
 def title():
-    """How the program is called in messages."""
+    """The program's name in messages."""
     named = os.environ.get("PSYN")
     return f"PSYN={named}" if named else places.PROGRAM
 
 
 def before_it_runs():
-    """What a child does before it becomes the program: it asks to be killed when the tool is gone, where the system can do that."""
+    """Returns a function that a child process calls before `exec`. It asks the system, if it can, to kill the child
+    when the tool ends."""
     control, tool = getattr(ctypes.CDLL(None), "prctl", None) if ctypes else None, os.getpid()
 
     def prepare():
@@ -78,7 +79,7 @@ def started():
 
 
 def waited_for(child, given):
-    """What the child writes; a terminal is shown how long it has been at work."""
+    """Waits for the child, and returns its output; on a terminal, the seconds so far are shown."""
     if not console.is_terminal():
         return child.communicate(given)[0]
     began, shown = time.monotonic(), False
@@ -118,7 +119,7 @@ def end(child):
 
 
 def why_died(written, status):
-    """What ended the program before its answer was whole; empty where it ended as it does."""
+    """A message that says what ended the program before its answer was complete, or an empty string if nothing did."""
     if status < 0:
         return f"the program was ended by {signals.name_of(-status)} before its answer was whole"
     if not written.startswith(STATUSES.get(status, b"\0")):
@@ -127,7 +128,7 @@ def why_died(written, status):
 
 
 def become(given):
-    """Becomes the program, which reads the input and writes its answer by itself."""
+    """Replaces the tool by the program, which reads the input and writes its answer itself."""
     with tempfile.TemporaryFile() as file:
         file.write(given)
         file.seek(0)

@@ -1,4 +1,4 @@
-"""Which psyn this is: its version, its commit, and the kit with which it was proved."""
+"""The release: psyn's version, its commit, and the kit with which it was proved."""
 import re
 import subprocess
 from dataclasses import dataclass
@@ -12,7 +12,7 @@ UNKNOWN = "unknown"
 
 @dataclass(frozen=True)
 class Release:
-    """As a file RELEASE has it: a line for each key."""
+    """The contents of a file RELEASE, which has a line for each key."""
 
     version: str
     commit: str
@@ -23,7 +23,7 @@ class Release:
 
 
 def git(*words):
-    """What git answers at the top of the repository; empty where it can't."""
+    """The output of a git command at the top of the repository, or an empty string if the command fails."""
     try:
         done = subprocess.run(["git", "-C", places.TOP, *words], stdin=subprocess.DEVNULL, capture_output=True, check=False)
     except OSError:
@@ -32,7 +32,7 @@ def git(*words):
 
 
 def of_repository():
-    """What a checkout is: its commit, and whether files differ from it."""
+    """The release in a checkout: its version, its commit, whether files differ from the commit, and the kit."""
     commit = git("rev-parse", "HEAD") or UNKNOWN
     changes = " with changes" if commit != UNKNOWN and git("status", "--porcelain") else ""
     kit = re.search(r"`(rattle-kit\S* logic \w+)`", places.stored("docs", "PROVED.md"))
@@ -45,7 +45,7 @@ def of_text(text):
 
 
 def here():
-    """Of a checkout, or of what was unpacked or installed."""
+    """The release of the checkout, the unpacked archive or the installation in which the tool is."""
     return of_repository() if places.IS_REPOSITORY else of_text(places.stored("RELEASE"))
 
 

@@ -1,4 +1,4 @@
-"""Signals: Ctrl-C, TERM and HUP end the tool, with the program that it runs."""
+"""Signals: INT (Ctrl-C), TERM and HUP end the tool together with the program that it runs."""
 import os
 import signal
 
@@ -10,13 +10,13 @@ WORDS = {signal.SIGINT: "stopped by Ctrl-C", signal.SIGTERM: "ended by TERM", si
 
 
 def stop(number, _frame):
-    """From here on a second signal ends the tool at once."""
+    """Raises `Stopped`; from then on, a second signal ends the tool at once."""
     give_back()
     raise Stopped(number)
 
 
 def take():
-    """Makes the signals raise `Stopped`, except those that the caller of the tool ignores."""
+    """Lets the signals raise `Stopped`, except those that the tool's caller ignores."""
     for number in TAKEN:
         if signal.getsignal(number) != signal.SIG_IGN:
             signal.signal(number, stop)
@@ -29,7 +29,7 @@ def give_back():
 
 
 def hold():
-    """The signals wait until `let_go`."""
+    """Blocks the signals until `let_go` is called."""
     signal.pthread_sigmask(signal.SIG_BLOCK, TAKEN)
 
 
@@ -42,7 +42,8 @@ def name_of(number):
 
 
 def end_by(number):
-    """Ends the process by this signal, so that a shell sees what ended it; gives the status where it was ignored."""
+    """Ends the process by this signal, so that a shell sees what ended it; returns an exit status if the signal is
+    ignored."""
     give_back()
     os.kill(os.getpid(), number)
     return BY_SIGNAL + number

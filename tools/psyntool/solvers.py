@@ -1,4 +1,4 @@
-"""Another solver: its command gets a game, and the solution that it writes goes to `judge`."""
+"""Other solvers: a command solves a game, and `judge` checks the solution that the command writes."""
 import dataclasses
 import os
 import shlex
@@ -14,7 +14,7 @@ GAME, SOLUTION = "{game}", "{solution}"
 
 
 def words_of(request):
-    """The words of the command, so that one of no meaning is refused before anything runs."""
+    """The words of the solver's command. A command that can't work is refused before anything runs."""
     said = request.value(BY)
     try:
         words = shlex.split(said)
@@ -26,15 +26,15 @@ def words_of(request):
 
 
 class Solver:
-    """A solver by its command line."""
+    """Another solver, given by its command line."""
 
     def __init__(self, request):
-        # what goes wrong with the solution is explained as `judge` explains it
+        # an error in the solution is explained as the command `judge` explains it
         self.request, self.words = dataclasses.replace(request, command=request.table["judge"]), words_of(request)
         self.name = os.path.basename(self.words[0])
 
     def solution(self, game):
-        """The text that the solver writes for a game's text."""
+        """The solution that the solver writes for a game."""
         with tempfile.TemporaryDirectory() as room:
             paths = {GAME: os.path.join(room, "game.pg"), SOLUTION: os.path.join(room, "solution")}
             with open(paths[GAME], "wb") as file:
@@ -46,18 +46,20 @@ class Solver:
         return Reader(self.request).mended(Kind.SOLUTION, f"the solution of {self.name}", original)
 
     def judged(self, game):
-        """A game's text and the solution of it, and what `judge` answers to them."""
+        """A game's text and the solver's solution, and the answer of `judge` to both."""
         texts = [game, self.solution(game)]
         return texts, program.ask(files.joined("judge", self.request.passed, texts))
 
     def hand_on(self, texts, answer, path, automaton=None):
-        """Writes what `judge` answers, explains what is wrong, and draws a lost cycle where a path is given; gives the status."""
+        """Writes the answer of `judge`, explains an error, draws a lost cycle if a path is given, and returns the exit
+        status."""
         status = asking.hand_on(self.request, texts, answer)
         judging.draw(self.request, path, answer, texts, automaton)
         return status
 
     def run(self, paths):
-        """Runs the command, and waits for its end; what it says goes to standard error, with --quiet nowhere."""
+        """Runs the solver's command, and waits for its end. Its messages go to standard error or, with --quiet,
+        nowhere."""
         words = self.words
         for sign, path in paths.items():
             words = [word.replace(sign, path) for word in words]
@@ -81,7 +83,7 @@ class Solver:
 
 
 def read(path):
-    """What a solver wrote, no more than the program takes and one byte."""
+    """What a solver wrote, cut off one byte after the program's limit."""
     try:
         with open(path, "rb") as file:
             return file.read(program.MOST_BYTES + 1)

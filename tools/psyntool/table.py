@@ -1,7 +1,7 @@
-"""The commands, in the order in which help, the manual and the completions have them.
+"""The commands, in the order of the help, the manual and the completions.
 
-Those of the program stand first, in the order of its own table. A command is a file of `commands`; one of the tool alone has a row
-here too.
+The program's commands come first, in the order of the program's own table. Each command has a file in `commands`; a
+command of the tool alone is also listed here.
 """
 import importlib
 

@@ -1,1 +1,2 @@
-"""The commands, one file each: `COMMAND` says how it is used, and `run` does it. `table` lists them."""
+"""The commands, one file each: `COMMAND` describes a command's usage and names the function that runs it. `table` lists
+them."""

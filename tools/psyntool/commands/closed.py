@@ -1,4 +1,4 @@
-"""`closed`: whether the moves of a certificate keep each player's region."""
+"""`closed`: whether the moves of a certificate keep every play inside the region in which it begins."""
 from psyntool import asking
 from psyntool.command import of_the_program
 

@@ -1,4 +1,5 @@
-"""`compose`: the one automaton that parts make, in which all assumptions together imply all guarantees."""
+"""`compose`: makes one automaton of a specification in parts, which states that all assumptions together imply all
+guarantees."""
 from psyntool import console
 from psyntool.command import OF_PARTS, Command
 from psyntool.kinds import Kind

@@ -1,4 +1,4 @@
-"""`convert`: a circuit in the other form of AIGER, ASCII or binary, as tools for circuits read and write them."""
+"""`convert`: converts a circuit from the ASCII form of AIGER to the binary form, or back."""
 from psyntool import console
 from psyntool.command import Command, Flag
 from psyntool.kinds import Kind

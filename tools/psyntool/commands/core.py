@@ -1,4 +1,5 @@
-"""`core`: the guarantees that conflict, where parts have no controller; where they have one, the assumptions that it needs."""
+"""`core`: if a specification in parts has no controller, the guarantees that conflict; otherwise the assumptions that a
+controller needs."""
 from psyntool import console, outputs
 from psyntool.command import MOORE, OF_PARTS, TO_FILES, Command
 from psyntool.kinds import Kind
@@ -21,7 +22,7 @@ def run(request):
 
 
 def head(found):
-    """What the parts that follow are."""
+    """The line above the list of parts, which says what the listed parts are."""
     many = len(found.parts) > 1
     if not found.has_controller:
         said = "these guarantees conflict, and none of them can be left out" if many else "this guarantee can't be kept"
@@ -32,7 +33,7 @@ def head(found):
 
 
 def rows(parts):
-    """A line for each part: its name and its sentence."""
+    """For each part, a line with its name and its sentence."""
     width = max((len(part.title) for part in parts), default=0)
     return [f"  {part.title:<{width}}  {part.sentence}".rstrip() for part in parts]
 

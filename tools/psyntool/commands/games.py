@@ -1,4 +1,4 @@
-"""`games`: a parity game of a family, by name, as text."""
+"""`games`: prints a member of a named family of parity games."""
 from psyntool import console, families
 from psyntool.command import Command
 from psyntool.ends import Refused

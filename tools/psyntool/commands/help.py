@@ -81,12 +81,12 @@ def rows(pairs):
 
 
 def uses(commands, are_programs):
-    """How each command is used, and below what it says."""
+    """The usage line of each command, with the command's description below it."""
     return "\n".join(f"  {it.usage}\n      {it.says}" for it in commands.values() if it.is_of_the_program == are_programs)
 
 
 def page(request):
-    """What the tool can do."""
+    """The help page of the whole tool."""
     return WORDS.format(
         name=places.NAME,
         programs=uses(request.table, True),

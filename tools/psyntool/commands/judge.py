@@ -1,4 +1,4 @@
-"""`judge`: whether another solver's solution of a game is right; with --picture the cycle that a player loses is drawn."""
+"""`judge`: whether another solver's solution of a game is right; with --picture, draws a cycle that a player loses."""
 from psyntool import asking, files, judging, program
 from psyntool.command import PICTURE, of_the_program
 

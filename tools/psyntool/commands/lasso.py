@@ -1,4 +1,5 @@
-"""`lasso`: whether an automaton accepts what a circuit does; with --trace also the run, step by step."""
+"""`lasso`: whether an automaton accepts a circuit's trace on a lasso stimulus; with --trace, prints the automaton's run
+step by step."""
 import re
 
 from psyntool import asking, console, files, program, tracing

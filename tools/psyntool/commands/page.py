@@ -1,4 +1,5 @@
-"""`page`: one file on which one plays against the circuit that psyn printed, with pictures, what is proved, and the texts to save."""
+"""`page`: an HTML page on which a user plays against the circuit that psyn printed, with pictures, what is proved, and
+links that save the texts."""
 import os
 
 from psyntool import asking, console, files, program
@@ -30,7 +31,7 @@ def run(request):
 
 
 def of_parts(request):
-    """The page of a list of parts, for which the program is asked."""
+    """Runs the program on a list of parts, and prints the page of the program's answer."""
     text = Composer(specification.asked(request)).composed().text()
     whole = files.Text(Kind.AUTOMATON, "the automaton of these parts", text.encode("utf-8", "surrogateescape"))
     answer = program.ask(files.joined("synth", ["--full"], [whole]))
@@ -46,7 +47,8 @@ def of_parts(request):
 
 
 def refuse_other(given):
-    """Refuses a game and a circuit that the program does not print for this certificate: nothing is proved of those."""
+    """Refuses a game or a circuit other than the one that the program prints for this certificate, since nothing is
+    proved of another."""
     flags = ["--cert", "--full", *([] if given.board.game.vertices[0].owner else ["--moore"])]
     specified = files.Text(Kind.AUTOMATON, given.specification.name, given.automaton.encode("utf-8", "surrogateescape"))
     answer = program.ask(files.joined("synth", flags, [specified, given.printed[2]]))

@@ -1,4 +1,5 @@
-"""`play`: one plays against the circuit that psyn printed, and sees by names why it wins."""
+"""`play`: the user plays against the circuit that psyn printed, and sees why it wins, with the names of states and
+propositions."""
 from psyntool import console, outputs, program
 from psyntool.command import ENV, Command, Flag
 from psyntool.ends import Refused, Unwritten
@@ -29,7 +30,7 @@ def run(request):
 
 
 def automatic(play):
-    """Plays to the end what holds out longest."""
+    """Plays to the end, and takes in each step the choice that holds out longest."""
     while not play.is_over:
         if len(play.steps) == LONGEST:
             raise Refused(f"the play has {LONGEST:,} steps and no end")
@@ -38,7 +39,7 @@ def automatic(play):
 
 
 def asked(play):
-    """Plays what is typed; gives whether the play came to its end."""
+    """Plays the choices that the user types; returns whether the play came to its end."""
     console.write_text(f"You are the {play.board.me}, and the {play.board.other} has a circuit that wins.\n{HELP}\n")
     lines = console.lines()
     while not play.is_over:
@@ -53,7 +54,7 @@ def asked(play):
 
 
 def taken(play, choices, line):
-    """Does what a line says; gives what is wrong with it, or nothing."""
+    """Executes a line that the user typed; returns an error message, or an empty string."""
     if line in ("b", "back"):
         play.back()
         return ""
@@ -65,7 +66,7 @@ def taken(play, choices, line):
 
 
 def letter_of(play, choices, line):
-    """The letter that a line means; None where it means none."""
+    """The letter that a typed line denotes, or None if the line is no choice."""
     if line in ("a", "auto"):
         return play.board.longest(choices).letter
     if line.isdecimal() and 0 < int(line[:9]) <= len(choices):
@@ -79,7 +80,8 @@ def letter_of(play, choices, line):
 
 
 def judged(play, text):
-    """The program's verdict on the play, which must be that of the loop."""
+    """The program's verdict on the play's word. An error is raised unless it is the verdict that the circuit's player
+    wants."""
     flags = [ENV.name] if play.board.winner == 1 else []
     given = " ".join(["lasso", *flags]) + f"\n{text}%%\n"
     answer = program.ask(given.encode("utf-8", "surrogateescape") + play.circuit.text + b"%%\n" + play.stimulus().encode())

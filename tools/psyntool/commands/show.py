@@ -12,7 +12,8 @@ WANTED = "show draws a game, a game and its certificate or solution, with both t
 
 
 def parts_of(text):
-    """The texts of a file, each with its kind; the answer of `synth` has several, of which the last two are the game's."""
+    """The texts in a file, each with its kind. Of an answer of `synth`, only the last two are taken: the game and its
+    certificate."""
     if text.kind is not Kind.ANSWER:
         return [(text.kind, text.string)]
     parts = report.read(text.string).parts
@@ -37,7 +38,7 @@ def run(request):
 
 
 def drawn(found, reach):
-    """The picture of what was found, by kind."""
+    """The picture of the texts that were found, chosen by their kinds."""
     if Kind.GAME in found and Kind.CIRCUIT not in found and not {Kind.CERTIFICATE, Kind.SOLUTION} <= set(found):
         return games.picture(found[Kind.GAME], found.get(Kind.CERTIFICATE) or found.get(Kind.SOLUTION), found.get(Kind.AUTOMATON), reach)
     if set(found) == {Kind.AUTOMATON}:

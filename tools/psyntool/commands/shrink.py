@@ -1,4 +1,4 @@
-"""`shrink`: a circuit made smaller by abc; only one that `verify` finds to win is written."""
+"""`shrink`: lets abc make a circuit smaller, and prints the result only if `verify` finds that it wins."""
 import os
 import shutil
 import tempfile
@@ -11,7 +11,7 @@ from psyntool.kinds import Kind
 from psyntool.texts import binary, circuit
 
 NAMES = ("abc", "berkeley-abc", "yosys-abc")
-# abc knows no latch that begins with 1, so `zero` inverts those that do.
+# abc can't handle latches with reset value 1, so the command `zero` inverts them.
 SCRIPT = "read_aiger before.aig; zero; strash; scorr; scleanup; dc2; dc2; dc2; write_aiger -s after.aig"
 
 
@@ -21,13 +21,13 @@ def run(request):
         raise Refused(f"shrink needs abc: none of {', '.join(NAMES)} is installed")
     texts = request.texts()
     before = circuit.read(texts[1].string)
-    # abc refuses a circuit that has nothing at all
+    # abc refuses a circuit without gates and latches
     after = by_abc(abc, before) if size(before) > (0, 0) else before
     chosen = after if size(after) < size(before) else before
     judged = [texts[0], files.Text(Kind.CIRCUIT, f"the circuit of {abc}" if chosen is after else texts[1].name, chosen.text().encode("utf-8", "surrogateescape"))]
     answer = program.ask(files.joined("verify", request.passed, judged))
     if not asking.is_had(answer):
-        # standard output is for a circuit alone
+        # only a circuit may go to standard output, so a fault goes to standard error
         console.tell(*([answer.text.rstrip("\n")] if answer.is_fault else []))
         return asking.told(request, judged, answer)
     if answer.bytes != b"wins\n":
@@ -44,7 +44,7 @@ def size(made):
 
 
 def by_abc(abc, made):
-    """What abc makes of a circuit; symbols of latches and comments are abc's own, and are left out."""
+    """The circuit that abc makes of a circuit, without the latch symbols and the comment, which abc invents."""
     with tempfile.TemporaryDirectory() as room:
         with open(os.path.join(room, "before.aig"), "wb") as file:
             file.write(binary.binary_form(made))

@@ -1,4 +1,4 @@
-"""`sim`: what a circuit does, letter by letter; with --names below the names of its latches, inputs and outputs."""
+"""`sim`: what a circuit does, letter by letter; with --names, under the names of its latches, inputs and outputs."""
 from psyntool import asking, console, files, program
 from psyntool.command import Flag, of_the_program
 from psyntool.texts import circuit

@@ -1,4 +1,4 @@
-"""`solution`: a certificate's winners and moves as other solvers write them."""
+"""`solution`: a certificate's winners and moves, in the format that other solvers write."""
 from psyntool import console
 from psyntool.command import Command
 from psyntool.kinds import Kind

@@ -1,4 +1,4 @@
-"""`solve`: a certificate of a game; with --by from the solution of another solver."""
+"""`solve`: a certificate of a game; with --by, made from the solution of another solver."""
 from psyntool import asking, judging, solvers
 from psyntool.command import BY, PICTURE, of_the_program
 

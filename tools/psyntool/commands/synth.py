@@ -1,5 +1,5 @@
-"""`synth`: a circuit for an automaton, or for parts; with -o the circuit, the game and the certificate in files of their own; with
---by from the solution of another solver."""
+"""`synth`: a circuit for an automaton, or for a specification in parts. With -o, the circuit, the game and the
+certificate go to separate files; with --by, another solver solves the game."""
 from psyntool import asking, console, files, judging, outputs, program, solvers
 from psyntool.command import BY, CERT, FULL, MOORE, OF_PARTS, PARTS, PICTURE, TO_FILES, of_the_program
 from psyntool.ends import FAULT, Refused
@@ -26,7 +26,8 @@ def run(request):
 
 
 def run_on_parts(request):
-    """The same for parts; where their assumptions can be made to fail, a line on standard error says so."""
+    """Runs `synth` on a specification in parts. If a controller can make the assumptions fail, a line on standard error
+    says so."""
     if request.has(CERT):
         raise Refused(f"{CERT.name} is for an automaton: compose makes one of parts")
     paths = paths_of(request, (*ENDINGS, ".hoa")) if request.has(TO_FILES) else []
@@ -48,7 +49,7 @@ def run_on_parts(request):
 
 
 class Solving:
-    """A run in which another solver solves the game."""
+    """A run of `synth` in which another solver solves the game."""
 
     def __init__(self, request):
         if request.has(CERT):
@@ -56,7 +57,8 @@ class Solving:
         self.request, self.picture, self.solver = request, judging.path_of(request), solvers.Solver(request)
 
     def run(self, texts, paths, others):
-        """The answer to an automaton by the certificate of the solution; where that is wrong, what is wrong with it."""
+        """The answer to an automaton with a certificate made from the other solver's solution or, if the solution is
+        wrong, an explanation of its error."""
         request = self.request
         game = program.ask(files.joined("game", [name for name in request.passed if name == MOORE.name], texts))
         if not asking.is_had(game):
@@ -72,7 +74,8 @@ class Solving:
 
 
 def can_break(request, whole):
-    """Whether the program finds a controller where no word meets the guarantees."""
+    """Whether a controller can make the assumptions fail: the program is asked about an automaton in which no word
+    meets the guarantees."""
     flags = [name for name in request.passed if name == MOORE.name]
     head = " ".join(["synth", *flags]) + "\n"
     return program.ask((head + whole.text(ASSUMPTIONS_FAIL)).encode("utf-8", "surrogateescape")).status == 10
@@ -84,7 +87,8 @@ def paths_of(request, endings):
 
 
 def to_files(request, texts, paths, others, passed=()):
-    """Writes the three parts of the answer and other texts, and then the first line."""
+    """Writes the circuit, the game, the certificate and other given texts to files, and then prints the first line of
+    the answer."""
     flags = list(dict.fromkeys([*(passed or request.passed), FULL.name]))
     answer = program.ask(files.joined("synth", flags, texts))
     if answer.is_fault:

@@ -1,4 +1,5 @@
-"""`verify`: whether the automaton accepts all that the circuit does; else a stimulus on which it does not, and that run step by step."""
+"""`verify`: whether the automaton accepts all that the circuit does; if not, a stimulus that shows this, and the run on
+it step by step."""
 import os
 
 from psyntool import asking, console, files, outputs, program, tracing
@@ -36,7 +37,7 @@ def run(request):
 
 
 def wave_of(text, read):
-    """What the circuit does on the stem, and on laps until its latches come again, as a VCD text."""
+    """A VCD text of what the circuit does on the stem, and on laps until the latches at the start of a lap repeat."""
     return vcd.wave(circuit.read(text.string), wave.until_it_comes_again([text], read).text, len(read.stem))
 
 

@@ -1,4 +1,5 @@
-"""`wave`: what a circuit does, as a VCD file for a wave viewer; of a lasso the stem, and laps until the latches come again."""
+"""`wave`: what a circuit does, as a VCD file for a wave viewer. A lasso is written as its stem, and laps until the
+latches repeat."""
 from psyntool import asking, console, program
 from psyntool.command import Command
 from psyntool.ends import Refused
@@ -30,7 +31,7 @@ def simulated(texts, letters):
 
 
 def until_it_comes_again(texts, given):
-    """What the circuit does on the stem and on laps, until one begins with latches with which another one began."""
+    """What the circuit does on the stem and on laps, until a lap begins with the same latches as an earlier one."""
     laps = 1
     while True:
         answer = simulated(texts, given.letters(len(given.stem) + laps * len(given.lap) + 1))

@@ -1,1 +1,2 @@
-"""Pages: a play by buttons in one file. `contents` makes what `rules.js` reads, `drawing` the pictures, `writing` the file."""
+"""A page for a browser, in one file, on which a user plays by buttons against a circuit. `contents` makes the data that
+`rules.js` reads, `drawing` makes the pictures, and `writing` writes the file."""

@@ -1,4 +1,5 @@
-"""What is proved of a circuit that psyn prints, in three sentences, and the clauses that say it: each its record, its file and its words."""
+"""Three sentences on what is proved of a circuit that psyn prints, and the clauses that they cite: for each its record,
+its file and a paraphrase."""
 from dataclasses import dataclass
 
 ANSWERS, PROMISES = "crates/ps_traces/specs/Answers.antt", "crates/ps_synthesis/specs/Promises.antt"
@@ -39,7 +40,7 @@ GAME = (
     "moves of the certificate ({both_hold}).",
     "No strategy wins from the other vertices, whatever its memory ({none_wins_outside}).",
 )
-# By the winner: the controller, the environment.
+# Two lists of sentences: for a circuit of the controller, and for one of the environment.
 SENTENCES = (
     ("The automaton accepts each lasso trace of this circuit ({accepted}), and each input that repeats goes on in such a trace ({goes_on}).", *GAME),
     ("The automaton accepts no lasso trace of this circuit ({rejected}), and each finite-state controller meets it in such a trace ({meetings}).", *GAME),

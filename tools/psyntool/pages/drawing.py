@@ -1,4 +1,5 @@
-"""The pictures of a page: as `show` draws them, laid out by Graphviz; a map of many edges; or a graph, of which the page draws a part."""
+"""The pictures of a page: as `show` draws them, or a map without labels if there are many edges, or the graph itself,
+which the page draws in pieces."""
 import re
 import subprocess
 from dataclasses import dataclass
@@ -8,7 +9,7 @@ from psyntool.pictures.dot import MOST
 from psyntool.plays.board import PLAYERS
 from psyntool.texts import labels
 
-# Above so many pairs of vertices with an edge, labels would lie on one another, and dot would take minutes.
+# If the graph has more edges than this, labels would overlap, and dot would take minutes.
 FEW_EDGES = 100
 SECONDS = 30
 MAP = (
@@ -19,7 +20,8 @@ MAP = (
 
 @dataclass(frozen=True)
 class Picture:
-    """The picture as SVG or nothing, and the graph of which the page draws a part, where there is no picture with labels."""
+    """A picture as SVG, or an empty string; and the graph, from which the page draws the surroundings of a vertex if
+    there is no picture with labels."""
 
     svg: str
     graph: dict | None
@@ -40,7 +42,7 @@ def of_game(board):
 
 
 def lines_of(board, vertex):
-    """A vertex in words: its state and priority, or the letter that was chosen; and who moves there."""
+    """A vertex in words: its state and priority, or the letter that was chosen; and the player who moves there."""
     key = board.names.keys[vertex.identity]
     mover = f"the {PLAYERS[1 - vertex.owner]} moves"
     if key.letter is None:
@@ -50,7 +52,7 @@ def lines_of(board, vertex):
 
 
 def drawn(graph, sign, draw):
-    """The picture of a graph; `sign` begins the names of its vertices in DOT."""
+    """The picture of a graph; `sign` is the prefix of the vertex names in DOT."""
     if len(graph) > MOST:
         return Picture("", graph)
     if sum(len(vertex["to"]) for vertex in graph.values()) <= FEW_EDGES:
@@ -62,7 +64,8 @@ def drawn(graph, sign, draw):
 
 
 def svg_of(dot):
-    """The picture as it can stand in a page, without ids that another one has too; nothing where Graphviz is not there, or too slow."""
+    """The SVG picture of a DOT text, without ids, which must be unique in a page; empty if Graphviz is missing or too
+    slow."""
     try:
         done = subprocess.run(["dot", "-Tsvg"], input=dot.encode("utf-8", "replace"), capture_output=True, timeout=SECONDS, check=False)
     except (OSError, subprocess.TimeoutExpired):

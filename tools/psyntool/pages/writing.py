@@ -1,4 +1,5 @@
-"""Writes a page: the template with its style, its scripts and what is known of the board. Whatever a specification says is escaped."""
+"""Writes a page: the template, filled with its style, its scripts and the data of the board. Texts from the
+specification are escaped in the HTML."""
 import base64
 import hashlib
 import html
@@ -19,7 +20,7 @@ VERDICTS = (
 
 
 def page(title, board, texts):
-    """The page of a board; `texts` are saved there: of each its title, its file's name and its bytes."""
+    """The page for a board. The page offers each of `texts`, a title, a file name and bytes, for saving."""
     pictures = {"automaton": drawing.of_automaton(board), "game": drawing.of_game(board)}
     known = {**contents.of(board), "pictures": {name: picture.graph for name, picture in pictures.items()}}
     script = f"{asset('rules.js')}{asset('page.js')}"
@@ -49,7 +50,7 @@ def page(title, board, texts):
 
 
 def as_utf8(text):
-    """The text with U+FFFD in the place of bytes that are no UTF-8, which names may have, and which no page may."""
+    """The text with U+FFFD for each byte that is not UTF-8: names may contain such bytes, but a page may not."""
     return text.encode("utf-8", "surrogateescape").decode("utf-8", "replace")
 
 
@@ -58,7 +59,7 @@ def asset(name):
 
 
 def filled(template, **parts):
-    """The template with its parts; what stands in a part is no place of another."""
+    """The template with each placeholder replaced by its text; placeholders inside such a text are not replaced."""
     return re.sub(r"@([A-Z]+)@", lambda found: parts[found[1].lower()], template)
 
 
@@ -67,14 +68,14 @@ def escaped(text):
 
 
 def order_of(board):
-    """Whose the propositions are, and who moves first."""
+    """Whose propositions are which, and which player moves first."""
     environment, controller = (", ".join(name for _, name in these) or "nothing" for these in board.automaton.owners())
     first = board.me if board.am_first else board.other
     return f"The environment says {escaped(environment)}; the controller says {escaped(controller)}. In each step the {first} moves first."
 
 
 def specification_of(board):
-    """The sentences of the parts, or the acceptance where there are none."""
+    """The sentences of the specification's parts or, without parts, the automaton's acceptance."""
     of = board.specification
     if of is None:
         return f"<p>The automaton's acceptance: <code>{escaped(board.automaton.acceptance)}</code>.</p>"
@@ -84,7 +85,7 @@ def specification_of(board):
 
 
 def proved_of(board):
-    """What is proved in three sentences, with links to the clauses, and by what."""
+    """What is proved, in three sentences with links to the clauses, and the prover that proved it."""
     links = {name: f'<a href="#clause-{name}"><code>{name}</code></a>' for name in CLAUSES}
     release = releases.here()
     said = [
@@ -101,5 +102,5 @@ def clause_entry(name):
 
 
 def link_of(title, name, data):
-    """A link by which a text is saved, byte by byte."""
+    """A link that saves a text, byte by byte."""
     return f'<a download="{escaped(name)}" href="data:text/plain;base64,{base64.b64encode(data).decode()}">the {escaped(title)}</a>'

@@ -1,1 +1,1 @@
-"""Specifications in parts: small automata, assumed and guaranteed, and the one automaton that they make."""
+"""Specifications in parts: small automata that are assumed or guaranteed, and the one automaton composed of them."""

@@ -1,4 +1,4 @@
-"""Which parts decide whether there is a controller: as few as matter, found by asking the program again and again."""
+"""Finds a minimal set of parts that decides whether there is a controller, by many runs of the program."""
 from dataclasses import dataclass
 
 from psyntool import program
@@ -8,14 +8,15 @@ from psyntool.texts import report
 
 
 class Asking:
-    """Whether a specification has a controller with some of its parts alone; what was asked once is kept."""
+    """Whether a specification has a controller if only some of its parts are used. Answers are kept, so that none is
+    asked twice."""
 
     def __init__(self, specification, flags=()):
         self.specification, self.composer, self.said = specification, Composer(specification), {}
         self.head = " ".join(["synth", *flags]) + "\n"
 
     def has_controller(self, assumptions, guarantees):
-        """The program's answer for these assumptions and these guarantees."""
+        """Whether there is a controller for these assumptions and guarantees, as the program answers."""
         asked = frozenset(assumptions), frozenset(guarantees)
         if asked not in self.said:
             text = self.composer.composed(assumptions, guarantees).text()
@@ -29,7 +30,7 @@ class Asking:
 
 @dataclass(frozen=True)
 class Core:
-    """Whether there is a controller, and the parts that decide it: assumptions where there is one, else guarantees."""
+    """Whether there is a controller, and the parts that decide this: assumptions if there is one, else guarantees."""
 
     has_controller: bool
     parts: tuple
@@ -37,7 +38,8 @@ class Core:
 
 
 def core_of(asking):
-    """The core of a specification, confirmed: with all of its parts the answer stays, and without any one of them it does not."""
+    """The core of a specification. It is checked that the answer is the same with only these parts, and changes without
+    any one of them."""
     of = asking.specification
     has_controller = asking.has_controller(of.assumptions, of.guarantees)
 
@@ -52,7 +54,8 @@ def core_of(asking):
 
 
 def shrunk(parts, stays):
-    """Parts with which the answer stays, and stays with none of them left out: halves are tried first, then smaller and smaller runs."""
+    """Parts with which the answer is the same as with all, and of which none can be left out. Long runs of parts are
+    tried first, then shorter ones."""
     parts, size = tuple(parts), max(1, len(parts) // 2)
     while size:
         place = 0

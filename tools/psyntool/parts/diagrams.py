@@ -1,7 +1,8 @@
-"""Decision diagrams: functions of letters, each a number; equal functions have equal numbers.
+"""Decision diagrams for functions of letters. A diagram is identified by a number, and equal functions have equal
+numbers.
 
-A letter says of each proposition, a number, whether it is true. A diagram is a leaf, which holds a value, or a node: the least
-proposition on which the function depends, and the diagrams where it is false and where it is true.
+A letter says which propositions are true. A diagram is a leaf, which has a value, or a node: the smallest proposition
+on which the function depends, and the diagrams for false and for true.
 """
 from psyntool.ends import Refused
 from psyntool.texts.labels import Alias, Operator, Proposition
@@ -11,11 +12,12 @@ LAST = 1 << 30
 
 
 class Diagrams:
-    """A store of diagrams: none is made twice. Labels have the numbers of propositions, or the names that are given."""
+    """A store of diagrams, in which no diagram occurs twice. Labels are written with the propositions' numbers or, if
+    `names` is given, with their names."""
 
     def __init__(self, names=None):
         self.names = names
-        # for each diagram its proposition (a leaf's is greater than all), and its two sides or its value
+        # for each diagram: its proposition (for a leaf a greater number than any), and its two children or its value
         self.propositions, self.lows, self.highs = [], [], []
         self.known = {}
         self.texts = {}
@@ -44,11 +46,11 @@ class Diagrams:
         return self.lows[leaf]
 
     def sides(self, one, proposition):
-        """Both sides of a diagram at a proposition that is not greater than its own."""
+        """The children of a diagram at a proposition that is not greater than the diagram's own."""
         return (self.lows[one], self.highs[one]) if self.propositions[one] == proposition else (one, one)
 
     def joined(self, first, second, function, known):
-        """The diagram whose leaves are the function's values at those of both; `known` keeps what the function gave before."""
+        """The diagram that applies the function to the values of two diagrams; `known` caches results."""
         key = first, second
         found = known.get(key)
         if found is None:
@@ -64,7 +66,7 @@ class Diagrams:
         return found
 
     def mapped(self, one, function, known):
-        """The diagram whose leaves are the function's values."""
+        """The diagram that applies the function to the values of a diagram."""
         found = known.get(one)
         if found is None:
             if self.is_leaf(one):
@@ -76,13 +78,13 @@ class Diagrams:
         return found
 
     def at(self, one, letter):
-        """The value at a letter, a set of the propositions that are true."""
+        """The value at a letter, which is given as the set of the true propositions."""
         while not self.is_leaf(one):
             one = self.highs[one] if self.propositions[one] in letter else self.lows[one]
         return self.value(one)
 
     def fixed(self, one, letter, known):
-        """The diagram where a letter, truth by proposition, says some of the propositions."""
+        """The diagram that is left after some propositions are fixed as the letter says."""
         found = known.get(one)
         if found is None:
             if self.is_leaf(one):
@@ -110,7 +112,8 @@ class Diagrams:
         return list(found)
 
     def letter(self, one, is_wanted):
-        """A letter, truth by proposition, with a wanted value, false before true; None if there is none."""
+        """The first letter at which the diagram has a wanted value, as a truth for each proposition; None if there is
+        no such letter."""
         waiting, seen = [(one, ())], set()
         while waiting:
             now, path = waiting.pop()
@@ -126,11 +129,11 @@ class Diagrams:
         return None
 
     def labels(self, one):
-        """For each value the label, as HOA texts have it, of exactly the letters that have it, in the order of the letters."""
+        """For each value, an HOA label of exactly the letters with this value, in the order of the letters."""
         return {value: text for value, (text, _) in self.parted(one).items()}
 
     def parted(self, one):
-        """For each value its label and the sign of that label's outermost operator."""
+        """For each value its label, and the outermost operator of the label."""
         found = self.texts.get(one)
         if found is None:
             if self.is_leaf(one):
@@ -146,7 +149,7 @@ class Diagrams:
 
 
     def of_label(self, label, aliases):
-        """The diagram of a label's truth; `aliases` has the diagram of each alias."""
+        """The diagram of a label; `aliases` has the diagram of each alias."""
         stack = []
         for part in label:
             if isinstance(part, Proposition):
@@ -172,7 +175,8 @@ def one_of(first, second):
 
 
 def either(name, low, high):
-    """The label that is met where `low` is, the proposition being false, or `high` is, and it is true; None is met nowhere."""
+    """A label for: the proposition is false and `low` holds, or it is true and `high` holds. None is the label that
+    never holds."""
     if low is None or high is None:
         sign, (text, binds) = (name, high) if low is None else (f"!{name}", low)
         return (sign, "") if text == "t" else (f"{sign} & {nested(text, binds, '&')}", "&")

@@ -1,7 +1,7 @@
-"""A part of a specification: a small deterministic automaton over propositions of its own, by name.
+"""A part of a specification: a small deterministic automaton over its own named propositions.
 
-A part is of safety (acceptance `t`) or of Büchi (`Inf(0)`). A letter without an edge breaks it, and so does a state from which
-no edge with a mark can be reached, of a Büchi part.
+A part has safety acceptance (`t`) or Büchi acceptance (`Inf(0)`). A letter without an edge violates the part. In a
+Büchi part, so does a letter that leads to a state from which no accepting edge can be reached.
 """
 import re
 from dataclasses import dataclass
@@ -16,7 +16,7 @@ SAFETY, BUCHI = True, ("Inf", 0)
 
 
 class Move(NamedTuple):
-    """Where a letter leads, and whether the part's mark is met on the way."""
+    """The state to which a letter leads, and whether the edge there is accepting."""
 
     target: int
     is_met: bool
@@ -24,7 +24,7 @@ class Move(NamedTuple):
 
 @dataclass(frozen=True, eq=False)
 class Part:
-    """Its title, what it says in a sentence or nothing, its automaton, and its text."""
+    """A part: its title, its sentence (perhaps empty), its automaton, and its text."""
 
     title: str
     sentence: str
@@ -41,22 +41,24 @@ class Part:
 
     @property
     def says_whose(self):
-        """Whether the part says whose its propositions are."""
+        """Whether the text of the part says which propositions the controller owns."""
         return "controllable-AP:" in self.automaton.headers
 
     def state_name(self, state):
-        """The state's name; or its number after the part's title, or nothing if there is no other state."""
+        """The name of a state. A state without a name has the part's title and its number, or, if it is the only state,
+        an empty name."""
         name = self.automaton.state_names.get(state)
         return name or (f"{self.title}:{state}" if len(self.automaton.states) > 1 else "")
 
     @property
     def item(self):
-        """The words of the header item by which a composed automaton keeps the part."""
+        """The strings by which the header item `part:` of a composed automaton stores the part."""
         return (self.title, self.sentence, self.text)
 
 
 def part_of(stem, sentence, renamed, text):
-    """The part of a text, with other names for its propositions. A text that is not a part is refused; the message lacks the file's name."""
+    """The part in a text, with some propositions renamed. A text that is not a part is refused; the caller adds the
+    file's name to the message."""
     read = automaton.read(text)
     if read.condition not in (SAFETY, BUCHI):
         raise Refused(f"its acceptance is {read.acceptance}; that of a part is `0 t` or `1 Inf(0)`")
@@ -76,7 +78,8 @@ def part_of(stem, sentence, renamed, text):
 
 
 def with_names(text, renamed):
-    """The text in one line, without comments, with the new names; what is said of the automaton and of its states has them too."""
+    """The text on one line, without comments and with renamed propositions, also in the names of the automaton and of
+    its states."""
     words, is_listed = [], False
     for token in (it.text for it in hoa.tokens_of(text)):
         if token.startswith('"'):
@@ -90,12 +93,12 @@ def with_names(text, renamed):
 
 
 def quoted(text):
-    """A string as HOA texts have it."""
+    """The string in quotes, as in HOA texts."""
     return '"' + text.replace("\\", "\\\\").replace('"', '\\"') + '"'
 
 
 def from_item(title, sentence, text, names):
-    """The part that such a header item keeps; its propositions are among these names."""
+    """The part that a header item `part:` stores; its propositions must be among the given names."""
     try:
         read = automaton.read(text)
     except Unreadable:
@@ -106,7 +109,8 @@ def from_item(title, sentence, text, names):
 
 
 class Moves:
-    """The moves of a part from each state, as diagrams over the numbers of all propositions; None stands for what breaks it."""
+    """A part's moves from each state, as decision diagrams over the specification's propositions; None means that the
+    letter violates the part."""
 
     def __init__(self, part, numbers, diagrams):
         self.part, self.diagrams = part, diagrams
@@ -121,11 +125,11 @@ class Moves:
         self.start = None if part.automaton.start in hopeless else part.automaton.start
 
     def moved(self, label):
-        """The label over the numbers of all propositions."""
+        """The label with the specification's numbers of propositions in place of the part's."""
         return tuple(Proposition(self.places[it.number]) if isinstance(it, Proposition) else it for it in label)
 
     def of_state(self, state, aliases):
-        """The moves of one state; two edges that take one letter are refused."""
+        """The moves from one state; a state with two edges for the same letter is refused."""
         diagrams = self.diagrams
         whole, known = diagrams.leaf(None), {}
         for edge in self.part.automaton.edges.get(state, ()):
@@ -144,7 +148,7 @@ class Moves:
             raise Refused(f"two edges of state {self.part.automaton.title_of(state)} take {f'the letter {said}' if said else 'each letter'}; a part is deterministic")
 
     def hopeless(self):
-        """The states from which no edge with a mark can be reached."""
+        """The states from which no accepting edge can be reached."""
         before, hopeful = {}, set()
         for state, one in self.of.items():
             for move in filter(None, self.diagrams.values(one)):

@@ -1,4 +1,4 @@
-"""Specifications in parts, as a command line names them, or as a composed automaton keeps them."""
+"""Specifications in parts, read from a command line, from a list, or from a composed automaton."""
 import dataclasses
 import os
 import re
@@ -14,20 +14,20 @@ from psyntool.parts import part
 from psyntool.texts import Unreadable, automaton, hoa
 
 MOST_PROPOSITIONS = 64
-# Of a header item `part:`: the side, the title, the sentence and the text.
+# The number of strings in a header item `part:`: the side, the title, the sentence and the text of a part.
 WORDS_OF_AN_ITEM = 4
 FLAGS = {flag.name: flag for flag in OF_PARTS}
-# A circuit that has no name of any automaton: the program judges the automaton first.
+# An empty circuit and an empty stimulus: the program reports a fault of the automaton before any of theirs.
 NO_CIRCUIT = b"aag 0 0 0 0 0\n%%\n-\n"
-# What is put into a part that does not say who controls its propositions.
+# The header item that is inserted into a part that does not say who controls its propositions.
 OWNERS = b"controllable-AP: "
-# The tool tells what else a part must be, with the letter or the acceptance.
+# The faults that the tool itself explains better, with the letter or the acceptance condition.
 TOLD_BETTER = {"Nondeterministic", "NonParity"}
 
 
 @dataclass(frozen=True)
 class Specification:
-    """Parts that are assumed and parts that are guaranteed, the propositions of all in order, and those of the controller."""
+    """A specification: its assumptions and guarantees, all propositions in order, and the controller's propositions."""
 
     assumptions: tuple
     guarantees: tuple
@@ -36,7 +36,7 @@ class Specification:
     is_strict: bool
 
     def having(self, assumptions=None, guarantees=None):
-        """The same with these parts alone; the propositions stay."""
+        """The specification with only the given parts, but with all its propositions."""
         return dataclasses.replace(
             self,
             assumptions=self.assumptions if assumptions is None else tuple(assumptions),
@@ -46,7 +46,8 @@ class Specification:
 
 @dataclass
 class Wish:
-    """A part as it is asked for: its file, on which side, what is renamed, and what is said of it."""
+    """A part that the user asks for: whether it is assumed, its file, its sentence, and the new names of its
+    propositions."""
 
     is_assumed: bool
     path: str
@@ -55,13 +56,14 @@ class Wish:
 
 
 class Wishes:
-    """What a command line, and a list that it names, asks for."""
+    """The parts and settings that a command line, and a list that it names, ask for."""
 
     def __init__(self):
         self.parts, self.outs, self.is_strict = [], None, False
 
     def take(self, given, folder="", sentences=None):
-        """Takes the flags of a command line or of a list, in their order; files are relative to the folder."""
+        """Adds what the flags of a command line or of a list ask for, in their order; paths are relative to the given
+        folder."""
         self.is_strict = self.is_strict or STRICT.name in given
         said = sorted((place, name, word) for name in FLAGS if FLAGS[name].many for place, word in given.get(name, ()))
         count = len(self.parts)
@@ -75,7 +77,7 @@ class Wishes:
                 self.parts.append(Wish(name == ASSUME.name, path, (sentences or {}).get(place, "")))
 
     def rename(self, word, count):
-        """Renames a proposition of the part before, one of this command line or of this list."""
+        """Renames a proposition of the last part, which must come from the same command line or list."""
         old, equals, new = word.partition("=")
         if not (old and equals and new):
             raise Refused(f"{AS.shown}: {word!r} is no OLD=NEW")
@@ -87,8 +89,8 @@ class Wishes:
 
 
 def listed(text, wishes):
-    """Takes what a list says: the words of a command line, in lines. A comment is the sentence of the parts below it, up to an
-    empty line or to the next comment."""
+    """Reads a list, which consists of words of a command line on several lines. A comment is the sentence of the parts
+    below it, up to an empty line or to the next comment."""
     said, sentences, comment, was_comment = [], {}, [], False
     for row, line in enumerate(text.string.split("\n"), 1):
         bare = line.strip()
@@ -112,7 +114,7 @@ def listed(text, wishes):
 
 
 def refused_behind(name, function, *values):
-    """What a function gives; where it refuses something the message begins with the file's name."""
+    """The function's result; if the function refuses something, the file's name is put before the message."""
     try:
         return function(*values)
     except Refused as error:
@@ -136,14 +138,14 @@ def asked(request):
 
 
 def of_list(text, reader):
-    """The specification of a list."""
+    """The specification that a list defines."""
     wishes = Wishes()
     listed(text, wishes)
     return made(wishes, reader)
 
 
 def made(wishes, reader):
-    """The specification that is wished for."""
+    """The specification with the parts and settings that were asked for."""
     read = {}
     parts = [part_of(wish, reader, read) for wish in wishes.parts]
     sides = [tuple(it for it, wish in zip(parts, wishes.parts) if wish.is_assumed == is_assumed) for is_assumed in (True, False)]
@@ -163,7 +165,7 @@ def refuse_same_titles(parts):
 
 
 def part_of(wish, reader, read):
-    """The part that is asked for; a text that is not a part is refused with its file's name."""
+    """The part that was asked for; if its text is not a part, the error message names the file."""
     if wish.path not in read:
         read[wish.path] = reader.text(Kind.AUTOMATON, wish.path)
         refuse_faults(read[wish.path])
@@ -173,10 +175,11 @@ def part_of(wish, reader, read):
 
 
 def refuse_faults(text):
-    """Refuses a file that the program does not read as an automaton, with the program's fault and its place."""
+    """Refuses a file that the program does not accept as an automaton, and shows the program's fault with its
+    position."""
     if text.looks_like not in (None, Kind.AUTOMATON):
         raise Refused(f"{text.name} is {text.looks_like.with_article}; a part is an automaton")
-    # a part need not say whose its propositions are
+    # a part may leave open who controls its propositions
     data, at = text.bytes, None
     try:
         at = automaton.place_without_owners(text.string)
@@ -200,7 +203,7 @@ def refuse_faults(text):
 
 
 def owned(parts, names, outs):
-    """The propositions of the controller: those that a part or --outs says are."""
+    """The controller's propositions: those that a part, or the flag --outs, assigns to the controller."""
     mine, others = set(outs or ()), {}
     strange = next((name for name in outs or () if name not in names), None)
     if strange is not None:
@@ -220,7 +223,7 @@ def owned(parts, names, outs):
 
 
 def kept(read):
-    """The specification that a composed automaton keeps; None where it keeps none."""
+    """The specification that a composed automaton stores, or None if it stores none."""
     tokens = read.headers.get("part:")
     if not tokens:
         return None

@@ -4,13 +4,14 @@ import html
 from psyntool.pictures.dot import FONT, WIDTH, legend, quoted, within, wrapped
 
 LONGEST_NAME_IN_A_CIRCLE = 8
-# Above this number of pairs of states with edges, labels are put into tables at the states, so that none covers another.
+# If more pairs of states than this have edges, labels go into tables at the states, so that no label covers another.
 FEW_EDGES = 8
 TABLE_WIDTH = 48
 
 
 def picture(automaton, reach=None):
-    """States, and edges with their labels and sets; the title says the acceptance and who owns each proposition."""
+    """States, and edges with their labels and acceptance sets; the title shows the acceptance condition and the owner
+    of each proposition."""
     targets = {state: [edge.target for edge in automaton.edges.get(state, ())] for state in automaton.states}
     drawn = within("automaton", len(automaton.states), [automaton.start], targets.get, reach, "its start")
     states = [state for state in automaton.states if drawn is None or state in drawn]
@@ -31,13 +32,13 @@ def picture(automaton, reach=None):
 
 
 def label_of(automaton, edge, width=WIDTH):
-    """An edge's label with the names of propositions, and its sets."""
+    """An edge's label, written with the names of propositions, and its acceptance sets."""
     marks = " ".join(map(str, sorted(edge.marks)))
     return wrapped(automaton.written(edge.label), "&|", width) + (f" {{{marks}}}" if marks else "")
 
 
 def state_line(state, name):
-    """A state is a circle with its number, or a box where its name is long."""
+    """A state is drawn as a circle with its number or, if its name is long, as a box."""
     if len(name) <= LONGEST_NAME_IN_A_CIRCLE:
         return f"  s{state} [label={quoted(f'{state} {name}'.strip())}];"
     said = f"{state}\n{wrapped(name, ',;')}"

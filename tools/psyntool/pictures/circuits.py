@@ -9,12 +9,13 @@ LEGEND = [
     ("dashed edge", "negated", ""),
     ("grey edge", "what the latch holds in the next step", ""),
 ]
-# Above so many, gates are points.
+# In a picture with more gates than this, gates are drawn as small dots.
 FEW_GATES = 60
 
 
 def picture(circuit, reach=None):
-    """Inputs as triangles, latches as boxes, gates as circles; a negated literal is a dashed edge."""
+    """Inputs are drawn as triangles, latches as boxes, and gates as circles; the edge of a negated literal is
+    dashed."""
     sides = {gate.literal // 2: [side // 2 for side in gate.sides] for gate in circuit.gates}
     sides |= {latch.literal // 2: [latch.next // 2] for latch in circuit.latches}
     count = len(circuit.inputs) + len(sides) + len(circuit.outputs)
@@ -48,7 +49,7 @@ def picture(circuit, reach=None):
 
 
 def wires(literals, target, is_drawn, more=""):
-    """The edges from literals to what reads them; a literal that is not drawn is two points."""
+    """The edges from literals to what reads them. In place of a literal that is not drawn, the picture shows `..`."""
     lines = []
     for place, literal in enumerate(literals):
         begin = f"n{literal // 2}"

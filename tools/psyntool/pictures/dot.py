@@ -1,25 +1,25 @@
-"""Graphviz DOT: what all pictures share."""
+"""What all pictures in Graphviz DOT share: quoting, legends, and the choice of the vertices to draw."""
 import html
 import re
 from collections import Counter
 
 from psyntool.ends import Refused
 
-# The limits keep `dot` from minutes of layout where edges have labels.
+# Without the two limits, `dot` can take minutes for a graph with edge labels.
 FONT = "  graph [fontname=Helvetica, nslimit=2, nslimit1=2]; node [fontname=Helvetica]; edge [fontname=Helvetica];"
 WIDTH = 28
-# A picture of more is none that a person can read, and `dot` takes minutes.
+# A picture with more vertices than this is unreadable, and `dot` takes minutes for it.
 MOST = 400
 
 
 def quoted(text):
-    """A string as DOT has it; Graphviz would read `&amp;` and the like in it."""
+    """A string in quotes for DOT; `&` is escaped where Graphviz would read an HTML entity such as `&amp;`."""
     text = re.sub(r"&(?=#?\w+;)", "&amp;", text)
     return '"' + text.replace("\\", "\\\\").replace('"', '\\"').replace("\n", "\\n") + '"'
 
 
 def legend(rows):
-    """A table beside the picture, in the same letters: signs, each with what it means and a colour or none."""
+    """A legend beside the picture: for each sign its meaning and, if not empty, its colour."""
     cells = []
     for sign, meaning, colour in rows:
         shade = f' bgcolor="{colour}"' if colour else ""
@@ -29,7 +29,7 @@ def legend(rows):
 
 
 def wrapped(text, ends, width=WIDTH):
-    """The text in lines of some length, broken behind the given signs and blanks."""
+    """The text broken into lines of at most `width` characters, after blanks or the given characters."""
     lines, line = [], ""
     for part in re.findall(rf"[^{ends} ]*[{ends} ]*", text):
         if line and len((line + part).rstrip()) > width:
@@ -40,7 +40,7 @@ def wrapped(text, ends, width=WIDTH):
 
 
 def levels(begins, successors):
-    """What is reached, each with in how many steps."""
+    """Everything that can be reached, each with the smallest number of steps to it."""
     found, now, steps = dict.fromkeys(begins, 0), list(begins), 0
     while now:
         steps += 1
@@ -50,7 +50,7 @@ def levels(begins, successors):
 
 
 def most_steps(found):
-    """In how many steps not too much is reached."""
+    """The greatest number of steps that reach few enough vertices for a picture."""
     counts, total = Counter(found.values()), 0
     for steps in sorted(counts):
         total += counts[steps]
@@ -60,7 +60,8 @@ def most_steps(found):
 
 
 def within(what, count, begins, successors, reach, begin):
-    """What is drawn: all, or what so many steps reach; refused where a picture would have too much of it."""
+    """The vertices that a picture shows: those within `reach` steps, or None for all. A picture of too many vertices is
+    refused."""
     found = levels(begins, successors)
     if reach is None and count <= MOST:
         return None

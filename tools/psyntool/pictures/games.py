@@ -1,4 +1,4 @@
-"""Pictures of parity games, with their regions and with the names that an automaton gives."""
+"""Pictures of parity games, with winning regions and, for the game of an automaton, the automaton's names."""
 import html
 from dataclasses import dataclass
 
@@ -8,7 +8,7 @@ from psyntool.texts import Unreadable, labels
 REGION = {0: "palegreen", 1: "lightsalmon"}
 MOVE = {0: "darkgreen", 1: "firebrick"}
 CYCLE = "blue"
-# Above this number of edges, letters are put into tables.
+# In a picture with more edges than this, letters are put into tables.
 FEW_EDGES = 60
 OTHER_GAME = "the certificate, or the solution, is one of another game: its ids are not those of the game"
 OTHER_AUTOMATON = "the game is not that of this automaton: its vertices have other names"
@@ -16,7 +16,8 @@ OTHER_AUTOMATON = "the game is not that of this automaton: its vertices have oth
 
 @dataclass(frozen=True)
 class Key:
-    """What a vertex of an automaton's game stands for: a state, or None for the sink, and a priority or a letter of who moves first."""
+    """What a vertex of an automaton's game stands for: a state (None for the sink), with the priority of the last edge
+    or with the letter that the first player has chosen."""
 
     state: int | None
     priority: int | None
@@ -24,7 +25,7 @@ class Key:
 
     @property
     def is_choice(self):
-        """Whether it is a state, in which who moves first has chosen."""
+        """Whether the vertex is a state in which the first player has already chosen a letter."""
         return self.state is not None and self.letter is not None
 
 
@@ -51,7 +52,8 @@ class Names:
         return Key(number, None, {place: digit == "1" for place, digit in zip(self.first, behind)})
 
     def of_vertex(self, vertex):
-        """The state's name and the priority; of a vertex in which the letter is half known, the state's number alone."""
+        """The text of a vertex: the state's name and the priority or, after the first player's choice, only the state's
+        number."""
         key = self.keys[vertex.identity]
         if key.letter is not None:
             return "no edge" if key.state is None else str(key.state)
@@ -59,17 +61,18 @@ class Names:
         return f"{wrapped(name, ',;')}\n{vertex.priority}"
 
     def of_choice(self, vertex):
-        """The number of a state, and what was chosen in it."""
+        """The number of a state, and the letter that was chosen in that state."""
         key = self.keys[vertex.identity]
         return f"{key.state}: {labels.letter_text(key.letter, self.automaton.names)}"
 
     def short(self, identity):
-        """The number of a state."""
+        """The number of a vertex's state, or `no edge` for the sink."""
         state = self.keys[identity].state
         return "no edge" if state is None else str(state)
 
     def of_edge(self, source, target):
-        """The letter of a move: of the class that is chosen, or one that leads to the target."""
+        """The letter of an edge: the first player's choice or, after that choice, a letter of the second player that
+        leads to the target."""
         before, after = self.keys[source.identity], self.keys[target.identity]
         if before.state is None:
             return ""
@@ -80,7 +83,8 @@ class Names:
         return labels.letter_text(mine, self.automaton.names)
 
     def leading(self, before, after):
-        """A letter that completes the one of a vertex, and leads to a state by an edge of the priority; for the sink by no edge."""
+        """A letter that extends the first player's choice and leads to the given state by an edge of the given
+        priority; for the sink, a letter without an edge."""
         edges, aliases, chain = self.automaton.edges.get(before.state, ()), self.automaton.aliases, self.automaton.chain
         if after.state is None:
             return labels.meeting([(*edge.label, labels.NOT) for edge in edges], aliases, before.letter)
@@ -90,7 +94,8 @@ class Names:
 
 
 class Drawing:
-    """What is drawn of a game, with which colours and names; the letters of many edges are put into tables, so that none covers another."""
+    """The drawn vertices of a game, with their colours and names. If there are many edges, letters go into tables, so
+    that none covers another."""
 
     def __init__(self, game, certificate, automaton, reach, cycle=()):
         self.game, self.entries = game, certificate.entries if certificate else {}
@@ -107,7 +112,7 @@ class Drawing:
         return self.has_tables and self.names.keys[vertex.identity].is_choice
 
     def is_move(self, vertex, target):
-        """Whether the winner moves so; solutions may have moves of losers, which say nothing."""
+        """Whether the winner of the vertex moves along this edge. Moves that a solution gives to losers are ignored."""
         entry = self.entries.get(vertex.identity)
         return bool(entry) and entry.winner == vertex.owner and entry.move == target
 
@@ -126,7 +131,8 @@ class Drawing:
         return f"  v{vertex.identity} [shape={'box' if vertex.owner else 'diamond'}, label={quoted(said)}{colour}];"
 
     def table_line(self, vertex):
-        """A vertex in which one player has chosen: the state and that letter, and a row for each letter of the other one.
+        """A vertex after the first player's choice, as a table: the state and the chosen letter, and a row for each
+        letter of the second player.
 
         A row that leads to the sink says so, and has no edge.
         """
@@ -159,7 +165,7 @@ class Drawing:
 
     def label_of(self, vertex, target):
         said = self.names.of_edge(vertex, self.game.by_identity[target])
-        # a blank at either side keeps the letter off the line
+        # blanks around the letter keep it off the line of the edge
         return f"label={quoted(f' {said} ')}" if said else ""
 
     def legend_rows(self):
@@ -198,6 +204,6 @@ class Drawing:
 
 
 def picture(game, certificate=None, automaton=None, reach=None, cycle=()):
-    """Player 0's vertices are diamonds, player 1's boxes; with a certificate or a solution the regions are coloured, and winning
-    moves bold; of a cycle the edges are blue, and what is drawn begins with it."""
+    """Vertices of player 0 are diamonds, those of player 1 boxes. With a certificate or a solution, regions are
+    coloured and winning moves are bold. The edges of a given cycle are blue, and the picture shows its surroundings."""
     return "\n".join([*Drawing(game, certificate, automaton, reach, cycle).lines(), ""])

@@ -1,1 +1,1 @@
-"""Plays against the circuit that psyn printed: who has lost makes the other moves."""
+"""Plays against the circuit that psyn printed: the user moves for the losing player."""

@@ -1,6 +1,7 @@
-"""The board of a play: a specification with its game, its certificate and its circuit, and what can be chosen there.
+"""The board of a play: a specification with its game, certificate and circuit, and the user's choices at each vertex.
 
-The circuit plays the winner; whoever plays against it moves for the loser, and each letter is one for the circuit's inputs.
+The circuit moves for the winning player, and the user for the losing player. The user's letters are the circuit's
+inputs.
 """
 from dataclasses import dataclass
 from functools import cached_property
@@ -19,8 +20,8 @@ LONGEST_SET = 60
 
 @dataclass(frozen=True)
 class Choice:
-    """What can be chosen: a successor in the game, the truth of my propositions, my letters in words, where that leads, and which
-    guarantees it breaks, where there is no edge."""
+    """A choice of the user: a successor in the game, the truth of the user's propositions, the letters in words, where
+    they lead and, if they have no edge, the guarantees that they break."""
 
     vertex: int
     letter: dict
@@ -33,7 +34,8 @@ class Choice:
 
 @dataclass(frozen=True)
 class Step:
-    """A step that was played: its state, the latches before it, the letters of both, and the state and the priority behind it."""
+    """A played step: the state and the latches before it, the letters of both players, and the state and the priority
+    after it."""
 
     state: int
     latches: str
@@ -44,7 +46,7 @@ class Step:
 
 
 class Board:
-    """What stays the same in a play."""
+    """The data that stay the same during a play: the automaton, the game, the certificate and the circuit."""
 
     def __init__(self, read, game, certificate, circuit, specification=None):
         self.automaton, self.game, self.certificate, self.circuit = read, game, certificate, circuit
@@ -81,21 +83,21 @@ class Board:
         return found
 
     def letter_text(self, letter):
-        """The names of the propositions that are true, as they can be typed; `-` where none is."""
+        """The names of the true propositions, as the user can type them; `-` if none is true."""
         return " ".join(name for number, name in enumerate(self.automaton.names) if letter.get(number)) or "-"
 
     def title(self, state):
-        """A state's name, or its number where it has none."""
+        """A state's name, its number if it has no name, or `no edge` for the sink."""
         return "no edge" if state is None else self.automaton.state_names.get(state) or str(state)
 
     def counts(self, vertex):
-        """The row of counts of a vertex, from the greatest priority down."""
+        """The certificate's counts at a vertex, from the greatest priority down."""
         entry = self.certificate.entries[vertex]
         return tuple(entry.counts.get(priority, 0) for priority in sorted(self.certificate.opposing(entry.winner), reverse=True))
 
     def choices(self, vertex, theirs, states):
-        """What I can choose, where the guarantees are in these states: a class of my letters where I am first, else what the other's
-        letter leaves; what has no edge last."""
+        """The user's choices while the guarantees are in the given states: classes of letters if the user moves first,
+        else letters that answer the circuit's letter. Choices without an edge come last."""
         found = self.classes(vertex) if self.am_first else self.answers(vertex, theirs, states)
         return sorted(found, key=lambda choice: choice.target is None)
 
@@ -121,7 +123,8 @@ class Board:
                     yield Choice(one, letter, self.set_text(said, letter), after.state, after.priority, self.counts(one), broken)
 
     def ends(self, state):
-        """For each letter the state and the priority to which it leads; where it has no edge those of the game's sink."""
+        """For each letter the state and the priority to which it leads; for a letter without an edge, those of the
+        game's sink."""
         whole = self.diagrams.leaf((None, 1))
         for edge in self.automaton.edges.get(state, ()):
             taken, ends = self.diagrams.of_label(edge.label, self.aliases), (edge.target, self.automaton.chain.priority(edge.marks))
@@ -129,13 +132,13 @@ class Board:
         return whole
 
     def set_text(self, said, letter):
-        """Some letters in words: exactly, or one of them."""
+        """A set of letters in words: all of them or, if that would be too long, one of them."""
         if said == "t":
             return "anything"
         return said if len(said) <= LONGEST_SET else f"{self.letter_text(letter)}, or others"
 
     def breaking(self, states):
-        """For each letter the titles of the guarantees, in these states, that it breaks, as a diagram."""
+        """A diagram of the guarantees, by title, that each letter breaks in the given states."""
         whole = self.diagrams.leaf(())
         for moves, state in zip(self.guaranteed, states):
             if state is not None:
@@ -145,7 +148,8 @@ class Board:
         return whole
 
     def longest(self, choices):
-        """The choice that holds out longest: whose row of counts is greatest, then whose vertex is least."""
+        """The choice that holds out longest: the one with the greatest counts, compared from the greatest priority
+        down, and then with the smallest vertex."""
         return max(choices, key=lambda choice: (choice.counts, -choice.vertex))
 
 
@@ -163,7 +167,7 @@ def added(some, more):
 
 @dataclass(frozen=True)
 class Run:
-    """A part behind some steps: its state, or the step that broke it, and the steps at which its mark was met."""
+    """A part after some steps: its state, or the step that broke it, and the steps that took an accepting edge."""
 
     state: int | None
     broke: int | None
@@ -171,7 +175,7 @@ class Run:
 
 
 def run(moves, steps):
-    """Runs a part beside a play."""
+    """Runs the automaton of a part on the letters of a play."""
     state, met = moves.start, []
     for place, step in enumerate(steps):
         true = {number for number, truth in step.letter.items() if truth}
@@ -184,7 +188,7 @@ def run(moves, steps):
 
 
 class Circuit:
-    """The circuit at work, as the program runs it."""
+    """The circuit of a play, which the program simulates."""
 
     def __init__(self, board, text):
         self.board, self.text = board, text
@@ -192,11 +196,11 @@ class Circuit:
         self.inputs, self.outputs = ([numbers[name] for name in board.circuit.names(kind)] for kind in "io")
 
     def digits(self, letter):
-        """My letter, as a line of a stimulus has it."""
+        """The user's letter as a line of a stimulus."""
         return "".join("01"[letter[number]] for number in self.inputs)
 
     def after(self, lines):
-        """The latches before the last of these lines, and the letter that the circuit says at it."""
+        """The latches before the last of the given input lines, and the circuit's output letter at this line."""
         answer = program.ask(b"sim\n" + self.text + b"%%\n" + "".join(f"{line}\n" for line in lines).encode())
         if answer.died or answer.is_fault:
             raise Unwritten(f"sim of the circuit: {answer.died or answer.text.rstrip()}")
@@ -205,7 +209,7 @@ class Circuit:
 
 
 class Play:
-    """A play so far: its steps, and where it stands."""
+    """A play: the steps so far, and its present state."""
 
     def __init__(self, board, text):
         self.board, self.circuit, self.steps = board, Circuit(board, text), []
@@ -224,7 +228,8 @@ class Play:
         return [step.digits for step in self.steps]
 
     def look(self):
-        """Sees the latches, and where I move second what the other says."""
+        """Updates the latches, the circuit's letter if the circuit moves first, and the loop if the play has closed
+        one."""
         nothing = self.circuit.digits({number: False for number, _ in self.board.mine})
         self.latches, said = self.circuit.after([*self.lines, nothing])
         self.theirs = None if self.board.am_first else said
@@ -238,7 +243,7 @@ class Play:
         return self.board.choices(self.vertex, self.theirs, [run(moves, self.steps).state for moves in self.board.guaranteed])
 
     def take(self, mine):
-        """Plays a letter of mine, and sees what comes of it."""
+        """Plays a letter of the user, together with the circuit's letter and the edge of both."""
         digits = self.circuit.digits(mine)
         theirs = self.theirs or self.circuit.after([*self.lines, digits])[1]
         letter = {**mine, **theirs}
@@ -250,13 +255,14 @@ class Play:
             self.look()
 
     def back(self):
-        """Takes the last step back."""
+        """Undoes the last step."""
         if self.steps:
             self.steps.pop()
             self.look()
 
     def stimulus(self):
-        """The letters as a stem and a lap, which is the loop, or the last letter where there is no edge."""
+        """The user's letters as a lasso stimulus, whose lap is the loop or, if the play ended without an edge, the last
+        letter."""
         lines = self.lines
         lap = len(lines) - 1 if self.loop is None else self.loop
         return "".join(f"{line}\n" for line in [*lines[:lap], "-", *lines[lap:]])

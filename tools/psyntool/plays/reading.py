@@ -1,4 +1,4 @@
-"""Reads the board of a play: the files PREFIX.aag, PREFIX.pg and PREFIX.cert that psyn printed, and the specification behind them."""
+"""Reads the files of a play: PREFIX.aag, PREFIX.pg and PREFIX.cert, which psyn printed, and the specification."""
 from dataclasses import dataclass
 
 from psyntool.ends import Refused
@@ -15,7 +15,8 @@ KINDS = (Kind.CIRCUIT, Kind.GAME, Kind.CERTIFICATE)
 
 @dataclass(frozen=True)
 class Given:
-    """The automaton's text, those of the circuit, the game and the certificate, the specification's as it was given, and the board."""
+    """The automaton's text; the texts of circuit, game and certificate; the specification's text as it was given; and
+    the board."""
 
     automaton: str
     printed: tuple
@@ -24,7 +25,7 @@ class Given:
 
 
 def given(request):
-    """What the words PREFIX and SPEC of a command line name."""
+    """The files that the words PREFIX and SPEC of a command line name."""
     prefix, path = request.words
     reader = Reader(request)
     *printed, spec = reader.texts((*KINDS, Kind.FILE), (*(prefix + ending for ending in ENDINGS), path))
@@ -33,14 +34,14 @@ def given(request):
 
 
 def board_of(text, *printed):
-    """The board of an automaton's text and of the texts of a circuit, a game and a certificate."""
+    """The board for the texts of an automaton, a circuit, a game and a certificate."""
     read = automaton.read(text)
     these = game.read(printed[1]), certificate.read(printed[2]), circuit.read(printed[0])
     return Board(read, *these, specification.kept(read))
 
 
 def automaton_of(reader, text, command):
-    """The automaton's text; of a list of parts that of the automaton that they make."""
+    """The automaton's text; for a list of parts, the text of the automaton that is composed of them."""
     if text.looks_like is Kind.LIST:
         return Composer(specification.of_list(text, reader)).composed().text()
     if text.looks_like is not Kind.AUTOMATON:

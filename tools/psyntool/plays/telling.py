@@ -1,4 +1,4 @@
-"""What is said about a play: its present state, the choices, and how it ended."""
+"""What the user is told about a play: its present state, the choices, and how it ended."""
 from psyntool.plays.board import run
 
 
@@ -10,7 +10,7 @@ def standing(play):
 
 
 def offered(play):
-    """The choices, and for each a line with its number; `*` marks the one that holds out longest."""
+    """The choices, and for each a line with its number; `*` marks the choice that holds out longest."""
     choices = play.choices()
     best, width = play.board.longest(choices), max(len(choice.said) for choice in choices)
     lines = [f"{'*' if choice is best else ' '}{number:>3}  {choice.said:<{width}}  -> {where(play.board, choice)}" for number, choice in enumerate(choices, 1)]
@@ -18,14 +18,15 @@ def offered(play):
 
 
 def where(board, choice):
-    """Where a choice leads: the state's name and the priority, or what it breaks."""
+    """Where a choice leads: to a state, with a priority, or to no edge, with the guarantees that the choice breaks."""
     if choice.target is not None:
         return f"{board.title(choice.target)} (priority {choice.priority})"
     return f"no edge{', since it breaks ' if choice.broken else ''}{' and '.join(choice.broken)}"
 
 
 def ended(play):
-    """How the play ended, in lines: the loop with its greatest priority, or the step without an edge; and what became of parts."""
+    """How the play ended: in a loop, with its greatest priority, or in a step without an edge; and the parts that were
+    violated."""
     last = len(play.steps) - 1
     if play.loop is None:
         told = [f"at step {last} there is no edge: the automaton rejects, whatever follows"]
@@ -40,7 +41,7 @@ def ended(play):
 
 
 def of_part(play, side, moves):
-    """What there is to say of a part that broke, or that the loop never meets, and its sentence."""
+    """Lines about a part that was broken, or whose accepting edges the loop never takes, with the part's sentence."""
     found, part = run(moves, play.steps), moves.part
     if found.broke is not None:
         said = f"step {found.broke} breaks the {side} {part.title}"
@@ -52,7 +53,7 @@ def of_part(play, side, moves):
 
 
 def table(play):
-    """The steps, in columns: state, what both said, the priority."""
+    """The steps of a play as a table: state, letters of both players, priority."""
     board = play.board
     owned = [[number for number, _ in these] for these in board.automaton.owners()]
     head = ("step", "state", "environment", "controller", "priority")

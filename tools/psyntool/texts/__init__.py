@@ -1,14 +1,15 @@
-"""Plain readings of the texts that psyn takes and writes. The program alone decides what a text means and whether it is right."""
+"""Simple parsers for the texts that psyn reads and writes. Only the program decides what a text means and whether it is
+right."""
 
 
 class Unreadable(Exception):
-    """The text can't be read so far that the tool could show or explain it."""
+    """The text can't be parsed far enough for the tool to show or explain it."""
 
 
-# No number that has a meaning has more digits.
+# No 64-bit number has more than 20 digits.
 NUMBER = r"\d{1,20}"
 
 
 def is_number(word):
-    """Whether a word, of text or of bytes, is a number of which more than its length can be said."""
+    """Whether a word (a string or bytes) is a number of at most 20 digits."""
     return word.isdigit() and len(word) <= 20

@@ -1,19 +1,22 @@
-"""Acceptance conditions that are chains, and the priorities that a chain gives to the marks of an edge.
+"""Acceptance conditions that are chains, that is nested like a parity condition, and the priorities that a chain gives
+to edges.
 
-A condition is a constant, (`Inf`, set), (`Fin`, set), or (`&` or `|`, its operands).
+A condition is a Boolean constant or a pair: (`Inf`, set), (`Fin`, set), (`&`, operands) or (`|`, operands).
 """
 from dataclasses import dataclass
 
 
 @dataclass(frozen=True)
 class Chain:
-    """Links, each a set and whether meeting it accepts, and whether a run is accepted that meets none of them again and again."""
+    """The links of a chain, each an acceptance set and whether meeting it infinitely often accepts; the first set met
+    so decides. `base` says whether a run that meets none of the sets so is accepted."""
 
     links: tuple
     base: bool
 
     def priority(self, marks):
-        """The number of an edge: that of the first link whose set it has, or of the base; an accepting one is even."""
+        """The priority of an edge: that of the first link whose set the edge is in, or of the base. Even priorities
+        accept."""
         numbers, number = [], 0 if self.base else 1
         for _, accepts in reversed(self.links):
             number += accepts != (number % 2 == 0)
@@ -23,7 +26,7 @@ class Chain:
 
 
 def chain_of(condition):
-    """The chain of a condition; None if it is not a chain."""
+    """The chain of a condition, or None if the condition is not a chain."""
     links = []
     while True:
         if isinstance(condition, bool):

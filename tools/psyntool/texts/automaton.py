@@ -1,4 +1,4 @@
-"""Automata, as texts of the Hanoi Omega-Automata format have them."""
+"""Automata, parsed from texts in the Hanoi Omega-Automata format."""
 from dataclasses import dataclass, field
 from functools import cached_property
 
@@ -8,7 +8,8 @@ from psyntool.texts.acceptance import chain_of
 
 @dataclass(frozen=True)
 class Automaton:
-    """The propositions' names, the controller's, the condition, aliases, the start, the states' names, and the edges by state."""
+    """An automaton: its start, the propositions' names, those that the controller owns, the acceptance condition,
+    aliases, the states' names, and the edges of each state."""
 
     start: int
     names: tuple
@@ -27,11 +28,11 @@ class Automaton:
 
     @cached_property
     def chain(self):
-        """The chain of the condition; None if it is not a chain."""
+        """The chain of the acceptance condition, or None if the condition is not a chain."""
         return None if self.condition is None else chain_of(self.condition)
 
     def owners(self):
-        """The names of the environment's propositions and of the controller's, each with its number."""
+        """The environment's propositions and the controller's, as two lists of numbers with names."""
         return [
             [(number, name) for number, name in enumerate(self.names) if (number in self.controllable) == is_mine]
             for is_mine in (False, True)
@@ -46,18 +47,20 @@ class Automaton:
         return labels.texts_of_aliases(self.aliases, self.names)
 
     def written(self, label):
-        """A label with the names of propositions; aliases are written out."""
+        """A label with the names of propositions, and with aliases replaced by their definitions unless these are too
+        long."""
         return labels.written(label, self.names, self.alias_texts)[0]
 
     def edge_at(self, state, true):
-        """The first edge of a state that takes a letter, given by the propositions that are true; None if there is none."""
+        """The first edge of a state whose label holds at a letter, which is given as the set of its true propositions;
+        None if there is none."""
         edges = self.edges.get(state, ())
         place = labels.first_met([edge.label for edge in edges], {number: number in true for number in range(len(self.names))}, self.aliases)
         return None if place is None else edges[place]
 
 
 def read(text):
-    """The automaton of a text; some texts that the program refuses are read too."""
+    """Parses an automaton; some texts that the program refuses are accepted here."""
     reader = hoa.Reader(hoa.tokens_of(text))
     reader.take("HOA:")
     reader.take()
@@ -72,7 +75,7 @@ def read(text):
 
 
 def place_without_owners(text):
-    """Where the body begins, if nothing before it says whose the propositions are; else None."""
+    """The offset of `--BODY--` if no item `controllable-AP:` precedes it, else None."""
     for token in hoa.tokens_of(text):
         if token.text == "controllable-AP:":
             return None

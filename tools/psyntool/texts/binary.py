@@ -1,13 +1,13 @@
-"""The binary form of AIGER 1.9: from it to the ASCII form, and back."""
+"""Converts circuits from the binary form of AIGER 1.9 to the ASCII form, and back."""
 from psyntool.texts import Unreadable, is_number
 
 
 class Broken(Exception):
-    """The bytes are not a circuit in the binary form."""
+    """An error: the bytes are not a circuit in binary AIGER."""
 
 
 def number_at(data, at):
-    """A number of seven bits a byte, the low ones first, and where it ends."""
+    """The number that begins at an offset, in bytes of seven bits with the low bits first, and the offset after it."""
     value, shift = 0, 0
     while True:
         if at >= len(data) or shift > 63:
@@ -26,7 +26,7 @@ def line_at(data, at):
 
 
 def ascii_form(data):
-    """The same circuit as an ASCII text: variables are numbered as the binary form has them, symbols and comments stay."""
+    """The circuit in ASCII AIGER, with the variable numbers, symbols and comments of the binary form."""
     head, at = line_at(data, 0)
     words = head.split(b" ")
     if words[0] != b"aig" or len(words) < 6 or not all(map(is_number, words[1:])):
@@ -53,7 +53,8 @@ def ascii_form(data):
 
 
 def binary_form(circuit):
-    """A circuit in the binary form. Its variables are numbered anew: inputs, latches, then gates, each after those that it reads."""
+    """A circuit in binary AIGER. The variables are renumbered: inputs, latches, and then gates, each gate after the
+    gates that it reads."""
     ordered = in_order(circuit.gates)
     defined = [*circuit.inputs, *(latch.literal for latch in circuit.latches), *(gate.literal for gate in ordered)]
     numbers = {0: 0, **{literal // 2: number for number, literal in enumerate(defined, 1)}}
@@ -78,7 +79,7 @@ def binary_form(circuit):
 
 
 def number_bytes(value):
-    """A number as seven bits a byte, the low ones first."""
+    """A number in bytes of seven bits, with the low bits first."""
     written = bytearray()
     while value > 127:
         written.append(value & 127 | 128)

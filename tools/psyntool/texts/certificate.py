@@ -1,4 +1,5 @@
-"""Certificates of parity games: who wins each vertex, by which moves, and counts that show it (docs/CERTIFICATES.md)."""
+"""Certificates of parity games: the winner of each vertex, the winners' moves, and counts that prove them right
+(docs/CERTIFICATES.md)."""
 import re
 from dataclasses import dataclass
 
@@ -9,7 +10,7 @@ CAUSE = "this is no certificate: run `closed` to see where it goes wrong"
 
 @dataclass(frozen=True)
 class Entry:
-    """Of a vertex: its winner, the winner's move or None, and the counts that are not 0, by their priorities."""
+    """The entry of a vertex: its winner, the winner's move or None, and the nonzero counts by priority."""
 
     winner: int
     move: int | None
@@ -18,18 +19,19 @@ class Entry:
 
 @dataclass(frozen=True)
 class Certificate:
-    """The odd and the even priorities of the game, and an entry for each vertex, by its id, in the order of the game."""
+    """A certificate: the odd and the even priorities of the game, and the entry of each vertex id, in the order of the
+    game."""
 
     odd: tuple
     even: tuple
     entries: dict
 
     def opposing(self, winner):
-        """The priorities by which a player loses."""
+        """The priorities of the parity by which the player loses."""
         return self.even if winner else self.odd
 
     def text(self):
-        """The certificate as psyn writes one, with all counts."""
+        """The certificate's text in the form that lists all counts."""
         lines = ["psyncert 1", f"vertices {len(self.entries)}"]
         lines += [" ".join([word, *map(str, these)]) for word, these in (("odd", self.odd), ("even", self.even))]
         for identity, entry in self.entries.items():
@@ -39,7 +41,7 @@ class Certificate:
 
 
 def entry_of(words, opposing, is_compact):
-    """The entry from the words after an id."""
+    """A vertex's entry, from the words after the vertex's id."""
     winner, move = int(words[0]), None if words[1] == "-" else int(words[1])
     losing = opposing[winner]
     if is_compact:
@@ -50,7 +52,7 @@ def entry_of(words, opposing, is_compact):
 
 
 def read(text):
-    """The certificate of a text."""
+    """Parses a certificate."""
     lines = text.split("\n")
     if not re.match(r"psyncert [12]$", lines[0]):
         raise Unreadable("this is no certificate")

@@ -1,4 +1,4 @@
-"""Circuits, as ASCII AIGER texts have them. A literal is twice a variable, and one more where it is negated."""
+"""Circuits, parsed from texts in ASCII AIGER. A literal is twice its variable, plus one if it is negated."""
 import re
 from dataclasses import dataclass, replace
 
@@ -9,7 +9,7 @@ CAUSE = "this is no circuit: run `sim` to see where it goes wrong"
 
 @dataclass(frozen=True)
 class Latch:
-    """A latch: its literal, what it holds in the next step, and what it begins with."""
+    """A latch: its literal, the literal of its next value, and its reset value."""
 
     literal: int
     next: int
@@ -24,32 +24,33 @@ class Gate:
 
 @dataclass(frozen=True)
 class Circuit:
-    """The literals of the inputs and the outputs, the latches, the gates, and the symbols by kind (`i`, `l`, `o`) and number."""
+    """A circuit: the literals of inputs and outputs, the latches, the gates, and the symbols by kind (`i`, `l`, `o`)
+    and index."""
 
     inputs: tuple
     latches: tuple
     outputs: tuple
     gates: tuple
     symbols: dict
-    # The lines after the symbols: a `c`, and what is written about the circuit.
+    # The comment section at the end of the text, which begins with a line `c`.
     comment: str = ""
 
     def name_of(self, kind, number):
         return self.symbols.get((kind, number), f"{kind}{number}")
 
     def names(self, kind):
-        """The names of all latches, inputs or outputs."""
+        """The names of all inputs (`i`), latches (`l`) or outputs (`o`)."""
         count = len({"i": self.inputs, "l": self.latches, "o": self.outputs}[kind])
         return [self.name_of(kind, number) for number in range(count)]
 
     @property
     def read_variables(self):
-        """The variables of the literals that a latch, an output or a gate reads."""
+        """The variables that the latches, the outputs and the gates read."""
         sides = [side for gate in self.gates for side in gate.sides]
         return {literal // 2 for literal in [*(latch.next for latch in self.latches), *self.outputs, *sides]}
 
     def without_input(self, name):
-        """The circuit without the input of that name, which nothing may read; the inputs after it move up."""
+        """The circuit without the input of the given name, which must be unread; the inputs after it move up by one."""
         dropped = next((number for number in range(len(self.inputs)) if self.symbols.get(("i", number)) == name), None)
         if dropped is None:
             raise Unreadable(f"no input of the circuit is called {name!r}")
@@ -66,11 +67,11 @@ class Circuit:
 
     @property
     def ending(self):
-        """The symbols, a line each, and the comment."""
+        """The symbols, one on each line, and the comment section."""
         return "".join(f"{kind}{number} {name}\n" for (kind, number), name in self.symbols.items()) + self.comment
 
     def text(self):
-        """The circuit in the ASCII form of AIGER."""
+        """The circuit's text in ASCII AIGER."""
         defined = [*self.inputs, *(latch.literal for latch in self.latches), *(gate.literal for gate in self.gates)]
         most = max([0, *defined, *(2 * variable for variable in self.read_variables)]) // 2
         head = ("aag", most, len(self.inputs), len(self.latches), len(self.outputs), len(self.gates))
@@ -81,7 +82,7 @@ class Circuit:
 
 
 def numbers(lines, count, least):
-    """The numbers of so many lines, each with at least so many."""
+    """The numbers on each of the first `count` lines, of which each line must have at least `least`."""
     rows = [line.split() for line in lines[:count]]
     if len(rows) < count or any(len(row) < least or not all(map(is_number, row)) for row in rows):
         raise Unreadable(CAUSE)
@@ -89,7 +90,7 @@ def numbers(lines, count, least):
 
 
 def read(text):
-    """The circuit of a text."""
+    """Parses a circuit."""
     lines = text.split("\n")
     head = lines[0].split()
     if not head or head[0] != "aag" or len(head) < 6 or not all(map(is_number, head[1:])):

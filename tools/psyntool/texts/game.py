@@ -1,4 +1,4 @@
-"""Parity games, as texts of PGSolver's format have them."""
+"""Parity games, parsed from texts in PGSolver's format."""
 import re
 from dataclasses import dataclass
 from functools import cached_property
@@ -12,7 +12,7 @@ BLANK = re.compile(r"\s*\Z")
 
 @dataclass(frozen=True)
 class Vertex:
-    """A vertex: its id, its priority, its owner, the ids of its successors, each once, and its name or None."""
+    """A vertex: its id, its priority, its owner, the ids of its distinct successors, and its name or None."""
 
     identity: int
     priority: int
@@ -27,7 +27,7 @@ class Vertex:
 
 @dataclass(frozen=True)
 class Game:
-    """The vertices, in the order of the text. A play begins at the first one, if it is the game of an automaton."""
+    """A game: its vertices, in the order of the text. In the game of an automaton, plays begin at the first vertex."""
 
     vertices: tuple
 
@@ -40,7 +40,7 @@ class Game:
         return sorted({vertex.priority for vertex in self.vertices})
 
     def text(self):
-        """The game as psyn writes one."""
+        """The game's text in the form that psyn writes."""
         lines = [f"parity {max(vertex.identity for vertex in self.vertices)};"]
         for vertex in self.vertices:
             name = "" if vertex.name is None else f' "{vertex.name}"'
@@ -49,7 +49,7 @@ class Game:
 
 
 def read(text):
-    """The game of a text."""
+    """Parses a game."""
     vertices, at = [], HEAD.match(text).end()
     while not BLANK.match(text, at):
         found = NODE.match(text, at)

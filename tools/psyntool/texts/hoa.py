@@ -1,4 +1,4 @@
-"""Reads the Hanoi Omega-Automata format: tokens, the items of the header, and the states with their edges."""
+"""Parses the Hanoi Omega-Automata format: tokens, header items, and states with their edges."""
 import re
 from dataclasses import dataclass, field
 
@@ -20,7 +20,8 @@ class Token:
 
 @dataclass(frozen=True)
 class Edge:
-    """An edge: its label in postfix form, its target, its sets (those of its state too), and its place in the text."""
+    """An edge: its source, its label in postfix form, its target, its acceptance sets (with those of its source), and
+    its offset in the text."""
 
     source: int
     label: tuple
@@ -30,7 +31,7 @@ class Edge:
 
 
 def tokens_of(text):
-    """The tokens, comments left out; comments nest, and strings may hold their signs."""
+    """The tokens of a text without its comments. Comments nest, and a string may contain `/*` or `*/`."""
     tokens, depth, at = [], 0, 0
     for found in TOKEN.finditer(text):
         if found.start() < at:
@@ -48,7 +49,7 @@ def tokens_of(text):
 
 
 class Reader:
-    """Reads tokens one after another."""
+    """A list of tokens, and the parser's position in it."""
 
     def __init__(self, tokens):
         self.tokens, self.at = tokens, 0
@@ -62,7 +63,8 @@ class Reader:
         return self.tokens[self.at].offset if self.at < len(self.tokens) else 0
 
     def take(self, pattern="", must=True):
-        """The next token, if it is of this form; empty where it is not and need not be."""
+        """Takes the next token if it matches the pattern. Otherwise the text is refused or, if `must` is false, an
+        empty string is returned."""
         text = self.now
         if not text or not re.fullmatch(pattern or ".*", text, re.S):
             if must:
@@ -81,7 +83,8 @@ class Reader:
         return found
 
     def formula(self, atom):
-        """A formula of !, & and |, in postfix form; `atom` reads everything else. Parentheses are an operator too."""
+        """A formula of !, & and | in postfix form; `atom` parses the formula's atoms. A pair of parentheses counts as
+        an operator."""
         output, waiting, wants_atom = [], [], True
         while True:
             sign = self.now
@@ -110,14 +113,14 @@ class Reader:
 
 
 def release(waiting, output, binds):
-    """Puts out the operators that bind as strongly, down to an open parenthesis."""
+    """Moves waiting operators to the output, down to an open parenthesis or to an operator that binds less strongly."""
     while waiting and waiting[-1] != "(" and BINDS.get(waiting[-1], 3) >= binds:
         sign = waiting.pop()
         output.append(Operator(sign, 1 if sign == "!" else 2))
 
 
 def label_of(reader):
-    """A label, in postfix form."""
+    """Parses a label into postfix form."""
 
     def atom():
         if reader.now in ("t", "f"):
@@ -130,14 +133,14 @@ def label_of(reader):
 
 
 def known_label(reader, aliases):
-    """A label that uses aliases that were defined before it, and no others."""
+    """Parses a label, all of whose aliases must be defined before it."""
     label = label_of(reader)
     reader.refuse_if(any(isinstance(part, Alias) and part.name not in aliases for part in label))
     return label
 
 
 def condition_of(reader):
-    """The condition after `Acceptance: N`, in the form of `acceptance`."""
+    """Parses the condition after `Acceptance: N`, in the form that the module `acceptance` describes."""
 
     def atom():
         if reader.now in ("t", "f"):
@@ -165,7 +168,8 @@ def condition_of(reader):
 
 @dataclass
 class Header:
-    """The items before `--BODY--`, the condition also as it is written; and by name the tokens that none of these takes."""
+    """The header items before `--BODY--`. `acceptance` is the condition as it is written, and `others` has, by item
+    name, the tokens that are not parsed."""
 
     start: int = 0
     names: tuple = ()
@@ -177,7 +181,7 @@ class Header:
 
 
 def header_of(reader, text):
-    """The header of a text."""
+    """Parses the header of a text."""
     head = Header()
     while reader.now != "--BODY--":
         name = reader.take(".*:")
@@ -215,7 +219,7 @@ def marks_of(reader):
 
 
 def bracketed(reader, aliases):
-    """A label between brackets; None if there is none."""
+    """Parses a label in brackets; None if there is none."""
     if not reader.take(r"\[", must=False):
         return None
     label = known_label(reader, aliases)
@@ -224,7 +228,7 @@ def bracketed(reader, aliases):
 
 
 def nth_letter(place, count):
-    """The label that this letter alone meets: its bit p is proposition p."""
+    """The label that holds only at the letter with the given number, whose bit p is the truth of proposition p."""
     parts = []
     for number in range(count):
         parts += [Proposition(number), *([] if place >> number & 1 else [NOT]), *([AND] if number else [])]
@@ -232,7 +236,8 @@ def nth_letter(place, count):
 
 
 def state_of(reader, head):
-    """A state with its edges: its number, its name, and the edges; those without labels have the letters in turn."""
+    """Parses a state: its number, its name and its edges. Edges without labels stand for the letters in increasing
+    order."""
     reader.take("State:")
     label = bracketed(reader, head.aliases)
     state = reader.number()

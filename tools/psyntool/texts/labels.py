@@ -1,9 +1,9 @@
-"""Labels of edges: formulas over propositions and aliases, held in postfix form so that no depth of nesting is too deep."""
+"""Labels of edges: formulas over propositions and aliases, in postfix form, so that deep nesting needs no recursion."""
 from dataclasses import dataclass
 
-# A label in which aliases are written out is no longer than this, or they stay.
+# An alias whose definition is longer than this, when written out, is written as its name.
 LONGEST = 2_000
-# So many partial letters are tried at most, to find one that two edges share.
+# The search for a letter that two edges share gives up after this many partial letters.
 TRIALS = 4_000
 
 
@@ -19,7 +19,7 @@ class Alias:
 
 @dataclass(frozen=True)
 class Operator:
-    """`!` of the formula before it, or `&` or `|` of the two before it."""
+    """In postfix form, `!` applies to the formula before it, and `&` and `|` to the two formulas before them."""
 
     sign: str
     count: int
@@ -29,7 +29,7 @@ NOT, AND = Operator("!", 1), Operator("&", 2)
 
 
 def combined(sign, values):
-    """What an operator gives for truth values, of which None is unknown."""
+    """The value of an operator for given truth values, where None means unknown."""
     if sign == "!":
         return None if values[0] is None else not values[0]
     decides = sign == "|"
@@ -39,7 +39,7 @@ def combined(sign, values):
 
 
 def value(label, letter, aliases):
-    """The truth of a label where `letter` gives those of propositions, and `aliases` those of aliases; None where it is open."""
+    """A label's truth, given the truth of propositions (`letter`) and of aliases; None if these do not determine it."""
     stack = []
     for part in label:
         if isinstance(part, Proposition):
@@ -56,7 +56,7 @@ def value(label, letter, aliases):
 
 
 def used_by(those, aliases):
-    """The aliases that labels use, or that these use in turn, in the order of their definitions."""
+    """The aliases that the labels use, directly or through other aliases, in the order of their definitions."""
     seen, waiting = set(), list(those)
     while waiting:
         found = {part.name for part in waiting.pop() if isinstance(part, Alias)} - seen
@@ -66,7 +66,7 @@ def used_by(those, aliases):
 
 
 def values_of_aliases(aliases, letter):
-    """The truth of each alias; each was defined by those before it."""
+    """The truth of each alias; an alias uses only aliases that are defined before it."""
     values = {}
     for name, label in aliases.items():
         values[name] = value(label, letter, values)
@@ -74,13 +74,15 @@ def values_of_aliases(aliases, letter):
 
 
 def first_met(those, letter, aliases):
-    """The place of the first of these labels that a letter meets, truth by proposition; None where it meets none."""
+    """The index of the first label that holds at the letter, which gives each proposition's truth; None if no label
+    holds."""
     known = values_of_aliases(used_by(those, aliases), letter)
     return next((place for place, label in enumerate(those) if value(label, letter, known)), None)
 
 
 def meeting(those, aliases, fixed=None):
-    """A letter, as truth by proposition, that meets all of these labels; None if there is none, or if none was found soon."""
+    """A letter at which all of the labels hold, as the truth of each proposition; None if there is none or the search
+    gives up."""
     used = used_by(those, aliases)
     numbers = {part.number for label in (*those, *used.values()) for part in label if isinstance(part, Proposition)}
     numbers = sorted(numbers - set(fixed or {}))
@@ -99,7 +101,8 @@ def meeting(those, aliases, fixed=None):
 
 
 def texts_of_aliases(aliases, names):
-    """Of each alias the text and the sign of its outermost operator; one that is too long stays an alias."""
+    """For each alias its text, and the outermost operator of the text; an alias whose text is too long keeps its
+    name."""
     texts = {}
     for name, label in aliases.items():
         text, binds = written(label, names, texts)
@@ -108,7 +111,8 @@ def texts_of_aliases(aliases, names):
 
 
 def written(label, names, aliases):
-    """The text of a label, with the names of its propositions, and the sign of its outermost operator; `aliases` has both of each."""
+    """A label's text with the names of propositions, and the text's outermost operator; `aliases` has both for each
+    alias."""
     stack = []
     for part in label:
         if isinstance(part, Proposition):
@@ -126,5 +130,5 @@ def written(label, names, aliases):
 
 
 def letter_text(letter, names):
-    """A letter by names: `r0 !g1`; what is not said is left out."""
+    """A letter by names, such as `r0 !g1`; propositions without a truth are left out."""
     return " ".join(("" if letter[number] else "!") + name for number, name in enumerate(names) if number in letter)

@@ -1,4 +1,4 @@
-"""What `synth` answers: a word, a circuit, and with --full the game and the certificate."""
+"""Answers of `synth`: a word, a circuit and, with --full, the game and the certificate."""
 from dataclasses import dataclass
 
 from psyntool.texts import Unreadable
@@ -9,7 +9,8 @@ SEPARATOR = "%%\n"
 
 @dataclass(frozen=True)
 class Report:
-    """The first word, and the texts after it: a circuit, or a circuit, a game and a certificate."""
+    """An answer: its first word, and the texts after it, which are a circuit, or a circuit, a game and a
+    certificate."""
 
     word: str
     parts: tuple

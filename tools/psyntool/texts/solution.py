@@ -1,4 +1,4 @@
-"""Solutions of games, as PGSolver and Oink write them: `paritysol`."""
+"""Solutions of games in the format `paritysol`, which PGSolver and Oink write."""
 import re
 from dataclasses import dataclass
 
@@ -10,7 +10,7 @@ ENTRY = re.compile(rf"0*({NUMBER})\s+0*([01])(?:\s+0*({NUMBER}))?\s*;\s*")
 
 @dataclass(frozen=True)
 class Entry:
-    """Of a vertex: its winner, the move that is given or None, and where the entry begins in the string."""
+    """The entry of a vertex: its winner, the given move or None, and the offset of the entry."""
 
     winner: int
     move: int | None
@@ -19,12 +19,12 @@ class Entry:
 
 @dataclass(frozen=True)
 class Solution:
-    """An entry for each id, in the order of the text."""
+    """A solution: the entry of each vertex id, in the order of the text."""
 
     entries: dict
 
     def text(self):
-        """The solution as PGSolver writes one."""
+        """The solution's text in the form that PGSolver writes."""
         lines = [f"paritysol {max(self.entries)};"]
         for identity, entry in self.entries.items():
             lines.append(f"{identity} {entry.winner}{'' if entry.move is None else f' {entry.move}'};")
@@ -32,7 +32,8 @@ class Solution:
 
 
 def begin(text):
-    """The entries with which a text begins, each with its id, until one has no meaning or is repeated; and where they end."""
+    """The entries at the start of a text, up to the first that can't be parsed or repeats an id; and the offset where
+    they end."""
     entries, at = {}, HEAD.match(text).end()
     while found := ENTRY.match(text, at):
         identity = int(found[1])
@@ -44,7 +45,7 @@ def begin(text):
 
 
 def read(text):
-    """The solution of a text."""
+    """Parses a solution."""
     entries, at = begin(text)
     if not entries or at < len(text):
         raise Unreadable("this is no solution: run `judge` to see where it goes wrong")
