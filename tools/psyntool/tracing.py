@@ -1,4 +1,4 @@
-"""Runs of an automaton beside a circuit, step by step: of each step the state, the letter by names, and the sets."""
+"""Runs of an automaton on a circuit's trace: for each step the state, the letter by names, and the acceptance sets."""
 from psyntool import program
 from psyntool.texts import automaton, circuit, labels, stimulus
 
@@ -6,7 +6,8 @@ LONGEST = 100_000
 
 
 def letters_of(texts, count):
-    """The circuit, and what it does in so many steps: of each the propositions that are true, by name."""
+    """The letters of a circuit's trace, for `count` steps of a stimulus: for each step the names of the true
+    propositions."""
     judged = circuit.read(texts[1].string)
     given = stimulus.read(texts[2].string).letters(count)
     said = program.ask(b"sim\n" + texts[1].bytes + b"%%\n" + "".join(f"{letter}\n" for letter in given).encode())
@@ -17,7 +18,7 @@ def letters_of(texts, count):
 
 
 def steps(read, letters):
-    """For each step the state's name, the letter and the sets; no step follows one without an edge."""
+    """For each step the state's name, the letter and the acceptance sets. The run ends at a step without an edge."""
     state, numbers = read.start, {name: number for number, name in enumerate(read.names)}
     for true in letters:
         letter = {numbers[name] for name in true}
@@ -30,7 +31,7 @@ def steps(read, letters):
 
 
 def trace(texts, stem, lap):
-    """The steps of the stem and of one lap, in columns; the texts are an automaton, a circuit and a stimulus."""
+    """A table of the steps of the stem and of one lap; the texts are an automaton, a circuit and a stimulus."""
     if stem + lap > LONGEST:
         return f"the run has {stem + lap} steps until it comes again, and is not shown\n"
     read = automaton.read(texts[0].string)

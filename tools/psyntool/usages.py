@@ -1,4 +1,5 @@
-"""The commands of the program, by name: their flags, and the kinds of their texts. The file program.toml has them."""
+"""The commands of the program by name, with their flags and the kinds of texts that they read. They are stored in the
+file program.toml."""
 import os
 import tomllib
 from dataclasses import dataclass
@@ -8,7 +9,8 @@ from psyntool.kinds import Kind
 
 @dataclass(frozen=True)
 class Usage:
-    """The names of a command's flags, the kinds of its texts in order, and the kind of a text that a flag adds behind these."""
+    """The usage of a command: the names of its flags, the kinds of its texts in order, and for some flags the kind of a
+    further text."""
 
     flags: tuple
     texts: tuple

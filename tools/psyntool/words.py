@@ -1,4 +1,4 @@
-"""Takes a command line apart: flags may be anywhere, and an unknown word is reported with the nearest known one."""
+"""Parses a command line: flags may be anywhere, and an unknown word is reported with the nearest known one."""
 import difflib
 import os
 
@@ -9,16 +9,17 @@ from psyntool.kinds import Kind
 
 
 def nearest(word, known):
-    """A hint at the known word that is nearest, if one is near; dashes make no word near."""
+    """A hint at the known word that is most similar to an unknown one, if there is one; leading dashes are ignored."""
     bare = {one.strip("-"): one for one in known}
     found = difflib.get_close_matches(word.strip("-"), bare, 1)
     return f" (did you mean {bare[found[0]]}?)" if found else ""
 
 
 def split(words, flags):
-    """The flags with their values, and the other words. After `--` no word is a flag, nor is one that names a file.
+    """The given flags with their values, and the other words. After `--`, no word is a flag. An unknown word with a
+    dash counts as a file if a file has this name.
 
-    A flag with many values has them with their places among the words.
+    The values of a flag with many values have their positions among the words.
     """
     given, others, at = {}, [], 0
     while at < len(words):
@@ -47,7 +48,8 @@ def split(words, flags):
 
 
 def behind(flag, words, at, flags):
-    """The values after a flag, with their places: those up to the next flag, or one."""
+    """The values after a flag, with their positions: all words up to the next flag if the flag has many values, else
+    one word."""
     if not flag.many:
         return [(at, words[at])][: bool(flag.value)] if at < len(words) else []
     found = []
@@ -60,7 +62,8 @@ def behind(flag, words, at, flags):
 
 
 def request_of(words, commands):
-    """What a command line asks for. Without a command that is `help`, and with --version `version`."""
+    """The request that a command line makes. Without a command the request is `help`, and with --version it is
+    `version`."""
     flags = {flag.name: flag for command in commands.values() for flag in command.all_flags}
     flags.update({flag.name: flag for flag in EVERYWHERE})
     given, others = split(words, flags)

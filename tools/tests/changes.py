@@ -1,4 +1,5 @@
-"""Circuits with a literal changed, judged by `verify` beside the product; `lasso` confirms each counterexample."""
+"""Changes single literals of circuits, and compares `verify` with an enumeration of the product; `lasso` must confirm
+each counterexample."""
 import random
 from dataclasses import dataclass
 from functools import cached_property
@@ -9,13 +10,13 @@ from upkeep import rows
 
 
 def ask(psyn, command, *texts):
-    """What the program answers to a command and its texts, and the status."""
+    """The program's answer to a command with texts, and the exit status."""
     answer, status = rows.answered(psyn, rows.Row(command, (command + "\n" + "%%\n".join(texts)).encode(), 0))
     return answer.decode(), status
 
 
 def places(text):
-    """Where a circuit's text has a literal that is read: the line and the word."""
+    """The positions of the literals that a circuit reads, each as the index of its line and the index of its word."""
     inputs, latches, outputs, gates = map(int, text.split("\n", 1)[0].split()[2:6])
     first = 1 + inputs
     found = [(first + k, 1) for k in range(latches)] + [(first + latches + k, 0) for k in range(outputs)]
@@ -23,7 +24,7 @@ def places(text):
 
 
 def negated(text, place):
-    """The circuit with the literal at that place negated."""
+    """The circuit with the literal at this position negated."""
     (line, word), lines = place, text.split("\n")
     words = lines[line].split(" ")
     words[word] = str(int(words[word]) ^ 1)
@@ -31,7 +32,7 @@ def negated(text, place):
 
 
 def with_inputs_as_outputs(text):
-    """The circuits in which an output is replaced by an input."""
+    """For each output and each input, the circuit in which the input replaces the output."""
     lines = text.split("\n")
     inputs, latches, outputs = map(int, lines[0].split()[2:5])
     for line in range(1 + inputs + latches, 1 + inputs + latches + outputs):
@@ -39,7 +40,7 @@ def with_inputs_as_outputs(text):
 
 
 class TooSlow(Exception):
-    """The program does not answer in time."""
+    """The program did not answer in time."""
 
 
 def refuse_if_late(status):
@@ -53,7 +54,7 @@ def refuse_unless(is_so, *what):
 
 
 def answered(psyn, spec, text, env, moore):
-    """The first line of what `verify` answers; a counterexample is put before `lasso`."""
+    """The first line of the answer of `verify`; a counterexample is confirmed by `lasso`."""
     flags = " --env" * env + " --moore" * moore
     answer, status = ask(psyn, "verify" + flags, spec, text)
     refuse_if_late(status)
@@ -69,7 +70,7 @@ def answered(psyn, spec, text, env, moore):
 
 @dataclass(frozen=True)
 class Case:
-    """An automaton, and a circuit of a player, who may move first."""
+    """An automaton and a circuit of one of the players, and whether the controller moves first (`moore`)."""
 
     psyn: str
     spec: str
@@ -82,13 +83,14 @@ class Case:
         return automaton.read(self.spec)
 
     def drawn(self, seed, count):
-        """The circuit; then with a literal negated, for so many of its literals, or for all."""
+        """The circuit, and then copies with one literal negated, for `count` of its literals or for all if there are
+        fewer."""
         found = places(self.text)
         chosen = random.Random(seed).sample(found, min(count, len(found)))
         return [self.text, *(negated(self.text, place) for place in chosen)]
 
     def judged(self, text):
-        """What `verify` answers about another circuit: what the product says too."""
+        """The answer of `verify` about a changed circuit, which must agree with the enumeration of the product."""
         wanted = products.verdict(self.read, circuit.read(text), self.env, self.moore)
         found = answered(self.psyn, self.spec, text, self.env, self.moore)
         refuse_unless(found == wanted, found, wanted, self.spec, text, self.env, self.moore)
@@ -96,7 +98,7 @@ class Case:
 
 
 def case_of(psyn, spec, moore):
-    """An automaton with the circuit that `synth` prints."""
+    """An automaton, and the circuit that `synth` prints for it."""
     answer, status = ask(psyn, "synth" + " --moore" * moore, spec)
     refuse_if_late(status)
     refuse_unless(status in (10, 20), answer, spec)

@@ -1,6 +1,6 @@
 #!/usr/bin/env python3
-"""A solver that errs: erring.py GAME SOLUTION winner|move|half. It exchanges the first winner, takes other moves inside what each
-player wins, or says nothing of the second half of the vertices."""
+"""A solver that makes mistakes: erring.py GAME SOLUTION winner|move|half. It gives the first vertex to the wrong
+player, makes other moves inside each player's region, or leaves out the second half of the vertices."""
 import sys
 
 import improving

@@ -1,9 +1,12 @@
 #!/usr/bin/env python3
-"""A solver of parity games that owes psyn nothing: improving.py GAME SOLUTION. It improves strategies, once for each player.
+"""A parity game solver that shares no code or method with psyn: improving.py GAME SOLUTION. It uses strategy
+improvement, once for each player.
 
-A priority counts more than all lower ones of a play, for the player of its parity and against the other one. The player may stop
-at each vertex that it owns, and begins so; a play that stops is worth the sum of what it met. As long as an edge leads to what is
-worth more than the move, it becomes the move. Where no play stops then, and none is lost, the player wins.
+A priority outweighs all lower ones on a play; it counts for the player of its parity, and against the other player. The
+player's strategy may stop the play at each of the player's vertices, and stops everywhere at first. A play that stops
+is worth the sum of the priorities on it. As long as a vertex of the player has an edge to a vertex of greater value
+than its move, this edge becomes the move. When no edge improves the strategy, the player wins from the vertices from
+which no play stops or is lost.
 """
 import re
 import sys
@@ -12,13 +15,14 @@ STOP = -1
 
 
 def read(text):
-    """By id the priority, the owner and the successors."""
+    """The game by vertex id: the priority, the owner and the successors."""
     found = re.findall(r"(\d+) +(\d+) +([01]) +(\d+(?: *, *\d+)*)[^;]*;", text)
     return {int(v): (int(p), int(owner), [int(w) for w in to.split(",")]) for v, p, owner, to in found}
 
 
 def values(weights, edges, most):
-    """What plays are worth to a player whose moves are made, when the other one takes the least; `most` is out of reach."""
+    """The value of each vertex for a player with fixed moves, if the opponent minimises it; `most` is the value of a
+    vertex from which no play stops."""
     worth = {**dict.fromkeys(edges, most), STOP: 0}
     for _ in range(len(edges) + 1):
         least = {v: weights[v] + min(map(worth.get, to)) for v, to in edges.items()}
@@ -26,7 +30,7 @@ def values(weights, edges, most):
         worth.update((v, least[v]) for v in changed)
         if not changed:
             break
-    # what still falls goes round a cycle that the player loses, or comes to one
+    # a value that still falls belongs to a vertex from which the opponent reaches a cycle that the player loses
     while changed:
         worth.update(dict.fromkeys(changed, -most))
         changed = [v for v, to in edges.items() if worth[v] > -most and min(map(worth.get, to)) == -most]
@@ -34,7 +38,7 @@ def values(weights, edges, most):
 
 
 def won_by(game, player):
-    """The vertices that a player wins, each with its move or None."""
+    """The vertices that a player wins, each with the player's move, or None at the opponent's vertices."""
     ranks = {p: rank for rank, p in enumerate(sorted({p for p, _, _ in game.values()}))}
     base, most = len(game) + 1, (len(game) + 1) ** (len(ranks) + 2)
     weights = {v: base ** ranks[p] * (1 if p % 2 == player else -1) for v, (p, _, _) in game.items()}
@@ -49,7 +53,7 @@ def won_by(game, player):
 
 
 def solve(game):
-    """By id the winner and its move or None."""
+    """The solution by vertex id: the winner, and the winner's move or None."""
     solved = {v: (player, move) for player in (0, 1) for v, move in won_by(game, player).items()}
     return {v: solved[v] for v in game}
 

@@ -1,4 +1,5 @@
-"""What the programs of bench/ import is there: the gate does not prove them, so a module that moves would go unnoticed."""
+"""Checks that everything exists that the programs in bench/ import. The gate does not prove these programs, so it would
+not notice an import of a module that has moved."""
 import glob
 import os
 import re
@@ -17,7 +18,7 @@ def read(path):
 
 
 def declared(crate, words, names):
-    """Why types of a crate's code, as clauses name them, are not there; None where they are."""
+    """An error message if the code of a crate lacks a type that a clause mentions, else None."""
     module = [word for word in words if word != "TheVariants"]
     path = os.path.join(crate, "src", *module[:-1]) + ".rt"
     if not os.path.exists(path):
@@ -30,7 +31,7 @@ def declared(crate, words, names):
 
 
 def named(path, names):
-    """Why an .antt file does not give these names; None where it does."""
+    """An error message if an .antt file does not define all given names, else None."""
     if not os.path.exists(path):
         return f"there is no {os.path.relpath(path, TOP)}"
     known = set(re.findall(r"(?m)^\s*(?:\w+ )*pub (?:(?:data|record|abbrev|unfoldable) )*([^\s:({]+)", read(path)))
@@ -39,13 +40,13 @@ def named(path, names):
 
 
 def why_not(bench, text):
-    """What an import of a file of a bench's program asks for in vain."""
+    """The imports of a bench program's file that name something missing."""
     wrong = []
     for path, braced in RATTLE.findall(text):
         words, names = path.split("."), [name.strip() for name in braced.split(",") if name.strip()]
         crate = os.path.join(TOP, "crates", words[0])
         if words[0] == os.path.basename(bench):
-            # of a function's goals the prover makes the module
+            # the prover generates the module of a function's goals
             if words[-1] in ("Given", "Goals"):
                 function = words[-2].lstrip("+")
                 if not re.search(rf"\bfn {function}\b", read(os.path.join(bench, "src", "main.rt.in"))):

@@ -1,4 +1,4 @@
-"""Careless use of the tool: each line of careless.toml, run to the letter."""
+"""Runs each command line of careless.toml, and compares the output exactly."""
 import os
 import tempfile
 import unittest

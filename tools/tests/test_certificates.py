@@ -1,4 +1,5 @@
-"""tools/check_certificate.py beside psyn's `check`, on each certificate of the examples and of the rows, and on damaged ones."""
+"""Compares tools/check_certificate.py with psyn's `check`, on each certificate of the examples and of the rows, and on
+damaged ones."""
 import os
 import re
 import subprocess
@@ -15,7 +16,7 @@ LONGEST = 100_000
 
 
 def pair_of(given):
-    """The game and the certificate of an input of `check` or `closed`; None of another one."""
+    """The game and the certificate in an input of `check` or `closed`; None for other inputs."""
     found = re.fullmatch(rb"(?:check|closed)\n(.*?^|)%%(?:\n(.*))?", given, re.S | re.M)
     return (found[1], found[2] or b"") if found and len(given) < LONGEST else None
 
@@ -34,7 +35,7 @@ class BesideCheck(unittest.TestCase):
         return subprocess.run([program()], input=given, stdout=subprocess.PIPE, check=False).stdout
 
     def made(self, given):
-        """The game and the certificate that psyn makes for the first text of an input."""
+        """The game and psyn's certificate for it, made from an input of `solve` or `cert`; None for other inputs."""
         command, _, text = given.partition(b"\n")
         if len(given) > LONGEST or command not in (b"solve", b"solve --compact", b"cert", b"cert --moore", b"cert --compact"):
             return None
@@ -62,7 +63,7 @@ class BesideCheck(unittest.TestCase):
     def test_on_all_certificates(self):
         texts = list(inputs())
         pairs = [pair for text in texts for pair in (pair_of(text), self.made(text)) if pair]
-        # the same with one count less or one more, or another winner
+        # the same certificates with one count decreased or increased, or with another winner
         pairs += [(game, re.sub(rb"(?m)(\d+)$", change, text)) for game, text in pairs[:40] for change in (lower, higher)]
         pairs += [(game, re.sub(rb"(?m)^(\d+) 0 ", rb"\1 1 ", text, count=1)) for game, text in pairs[:40]]
         counts.ran("examples", "certificates checked by another program", len(pairs))

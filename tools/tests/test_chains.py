@@ -1,4 +1,5 @@
-"""Inputs above 100,000 bytes that no part repeated gives: a game, an automaton and a circuit that are chains, to each command."""
+"""Tests each command with inputs above 100,000 bytes that are not repetitions of a part: a game, an automaton and a
+circuit that are long chains."""
 import unittest
 
 from upkeep import counts, rows
@@ -8,24 +9,24 @@ VERTICES = 8_000
 STATES = 6_000
 GATES = 8_000
 
-# Player 0 passes all vertices, of priority 1, but the last, of priority 2, which leads to itself.
+# Player 0 owns a path of vertices with priority 1; the last vertex has priority 2 and a self-loop.
 GAME = "".join(f"{place} 1 0 {place + 1};\n" for place in range(VERTICES - 1)) + f"{VERTICES - 1} 2 0 {VERTICES - 1};\n"
 
-# One state leads to the next, and the last to itself; nothing is read, written or asked.
+# Each state leads to the next, and the last to itself; there are no propositions, and every run is accepted.
 AUTOMATON = (
     "HOA: v1 Start: 0 controllable-AP: Acceptance: 0 t --BODY--\n"
     + "".join(f"State: {state} [t] {min(state + 1, STATES - 1)}\n" for state in range(STATES))
     + "--END--\n"
 )
 
-# Each gate joins the one before it and the input, so the output is the input.
+# Each gate is the conjunction of the gate before it and the input, so the output equals the input.
 CIRCUIT = (
     f"aag {GATES + 1} 1 0 1 {GATES}\n2\n{2 * (GATES + 1)}\n"
     + "".join(f"{2 * gate} {2 * (gate - 1)} 2\n" for gate in range(2, GATES + 2))
     + "i0 r\no0 g\n"
 )
 
-# Each request is granted at some later step.
+# Every request is granted at some later step.
 GRANTS = (
     'HOA: v1 Start: 0 AP: 2 "r" "g" controllable-AP: 1 Acceptance: 1 Inf(0) --BODY-- '
     "State: 0 [!0|1] 0 {0} [0&!1] 1 State: 1 [1] 0 {0} [!1] 1 --END--\n"
@@ -33,7 +34,7 @@ GRANTS = (
 
 
 def certificate_of_game(version):
-    """The count of a vertex is how many vertices of priority 1 come after it."""
+    """The count of a vertex is the number of vertices of priority 1 after it."""
     lines = [f"psyncert {version}", f"vertices {VERTICES}", "odd 1", "even 2"]
     for place in range(VERTICES):
         move, count = min(place + 1, VERTICES - 1), max(0, VERTICES - 2 - place)
@@ -43,7 +44,7 @@ def certificate_of_game(version):
 
 
 def game_of_automaton():
-    """Each state is a vertex of the environment and one of the controller."""
+    """In the game, each state of the automaton has a vertex of the environment and one of the controller."""
     lines = [f"parity {2 * STATES - 1};"]
     for state in range(STATES):
         lines.append(f'{2 * state} 0 1 {2 * state + 1} "{state}/0";')
@@ -69,7 +70,7 @@ class Chains(unittest.TestCase):
         counts.ran("examples", "asked of chains", cls.asked)
 
     def ask(self, command, *texts):
-        """The answer to texts, and the status."""
+        """The program's answer to a command with texts, and the exit status."""
         given = f"{command}\n" + "%%\n".join(texts)
         type(self).asked += 1
         answer, status = rows.answered(self.program, rows.Row(command, given.encode(), 0))

@@ -1,4 +1,5 @@
-"""What `.ci/run` does around `tools/test-all`: it installs where it can, keeps the status, and says last what was skipped."""
+"""Tests what `.ci/run` does besides `tools/test-all`: it installs packages if it can, keeps the exit status, and lists
+last what was skipped."""
 import os
 import shutil
 import subprocess
@@ -6,11 +7,11 @@ import subprocess
 from tests.tool import OnFiles
 from upkeep.sweeps import TOP
 
-# All that the script runs; other programs are not there.
+# The programs that the script runs; no other program is on its PATH.
 NEEDED = ("bash", "cat", "dirname", "env", "grep", "mktemp", "rm", "sh", "tee", "timeout")
 PACKAGES = ["chromium", "nodejs", "graphviz", "yosys", "berkeley-abc", "iverilog"]
 TESTS = "#!/bin/sh\necho 'skipped: a test: node is not installed'\necho '63 passed, 0 failed'\necho 'tools: 80 passed, 1 failed, 1 skipped'\nexit 3\n"
-# It installs all but one of the packages, whose programs are called as they are or otherwise.
+# A stand-in for apt-get: it installs every package except yosys; some programs have other names than their packages.
 REGISTRY = """\
 #!/bin/sh
 echo "$*" >> "$ROOM/asked"
@@ -41,7 +42,7 @@ class Script(OnFiles):
         os.chmod(self.file(name, text.encode()), 0o755)
 
     def ran(self, user, update=0):
-        """The lines that the script prints behind those of the tests, and what the registry was asked."""
+        """The lines that the script prints after those of the tests, and what apt-get was asked to do."""
         self.program(os.path.join("programs", "id"), f"#!/bin/sh\necho {user}\n")
         environment = {"PATH": self.programs, "ROOM": self.room, "UPDATE": str(update)}
         done = subprocess.run([os.path.join(self.room, ".ci", "run")], env=environment, capture_output=True, text=True, check=False)

@@ -1,4 +1,4 @@
-"""Cores of specifications in parts: each is what it says, and nothing can be left out of it."""
+"""Cores of specifications in parts: each core gives the stated answer, and no part of it can be left out."""
 import os
 import random
 import unittest
@@ -66,7 +66,8 @@ class Commands(OnFiles):
 
 
 class Circuits(OnFiles):
-    """synth of parts: the answer is that of the composed automaton; where the assumptions can be made to fail a line says so."""
+    """`synth` on specifications in parts: the answer is that of the composed automaton, and a line warns if the
+    assumptions can be made to fail."""
 
     def setUp(self):
         super().setUp()
@@ -114,7 +115,8 @@ class Circuits(OnFiles):
 
 
 class Sets(unittest.TestCase):
-    """Each core of drawn specifications is asked for anew, and so is each set with one part left out."""
+    """The program is asked again about each core of a random specification, and about the core without each one of its
+    parts."""
 
     def test_drawn_specifications(self):
         draw, names, asked, wanted = random.Random(6), ["a", "b", "c"], [], []

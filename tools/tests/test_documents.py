@@ -1,4 +1,5 @@
-"""The documents are laid out to be read, their links lead to files, and their commands print what they show."""
+"""Tests the documents: their layout and sentences, that their links lead to files, and that their commands print what
+they show."""
 import glob
 import os
 import re
@@ -112,7 +113,8 @@ class Names(unittest.TestCase):
         self.assertIn(f"{len(edits)} in {len(crates)} crates", told["CONTRIBUTING.md"])
 
     def test_the_toolchain_has_the_logic_that_the_documents_name(self):
-        """Kits of several names have the same logic, so the name of the kit on this machine need not be among those that are named."""
+        """Some kits differ only in name and have the same logic, so the documents need not name the kit of this
+        machine."""
         said = subprocess.run(["rt", "version"], capture_output=True, text=True, check=True).stdout.strip()
         logic = re.search(r"logic \w+$", said)
         self.assertTrue(logic, said)

@@ -1,7 +1,7 @@
-"""Edits that the prover must refuse: each still applies, and is in the folder to which it belongs.
+"""Tests of the edits that the prover must refuse: each edit still applies to its crate, and is in the right folder.
 
-The gate tries those of crates/*/must-fail: the named wrong bodies, one edit each. All others are in crates/*/more-edits,
-each with a row in docs/EDITS.tsv, where `tools/try-edits` keeps its verdict.
+The gate tries the edits in crates/*/must-fail, which are the wrong bodies listed in NAMED. All other edits are in
+crates/*/more-edits. Each has a row in docs/EDITS.tsv, in which `tools/try-edits` records the verdict.
 """
 import glob
 import importlib.machinery
@@ -13,7 +13,7 @@ from unittest import mock
 
 from upkeep.sweeps import TOOLS, TOP
 
-# What psyn's promises must not let through. A crate with one of them is proved once more in the gate.
+# The edits that matter most to psyn's promises. The gate proves each crate that has one of these edits once more.
 NAMED = (
     "always_not_certified",
     "always_too_large",
@@ -44,13 +44,13 @@ VERDICTS = {"refused", "refused by a name", "to be tried"}
 
 
 def edits_in(folder):
-    """The crate and the name of each edit in the folders of that name."""
+    """The crate and the name of each edit in the folders with this name."""
     paths = sorted(glob.glob(os.path.join(TOP, "crates", "*", folder, "*")))
     return [(path.split(os.sep)[-3], os.path.basename(path).removesuffix(".edit")) for path in paths]
 
 
 def why_not(crate, edit):
-    """Why an edit does not apply to a crate; None where it does."""
+    """The reason why an edit does not apply to its crate; None if it does."""
     path, old, texts = None, None, {}
     for line in edit.split("\n"):
         word, _, said = line.partition(": ")
@@ -111,7 +111,7 @@ class Edits(unittest.TestCase):
 
 
 class Table(unittest.TestCase):
-    """What `tools/try-edits` makes of what the gate says, and keeps."""
+    """Tests how `tools/try-edits` reads the output of `rt must-fail` and records verdicts."""
 
     def setUp(self):
         loader = importlib.machinery.SourceFileLoader("try_edits", os.path.join(TOOLS, "try-edits"))

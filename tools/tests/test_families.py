@@ -1,4 +1,4 @@
-"""The families of games by name: each game is one, as large as it is said to be, and the same each time."""
+"""Tests of the named families of games: each member is a valid game of the stated size, and is the same each time."""
 import subprocess
 import unittest
 

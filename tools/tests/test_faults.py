@@ -1,4 +1,4 @@
-"""docs/FAULTS.md says what the program says."""
+"""Tests that docs/FAULTS.md agrees with the program's faults."""
 import os
 import re
 import subprocess

@@ -1,4 +1,5 @@
-"""The gallery: each list has its row and its answer, each part its sentence, and each core is one; twelve parts are done soon."""
+"""Tests of the gallery: each list of parts has a row with its answer, each part has a sentence, and each core is
+minimal. A specification of twelve parts is composed quickly."""
 import glob
 import os
 import re
@@ -79,7 +80,7 @@ class Lists(unittest.TestCase):
 
 
 class Twelve(OnFiles):
-    """Time that the tool itself takes, and how often the program is asked."""
+    """The time that the tool itself takes, and how often the tool runs the program."""
 
     def test_compose_and_core(self):
         os.symlink(PARTS, os.path.join(self.room, "parts"))

@@ -1,4 +1,5 @@
-"""What psyn answers when an allocation fails, and that tools/refuse-growths notices a program that ignores it."""
+"""Tests psyn's answers when an allocation fails, and that tools/refuse-growths detects a program that ignores the
+failure."""
 import os
 import subprocess
 import tempfile

@@ -1,4 +1,4 @@
-"""What tools/install puts in place, the man page, and the table of commands from which completions are written."""
+"""Tests of what tools/install installs, of the man page, and of the completions."""
 import os
 import pty
 import re

@@ -1,4 +1,5 @@
-"""A public name of the definitions means one thing: names that stand in two files are those of FAMILIES, and mean the same there."""
+"""Tests that each public name of the definitions has one meaning: a name that two files define must be listed in
+FAMILIES."""
 import collections
 import glob
 import os
@@ -21,7 +22,7 @@ FAMILIES = {
 
 
 def places_of_names():
-    """The files of each public name, without definitions for private functions."""
+    """The files that define each public name, without the definitions for private functions."""
     places = collections.defaultdict(set)
     for path in glob.glob(os.path.join(TOP, "crates", "*", "specs", "**", "*.antt"), recursive=True):
         if f"{os.sep}Inner{os.sep}" not in path and "_tests" not in path:

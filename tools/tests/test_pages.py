@@ -1,4 +1,5 @@
-"""Pages: their rules under node, beside `sim` and `lasso`; their text; and the pages themselves in Chromium, beside `play`."""
+"""Tests of pages: the rules in JavaScript under node, compared with `sim` and `lasso`; the HTML text; and pages in
+Chromium, compared with `play`."""
 import base64
 import glob
 import html
@@ -31,13 +32,13 @@ ASSETS = ("template.html", "page.css", "rules.js", "page.js")
 MOST_LINES = 500
 NODE, CHROMIUM = ("node", "nodejs"), ("chromium", "chromium-browser", "google-chrome")
 SEED, BOARDS, PLAYS, LETTERS = 69, 40, 5, 12
-# Two states in turn, whatever is said; the circuits are written by hand.
+# An automaton that alternates between two states at every letter; the two circuits are written by hand.
 TURNS = (
     'HOA: v1 Start: 0 AP: 2 "r" "g" controllable-AP: 1 Acceptance: 1 Inf(0) --BODY-- State: 0 "tick" [t] 1 State: 1 "tock" [t] 0 {0} --END--\n'
 )
 NO_LATCH, FROM_ONE = "aag 1 1 0 1 0\n2\n0\ni0 r\no0 g\n", "aag 2 1 1 1 0\n2\n4 3 1\n4\ni0 r\no0 g\n"
 NO_INPUT = 'HOA: v1 Start: 0 AP: 1 "g" controllable-AP: 0 Acceptance: 1 Inf(0) --BODY-- State: 0 [0] 0 {0} [!0] 0 --END--\n'
-# Names that would be parts of a page.
+# Names that would be HTML or JavaScript if the page did not escape them.
 ODD = """\
 HOA: v1 Start: 0 AP: 2 "r</script><script>document.title='bad'</script>" "<img src=x onerror=\\"document.title='bad'\\">&amp;'g"
 controllable-AP: 1 Acceptance: 1 Inf(0) --BODY--
@@ -54,7 +55,7 @@ RUNS = []
 
 
 def found(names):
-    """The first of these programs that is there; None where none is."""
+    """The first of these programs that is installed, or None."""
     return next(filter(None, map(shutil.which, names)), None)
 
 
@@ -63,12 +64,13 @@ def bits(values):
 
 
 def shown(play):
-    """A play as `play` prints it."""
+    """The text that `play` prints for a play."""
     return "\n".join([*telling.table(play), *telling.ended(play)])
 
 
 class Rules(unittest.TestCase):
-    """Next latches and outputs are those of `sim`, states and priorities those of the automaton's edges, verdicts those of `lasso`."""
+    """The rules agree with `sim` about latches and outputs, with the automaton's edges about states and priorities, and
+    with `lasso` about verdicts."""
 
     def setUp(self):
         self.node = found(NODE)
@@ -87,7 +89,7 @@ class Rules(unittest.TestCase):
         draw = random.Random(SEED)
         drawn = list(boards(draw, BOARDS))
         letters = [["".join(draw.choices("01", k=len(board.mine))) for _ in range(LETTERS)] for *_, board in drawn for _ in range(PLAYS)]
-        # of each board one play has no letter of its own: it is what holds out longest
+        # for each board, one play has no letters of its own and takes the choices that hold out longest
         plays = [[[], *letters[at + 1 : at + PLAYS]] for at in range(0, len(letters), PLAYS)]
         said, kinds = self.played([(contents.of(board), moves) for (*_, board), moves in zip(drawn, plays)]), {}
         for (text, printed, board), these in zip(drawn, said):
@@ -103,7 +105,8 @@ class Rules(unittest.TestCase):
         counts.ran("pages", "plays by the rules under node", sum(map(len, said)))
 
     def look_at(self, board, play):
-        """Where the steps lead, by the labels of edges; and that the stimulus is made of the letters."""
+        """Checks the states and priorities of the steps against the labels of edges, and that the stimulus consists of
+        the play's letters."""
         self.assertEqual(play["wrong"], 0)
         state = board.automaton.start
         for step in play["steps"]:
@@ -115,7 +118,8 @@ class Rules(unittest.TestCase):
         self.assertEqual(play["stimulus"].split("\n"), [*lines[:lap], "-", *lines[lap:], ""])
 
     def simulated(self, board, printed, play):
-        """The same steps with the latches and the outputs of `sim`; the last of its lines shows the latches behind all of them."""
+        """The play's steps, with the latches and the outputs that `sim` prints. The last line of `sim` has the latches
+        after the play."""
         lines = [step["digits"] for step in play["steps"]]
         given = "\n".join(["sim", f"{printed}%%", *lines, lines[-1], ""])
         answer = program.ask(given.encode())
@@ -130,7 +134,8 @@ class Rules(unittest.TestCase):
         return steps
 
     def test_boards_by_hand(self):
-        """A loop is one of states and latches, a latch may begin with 1, and a letter may have no bit."""
+        """Only equal states with equal latches close a loop, a latch may be 1 at reset, and a letter may have no
+        bits."""
         made = [report.read(program.ask(f"synth --full\n{text}".encode()).text).parts[1:] for text in (TURNS, NO_INPUT)]
         own = report.read(program.ask(f"synth --full\n{NO_INPUT}".encode()).text).parts[0]
         given = [(TURNS, NO_LATCH, *made[0]), (TURNS, FROM_ONE, *made[0]), (NO_INPUT, own, *made[1])]
@@ -145,7 +150,7 @@ class Rules(unittest.TestCase):
         return program.ask(f"lasso{flag}\n{text}%%\n{printed}%%\n{play['stimulus']}".encode()).text.rstrip("\n")
 
     def wanted(self, play):
-        """What `lasso` must say of the play by its loop; where there is no edge, it is rejected whatever follows."""
+        """The verdict of `lasso` that the play's loop implies; a play that ends without an edge is rejected."""
         steps, loop = play["steps"], play["loop"]
         if loop is None:
             return "^rejected "
@@ -154,7 +159,7 @@ class Rules(unittest.TestCase):
 
 
 class Pages(OnFiles):
-    """What stands in a page."""
+    """The contents of a page's HTML text."""
 
     def page(self, *words):
         done = self.tool("page", *words)
@@ -263,7 +268,7 @@ class Pages(OnFiles):
 
 
 class InChromium(OnFiles):
-    """Pages in a browser without a window: what they show is what `play` prints."""
+    """Pages in headless Chromium: they show what `play` prints."""
 
     def setUp(self):
         super().setUp()
@@ -273,7 +278,7 @@ class InChromium(OnFiles):
             self.skipTest("Chromium is not installed")
 
     def document(self, page, address):
-        """The document that a page with this address becomes."""
+        """The HTML document after the browser has loaded the page at this address."""
         command = [self.chromium, "--headless", "--no-sandbox", "--disable-gpu", "--disable-dev-shm-usage", f"--user-data-dir={self.room}/profile", "--dump-dom"]
         done = subprocess.run([*command, f"file://{page}{address}"], capture_output=True, check=False, timeout=120)
         self.assertEqual(done.returncode, 0, done.stderr)
@@ -282,7 +287,8 @@ class InChromium(OnFiles):
         return done.stdout.decode()
 
     def page(self, name, path):
-        """The page of a specification, and its moves in the play that holds out longest, with what is printed of that."""
+        """The page of a specification, the letters of the play that holds out longest, and what `play` prints for this
+        play."""
         self.assertIn(self.tool("synth", "-o", name, *(["--parts"] if path.endswith(".parts") else []), path).returncode, (10, 20))
         specification = path if path.endswith(".hoa") else f"{name}.hoa"
         said = self.tool("play", "--auto", name, specification).stdout.decode()
@@ -295,7 +301,7 @@ class InChromium(OnFiles):
         return html.unescape(re.search(r'<pre id="test">(.*?)</pre>', document, re.S)[1])
 
     def test_plays_of_the_gallery(self):
-        # of the lift's automaton there is a map, too, beside the part around the present state
+        # the page of the lift's automaton has a map, besides the graph around the present state
         for name, places in (("lift", 3), ("handshake", 2)):
             page, moves, said = self.page(name, os.path.join(GALLERY, f"{name}.parts"))
             document = self.document(page, f"#test={','.join(moves)}")
@@ -311,7 +317,7 @@ class InChromium(OnFiles):
         self.assertEqual(len(re.findall("<script|<img|<b>", document)), 2)
 
     def pressed(self, page, address, script):
-        """The document behind a script that presses buttons, as one who plays does."""
+        """The HTML document after a script has pressed buttons, as a user would."""
         with open(page, encoding="utf-8") as file:
             text = re.sub(r'<meta http-equiv="Content-Security-Policy"[^>]*>', "", file.read())
         pressing = self.file("pressed.html", text.replace("</html>", f"<script>{script}</script></html>").encode())
@@ -326,20 +332,20 @@ class InChromium(OnFiles):
 
     def test_what_is_pressed(self):
         page, moves, said = self.page("handshake", os.path.join(GALLERY, "handshake.parts"))
-        # to the end, back to the first step, and by single steps to the end
+        # buttons: play to the end, step back to the first step, and then step by step to the end
         steps = f'{press("whole")}{press("back") * (len(moves) - 1)}{press("auto") * (len(moves) - 1)}'
         document = self.pressed(page, "", steps)
         self.assertEqual(self.address(document), ",".join(moves))
         table = [re.split("  +", line) for line in said.split("\n") if re.match(r"\d|the loop begins", line)]
         self.assertEqual(self.rows(document), table)
         self.assertIn("step 7 breaks the guarantee register", re.search(r'<p class="end">(.*?)</p>', document, re.S)[1])
-        # the address brings a play back; keys are those of `play`; another letter by its propositions
+        # the address restores a play; the keys are those of `play`; another letter can be chosen by its propositions
         keys = "".join(f'document.getElementById("play").dispatchEvent(new KeyboardEvent("keydown", {{ key: "{key}" }}));' for key in "aab2")
         document = self.pressed(page, "#moves=0,0", keys)
         self.assertEqual(self.address(document), "0,0,0,1")
         letter = 'document.querySelector("#boxes input").click(); document.querySelector("#letter button").click();'
         self.assertEqual(self.address(self.pressed(page, "", letter)), "1")
-        # a stimulus of what was played, the focus where the button that had it is gone, and a name for each button
+        # the played stimulus can be saved, the focus stays on the place of a removed button, and each button has a name
         document = self.pressed(page, "#moves=0", FOCUS)
         self.assertTrue(re.search(r"<title>1[.] !take .*/1[.] !take .*</title>", document))
         self.assertTrue('download="handshake.stim" href="data:text/plain,"' in document)

@@ -1,4 +1,5 @@
-"""Specifications in parts: what the composed automaton accepts, beside a runner of parts that is written here, and what is refused."""
+"""Specifications in parts: the language of the composed automaton is compared with a second implementation of parts,
+and errors are tested."""
 import os
 import random
 import unittest
@@ -20,13 +21,14 @@ PARTS = os.path.join(sweeps.TOP, "examples", "parts")
 
 
 class Table:
-    """A part as a table: for each state and letter over its propositions the target, and whether the mark is met, or None."""
+    """A part as a table: for each state and each letter over its propositions, the target and whether the edge is
+    accepting, or None."""
 
     def __init__(self, draw, names):
         self.names = draw.sample(names, draw.randint(0, 2))
         self.is_buchi = draw.random() < 0.6
         count, letters = draw.randint(1, 3), 2 ** len(self.names)
-        # marks of states join those of edges
+        # a set on a state belongs to all edges of the state
         self.marked = {state for state in range(count) if draw.random() < 0.2}
         self.moves = [[None if draw.random() < 0.12 else (draw.randrange(count), draw.random() < 0.3) for _ in range(letters)] for _ in range(count)]
         self.hopeless = {state for state in range(count) if self.is_buchi and not self.sees_mark(state)}
@@ -55,7 +57,7 @@ class Table:
         return "\n".join([*lines, "--END--", ""])
 
     def run(self, stem, lap):
-        """The step at which the part breaks, and whether it is met again and again."""
+        """The step at which a word violates the part, and whether the part accepts the word."""
         if 0 in self.hopeless:
             return -1, False
         state, step, begins, met = 0, 0, {}, []
@@ -72,7 +74,7 @@ class Table:
 
 
 def is_in(assumptions, guarantees, is_strict, stem, lap):
-    """Whether the word belongs to the meaning of the parts."""
+    """Whether a word belongs to the language that the assumptions and guarantees define."""
     assumed, guaranteed = ([table.run(stem, lap) for table in side] for side in (assumptions, guarantees))
     first_assumed, first_guaranteed = (min((step for step, _ in side), default=NEVER) for side in (assumed, guaranteed))
     if is_strict and first_guaranteed < first_assumed:
@@ -81,7 +83,8 @@ def is_in(assumptions, guarantees, is_strict, stem, lap):
 
 
 def player(names, stem, lap):
-    """A circuit without inputs that plays a word: one latch for each letter, which is 1 at its step."""
+    """A circuit without inputs that outputs a word; it has a latch for each letter, which is 1 in that letter's
+    step."""
     word, gates = [*stem, *lap], []
     free = [2 * len(word)]
 
@@ -122,7 +125,7 @@ class Meaning(unittest.TestCase):
         self.assertGreater(min(wanted.count(True), wanted.count(False)), LASSOS // 5)
 
 
-# For each stored part words with a verdict: a letter has a digit for each proposition, and the lap is in parentheses.
+# Words and verdicts for each stored part: a letter has a digit for each proposition, and the lap is in parentheses.
 WORDS = {
     "always": {"(1)": True, "1 0 (1)": False},
     "never-together": {"(10 01 00)": True, "00 11 (00)": False},

@@ -1,4 +1,4 @@
-"""Pictures: the contents of the DOT text, and that Graphviz accepts it where it is installed."""
+"""Tests of pictures: the contents of the DOT texts, and that Graphviz, if it is installed, accepts them."""
 import os
 import shutil
 import subprocess
@@ -12,7 +12,7 @@ from tests.tool import AUTOMATON, CERTIFICATE, CIRCUIT, GAME
 
 
 def made_of(dot):
-    """The text itself, once Graphviz has read it, if it is there."""
+    """Returns the DOT text unchanged; if Graphviz is installed, checks first that it can draw the text."""
     if shutil.which("dot"):
         subprocess.run(["dot", "-Tsvg", "-o", os.devnull], input=dot.encode(), check=True)
     return dot

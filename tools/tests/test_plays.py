@@ -1,4 +1,5 @@
-"""Plays against circuits that psyn printed: what is shown for what is typed, and that each play ends as the program says."""
+"""Plays against circuits that psyn printed: the output for each typed line, and that each play ends with the program's
+verdict."""
 import os
 import pty
 import random
@@ -143,7 +144,8 @@ class Commands(OnFiles):
 
 
 def boards(draw, count):
-    """Drawn specifications, of both players, in both orders: of each the automaton's text, the circuit's, and the board."""
+    """Random specifications that either player wins, in both orders of moves: for each the texts of the automaton and
+    of the circuit, and the board."""
     names = ["a", "b", "c"]
     for number in range(count):
         sides = [tuple(part.part_of(f"part{place}", "", {}, Table(draw, names).text()) for place in range(draw.randint(1, 3))) for _ in range(2)]
@@ -156,7 +158,8 @@ def boards(draw, count):
 
 
 class Drawn(unittest.TestCase):
-    """The longest play and a drawn one, of both players, in both orders: the program's verdict is that of the loop, or it raises."""
+    """For random specifications, the play that holds out longest and a random play end with the verdict that `lasso`
+    confirms."""
 
     def test_drawn_specifications(self):
         draw, ends = random.Random(7), {}
@@ -172,7 +175,7 @@ class Drawn(unittest.TestCase):
         self.assertEqual(set(ends), {(0, False), (1, False), (1, True)})
 
     def look_at(self, play, told):
-        """What is said of parts goes with the verdict."""
+        """The verdicts on the parts agree with the verdict on the play."""
         broken = [line for line in told[1:] if " the guarantee " in line]
         failed = [line for line in told[1:] if " the assumption " in line]
         if play.board.winner == 1:

@@ -1,4 +1,4 @@
-"""What `tools/shorten-proofs` reads of proof files, and how it and `tools/wrap-lines` lay files out."""
+"""Tests how `tools/shorten-proofs` parses proof files, and how it and `tools/wrap-lines` break lines."""
 import glob
 import importlib.machinery
 import importlib.util
@@ -58,7 +58,8 @@ FILLED = """\
 --     more ns = then_by comma
 length_of : ℕ
 """
-# A clause, an import and a line with a comment behind it; and code, which is not the prover's.
+# A clause, an import and a line with a comment at its end, which the tool breaks; and a line of code, which it leaves
+# alone.
 CODE = """\
     ghost use Rattle.crate.specs.Module.{first_name, second_name, third_name, fourth_name, fifth_name, sixth_name, seventh};
     ensures { IfOk result (λ found. (vertex : ℕ) → vertex < length found.items → slice_index found.items vertex ≡ vertex) } // each
@@ -75,7 +76,7 @@ WRAPPED = """\
 
 
 def tool(name):
-    """A tool of this folder as a module."""
+    """A script of the folder tools, loaded as a module."""
     loader = importlib.machinery.SourceFileLoader(name.replace("-", "_"), os.path.join(TOOLS, name))
     module = importlib.util.module_from_spec(importlib.util.spec_from_loader(loader.name, loader))
     loader.exec_module(module)
@@ -116,7 +117,7 @@ class Reading(unittest.TestCase):
 
 class Layout(unittest.TestCase):
     def test_words_stay(self):
-        """Filling moves breaks alone, and a second time it moves none."""
+        """The layout changes only line breaks, and a second run changes nothing."""
         paths = glob.glob(os.path.join(TOP, "crates", "ps_text", "proofs", "**", "*.antt"), recursive=True)
         self.assertTrue(paths)
         for path in paths:
@@ -134,7 +135,7 @@ class Layout(unittest.TestCase):
         self.assertEqual(layout.text_within_width(WRAPPED, True), WRAPPED)
 
     def test_no_entry_of_a_list_is_cut(self):
-        """After an entry of a list, what is indented further than its text is an example, and a colon leads to it."""
+        """In a list, a line that is indented further than an entry's text is an example, and must follow a colon."""
         cut, found = [], 0
         folders = [glob.glob(os.path.join(TOP, "crates", "*", it, "**", "*.antt"), recursive=True) for it in ("specs", "proofs")]
         for path in sorted(sum(folders, [])):

@@ -1,4 +1,5 @@
-"""The tables of calls in docs/PROVED.md are as `tools/proved-tables` writes them, and list only calls that exist."""
+"""The tables of functions in docs/PROVED.md are as `tools/proved-tables` writes them, and list only functions that
+exist."""
 import subprocess
 import unittest
 

@@ -1,4 +1,4 @@
-"""The archive of a release: unpacked into an empty folder it does what the README shows, and it is installed from there."""
+"""A release archive, unpacked into an empty folder, does what the README shows, and psyn can be installed from it."""
 import io
 import os
 import re

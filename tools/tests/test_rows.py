@@ -1,4 +1,4 @@
-"""Rows of examples/rows, and the stored examples, on the built program."""
+"""Runs the rows of examples/rows and the stored examples on the built program."""
 import os
 import tempfile
 import unittest

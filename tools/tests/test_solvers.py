@@ -1,4 +1,4 @@
-"""Other solvers: one that is right and one that errs, by `--by`, and what is told of wrong solutions."""
+"""Other solvers with `--by`: a correct one and one that makes mistakes; and what is printed about wrong solutions."""
 import os
 import random
 import shlex
@@ -12,19 +12,19 @@ from tests import improving
 from tests.tool import AUTOMATON, OnFiles
 
 SOLVER, ERRING = (os.path.join(os.path.dirname(os.path.abspath(__file__)), name) for name in ("improving.py", "erring.py"))
-# Of changed solutions.
+# The number of changed solutions.
 COUNT = 1000
-# Player 0 goes round 0 and 1 or away to 2; by the loop of 2, and by 0 and 1, it wins; at 3 it loses.
+# Player 0 can cycle through vertices 0 and 1, or move on to 2, whose self-loop it wins; player 0 loses at vertex 3.
 GAME = b'0 1 0 1,0 "a";\n1 2 1 0,2;\n2 4 0 2;\n3 1 1 3,0 "d";\n'
 
 
 def by(word=""):
-    """The command of the solver, or of the one that errs, with how."""
+    """The command line of the solver or, if `word` is given, of the solver that makes the named mistake."""
     return f"{shlex.quote(sys.executable)} -B {shlex.quote(ERRING if word else SOLVER)} {{game}} {{solution}} {word}".strip()
 
 
 def small(seed):
-    """The text of a small game."""
+    """The text of a random small game."""
     draw = random.Random(seed)
     count = draw.randint(2, 12)
     rows = [(draw.randrange(6), draw.randrange(2), [draw.randrange(count) for _ in range(draw.randint(1, 3))]) for _ in range(count)]
@@ -32,7 +32,8 @@ def small(seed):
 
 
 def is_right(read, entries):
-    """Whether each player holds what it is said to win, by a plain search for edges that leave it and for cycles that it loses."""
+    """Whether each player's moves keep to the region that it is said to win, and win every cycle there; found by a
+    plain search."""
     remaining = {}
     for vertex in read.vertices:
         winner, move = entries[vertex.identity]

@@ -1,4 +1,5 @@
-"""What psyn does when a read or a write fails, and that tools/refuse-streams notices a program that ignores it."""
+"""Tests psyn's answers when a read or a write fails, and that tools/refuse-streams detects a program that ignores the
+failure."""
 import os
 import subprocess
 import tempfile
@@ -54,7 +55,7 @@ class Sweeps(unittest.TestCase):
             subprocess.run(["cc", "-o", program, source], check=True)
             spoiled, wrong = streams.sweep(program, shim, text, ANSWER)
         ways = [(way, number) for way, number, _, _ in wrong]
-        # Three reads and a write: the reads that fail end in an answer, and so do those that are made again.
+        # The program makes three reads and a write: it treats a failed read as the end, and repeats an interrupted one.
         self.assertEqual(ways, [(way, number) for way in ("fails", "interrupted") for number in (1, 2, 3, 4)] + [("one", 0), ("one", 4), ("none", 4)])
         self.assertEqual(spoiled, 4 + 4 + 5 + 1)
 

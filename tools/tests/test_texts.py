@@ -1,4 +1,4 @@
-"""The tool's own readings of texts: automata and their labels, circuits, certificates, solutions."""
+"""Tests of the tool's own parsers: automata and their labels, circuits, certificates, solutions."""
 import glob
 import os
 import random
@@ -23,7 +23,7 @@ def is_met(label, true, made):
 
 
 def a_circuit(chance):
-    """The text of a circuit, its variables and its gates in any order."""
+    """The text of a random circuit, with its variables and its gates in any order."""
     counts = inputs, latches, outputs, gates = [chance.randrange(5) for _ in range(4)]
     variables = chance.sample(range(1, 40), inputs + latches + gates)
     literals = [2 * variable for variable in variables]
@@ -36,7 +36,7 @@ def a_circuit(chance):
 
 
 def outputs_of(made, letters):
-    """What a circuit answers to letters, worked out gate by gate from the outputs back."""
+    """The outputs of a circuit for a list of input letters, evaluated recursively from the outputs."""
     gates = {gate.literal // 2: gate.sides for gate in made.gates}
     held, answers = {latch.literal // 2: latch.reset for latch in made.latches}, []
     for letter in letters:

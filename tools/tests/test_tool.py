@@ -1,4 +1,4 @@
-"""tools/psyn on good, damaged and strange files."""
+"""Tests tools/psyn on valid, damaged and unusual files."""
 import os
 import shutil
 import subprocess

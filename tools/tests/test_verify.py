@@ -1,4 +1,5 @@
-"""`verify` beside the whole product of automaton and circuit, letter by letter; and `lasso` confirms each counterexample."""
+"""Compares `verify` with an enumeration of the product of automaton and circuit; `lasso` confirms each
+counterexample."""
 import os
 import random
 import shutil
@@ -21,7 +22,8 @@ LITERALS = 4
 
 
 def drawn(chance):
-    """The text of an automaton: few states and propositions, an edge or none for each letter."""
+    """The text of a random automaton with few states and propositions, and at most one edge for each letter of a
+    state."""
     names, states = chance.randrange(4), chance.randrange(1, 4)
     condition = chance.choice(CONDITIONS)
     sets = int(condition.split()[0])
@@ -55,7 +57,7 @@ class Verify(unittest.TestCase):
         self.assertLessEqual({"wins", "loses", "fault 74 Timing"}, told.keys(), told)
 
     def test_literals_drawn_of_larger_circuits(self):
-        """`bench/verify.py --changed` draws more, of more circuits."""
+        """`bench/verify.py --changed` runs the same test with more literals and more circuits."""
         psyn, told = program(), {}
         for said, case in verify.cases(psyn, [*verify.gallery(psyn)]):
             self.assertEqual(case.judged(case.text), "wins", said)
@@ -76,7 +78,7 @@ WITHOUT_NAMES = b"HOA: v1 Start: 0 AP: 0 controllable-AP: Acceptance: 0 t --BODY
 
 class OfTheTool(OnFiles):
     def refused(self, *words):
-        """The one line that the tool says about a command line that it refuses."""
+        """The single line on standard error for a command line that the tool refuses."""
         done = self.tool(*words)
         self.assertEqual((done.stdout, done.returncode, done.stderr.count(b"\n")), (b"", 2, 1), done.stderr)
         return done.stderr.decode().removeprefix("psyn: ").rstrip("\n")

@@ -1,4 +1,4 @@
-"""What the tests of the tool share: texts, a folder of files, and a run of tools/psyn on them."""
+"""What the tests of the tool share: example texts, a temporary folder, and a function that runs tools/psyn."""
 import os
 import shutil
 import subprocess
@@ -19,7 +19,7 @@ AUTOMATON = (
 
 
 class OnFiles(unittest.TestCase):
-    """Tests with a folder of their own."""
+    """Tests, each with a temporary folder of its own."""
 
     def setUp(self):
         self.room = tempfile.mkdtemp()
@@ -32,6 +32,6 @@ class OnFiles(unittest.TestCase):
         return path
 
     def tool(self, *words, given=b"", environment=None):
-        # a warning of a resource that is left open, or of a feature that will be removed, would appear on standard error
+        # warnings about unclosed resources and deprecated features would appear on standard error
         command = [sys.executable, "-W", "error", "-X", "dev", TOOL, *words]
         return subprocess.run(command, input=given, capture_output=True, check=False, cwd=self.room, env={**os.environ, **(environment or {})})

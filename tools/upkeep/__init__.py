@@ -1,1 +1,2 @@
-"""What maintainers have: rows, sweeps and counts of the tests, documents, and the syntax of proof files. No user gets it."""
+"""Modules for maintainers: rows, sweeps and counts of the tests, documents, and the syntax of proof files. The package
+is not installed for users."""

@@ -1,4 +1,5 @@
-"""As much of the syntax of proof files (antt) as tools need: definitions, their clauses, and the places of a body."""
+"""Parses as much of the syntax of proof files (antt) as the tools need: definitions, their clauses, and expressions in
+bodies."""
 import bisect
 import re
 
@@ -11,12 +12,13 @@ LINKS = (")", "]", "}", ",", ";", "|", "in", "∙", "≡", "×", "→", "=", "."
 
 
 def without_comments(text):
-    """The text with blanks in place of its comments, so that places stay."""
+    """The text with its comments replaced by blanks, so that no offset changes."""
     return re.sub(r"(?m)(^|(?<=\s))--(?=[\s-]|$).*$", lambda found: " " * len(found[0]), text)
 
 
 def tokens_of(text):
-    """The tokens of a text, each with its first place and the one after it; the point after a binder is a token of its own."""
+    """The tokens of a text, each with its start and its end; the point after the binders of a `λ` is a token of its
+    own."""
     tokens = []
     for found in TOKEN.finditer(without_comments(text)):
         start, end, token = found.start(), found.end(), found[0]
@@ -28,7 +30,7 @@ def tokens_of(text):
 
 
 def cites(name):
-    """Finds a name that is a whole token."""
+    """A regular expression that matches the name as a whole token."""
     return re.compile(r"(?<![^\s(){}\[\],;])" + re.escape(name) + r"(?![^\s(){}\[\],;])")
 
 
@@ -37,7 +39,7 @@ def indent_of(line):
 
 
 def closing(tokens, at):
-    """The index of the bracket that closes the one at an index."""
+    """The index of the bracket that closes the bracket at `at`."""
     depth = 0
     for index in range(at, len(tokens)):
         depth += (tokens[index][2] in ("(", "[", "{")) - (tokens[index][2] in (")", "]", "}"))
@@ -47,7 +49,8 @@ def closing(tokens, at):
 
 
 def end_of(tokens, at, stops):
-    """The index after the expression that begins at an index: where a bracket or a `let` around it ends, or at a stop."""
+    """The index after the expression that begins at an index: the expression ends at a stop word, or where a bracket or
+    a `let` around it ends."""
     depth, lets = 0, 0
     for index in range(at, len(tokens)):
         token = tokens[index][2]
@@ -60,7 +63,7 @@ def end_of(tokens, at, stops):
 
 
 class Definition:
-    """A signature with the clauses after it: lines `first` to `last` of a file."""
+    """A definition: a signature and the clauses after it, which are lines `first` to `last` of a file."""
 
     def __init__(self, name, indent, first, signature):
         self.name, self.indent, self.first, self.last = name, indent, first, first
@@ -68,7 +71,8 @@ class Definition:
 
 
 def groups_of(lines):
-    """The lines at which something begins in a module, each with its indentation and where it ends."""
+    """The lines of a module at which a definition or another item begins, each with its indentation and the line where
+    the item ends."""
     starts, indents = [], [0]
     for number, line in enumerate(lines):
         if not line.strip() or indent_of(line) not in indents or line.strip()[0] in ")]}":
@@ -86,14 +90,14 @@ def groups_of(lines):
 
 
 def shortened(lines, first, last):
-    """The lines without blank ones at their end."""
+    """The lines `first` to `last`, without blank lines at their end."""
     while last > first and not lines[last - 1].strip():
         last -= 1
     return lines[first:last]
 
 
 def definitions_of(text):
-    """The definitions of a file that have clauses, and its lines."""
+    """The definitions of a file that have clauses, and the lines of the file."""
     lines = text.split("\n")
     found, now = [], None
     for first, indent, last in groups_of(lines):
@@ -112,7 +116,8 @@ def definitions_of(text):
 
 
 class Clause:
-    """An equation, of a definition or of one in its where-block: places are those of the definition's clauses as one text."""
+    """A clause: an equation of a definition or of its where-block. Offsets count from the start of the definition's
+    clauses."""
 
     def __init__(self, start, text, indent, outer):
         self.start, self.end, self.indent, self.outer = start, start + len(text), indent, outer
@@ -136,12 +141,12 @@ class Clause:
         return None
 
     def reachable(self):
-        """The names of the where-blocks around it."""
+        """The names that the where-blocks around the clause define."""
         return self.outer.local | self.outer.reachable() if self.outer else set()
 
 
 def clauses_of(lines, indent, start=0, outer=None):
-    """The clauses of these lines, those of where-blocks too."""
+    """The clauses in these lines, with those in where-blocks."""
     clauses = []
     offsets = [start]
     for line in lines:
@@ -164,7 +169,7 @@ def clauses_of(lines, indent, start=0, outer=None):
 
 
 def places_of(body):
-    """Where a body has an expression whose type is known: first place, place after it, kind."""
+    """The expressions in a body whose types are known: for each its start, its end and its kind."""
     tokens, found = tokens_of(body), {}
 
     def put(first, end, kind):
@@ -178,7 +183,7 @@ def places_of(body):
         return at
 
     def put_all(first, end, kind):
-        """An expression, and what is left of it after each `let` and each `λ`."""
+        """Adds an expression, and what follows each `let` and each `λ` in it."""
         put(first, end, kind)
         while first < end and tokens[first][2] in ("let", "λ"):
             if tokens[first][2] == "λ":
@@ -210,7 +215,7 @@ def places_of(body):
 
 
 def put_parts(tokens, at, put, put_all):
-    """The parts of a tuple, or what is in parentheses, with them."""
+    """Adds the components of a tuple, or the expression in parentheses, and their own expressions."""
     end, first, parts = closing(tokens, at), at + 1, []
     while first < end:
         behind = end_of(tokens, first, (",",))
@@ -225,7 +230,8 @@ def put_parts(tokens, at, put, put_all):
 
 
 def applications(text, names, bound):
-    """The applications of names in a text that use none that the text binds, without those inside others."""
+    """The applications of the given names in a text that mention no variable bound in the text; applications inside
+    others are left out."""
     tokens, found = tokens_of(text), []
     for at, (start, _, token) in enumerate(tokens):
         if token not in names or at and tokens[at - 1][2] not in ("(", "[", "=", "in", ".", ",", "∙", "↦", ";"):

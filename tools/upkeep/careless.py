@@ -1,18 +1,21 @@
-"""Careless use: command lines that are wrong or cut short, with what the tool must say and leave, as tools/tests/careless.toml has them.
+"""Careless use: command lines that are wrong or are interrupted, with the output and the files that the tool must
+produce, as listed in tools/tests/careless.toml.
 
 A `[[line]]` has
 
-  name      what it shows; names differ
-  defect    which report of a defect it keeps away, if one does
-  command   what bash runs in a folder with `slow.pg` and the files of `FILES` and `PROGRAMS`; `psyn` is the tool, `install-psyn` tools/install
-  cut       what comes in between: Ctrl-C, TERM, HUP or KILL once the program is at work, or `closed pipe`, an output that
-            nobody reads; none where the command says all
-  output    what it writes on standard output; where it is not given, that is not looked at
-  error     what it writes on standard error, to the letter
-  status    as a shell tells it: 128 and more where a signal ended it
-  files     the files that are there afterwards and were not before
+  name      what the line shows; no name occurs twice
+  defect    the number of the bug report that the line tests, if there is one
+  command   what bash runs in a folder with `slow.pg` and the files of `FILES` and `PROGRAMS`; the command `psyn` is
+            the tool, and `install-psyn` is tools/install
+  cut       an interruption: Ctrl-C or the signal TERM, HUP or KILL while the program works, or `closed pipe`, a standard
+            output that nobody reads; left out if nothing interrupts the command
+  output    the expected standard output; if it is left out, any output is right
+  error     the exact standard error
+  status    the exit status as a shell reports it: 128 plus the signal's number if a signal ended the command
+  files     the files that the command leaves and that were not there before
 
-Ctrl-C is typed at a terminal, where both outputs are one. No program may be at work when the tool has ended.
+Ctrl-C is typed at a terminal, to which both standard output and standard error go. The program must not be running any
+more when the tool has ended.
 """
 import os
 import pty
@@ -33,11 +36,12 @@ import hostile_texts  # noqa: E402
 KEYS = {"name", "defect", "command", "cut", "output", "error", "status", "files"}
 SIGNALS = {"TERM": signal.SIGTERM, "HUP": signal.SIGHUP, "KILL": signal.SIGKILL}
 SECONDS = 300
-# A game on which psyn is at work for minutes.
+# The number of rungs of a game on which psyn works for minutes.
 RUNGS = 300
 FILES = ("arbiter.hoa", "grant.hoa", "delay.hoa", "loop.pg", "loop.cert", "stays.cert", "toggle.aag", "lamp.aag", "presses.stim")
-# Programs in the place of psyn: one that is long at work, psyn itself with its number told, one that a signal ends in its answer,
-# one that says nothing, one that says something else, one that says half an answer, and a file that is no program.
+# Programs that stand in for psyn: one that runs long, psyn itself after it has written its process id, one that is
+# killed during its answer, one without an answer, one with a strange answer, one with half an answer, and a file that
+# is not executable code.
 PROGRAMS = {
     "slow": "#!/bin/sh\necho $$ > pid\nexec sleep 60\n",
     "real": '#!/bin/sh\necho $$ > pid\nexec "$REAL"\n',
@@ -50,7 +54,7 @@ PROGRAMS = {
 
 
 def read(path):
-    """The lines of a file of them."""
+    """The `[[line]]` tables of a TOML file."""
     with open(path, "rb") as file:
         lines = tomllib.load(file)["line"]
     wrong = [line.get("name", "?") for line in lines if set(line) - KEYS or not {"name", "command", "error", "status"} <= set(line)]
@@ -61,12 +65,13 @@ def read(path):
 
 
 def started(tool):
-    """A script that runs one of the tools; what is left open, or goes out of use, would be told on standard error."""
+    """A script that runs one of the tools with Python's warnings on, so that an unclosed resource or a deprecated call
+    appears on standard error."""
     return f"#!/bin/sh\nexec {sys.executable} -W error -X dev {os.path.join(TOP, 'tools', tool)} \"$@\"\n"
 
 
 def furnish(room):
-    """Puts the files and the programs into a folder, and the tool beside it."""
+    """Puts the files, the stand-in programs and the tool into a folder."""
     with open(os.path.join(room, "slow.pg"), "w", encoding="utf-8") as file:
         file.write(hostile_texts.game_by_rungs(hostile_texts.SLOW_TO_IMPROVE, RUNGS))
     for name in FILES:
@@ -82,17 +87,17 @@ def furnish(room):
 
 
 class Run:
-    """A command line at work."""
+    """A running command line."""
 
     def __init__(self, room, line, program):
         self.room, self.line = room, line
         environment = {**os.environ, "PATH": f"{os.path.join(room, 'bin')}:{os.environ['PATH']}", "PSYN": program, "REAL": program}
         self.more = {"cwd": room, "env": environment, "stdin": subprocess.DEVNULL}
-        # whoever runs the tests may ignore signals, as a shell does for what it starts with `&`
+        # the caller of the tests may ignore signals, as a shell does for commands started with `&`
         self.words = ["env", "--default-signal=INT,HUP,TERM", "bash", "-c", f"{'exec env ' if line.get('cut') else ''}{line['command']}"]
 
     def wait_until_at_work(self, child):
-        """Until the program in the place of psyn has said its number, or the tool has ended."""
+        """Waits until the stand-in program has written its process id, or the tool has ended."""
         until = time.monotonic() + SECONDS
         while child.poll() is None and time.monotonic() < until:
             if self.number_of_program():
@@ -107,14 +112,14 @@ class Run:
             return 0
 
     def is_left_at_work(self):
-        """Whether the program still runs a second after the tool has ended."""
+        """Whether the program still runs one second after the tool has ended."""
         number, until = self.number_of_program(), time.monotonic() + 1
         while number and is_at_work(number) and time.monotonic() < until:
             time.sleep(0.02)
         return bool(number) and is_at_work(number)
 
     def made(self):
-        """What it writes, on standard output and standard error, and the status."""
+        """The command line's standard output, its standard error, and its exit status."""
         cut = self.line.get("cut")
         if cut == "Ctrl-C":
             return self.at_a_terminal()
@@ -156,7 +161,7 @@ class Run:
 
 
 def ended(child):
-    """What a command writes; one that does not end is killed, with all that it began."""
+    """The output of a command; a command that does not end in time is killed, with all processes that it started."""
     try:
         return child.communicate(timeout=SECONDS)
     except subprocess.TimeoutExpired:
@@ -165,7 +170,7 @@ def ended(child):
 
 
 def is_at_work(number):
-    """Whether a process runs; one that has ended may wait for someone to ask for its status."""
+    """Whether a process runs; a zombie counts as ended."""
     try:
         with open(f"/proc/{number}/stat", encoding="utf-8") as file:
             return file.read().rpartition(")")[2].split()[0] not in ("Z", "X")
@@ -178,7 +183,7 @@ def shell_status(status):
 
 
 def wrong_of(room, line, program):
-    """What is wrong with a run of a line; None where nothing is."""
+    """A message that says what is wrong with a run of the line, or None if nothing is."""
     furnish(room)
     before = set(os.listdir(room))
     run = Run(room, line, program)

@@ -1,4 +1,5 @@
-"""Completions of psyn for bash and zsh, written from the table of commands: flags, commands, and files by their kinds."""
+"""Completions of psyn for bash and zsh, made from the table of commands: flags, commands, and files by the endings of
+their kinds."""
 from psyntool.command import EVERYWHERE
 from psyntool.families import FAMILIES
 from psyntool.kinds import Kind
@@ -90,18 +91,19 @@ def filled(template, **parts):
 
 
 def valued():
-    """The flags that take one value."""
+    """The flags that take one value, with the name of the value."""
     return {flag.name: flag.value for command in COMMANDS.values() for flag in command.all_flags if flag.value and not flag.many}
 
 
 def many(value=""):
-    """The flags that take all words up to the next flag; with a value, those whose value has that name."""
+    """The flags that take all words up to the next flag; with an argument, only those whose value has this name."""
     flags = {flag.name: flag for command in COMMANDS.values() for flag in command.all_flags if flag.many}
     return [name for name, flag in flags.items() if value in ("", flag.value)]
 
 
 def endings(command):
-    """For each file that the command reads the endings of its kind, and of what a flag puts in its place."""
+    """For each file that a command reads, the endings of the file's kind, and of the kinds that a flag puts in its
+    place."""
     kinds = [kind for kind in (*command.reads, *command.behind.values()) if isinstance(kind, Kind)]
     others = [[these[place] for these in command.instead.values() if place < len(these)] for place in range(len(kinds))]
     return ["|".join(dict.fromkeys(ending for kind in (one, *more) for ending in kind.endings)) for one, more in zip(kinds, others)]
@@ -133,7 +135,7 @@ def bash():
 
 
 def zsh_words(told):
-    """Words with what they mean, as _describe reads them."""
+    """Words with descriptions, in the form that zsh's `_describe` reads."""
     return " ".join("'{}:{}'".format(name, says.replace("'", "'\\''").replace(":", "\\:")) for name, says in told.items())
 
 

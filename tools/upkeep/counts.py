@@ -1,4 +1,5 @@
-"""How much the tests ran on the program, beside what examples/rows/COUNTS.toml says: so a test that is left out is seen."""
+"""Counts how many tests ran, and compares them with examples/rows/COUNTS.toml, so that a test that did not run is
+noticed."""
 import os
 import tomllib
 
@@ -10,17 +11,17 @@ LEFT_OUT = set()
 
 
 def ran(table, name, count):
-    """Notes that so many of a kind were run."""
+    """Records how many tests of a kind ran."""
     RAN.setdefault(table, {})[name] = count
 
 
 def left_out(table, name):
-    """Notes that these are not run here, since a program is missing that is no part of psyn."""
+    """Records that tests of a kind can't run here, because a program that does not belong to psyn is missing."""
     LEFT_OUT.add((table, name))
 
 
 def report():
-    """A line for each kind, and whether as many ran as are stored."""
+    """A line for each kind of tests, and whether as many ran as COUNTS.toml says."""
     with open(STORED, "rb") as file:
         stored = tomllib.load(file)
     lines, are_all = [], True

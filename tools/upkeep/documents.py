@@ -1,9 +1,9 @@
-"""Documents as tests see them: their lines and sentences, their links, and the commands that they show.
+"""Documents as the tests read them: their lines and sentences, their links, and the commands that they show.
 
-A fence that begins with ```console shows commands. Each is marked by `$ ` (its further lines by `> `), and what it prints
-on standard output and standard error follows it. ```console yosys shows commands that need that program; more names may follow.
-```console foreign shows commands that are not run, and ```console gate those that build or prove psyn; ```text and the like show
-no command.
+A code fence that begins with ```console shows commands. A line with `$ ` begins a command, lines with `> ` continue it,
+and the other lines after it are its output and error messages. ```console yosys marks commands that need the program
+yosys; further names may follow. ```console foreign marks commands that the tests do not run, and ```console gate those
+that build or prove psyn. Other fences, such as ```text, show no commands.
 """
 import glob
 import os
@@ -20,7 +20,7 @@ SECONDS = 60
 
 
 class Fence:
-    """A fence of a document: the line at which it begins, its kind, its marks, and its lines."""
+    """A code fence of a document: the line at which it begins, its kind, the words after the kind, and its lines."""
 
     def __init__(self, line, info, lines):
         self.line, self.lines = line, lines
@@ -33,11 +33,11 @@ class Fence:
         return self.kind == "console" and self.marks not in NOT_RUN
 
     def missing(self):
-        """The programs that the commands need and that are not installed."""
+        """The programs that the fence's commands need and that are not installed."""
         return [name for name in self.marks if not shutil.which(name)]
 
     def commands(self):
-        """The commands, each with what it prints."""
+        """The commands of the fence, each with the output that the document shows."""
         found = []
         for line in self.lines:
             if line.startswith("$ "):
@@ -66,7 +66,8 @@ def fences_of(lines):
 
 
 def prose_of(lines):
-    """The paragraphs, each with its first line. Fences, tables, headings, quotations and indented blocks are left out."""
+    """The paragraphs, each with the number of its first line. Code fences, tables, headings, quotations and indented
+    blocks are left out."""
     paragraphs, inside, now = [], False, []
     for number, line in enumerate([*lines, ""], 1):
         if line.startswith("```"):
@@ -89,7 +90,7 @@ def sentences_of(paragraph):
 
 
 def links_of(lines):
-    """The links to files of the repository, each with its line."""
+    """The links to files of the repository, each with the number of its line."""
     return [
         (number, target.partition("#")[0])
         for number, line in enumerate(lines, 1)
@@ -99,7 +100,7 @@ def links_of(lines):
 
 
 def sources(*folders):
-    """The text of all files in these folders of the crates."""
+    """The text of all files in the given folders of all crates."""
     paths = [path for folder in folders for path in glob.glob(os.path.join(TOP, "crates", "*", folder, "**", "*.*t*"), recursive=True)]
     texts = []
     for path in sorted(paths):
@@ -109,25 +110,27 @@ def sources(*folders):
 
 
 def calls_of(lines):
-    """The names of calls and clauses in the first cells of tables, each with its line."""
+    """The names of functions and clauses in the first cells of tables, each with the number of its line."""
     cells = [(number, line.split("|")[1]) for number, line in enumerate(lines, 1) if line.startswith("| `")]
     return [(number, name) for number, cell in cells for code in re.findall(r"`([^`]+)`", cell) for name in re.findall(r"[A-Za-z]\w+", code)]
 
 
 def definitions_of(lines):
-    """The files and names in the brackets at the end of each definition, with the line of the definition."""
+    """The files and names in the brackets at the end of each definition, with the number of the definition's first
+    line."""
     last = [(number, re.findall(r"`([^`]+)`", found[-1])) for number, text in prose_of(lines) if (found := re.findall(r"\([^()]*\)\.?$", text))]
     return [(number, code) for number, codes in last for code in codes]
 
 
 def furnish(room):
-    """Puts what commands of documents name into a folder."""
+    """Links the folders that the documents' commands name into a temporary folder."""
     for folder in ("tools", "examples", "docs", "crates"):
         os.symlink(os.path.join(TOP, folder), os.path.join(room, folder))
 
 
 def wrong_answers(name, fences, room, environment):
-    """The commands of the fences that print something else than the document shows. All run in one folder, in order."""
+    """The commands of the fences whose output differs from what the document shows. All commands run in the same
+    folder, one after another."""
     wrong = []
     for fence in fences:
         for command, wanted in fence.commands():

@@ -1,4 +1,5 @@
-"""Makes one allocation of a run fail, and tells which answers are right then. tools/refuse-growths says what is refused."""
+"""Lets one allocation of a run fail, and says which answers are then right. tools/refuse-growths says which allocations
+fail."""
 import os
 import subprocess
 
@@ -7,7 +8,8 @@ SECONDS = 60
 
 
 def run(program, shim, path, number):
-    """What the program writes, with its status, and whether the allocation with that number failed."""
+    """The program's output and exit status, and whether the allocation with the given number was made, and so
+    refused."""
     asked, tells = os.pipe()
     environment = {**os.environ, "LD_PRELOAD": shim, "REFUSED_GROWTH": str(number), "REFUSED_TELLS": str(tells)}
     with open(path, "rb") as text:
@@ -21,7 +23,7 @@ def run(program, shim, path, number):
 
 
 def sweep(program, shim, path, expected):
-    """How many allocations the input needs, how many failed ones led to fault 24, and the wrong answers."""
+    """The number of allocations for an input, how many of the refused ones led to fault 24, and the wrong answers."""
     growths, faults, wrong = 0, 0, []
     answer, _ = run(program, shim, path, 0)
     if answer != expected:
@@ -37,7 +39,7 @@ def sweep(program, shim, path, expected):
 
 
 def sweep_test(program, shim, name):
-    """How many allocations a test needs, and those without which it fails."""
+    """The number of allocations in a test, and those whose failure makes the test fail."""
     growths, failed = 0, []
     while True:
         asked, tells = os.pipe()

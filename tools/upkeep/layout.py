@@ -1,10 +1,11 @@
-"""Lines of definitions, proofs and clauses: what fits on one line is one line, and a longer one is broken at the best places."""
+"""Lays out definitions, proofs and clauses: text that fits on one line is put on one line, and a longer line is broken
+where the cost is least."""
 import re
 
 from upkeep.antt import indent_of
 
 WIDTH = 120
-# How well a line breaks after a word, or before one: the less, the better; 3 if nothing is said.
+# The cost of a line break after a word, or before a word: less is better, and other words cost 3.
 BEHIND = {"=": 0, "→": 0, "in": 0, ";": 0, ",": 0, "↦": 1, "×": 1, "⊎": 1, "++": 2, "&&": 2}
 BEFORE = {"∙": 0, "|": 0, "where": 0, "[": 2, "→": 1, "⊎": 1, "×": 1, "++": 1}
 ENDS = re.compile(r"(\bin|[;{\[(]|\bwhere)$")
@@ -17,7 +18,7 @@ def is_code(line):
 
 
 def badness(depth, before, behind):
-    """How bad a break between two words is, inside so many brackets."""
+    """The cost of a break between two words, at a depth of brackets."""
     last = before[-1] if before[-1] in ";,." and len(before) > 1 else before
     kind = min(BEHIND.get(last, 3), BEFORE.get(behind, 3))
     if before[0] in "([{" and before[-1] not in ",;":
@@ -32,7 +33,7 @@ def badness(depth, before, behind):
 
 
 def worst(lines):
-    """How bad the worst of the breaks between lines is."""
+    """The cost of the worst of the given line breaks."""
     depth, bad = 0, 0
     lines = [line for line in lines if line.strip()]
     for line, below in zip(lines, lines[1:]):
@@ -42,7 +43,7 @@ def worst(lines):
 
 
 def spaces_of(line):
-    """The spaces between words: their places, and how many brackets are open there."""
+    """The spaces between words: the offset of each, and the number of open brackets there."""
     depth, in_text, spaces = 0, False, []
     for place, sign in enumerate(line):
         in_text ^= sign == '"'
@@ -54,7 +55,8 @@ def spaces_of(line):
 
 
 def broken(line, indent):
-    """A line as the fewest lines of the width, of these those with the best breaks; those after the first have this indent."""
+    """The line broken into the fewest lines within the width and, among these, at the cheapest places; the lines after
+    the first are indented by `indent`."""
     if len(line) <= WIDTH:
         return [line]
     places = [(-1, 0), *spaces_of(line), (len(line), 0)]
@@ -78,7 +80,7 @@ def broken(line, indent):
 
 
 def paragraphs(lines):
-    """The lines of a signature or a clause by runs whose breaks may be moved."""
+    """Groups the lines of a signature or a clause into runs; line breaks inside a run may be moved."""
     runs, blocks = [], []
     for at, line in enumerate(lines):
         before = runs[-1][-1].rstrip() if runs else ""
@@ -99,7 +101,7 @@ def paragraphs(lines):
 
 
 def filled(lines):
-    """The lines of one signature or clause, filled where this takes fewer lines and no worse breaks."""
+    """The lines of one signature or clause, laid out anew where that saves lines and makes no break worse."""
     out = []
     for run in paragraphs(lines):
         whole = " ".join([run[0].rstrip(), *(line.strip() for line in run[1:])])
@@ -113,7 +115,7 @@ def filled(lines):
 
 
 def filled_text(text):
-    """A piece of a proof file, each signature and clause filled."""
+    """The text of a proof file, with each signature and clause laid out."""
     lines, out, at = text.split("\n"), [], 0
     while at < len(lines):
         end = at + 1
@@ -127,16 +129,18 @@ def filled_text(text):
     return "\n".join(out)
 
 
-# A line of a comment, how far in its text begins, and an entry of a list: a name and, after a gap, what it says.
+# Patterns for a line of a comment, with the indentation of its text, and for a list entry: a name, a gap, and a
+# description.
 COMMENT = re.compile(r"(\s*--)(\s*)(.*)")
 ENTRY = re.compile(r"\S.*?\s{2,}\S")
-# In code these lines are the prover's; `rt fmt` lays out all others.
+# In .rt files, only lines that begin so are laid out here; `rt fmt` lays out all other lines.
 CLAUSE = re.compile(r"\s*(ghost|requires|ensures)\b")
 IMPORT = re.compile(r"(\s*(?:pub |ghost )?use [^{]*\{)(.*)(\}.*)")
 
 
 def kinds_of(lines):
-    """For each line of a comment how it goes on: as a `text`, an `entry` of a list (or the text of one), or an `example`."""
+    """For each line of a comment its kind: `text` of a paragraph, `entry` of a list (or the text of an entry), or
+    `example`."""
     kinds, entry, more = [], None, None
     for line in lines:
         _, gap, text = COMMENT.fullmatch(line).groups()
@@ -154,7 +158,8 @@ def kinds_of(lines):
 
 
 def comment_filled(lines):
-    """The lines of a comment without any above the width: what is left over of one begins the next of its paragraph or entry."""
+    """The lines of a comment, broken at the width. What is cut off a line begins the next line of the same paragraph or
+    entry."""
     kinds, out = kinds_of(lines), []
     starts = [kind == "entry" and bool(ENTRY.match(COMMENT.fullmatch(line)[3])) for kind, line in zip(kinds, lines)]
     rest = ""
@@ -179,7 +184,7 @@ def comment_filled(lines):
 
 
 def comments_of(lines):
-    """The comments of a file: where each begins, and its lines."""
+    """The comments of a file: for each its first line's index and its lines."""
     at = 0
     while at < len(lines):
         end = at + 1
@@ -191,7 +196,8 @@ def comments_of(lines):
 
 
 def cut_entries(comment):
-    """The lines of a comment at which an entry of a list is cut: it continues further in, and is not an example after a colon."""
+    """The lines at which a list entry of a comment is cut: the next line is indented further, and is not an example
+    after a colon."""
     kinds, gaps = kinds_of(comment), [len(COMMENT.fullmatch(line)[2]) for line in comment]
     cut, entry = [], 0
     for at in range(len(comment) - 1):
@@ -203,7 +209,7 @@ def cut_entries(comment):
 
 
 def imports(line):
-    """A line that takes names from a module as so many lines of the width."""
+    """An import line, split into several imports of the same module if it is longer than the width."""
     head, names, tail = IMPORT.fullmatch(line).groups()
     lines = [[]]
     for name in names.split(", "):
@@ -214,7 +220,8 @@ def imports(line):
 
 
 def within_width(line):
-    """A line of a definition, a proof or a clause as lines of the width. A comment at its end is put above it."""
+    """A line of a definition, a proof or a clause, broken at the width. A comment at the end of the line is moved above
+    the line."""
     if IMPORT.fullmatch(line):
         return imports(line)
     mark = "//" if " // " in line else "--"
@@ -224,7 +231,8 @@ def within_width(line):
 
 
 def text_within_width(text, is_code_file):
-    """A file without lines above the width where they can be broken: a whole .antt file, or the clauses of code."""
+    """The text with its long lines broken where possible: in an .antt file all lines, in an .rt file only those of
+    clauses."""
     lines, out, opened, behind = text.split("\n"), [], 0, 0
     comments = dict(comments_of(lines))
     for at, line in enumerate(lines):

@@ -1,4 +1,5 @@
-"""The page docs/psyn.1, written from the table of commands and from docs/FAULTS.md: tools/install --manual > docs/psyn.1"""
+"""Makes the page docs/psyn.1 from the table of commands and from docs/FAULTS.md: tools/install --manual >
+docs/psyn.1"""
 import re
 
 from psyntool import faults
@@ -39,7 +40,7 @@ STATUSES = {
 
 
 def plain(text):
-    """Text as troff takes it: code in bold, no line that begins with a dot or a quote."""
+    """Text escaped for troff: code is bold, and a dot or a quote at the beginning of a line is escaped."""
     text = text.replace("\\", "\\e").replace("-", "\\-")
     text = re.sub(r"`([^`]*)`", r"\\fB\1\\fR", text)
     return re.sub(r"(?m)^([.'])", r"\\&\1", text)

@@ -1,4 +1,5 @@
-"""One archive of what users have: the program, the tool, its documents and examples, what was proved, and sums of all files."""
+"""Makes the archive of a release: the program, the tool, its documents and examples, docs/PROVED.md, and the sums of
+all files."""
 import glob
 import gzip
 import hashlib
@@ -15,16 +16,16 @@ TOOLS = "tools/psyn tools/install tools/check_certificate.py tools/psyntool/**/*
 EXAMPLES = "examples/files/* examples/parts/* examples/gallery/**/*"
 COMPLETIONS = {"share/bash-completion/completions/psyn": completions.bash, "share/zsh/site-functions/_psyn": completions.zsh}
 SUMS = "SHA256SUMS"
-# The last lines of the gate and of the tools' tests.
+# The result lines of `rt ci` and of tools/test-tools, as patterns.
 PASSED = (r"(?m)^(\d+) passed, (\d+) failed", r"(?m)^tools: (\d+) passed, (\d+) failed, \d+ skipped$")
 
 
 class NotPassed(Exception):
-    """The gate's log does not say that all passed; the message says what it lacks."""
+    """The log does not say that all tests passed; the message says what is missing."""
 
 
 def gate_lines(log):
-    """The lines of a log of `tools/test-all` that say how many passed, the last ones of their kind."""
+    """The last line of each kind in a log of `tools/test-all` that says how many tests passed."""
     lines = []
     for pattern in PASSED:
         found = list(re.finditer(pattern, log))
@@ -38,7 +39,7 @@ def gate_lines(log):
 
 
 def contents(program, release, lines):
-    """What the archive holds: for each name the bytes, and whether it is a program."""
+    """The files of the archive: for each name its bytes, and whether it is executable."""
     files = {}
     for pattern in f"{DOCUMENTS} {TOOLS} {EXAMPLES}".split():
         for path in sorted(filter(os.path.isfile, glob.glob(os.path.join(places.TOP, pattern), recursive=True))):
@@ -55,7 +56,7 @@ def contents(program, release, lines):
 
 
 def packed(files, folder, when):
-    """The bytes of a tar file that has these files in a folder, the same for the same files."""
+    """The bytes of a compressed tar file with these files in a folder; the same files always give the same bytes."""
     whole = io.BytesIO()
     with gzip.GzipFile(fileobj=whole, mode="wb", mtime=when, filename="") as stream, tarfile.open(fileobj=stream, mode="w") as archive:
         for name, (data, is_program) in sorted(files.items()):

@@ -1,7 +1,8 @@
-"""The tables of calls in docs/PROVED.md, made from the table of each `lib.rt` and from the names of the calls' clauses.
+"""Makes the tables of functions in docs/PROVED.md, from the tables of each `lib.rt` and from the names of the
+functions' clauses.
 
-A table is between the lines `<!-- calls of CRATE -->` and `<!-- end -->`. A row has the calls of a row of `lib.rt`, what
-that row says of them, and the names of their clauses. A clause without a name is not listed.
+A table is between the lines `<!-- calls of CRATE -->` and `<!-- end -->`. A row has the functions of a row of `lib.rt`,
+the description there, and the names of the functions' clauses. A clause without a name is not listed.
 """
 import glob
 import os
@@ -27,7 +28,7 @@ def sources(crate):
 
 
 def clauses_of(files):
-    """For each type (None for functions of no type) and each call, the names of its clauses."""
+    """For each type (None for a free function) and each of its functions, the names of the function's clauses."""
     found = {}
     for lines in files:
         block, call = None, None
@@ -46,14 +47,15 @@ def clauses_of(files):
 
 
 def rows_of(lines):
-    """The rows of the tables in the head of a `lib.rt`, each with its first cell and the others."""
+    """The rows of the tables in the head comment of a `lib.rt`: for each the first cell and the second."""
     head = [found[1] for line in lines if (found := HEAD.fullmatch(line))]
     rows = [[cell.strip() for cell in line.strip("|").split("|")] for line in head if line.startswith("|")]
     return [(row[0], row[1]) for row in rows if row[0] not in ("Call", "Law") and not row[0].startswith("---")]
 
 
 def calls_in(cell):
-    """The calls that a cell names, each with the type before it: a call without one has that of the call before."""
+    """The functions that a table cell names, each with its type. A name without a type has the type of the name before
+    it."""
     calls, block = [], None
     for code in re.findall(r"`([^`]+)`", cell):
         *path, name = re.sub(r"\(.*", "", code).split("::")
@@ -63,12 +65,12 @@ def calls_in(cell):
 
 
 def named(code):
-    """A call without its arguments and without the modules before it."""
+    """A function's name without arguments and without modules."""
     return re.sub(r"\(.*|\b[a-z]\w*::", "", code)
 
 
 def row_of(cell, said, clauses):
-    """A row of a table, and more of them where the names of its clauses need them."""
+    """A row of a table, continued in further rows if the names of its clauses need them."""
     names = []
     for block, name in calls_in(cell):
         found = clauses.get((block, name), clauses.get((None, name), []))
@@ -85,14 +87,14 @@ def row_of(cell, said, clauses):
 
 
 def table_of(crate):
-    """The table of a crate's calls."""
+    """The table of a crate's functions."""
     clauses = clauses_of(sources(crate))
     rows = rows_of(read(f"crates/{crate}/src/lib.rt"))
     return ["| Call | What it gives | Clauses |", "|---|---|---|", *(line for cell, said in rows for line in row_of(cell, said, clauses))]
 
 
 def unknown_calls(crate):
-    """The calls, types and constants that a crate's `lib.rt` lists and its sources do not have."""
+    """The functions, types and constants that a crate's `lib.rt` lists but its sources do not define."""
     files = sources(crate)
     calls = clauses_of(files)
     named = {word for lines in files for line in lines for word in re.findall(r"\b(?:struct|enum|trait|type|const) (\w+)", line)}
@@ -101,7 +103,7 @@ def unknown_calls(crate):
 
 
 def filled(lines):
-    """The lines of the document, with each table as it is today."""
+    """The lines of the document, with each table made anew."""
     out, inside = [], False
     for line in lines:
         if line == END:

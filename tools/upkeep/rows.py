@@ -1,21 +1,21 @@
-"""Rows: inputs of the program with what must be answered, as the files of examples/rows hold them.
+"""Rows: inputs of the program with their expected answers, as the files in examples/rows store them.
 
-A file is TOML, and each character of its strings is a byte (ISO 8859-1). A `[[row]]` has
+A file of rows is TOML, and each character of its strings stands for a byte (ISO 8859-1). A `[[row]]` has
 
-  name      what it shows; the names in a file differ
-  input     what the program reads; or parts: texts one after the other, of which { text = "..", times = 3 }
-            is one that is repeated three times
-  answer    what it writes, whole, as a text or as parts; or one_of: answers of which each is right; or, where a move is
-            open, begins: the first lines, and contains: texts that the answer contains
-  status    with which status it ends
+  name      what the row shows; no name occurs twice in a file
+  input     the program's input; or instead `parts`, a list of texts that are joined, in which
+            { text = "..", times = 3 } stands for three copies of a text
+  answer    the program's whole output, as a text or as parts; or instead `one_of`, a list of right answers; or, if many
+            answers are right, `begins`, the first lines, and `contains`, texts that the answer must contain
+  status    the program's exit status
 
-A `[[cut]]` stands for a row after each byte of a text:
+A `[[cut]]` stands for many rows: one for the first n bytes of a text, for each n.
 
-  name      whose text it is
-  before, text, behind    the input is the first bytes of `text` between the other two
-  early     the number and the name of a fault, which most beginnings have, where the text ends; `ended` bytes further on
-  whole_from, whole, status    from this number of bytes on the answer, and its status, are those to the whole
-  [[cut.other]] from, to, answer, status    the answer to the beginnings of `from` to `to` bytes
+  name      the name of the text
+  before, text, behind    the input is `before`, the first n bytes of `text`, and `behind`
+  early     the number and the name of the fault for most n; its offset is n plus `ended`
+  whole_from, whole, status    for n from `whole_from` on, the answer is `whole`, with this exit status
+  [[cut.other]] from, to, answer, status    the answer and the exit status for n from `from` to `to`
 """
 import os
 import subprocess
@@ -28,11 +28,11 @@ OTHER_KEYS = {"from", "to", "answer", "status"}
 
 
 class Malformed(Exception):
-    """A file of rows is not written as it should be; the message says what is wrong."""
+    """A file of rows has an error, which the message describes."""
 
 
 class Row:
-    """An input and its judge: what is wrong with an answer."""
+    """A row: an input, and what is known of the right answer to it."""
 
     def __init__(self, name, given, status, **judged):
         self.name, self.given, self.status = name, given, status
@@ -40,7 +40,7 @@ class Row:
         self.begins, self.contains = judged.get("begins", []), judged.get("contains", [])
 
     def fault_of(self, answer, status):
-        """What is wrong with an answer and its status; None where both are right."""
+        """A message that says what is wrong with an answer or its exit status; None if both are right."""
         if status != self.status:
             return f"status {status}, wanted {self.status}; {shown(answer)}"
         if self.one_of is not None:
@@ -64,14 +64,14 @@ def in_bytes(text):
 
 
 def exactly(table, known, needed):
-    """Refuses a table with other keys than the known ones, or without one that it needs."""
+    """Refuses a table that has an unknown key or lacks a required one."""
     wrong = [*(set(table) - known), *(set(needed) - set(table))]
     if wrong:
         raise Malformed(f"{table.get('name', 'a table')!r}: {', '.join(sorted(wrong))} is unknown or missing")
 
 
 def joined(parts):
-    """The bytes of a text, or of parts: texts, and texts that are repeated."""
+    """The bytes of a text, or of a list of texts, some of which are repeated."""
     if isinstance(parts, str):
         return in_bytes(parts)
     made = []
@@ -96,7 +96,7 @@ def row_of(table):
 
 
 def answer_to_beginning(cut, end):
-    """What is answered to the first `end` bytes of a text, and the status."""
+    """The expected answer to the first `end` bytes of a text, and the exit status."""
     if end >= cut["whole_from"]:
         return cut["whole"], cut["status"]
     for other in cut.get("other", []):
@@ -119,7 +119,7 @@ def rows_of_cut(cut):
 
 
 def read(path):
-    """The rows of a file, those of its cuts among them."""
+    """The rows of a file, with those of its cuts."""
     with open(path, "rb") as file:
         tables = tomllib.load(file)
     if set(tables) - {"row", "cut"} or not tables:
@@ -135,7 +135,7 @@ def read(path):
 
 
 def answered(program, row):
-    """What the program writes, and its status; none where it does not end in time."""
+    """The program's output and its exit status, which is None if the program does not end in time."""
     try:
         done = subprocess.run([program], input=row.given, stdout=subprocess.PIPE, timeout=SECONDS, check=False)
     except subprocess.TimeoutExpired:
@@ -144,5 +144,5 @@ def answered(program, row):
 
 
 def files_of(folder):
-    """The names of the files of rows in a folder."""
+    """The names of the row files in a folder."""
     return sorted(name for name in os.listdir(folder) if name.endswith(".toml") and name != "COUNTS.toml")

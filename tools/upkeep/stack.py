@@ -1,4 +1,4 @@
-"""The graph of crates, as docs/architecture.md draws it from crates.txt."""
+"""Draws the dependency graph of the crates in docs/architecture.md from crates.txt."""
 import os
 import re
 
@@ -11,11 +11,11 @@ WIDTH = 20
 
 
 class Unread(Exception):
-    """A text that is no list of crates, or a page with no place for the drawing."""
+    """The text is not a list of crates, or the page has no place for the drawing."""
 
 
 def crates_in(text):
-    """The crates of the repository, each with those of them that it lists."""
+    """The crates of the repository, each with the crates that it depends on."""
     lists = {}
     for line in text.splitlines():
         said = line.partition("#")[0].strip()
@@ -28,7 +28,7 @@ def crates_in(text):
 
 
 def heights(below):
-    """How many crates stand under each at most, one on the other."""
+    """For each crate the length of the longest chain of dependencies below it."""
     height = {}
     while len(height) < len(below):
         ready = [it for it in below if it not in height and all(low in height for low in below[it])]
@@ -39,7 +39,7 @@ def heights(below):
 
 
 def stood_on(below):
-    """For each crate those that it lists, without those on which another one that it lists stands."""
+    """The dependencies of each crate, without those that are also dependencies of another dependency."""
     height, under = heights(below), {}
     for name in sorted(below, key=height.get):
         under[name] = set(below[name]).union(*(under[it] for it in below[name]))
@@ -47,7 +47,7 @@ def stood_on(below):
 
 
 def drawing(text):
-    """A line for each crate, highest first: its name, and the crates on which it stands."""
+    """A line for each crate, with the longest chain of dependencies first: the crate's name and its dependencies."""
     below = crates_in(text)
     height, direct = heights(below), stood_on(below)
     names = sorted(below, key=lambda it: (-height[it], it))
@@ -55,7 +55,7 @@ def drawing(text):
 
 
 def redrawn(page, text):
-    """The page with the drawing in the place of the one before."""
+    """The page with the new drawing in place of the old one."""
     if len(FENCE.findall(page)) != 1:
         raise Unread("docs/architecture.md: no fence, or more than one, begins with ```text crates")
     return FENCE.sub(lambda found: found[1] + drawing(text) + found[3], page)

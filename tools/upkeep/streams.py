@@ -1,4 +1,5 @@
-"""Spoils one read or write of a run, and tells which answers are right then. tools/refuse-streams says what is spoiled."""
+"""Disturbs one read or write of a run, and says which answers are then right. tools/refuse-streams says how calls are
+disturbed."""
 import os
 import subprocess
 import tempfile
@@ -9,9 +10,10 @@ WAYS = ("fails", "interrupted", "one", "none")
 
 
 def run(program, shim, path, number, way, others=None):
-    """What the program writes, with its status, and the letters of its calls: R or W for one that was spoiled.
+    """The program's output and exit status, and a letter for each of its calls: r or w, in upper case if the call was
+    disturbed.
 
-    With `others` each other call moves one byte at most.
+    With `others`, each other call moves at most one byte.
     """
     with open(path, "rb") as text, tempfile.TemporaryFile() as calls:
         told = {"SPOILED_CALL": str(number), "SPOILED_HOW": way, "SPOILED_TELLS": str(calls.fileno())}
@@ -31,7 +33,7 @@ def run(program, shim, path, number, way, others=None):
 
 
 def is_right(way, calls, answer, expected):
-    """Whether that is the answer where one call was spoiled, by the letters of the calls."""
+    """Whether an answer is right if one call was disturbed; `calls` has the letters of the run's calls."""
     spoiled = [place for place, letter in enumerate(calls) if letter.isupper()]
     if way == "one" or not spoiled:
         return answer == expected
@@ -42,10 +44,12 @@ def is_right(way, calls, answer, expected):
 
 
 def sweep(program, shim, path, expected):
-    """How many calls were spoiled, and the wrong answers: the way, the number of the call, the letters and the answer."""
+    """The number of disturbed runs, and the wrong ones: for each the way, the number of the call, the letters of the
+    calls and the answer."""
     spoiled, wrong = 0, []
     for way in WAYS:
-        # Each call in turn, until a run ends before the one that was to be spoiled; and, by one byte, each call of one run.
+        # Each call is disturbed in turn, up to a number that no call of the run has. For the way `one`, number 0
+        # disturbs every call of a run.
         numbers = [0] if way == "one" else []
         calls = run(program, shim, path, 0, "not")[1]
         numbers += range(1, len(calls) + 2)
@@ -58,7 +62,8 @@ def sweep(program, shim, path, expected):
 
 
 def by_bytes(length, number, expected):
-    """The answer, and the letters of the calls, where each call moves one byte and that of the number fails (0: none does)."""
+    """The right answer, and the letters of the calls, if each call moves one byte and the call with the given number
+    fails (0: none fails)."""
     reads = "r" * (length + 1)
     if number == 0:
         return expected, reads + "w" * len(expected[0])
@@ -69,7 +74,8 @@ def by_bytes(length, number, expected):
 
 
 def sweep_by_bytes(program, shim, path, expected, at_once):
-    """How many runs there were in which each call moves one byte, and the wrong ones: each call fails in turn, and none does."""
+    """The number of runs in which each call moves one byte, and the wrong runs: once no call fails, and then each call
+    in turn."""
     length = os.path.getsize(path)
     calls = length + 1 + len(expected[0])
     runs = [("not", 0), *((way, number) for way in ("fails", "interrupted") for number in range(1, calls + 1))]

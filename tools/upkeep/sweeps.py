@@ -1,4 +1,5 @@
-"""What the sweeps share that spoil one call of a run: their inputs, the program, and the C that is loaded before it."""
+"""What the sweeps share that let one call of a run fail: their inputs, the program, and the C library that LD_PRELOAD
+loads."""
 import concurrent.futures
 import contextlib
 import os
@@ -11,7 +12,7 @@ TOP = os.path.dirname(TOOLS)
 
 
 def status_of(answer):
-    """The exit status that goes with an answer."""
+    """The exit status that belongs to an answer."""
     if answer == b"fault usage\n":
         return 2
     if answer.startswith(b"fault "):
@@ -20,7 +21,7 @@ def status_of(answer):
 
 
 def inputs_of(folder):
-    """The names of the inputs, each with its answer and the status of that."""
+    """The names of the inputs in a folder, each with its answer and the exit status that belongs to the answer."""
     inputs = {}
     for name in sorted(os.listdir(folder)):
         if not name.endswith(".stdout") and os.path.isfile(os.path.join(folder, name)):
@@ -31,7 +32,7 @@ def inputs_of(folder):
 
 
 def program_and_folder(words):
-    """The program and the folder of inputs that the words of a command line name."""
+    """The program and the folder of inputs that a command line names."""
     program = os.environ.get("PSYN") or os.path.join(TOP, "crates", "psyn", "out", "psyn")
     folder, words = os.path.join(TOP, "examples"), list(words)
     while words:
@@ -47,7 +48,7 @@ def program_and_folder(words):
 
 @contextlib.contextmanager
 def library(source):
-    """Compiles a C file beside the tools to a library that LD_PRELOAD takes."""
+    """Compiles a C file in the folder tools to a shared library for LD_PRELOAD."""
     with tempfile.TemporaryDirectory() as made:
         shim = os.path.join(made, source.replace(".c", ".so"))
         subprocess.run(["cc", "-O2", "-shared", "-fPIC", "-o", shim, os.path.join(TOOLS, source)], check=True)
@@ -55,6 +56,6 @@ def library(source):
 
 
 def at_once(work, items):
-    """What `work` gives for each item, in their order: as many at a time as there are processors."""
+    """The results of `work` for all items, in their order, computed in as many threads as there are processors."""
     with concurrent.futures.ThreadPoolExecutor(os.cpu_count()) as pool:
         return list(pool.map(work, items))

@@ -1,4 +1,4 @@
-"""The file tools/psyntool/program.toml, written from the program's table of commands by tools/command-files."""
+"""Makes the file tools/psyntool/program.toml from the program's table of commands, for tools/command-files."""
 import os
 import re
 
@@ -16,7 +16,7 @@ ADDED = r"\((\w+),\s*TextKind::(\w+)\)"
 
 
 class Unreadable(Exception):
-    """The table of the code is not written as this module reads it; the message says what it lacks."""
+    """The table in the program's code is not in the form that this module reads; the message says what is missing."""
 
 
 def quoted(words):
@@ -24,13 +24,13 @@ def quoted(words):
 
 
 def row(name, flags, texts, added):
-    """A command, as the file has it."""
+    """The entry of a command in program.toml."""
     more = ", ".join(f'{flag} = "{kind.lower()}"' for flag, kind in added)
     return f"[{name}]\nflags = [{quoted(flags)}]\ntexts = [{quoted(kind.lower() for kind in texts)}]\nadded = {{{f' {more} ' if more else ''}}}\n"
 
 
 def written(code=None):
-    """The table of the code, as the tool reads it."""
+    """The text of program.toml, made from the table in the program's code."""
     if code is None:
         with open(TABLE, encoding="utf-8") as file:
             code = file.read()

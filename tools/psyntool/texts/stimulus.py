@@ -1,4 +1,4 @@
-"""Stimuli: a line for each letter, and of a lasso a line `-` between the stem and the lap."""
+"""Stimuli: a text with a line for each letter and, for a lasso, a line `-` between the stem and the lap."""
 from dataclasses import dataclass
 
 from psyntool.texts import Unreadable
@@ -6,13 +6,14 @@ from psyntool.texts import Unreadable
 
 @dataclass(frozen=True)
 class Stimulus:
-    """The letters of the stem, and those of the lap, which come again and again; a lap of None is that of a plain stimulus."""
+    """A stimulus: the letters of the stem, and those of the lap, which repeats for ever. A plain stimulus has only a
+    stem, and its lap is None."""
 
     stem: tuple
     lap: tuple | None
 
     def letters(self, count):
-        """The first so many letters of a lasso."""
+        """The first `count` letters of a lasso."""
         behind = max(0, count - len(self.stem))
         return [*self.stem[:count], *(self.lap[place % len(self.lap)] for place in range(behind))]
 

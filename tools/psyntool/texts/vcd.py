@@ -7,7 +7,7 @@ SCOPES = (("latches", "l"), ("inputs", "i"), ("outputs", "o"))
 
 
 def code_of(number):
-    """A short identifier of printable signs."""
+    """A short VCD identifier of printable characters."""
     signs = ""
     while True:
         signs += chr(33 + number % 94)
@@ -17,12 +17,13 @@ def code_of(number):
 
 
 def plain(name):
-    """A name as VCD allows it: no blanks, and no `$` at its beginning, with which the words of VCD begin."""
+    """A name in the form that VCD allows: without blanks, and without `$` at its beginning, which marks VCD's
+    keywords."""
     return re.sub(r"\s|^\$", "_", name)
 
 
 def declarations(scopes):
-    """The lines that declare names, by scope, and their identifiers in turn."""
+    """The VCD lines that declare the names of each scope, with identifiers numbered one after another."""
     lines, number = [], 0
     for scope, names in scopes:
         lines.append(f"$scope module {scope} $end")
@@ -34,7 +35,8 @@ def declarations(scopes):
 
 
 def wave(circuit, trace, lap_from=None):
-    """The values of latches, inputs and outputs, one unit of time for each letter; of a lasso also whether the lap has begun."""
+    """The VCD text of the values of latches, inputs and outputs, with one unit of time for each letter. For a lasso, a
+    further signal says whether the lap has begun."""
     scopes = [(scope, circuit.names(kind)) for scope, kind in SCOPES]
     counts = [len(names) for _, names in scopes]
     rows = [row.split("|") for row in trace.split("\n")[:-1]]
