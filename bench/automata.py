@@ -1,16 +1,17 @@
 #!/usr/bin/env python3
-"""Shows that making automata takes time proportional to the edges.
+"""Shows that building automata takes time proportional to the number of edges.
 
   bench/automata.py [--program PROGRAM]
 
-psyn has no command that makes an automaton alone, so a program of a few lines (SOURCE) is made in a temporary folder, over copies
-of the crates with what earlier checks kept in out/. It reads one HOA text, makes its automaton, and prints a step of its start, or
-the fault. --program gives one that was made before. Texts of 4,096 to 65,535 states with 16 edges each are made in these ways:
+psyn has no command that only builds an automaton, so a program of a few lines (SOURCE) is built in a temporary folder,
+on copies of the crates with what earlier checks kept in out/. The program reads an HOA text, builds its automaton, and
+prints the state after one step, or the fault. --program names a program that was built before. Texts of 4,096 to 65,535
+states with 16 edges each are made in these ways:
     implicit   an edge for each letter over 4 propositions
-    labels     the same edges with labels, each an alias that is one letter
-    colours    the same, where each edge is in up to three of 32 sets of a chain
+    labels     the same edges with labels; each label is an alias for one letter
+    colours    the same, and each edge is in up to three of the 32 sets of a chain condition
     overlap    as labels, but the last two edges of the last state share a letter (fault 21)
-Prints the time of each run, and its growth against the growth of the states (1.00 is proportional).
+For each run the time is printed, and its growth divided by the growth of the states (1.00 is proportional).
 """
 import os
 import shutil
@@ -77,7 +78,7 @@ def overlap(states):
 
 
 def made(folder):
-    """Makes the program in a folder."""
+    """Builds the program in a folder."""
     crates = os.path.join(folder, "crates")
     for name in CRATES:
         shutil.copytree(os.path.join(TOP, "crates", name), os.path.join(crates, name))

@@ -3,16 +3,18 @@
 
   check_certificates.py PSYN [--yardstick PROGRAM] [--least EDGES] [--most EDGES] [--runs N]
 
-PSYN is the built program. A line for each size, edges doubling up to --most (1000000) from at least --least (10000):
-the family, vertices, edges, bytes of input, the least time of --runs (3) runs, and the growth of the
-time since the size before (2.0 is proportional). With --yardstick each text is also given to
-`PROGRAM check GAME CERTIFICATE`, in turn with psyn, and the last column is psyn's time over that one's.
+PSYN is the built program. A line is printed for each size; the number of edges doubles from at least --least (10000) to
+--most (1000000). A line has the family, the vertices, the edges, the bytes of input, the least time of --runs (3) runs,
+and this time divided by that of the line before (2.0 is proportional). With --yardstick, `PROGRAM check GAME
+CERTIFICATE` also runs on each game, in turn with psyn, and the last column is psyn's time divided by the time of
+PROGRAM.
 
-How the games are made. Each player has half of the vertices as a region, in layers. An edge that
-remains leads to a lower layer of its region, and from layer 0 to anywhere in it. Layer 0 has the
-player's own greatest priority, so the count for each opposing priority below that is the number of the
-layer, and for one above it 0. A vertex that its winner owns has further edges, which may lead anywhere.
-The priorities of the other layers are drawn at random, all from 0 to K - 1.
+How the games are made: each player wins half of the vertices, and each half is divided into layers. The winner's move
+and the opponent's edges lead from a vertex to a lower layer of the same half or, from layer 0, to anywhere in this
+half. The vertices of layer 0 have the winner's greatest priority. So the count of a vertex is the number of its layer
+for each opposing priority from the vertex's own up to this greatest one, and otherwise 0. A vertex that belongs to its
+winner has further edges, which may lead anywhere. The priorities of the other layers are random, and each priority
+below the two greatest ones occurs.
 """
 import argparse
 import os
@@ -30,16 +32,16 @@ OUT = os.path.join(os.path.dirname(os.path.abspath(__file__)), "out")
 
 
 def made(edges, degree, below, layers):
-    """A game text and the text of a valid certificate of it."""
+    """A game text, and the text of a valid certificate of this game."""
     dice = random.Random(f"{edges} {degree} {below} {layers}")
     count = max(edges // degree, 4 * layers)
     half = count // 2
     greatest = (below + below % 2, below + below % 2 + 1)
     layer = [v % half * layers // half for v in range(2 * half)]
     winner = [v // half for v in range(2 * half)]
-    # the vertices of each region are in the order of their layers: the first of a layer
+    # the vertices of each region are ordered by layer; `first` has the index of each layer's first vertex
     first = [-(-number * half // layers) for number in range(layers + 1)]
-    # the first vertices of layer 1 have each priority once, so that all of them are present
+    # the first vertices of layer 1 get each priority once, so that every priority occurs
     drawn = [dice.randrange(below) for _ in range(2 * half)]
     for place in range(below):
         drawn[first[1] + place % (half - first[1])] = place
@@ -69,7 +71,7 @@ def made(edges, degree, below, layers):
 
 
 def timed(command, text):
-    """How long a command takes, in seconds, and what it wrote."""
+    """The seconds that a command takes, its exit status and its output."""
     begin = time.perf_counter()
     done = subprocess.run(command, input=text, stdout=subprocess.PIPE, stderr=subprocess.STDOUT, check=False)
     return time.perf_counter() - begin, done.returncode, done.stdout

@@ -3,11 +3,11 @@
 
   bench/circuit_texts.py PROGRAM [ARGUMENTS..]
 
-Makes circuits of 10^5, 2 * 10^5, 4 * 10^5 and 10^6 gates, each in two ways, and runs the built psyn on `sim` with each of them
-and an empty stimulus, so that it reads the circuit and has nothing to print. Prints the time of each run, and its growth
-against the growth of the gates (1.00 is proportional).
-    chain      each gate reads the one on the next line, so that each line comes before the one that it depends on
-    drawn      each gate reads two of the inputs, latches and gates before it, drawn at random, and the lines are shuffled
+Makes circuits of 10^5 to 10^6 gates, of two families, and runs `sim` of the built psyn on each circuit with an empty
+stimulus, so that psyn reads the circuit and prints nothing. For each run the time is printed, and its growth divided by
+the growth of the gates (1.00 is proportional).
+    chain      each gate reads the gate on the next line, so that each line comes before the line that it depends on
+    drawn      each gate reads two random variables of smaller number, and the lines are shuffled
 """
 import random
 import subprocess
@@ -20,14 +20,14 @@ SIZES = (100_000, 200_000, 400_000, 1_000_000)
 
 
 def chain(gates):
-    """A chain of gates in falling order: the first line is the last gate, which the output is."""
+    """A chain of gates in descending order: the first line defines the last gate, which is the output."""
     lines = [f"aag {gates + 1} 1 0 1 {gates}", "2", str(2 * (gates + 1))]
     lines += [f"{2 * gate} {2 * (gate - 1)} {2 * (gate - 1) + 1}" for gate in range(gates + 1, 1, -1)]
     return "\n".join(lines) + "\n"
 
 
 def drawn(gates):
-    """Gates over inputs and latches, their lines shuffled, with a name for each input, latch and output."""
+    """Random gates over inputs and latches on shuffled lines, with a name for each input, latch and output."""
     dice = random.Random(gates)
     first = 1 + INPUTS + LATCHES
     most = first + gates - 1

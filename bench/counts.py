@@ -1,21 +1,24 @@
 #!/usr/bin/env python3
-"""Times the least counts of games, compared with a plain solver without proofs, or compares those of random games with a plain search.
+"""Times the computation of least counts of games against an unverified solver, or checks the counts of random games
+against a plain search.
 
   bench/counts.py GAMES YARDSTICK [--size SIZE] [--only WORD] [--runs N] [--program PROGRAM]
   bench/counts.py --random N [--program PROGRAM]
 
-psyn has no command that only computes counts, so the program bench/counts is made in a temporary folder, over copies of
-the crates with what earlier checks kept in out/. --program gives one that was made before.
+psyn has no command that only computes counts, so the program bench/counts is built in a temporary folder, on copies of
+the crates with what earlier checks kept in out/. --program names a program that was built before.
 
-GAMES is a Python file with families of games: FAMILIES, by their names functions to lists of (priority, owner, successors), and
-SUITE, by a size (medium, large) lines of a family's name and its numbers. `YARDSTICK solve --out sol --stats FILE` writes the
-winners and moves of the game in a file, and on standard error `counts_ms` and other words with their values. The counts are
-worked out for those regions and moves. A line for each game: vertices, edges and different priorities, the least time of
---runs (3) runs of either in milliseconds (both players, without reading and writing), psyn's over the other's, and psyn's in
-nanoseconds for each edge. The sums of the counts, and how many are not 0, must be the same.
+GAMES is a Python file. Its FAMILIES maps a name to a function that gives a list of (priority, owner, successors); its
+SUITE maps a size (medium, large) to lines of a family's name and its numbers. `YARDSTICK solve --out sol --stats FILE`
+prints the winners and moves of the game in FILE, and on standard error `counts_ms` and other words with their values.
+psyn computes the counts for these winners and moves. A line for each game has its vertices, edges and different
+priorities, and for each program the least time of --runs (3) runs in milliseconds (for both players, without reading
+and writing). Then it has psyn's time divided by the other's, and psyn's nanoseconds for each edge. Both programs must
+find the same sum of the counts and the same number of nonzero counts.
 
---random makes N small games with regions, closed or not, and moves, along edges or not, at random, and before them some whose
-counts are known. The counts, the number of raises, or that there is a lost cycle, must be those of a plain search.
+--random makes N small games with random winners and moves, which need not be right, after some games whose counts are
+known. The counts and the number of nonzero counts, or the existence of a lost cycle, must be those that a plain search
+finds.
 """
 import argparse
 import importlib.util
@@ -53,7 +56,7 @@ def made(folder):
 
 
 def task(is_shown, nodes, winners, moves):
-    """The text of a task: None for no move."""
+    """The program's input for a game with winners and moves; a move may be None."""
     lines = [f"{int(is_shown)} {len(nodes)}"]
     for (priority, owner, successors), winner, move in zip(nodes, winners, moves):
         steps = " ".join(map(str, successors))
@@ -62,7 +65,7 @@ def task(is_shown, nodes, winners, moves):
 
 
 def answer(program, text):
-    """For each player the words of the first line, and the lines after it."""
+    """The program's output: for each player the words of the player's first line, and the lines after it."""
     run = subprocess.run([program], input=text, capture_output=True, check=False)
     if run.returncode != 0:
         sys.exit(f"status {run.returncode}: {run.stderr[:300]!r}")
@@ -80,7 +83,7 @@ def answer(program, text):
 
 
 def solved(yardstick, path, runs):
-    """Winners, moves, the yardstick's values, and its least time."""
+    """The winners, the moves, the statistics of the yardstick, and its least time."""
     best = None
     for _ in range(runs):
         run = subprocess.run([yardstick, "solve", "--out", "sol", "--stats", path], capture_output=True, check=True, text=True)
@@ -97,7 +100,7 @@ def solved(yardstick, path, runs):
 
 
 def measure(program, yardstick, nodes, runs):
-    """The line of a game."""
+    """The cells of a game's output line."""
     with tempfile.NamedTemporaryFile("w", suffix=".pg") as file:
         file.write(f"parity {len(nodes) - 1};\n")
         file.writelines(f"{v} {p} {o} {','.join(map(str, s))};\n" for v, (p, o, s) in enumerate(nodes))
@@ -133,7 +136,7 @@ def speed(program, given):
 
 
 def remaining(nodes, winners, moves, player):
-    """The edges that remain inside a player's region."""
+    """The edges inside a player's region: the opponent's edges, and the player's moves."""
     return [
         (v, w)
         for v, (_, owner, successors) in enumerate(nodes)
@@ -143,7 +146,7 @@ def remaining(nodes, winners, moves, player):
 
 
 def reached(edges, start):
-    """Where ways of one edge or more lead."""
+    """The vertices to which paths of at least one edge lead."""
     seen, pending = set(), [start]
     while pending:
         v = pending.pop()
@@ -155,7 +158,7 @@ def reached(edges, start):
 
 
 def least(count, edges, level, priority):
-    """The least counts for a priority, by raising until nothing changes."""
+    """The least counts for a priority, found by raising counts until nothing changes."""
     counts, is_changed = [0] * count, True
     while is_changed:
         is_changed = False
@@ -167,7 +170,7 @@ def least(count, edges, level, priority):
 
 
 def wrong(nodes, winners, moves, player, words, lines):
-    """What is wrong with the answer for a player, or None."""
+    """A message that says what is wrong with the answer for a player, or None."""
     level = [p for p, _, _ in nodes]
     edges = remaining(nodes, winners, moves, player)
     opposing = sorted({p for p in level if p % 2 != player})
@@ -187,7 +190,7 @@ def wrong(nodes, winners, moves, player, words, lines):
 
 
 def drawn(dice):
-    """A game with regions and moves."""
+    """A random game with random winners and moves."""
     count, levels = dice.choice((1, 2, 3, 4, 6, 9, 15)), dice.choice((1, 2, 3, 5, 9))
     degree, loose = dice.choice((1, 1, 2, 3)), dice.choice((0, 0, 0.1, 0.5))
     nodes = [(dice.randrange(levels), dice.randrange(2), dice.sample(range(count), dice.randint(1, min(degree, count)))) for _ in range(count)]

@@ -1,20 +1,24 @@
 #!/usr/bin/env python3
-"""Times unions of random cubes, and classes of their letters, beside BuDDy.
+"""Times unions of random cubes, compared with BuDDy, and the division of letters into classes.
 
   bench/diagrams.py [--runs N] [--program PROGRAM] [--labels] [COUNT..]
 
-The program bench/diagrams is made in a temporary folder, over copies of the crates with what earlier checks kept in out/;
---program gives one that was made before. bench/union.c is compiled with the library of the package libbdd-dev, and left out
-where that fails. Each joins COUNT cubes (10000, 20000, 40000, 80000) over 24 propositions, half of them with the other half.
+The program bench/diagrams is built in a temporary folder, on copies of the crates with what earlier checks kept in
+out/; --program names a program that was built before. bench/union.c is compiled with the package libbdd-dev; if that
+fails, there is no comparison with BuDDy. Both programs join COUNT cubes (10000, 20000, 40000, 80000) over 24
+propositions: recursively one half of the cubes, then the other half, and then the two unions.
 
-A line for each count: psyn's and BuDDy's least time of --runs (3) runs in milliseconds, for the unions alone; the first over the
-second; psyn's nodes, and how many it made in a second; and how long two calls of `classes` took, of the first eight propositions
-and of each fourth one. Both must find the same number of random letters in the union.
+A line for each count has psyn's and BuDDy's least time of --runs (3) runs in milliseconds, for the unions alone, and
+psyn's time divided by BuDDy's. Then it has psyn's nodes, the nodes made in a second, and the times of two calls of
+`classes`: for the first eight propositions, and for every fourth one. Both programs must find the same number of random
+letters in the union.
 
-With --labels it times the diagram of one label of COUNT signs (10000, 20000, 50000, 100000) over 64 propositions instead: `any`, a
-disjunction of conjunctions of five literals among twelve neighbours, and `all`, a conjunction of such disjunctions. A line for each:
-the signs; the least seconds of --runs runs; how often they grew for each doubling of the signs since the line above; the nodes
-made, and those of the diagram; and `classes` as above, of the first eight propositions and of each eighth one.
+With --labels, the diagram of one label of COUNT characters (10000, 20000, 50000, 100000) over 64 propositions is timed.
+There are two kinds of labels: `any` is a disjunction of conjunctions of five literals among twelve neighbouring
+propositions, and `all` is a conjunction of such disjunctions. A line for each label has its characters, the least
+seconds of --runs runs, and the growth of the time for each doubling of the characters since the line above. Then it has
+the nodes made, the nodes of the diagram, and the times of `classes` for the first eight propositions and for every
+eighth one.
 """
 import argparse
 import math
@@ -50,14 +54,14 @@ def made(folder):
 
 
 def yardstick(folder):
-    """Compiles the yardstick, if its library is there."""
+    """Compiles bench/union.c; returns None if the library is missing."""
     path = os.path.join(folder, "union")
     command = ["cc", "-O2", "-o", path, os.path.join(BENCH, "union.c"), "-lbdd"]
     return path if subprocess.run(command, check=False).returncode == 0 else None
 
 
 def answers(command, count, text, runs):
-    """The words of each line, of the run with the least time for the unions."""
+    """The words of each output line, for the run with the least time for the unions."""
     best = None
     for _ in range(runs):
         run = subprocess.run(command, input=text, capture_output=True, check=True, text=True)
@@ -75,7 +79,7 @@ def tell(names):
 
 
 def labels(program, counts, runs):
-    """Times the diagrams of labels, and their classes."""
+    """Times the diagrams of labels, and the division of letters into classes."""
     tell(["label", "signs", "seconds", "doubling", "made", "nodes", "classes", "first ms", "classes", "eighth ms"])
     for shape in ("any", "all"):
         last = None

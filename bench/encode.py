@@ -1,18 +1,20 @@
 #!/usr/bin/env python3
-"""Times the encoding of machines as circuits, on machines of 100 to some 100,000 memories.
+"""Times the encoding of machines as circuits, for machines of 100 to some 100,000 memory states.
 
   bench/encode.py [--most MEMORIES] [--program PROGRAM]
 
-psyn has no command that only encodes, so the program bench/encode is made in a temporary folder, over copies of the crates with
-what earlier checks kept in out/. --program gives one that was made before. It reads an automaton, solves its game, makes the
-winner's machine, and encodes that three times, of which the fastest counts. The families are:
-    cycle      a memory leads to the next one, whatever is read; the output is drawn for each
-    drawn      two memories and two output letters are drawn for each memory, and the input chooses
-    wide       as drawn, but each memory reads the conjunction of two of 16 inputs
-    first      the environment moves first, and each of its states has two memories; the next state is drawn for each output
-Each machine has twice as many memories as the one before, up to MEMORIES (131,072). A line for each has the memories, the latches,
-the gates, the milliseconds, how often they grew since the line above (the bits of all codes are worked out one after another, so
-2.0 to 2.3 is growth in proportion to memories times latches), the gates made in a second, and the memories' bits worked out in a second.
+psyn has no command that only encodes, so the program bench/encode is built in a temporary folder, on copies of the
+crates with what earlier checks kept in out/. --program names a program that was built before. The program reads an
+automaton, solves its game, makes the winner's machine, and encodes the machine three times; the least time counts. The
+families are:
+    cycle      each memory state leads to the next one, whatever the input; its output is random
+    drawn      each memory state has two successors and two output letters, between which the input chooses
+    wide       as drawn, but the conjunction of two of 16 inputs chooses
+    first      the environment wins and moves first; each state has two priorities, hence two memory states
+Each machine has twice as many memory states as the one before, up to MEMORIES (131,072). A line for each machine has
+the memory states, the latches, the gates, the milliseconds, and the milliseconds divided by those of the line above. A
+ratio of 2.0 to 2.3 is growth in proportion to memory states times latches, because the bits of all codes are computed
+one after another. Then come the gates and the bits computed in a second.
 """
 import argparse
 import os
@@ -64,7 +66,8 @@ def wide(count, dice):
 
 
 def first(count, dice):
-    """In each state one input leads on, by either output, in one of two priorities; after the other input the controller wins."""
+    """In each state, one input lets the game go on, to a next state and a priority that depend on the output; after the
+    other input, the controller wins."""
     half = count // 2
     nexts = list(range(half))
     dice.shuffle(nexts)
@@ -96,7 +99,7 @@ def made(folder):
 
 
 def figures(program, text):
-    """The nanoseconds, and the numbers of memories, latches and gates."""
+    """The nanoseconds, and the numbers of memory states, latches and gates."""
     run = subprocess.run([program], input=text.encode(), capture_output=True, check=False)
     if run.returncode != 0:
         sys.exit(f"status {run.returncode}: {run.stderr[:200]!r}\n{text[:2000]}")
@@ -108,7 +111,7 @@ def outputs_of(family):
 
 
 def sizes(family, most):
-    """Numbers of memories, each twice the one before as long as so many states can be read."""
+    """Numbers of memory states, each twice the one before, as long as psyn can read an automaton with enough states."""
     most = min(most, 2 * (STATES - 1) if family is first else STATES)
     count = LEAST
     while count < most:

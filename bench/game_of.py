@@ -1,16 +1,19 @@
 #!/usr/bin/env python3
-"""Times `game`, from an automaton's text to its game's, on games of some 10^3 to 10^6 vertices.
+"""Times `game`, from an automaton's text to the text of its game, for games of some 10^3 to 10^6 vertices.
 
   bench/game_of.py PSYN [--moore] [--runs N] [--edges N] [FAMILY..]
 
 PSYN is the built program (crates/psyn/out/psyn). The families are:
-    states     64 to 64,000 states (the text of more would be too long). Each letter of the four inputs is a class: one output leads to another state, the other to the sink
-    classes    64 states with 16 to 8,192 letters of the inputs, none of which is in the class of another
-Each automaton is twice as large as the one before, up to --edges (1,048,576, the most that psyn reads). A line for each has its states,
-the classes of a state, the vertices and the edges of the game, the bytes of both texts, the least seconds of --runs (3) runs of the whole
-process, and how often those grew for each doubling of the vertices since the line above: 2 is proportional.
+    states     64 to 64,000 states (more states would make the text too long); each letter of the four inputs is a
+               class: one output leads to another state, the other to the sink
+    classes    64 states with 16 to 8,192 letters of the inputs, each a class of its own
+Each automaton is twice as large as the one before, up to --edges edges (1,048,576, the most that psyn reads). A line
+for each automaton has its states, the classes of a state, the vertices and edges of the game, and the bytes of both
+texts. Then it has the least seconds of --runs (3) runs of the whole process, and the growth of the seconds for each
+doubling of the vertices since the line above (2 is proportional).
 
-Run it on a machine that does nothing else. A small automaton comes before the first line, so that the program is in memory.
+Run the script on a machine that does nothing else. A small automaton is run before the first line, so that the program
+is already in memory.
 """
 import argparse
 import math
@@ -25,14 +28,15 @@ INPUTS = range(4, 14)
 
 
 def head(states, inputs):
-    """Each edge is in one of four sets, which are a chain."""
+    """The beginning of an automaton: each edge is in one of four sets, and the acceptance condition is a chain of these
+    sets."""
     names = " ".join(f'"i{k}"' for k in range(inputs))
     chain = "Inf(3) | (Fin(2) & (Inf(1) | Fin(0)))"
     return f'HOA: v1\nStates: {states}\nStart: 0\nAP: {inputs + 1} {names} "o"\ncontrollable-AP: {inputs}\nAcceptance: 4 {chain}\n'
 
 
 def by_states(states):
-    """An edge for each letter of four inputs, at one output."""
+    """In each state, each letter of the four inputs has an edge for one value of the output."""
     parts = [head(states, 4)]
     for x in range(16):
         parts.append(f"Alias: @{x} " + "&".join(f"{'' if x >> p & 1 else '!'}{p}" for p in range(4)) + f"&{'' if x % 2 else '!'}4\n")
@@ -45,7 +49,9 @@ def by_states(states):
 
 
 def by_classes(inputs):
-    """An edge for each letter, whose low bits are the inputs. What the two outputs lead to tells all bits of the inputs."""
+    """Each state has an edge for each letter; the low bits of a letter are the inputs, and the high bit is the output.
+    The targets for the two outputs together determine all bits of the inputs, so each letter of the inputs is a class
+    of its own."""
     parts = [head(FEW, inputs), "--BODY--\n"]
     for q in range(FEW):
         parts.append(f"State: {q}\n")
@@ -56,7 +62,8 @@ def by_classes(inputs):
 
 
 def automata(family, most):
-    """Texts of a family, each twice as large, with their states and the classes of a state."""
+    """The automata of a family, each twice as large as the one before, with the number of states and of the classes of
+    a state."""
     if family == "states":
         for states in SIZES:
             if 16 * states <= most:
@@ -68,7 +75,7 @@ def automata(family, most):
 
 
 def least(command, given, runs):
-    """The least seconds of so many runs, and what was printed."""
+    """The least seconds of the given number of runs, and the output of the last run."""
     best, printed = math.inf, b""
     for _ in range(runs):
         start = time.perf_counter()

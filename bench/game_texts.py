@@ -1,14 +1,15 @@
 #!/usr/bin/env python3
-"""Shows that reading game texts takes time proportional to the text.
+"""Shows that reading game texts takes time proportional to their length.
 
   bench/game_texts.py PROGRAM [ARGUMENTS..]
   bench/game_texts.py --ids PROGRAM [ARGUMENTS..]
 
-Makes game texts of 1, 2, 4, 8 and 16 MiB, runs the built psyn on `closed` with each of them and a certificate that is
-refused at its first byte, and prints the time of each run and its growth from one size to the next.
+Makes game texts of 1, 2, 4, 8 and 16 MiB, and runs `closed` of the built psyn on each game with an empty certificate,
+which is refused at its first byte. For each run the time is printed, and its growth since the size before.
 
-With --ids it makes texts of 100,000 vertices with the same length, with ids of four kinds: each its own place, rising from
-10^9 on, scattered, and scattered but rising. It prints the least time of five runs of each, in turn.
+With --ids, the script makes texts of 100,000 vertices and of the same length, with four kinds of ids: each vertex's
+index, consecutive from 10^9 on, random, and random but rising. For each kind it prints the least time of five runs; the
+runs of the kinds alternate.
 """
 import random
 import subprocess
@@ -19,7 +20,8 @@ MEBIBYTE = 1 << 20
 
 
 def game_text(size):
-    """A game in which each vertex goes to the next two, as long as the size allows."""
+    """A game of as many vertices as fit in the size; each vertex has edges to itself, to the vertex before it, and to
+    the vertex with half its number."""
     lines = ["parity 0;\n"]
     length = len(lines[0])
     vertex = 0
@@ -33,20 +35,20 @@ def game_text(size):
 
 
 def text_of_ids(ids, length):
-    """A vertex for each id, with one successor and a name that fills its line up to the length."""
+    """A vertex for each id, with one successor, and with a name that pads its line to the given length."""
     lines = [f"{id_} 1 0 {ids[place * 7 % len(ids)]}" for place, id_ in enumerate(ids)]
     return "\n".join(f'{line} "{"x" * (length - len(line))}";' for line in lines).encode()
 
 
 def refused(program, text):
-    """The seconds of a run on a game and a certificate that is refused at its first byte."""
+    """The seconds of a run on a game and an empty certificate, and the beginning of the answer."""
     start = time.monotonic()
     run = subprocess.run(program, input=b"closed\n" + text + b"\n%%\n", capture_output=True, check=False)
     return time.monotonic() - start, run.stdout.decode().strip()[:60]
 
 
 def ids(program):
-    """The times for ids of four kinds."""
+    """Prints the times for the four kinds of ids."""
     count, dice = 100_000, random.Random(1)
     spread = dice.sample(range(10**9, 10**10), count)
     kinds = {"own places": range(count), "rising": range(10**9, 10**9 + count), "spread": spread, "spread, rising": sorted(spread)}

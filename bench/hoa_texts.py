@@ -3,9 +3,10 @@
 
   bench/hoa_texts.py [--program PROGRAM]
 
-psyn has no command that only reads HOA texts, so a program of a few lines (SOURCE) is made in a temporary folder, over
-copies of the crates with what earlier checks kept in out/. It reads one text and prints how many rows it has, or where it is
-refused. --program gives one that was made before. Texts of 1, 2, 4, 8 and 16 MiB are made in these ways:
+psyn has no command that only reads HOA texts, so a program of a few lines (SOURCE) is built in a temporary folder, on
+copies of the crates with what earlier checks kept in out/. The program reads a text, and prints the number of rows of
+the automaton or the position of the first error. --program names a program that was built before. Texts of 1, 2, 4, 8
+and 16 MiB are made in these ways:
     edges      states with many edges, each with a short label and a set
     labels     few edges with long labels over propositions and aliases
     implicit   states with implicit labels over 8 propositions
@@ -14,7 +15,7 @@ refused. --program gives one that was made before. Texts of 1, 2, 4, 8 and 16 Mi
     alike      the same with long names that differ only in their last bytes
     repeated   `controllable-AP:` with the same numbers over and over
     numbers    `controllable-AP:` with numbers that all differ
-Prints the time of each run, and its growth against the growth of the text (1.00 is proportional).
+For each run the time is printed, and its growth divided by the growth of the text (1.00 is proportional).
 """
 import os
 import shutil
@@ -57,7 +58,7 @@ HEADER = f"HOA: v1 Start: 0 AP: 8 {NAMES} controllable-AP: 0 1 Acceptance: 2 Inf
 
 
 def filled(head, size, piece_of, tail="--END--\n"):
-    """Pieces after the head, as many as fit in the given number of bytes."""
+    """The head, as many pieces as fit in the given number of bytes, and the tail."""
     parts, length, number = [head], len(head) + len(tail), 0
     while True:
         piece = piece_of(number)
@@ -88,7 +89,7 @@ def header(size):
 
 
 def uses(size, name_of):
-    """Aliases of these names, and labels with them up to the end of the text."""
+    """Aliases with the given names, and states whose labels use these aliases, up to the given size."""
     head = HEADER + "\n" + "".join(f"Alias: {name_of(k)} {k % 8}\n" for k in range(4096)) + "--BODY--\n"
     return filled(head, size, lambda k: f"State: {k} [{' & '.join(name_of((k * 61 + e * 997) % 4096) for e in range(16))}] 0\n")
 

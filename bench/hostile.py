@@ -1,20 +1,21 @@
 #!/usr/bin/env python3
-"""Runs psyn on texts that are made to be hard, and says how long each run takes and how much memory it holds.
+"""Runs psyn on texts that are made to be hard, and prints how long each run takes and how much memory it uses.
 
   bench/hostile.py PSYN [--only KIND,..] [--commands COMMAND,..] [--rungs N] [--seconds N] [--mebibytes N] [--stack KIBIBYTES]
 
-hostile_texts.py says what the kinds are; most texts have 16 MiB, and games by rungs have 40 rungs. Each is run through each
-command that takes it, with a stack of 1,024 KiB, with at most 1,024 MiB of memory (more is refused), and for at most 60 seconds of
-processor time, if nothing else is given. A line for each run has its kind and its number within the kind, the command, the seconds
-of processor time and by the clock, the most memory held (MB), the bytes of the answer, the status and the answer's first line.
-It ends with one of these words, if it applies:
+hostile_texts.py defines the kinds of texts; most texts have 16 MiB, and games made of rungs have 40 rungs. Each text is
+given to each command that reads it. By default, a run has a stack of 1,024 KiB, at most 1,024 MiB of memory (a larger
+request is refused), and at most 60 seconds of processor time. A line for each run has its kind and its number within
+the kind, the command, the processor seconds, the elapsed seconds, the greatest memory use (MB), the bytes of the
+answer, the exit status, and the answer's first line. The line ends with those of the following words that apply:
 
-  LARGER    out of memory is the right answer: the answer, or counts that it has by definition, are larger
+  LARGER    out of memory is the right answer, because the answer, or the counts in it, exceed any memory
   SLOW      more than 10 seconds of processor time
-  LARGE     more than 1 GiB: out of memory, which is not the right answer
-  ENDED     it ended by a signal, or with a status that psyn does not have: always wrong, except for a run that was ended for its time
+  LARGE     psyn answered out of memory, and this is not the right answer
+  ENDED     a signal or an unknown exit status ended the run: an error, unless the time limit ended it
 
-The last line counts them. The status is 1 if a run is ENDED, or if one that is LARGER ends in another answer."""
+The last line has the number of runs with each word. The exit status is 1 if a run is ENDED, or if a run that is LARGER
+does not answer out of memory."""
 import argparse
 import collections
 import multiprocessing
@@ -37,7 +38,7 @@ OUT_OF_MEMORY = b"fault 24 OutOfMemory\n"
 
 
 def limits(given):
-    """What the child is held to."""
+    """Returns a function that sets the limits of the child process."""
     def hold():
         resource.setrlimit(resource.RLIMIT_STACK, (given.stack << 10, given.stack << 10))
         resource.setrlimit(resource.RLIMIT_AS, (given.mebibytes << 20, given.mebibytes << 20))
@@ -47,11 +48,12 @@ def limits(given):
 
 
 def written(kind, rungs, room):
-    """Writes the inputs of a kind to files, and says how each run is called and whether its answer is larger."""
+    """Writes the inputs of a kind to files, and returns for each its command and whether its right answer is out of
+    memory."""
     told = []
     for number, run in enumerate(kind(rungs) if kind in BY_RUNGS else kind()):
         with open(os.path.join(room, f"{number}.input"), "wb") as file:
-            # A text that another follows ends before the newline of the line `%%`.
+            # A text before another one loses its last newline here, because the separator begins with a newline.
             texts = [text.removesuffix("\n") for text in run.texts[:-1]] + list(run.texts[-1:])
             file.write((run.command + "\n" + "\n%%\n".join(texts)).encode())
         told.append((run.command, run.is_larger))
@@ -59,13 +61,15 @@ def written(kind, rungs, room):
 
 
 def written_apart(kind, rungs, room):
-    """The same in a process of its own: what this one holds would be counted as held by those that it starts."""
+    """Calls `written` in a process of its own. Otherwise the memory of this process would be counted for the processes
+    that it starts."""
     with multiprocessing.get_context("fork").Pool(1) as pool:
         return pool.apply(written, (kind, rungs, room))
 
 
 def measured(given, path):
-    """The status (negative: a signal), the answer's start and length, the resources used, and the seconds by the clock."""
+    """The exit status (negative: a signal), the beginning and the length of the answer, the resources used, and the
+    elapsed seconds."""
     with open(path, "rb") as text, tempfile.TemporaryFile() as answer:
         begin = time.monotonic()
         child = subprocess.Popen([given.psyn], stdin=text, stdout=answer, preexec_fn=limits(given))
@@ -78,7 +82,7 @@ def measured(given, path):
 
 
 def marks(is_larger, status, start, processor):
-    """What is to be said of the run."""
+    """The words that apply to a run."""
     found = ["LARGER"] if is_larger else []
     if processor > SLOW:
         found.append("SLOW")
@@ -96,7 +100,7 @@ def is_wrong(is_larger, status, start):
 
 
 def measure_kind(given, kind, counts):
-    """Prints a line for each run of a kind, and counts them."""
+    """Prints a line for each run of a kind, and counts the runs with each word."""
     with tempfile.TemporaryDirectory() as room:
         for number, (command, is_larger) in enumerate(written_apart(kind, given.rungs, room)):
             if given.commands and command not in given.commands.split(","):

@@ -1,7 +1,7 @@
-"""Texts that are made to be hard: each function is a kind, and gives its runs.
+"""Texts that are made to be hard for psyn: each function makes the runs of one kind.
 
-A run is a command line, the texts after it, and whether its answer, or the counts that it has by definition, are larger than
-any machine can hold, so that out of memory is the right answer. A text has 16 MiB, if its kind can fill them."""
+A run is a command line, its texts, and whether out of memory is the right answer, because the answer or the counts in
+it are larger than any machine's memory. A text has 16 MiB if a text of its kind can be so long."""
 import collections
 import os
 import subprocess
@@ -17,7 +17,7 @@ CERTIFICATE_START = "psyncert 1\nvertices 1\n"
 
 
 def filled(head, pieces, tail):
-    """The head, as many of the pieces as fit, and the tail; blanks after it, if the pieces end."""
+    """The head, as many of the pieces as fit in `SIZE`, and the tail."""
     parts, room = [head], SIZE - len(head) - len(tail)
     for piece in pieces:
         room -= len(piece)
@@ -48,13 +48,13 @@ def on_automata(text, larger=()):
 # Automata
 
 def label():
-    """One label over two propositions."""
+    """A long label over two propositions."""
     pieces = repeated("|!1&0", SIZE // 5)
     return on_automata(filled(head(propositions(2), [1], "1 Inf(0)") + "State: 0 [0", pieces, "] 0 {0} --END--\n"))
 
 
 def wide_label():
-    """One label over 64 propositions: cubes of six, one after another."""
+    """A long label over 64 propositions: a disjunction of cubes of six literals."""
     cubes = ("|" + "&".join(f"{'!' * ((k >> b) % 2)}{(k * 7 + b * 11) % 64}" for b in range(6)) for k in range(SIZE))
     return on_automata(filled(head(propositions(64), range(32), "1 Inf(0)") + "State: 0 [f", cubes, "] 0 {0} --END--\n"))
 
@@ -66,7 +66,7 @@ def twined_label():
 
 
 def condition():
-    """One condition that is a chain of two million links, and one that is not a chain."""
+    """An acceptance condition that is a chain of two million links, and one that is not a chain."""
     state = " --BODY-- State: 0 0 {0} --END--\n"
     runs = []
     for first, links in (("Fin(0)", "|Inf(0)"), ("Inf(0)", "&Inf(1)|Inf(0)")):
@@ -76,25 +76,26 @@ def condition():
 
 
 def states():
-    """65,535 states with 16 edges each, by letters over four propositions."""
+    """65,535 states with 16 unlabelled edges each, one for each letter over four propositions."""
     rows = (f"State: {q}\n" + "".join(f"{(q * 31 + e * 977) % 65535} {{{e % 3}}}\n" for e in range(16)) for q in range(65535))
     return on_automata(filled(head(propositions(4), [2, 3], "3 Fin(2) & (Inf(1) | Fin(0))"), rows, "--END--\n"))
 
 
 def edges():
-    """One state with an edge for each of a million letters, nearly each to a state of its own."""
+    """A state with an edge for each of a million letters; the edges lead to 65,534 different states."""
     row = (f"{1 + k % 65534} \n" for k in range(1 << 20))
     return on_automata(filled(head(propositions(20), range(10, 20), "0 t") + "State: 0\n", row, "--END--\n"))
 
 
 def equal_edges():
-    """One state with a million equal edges."""
+    """A state with a million equal edges."""
     row = repeated("[0&!1] 1 {0}\n", 1 << 20)
     return on_automata(filled(head(propositions(2), [1], "1 Inf(0)") + "State: 0\n", row, "--END--\n"))
 
 
 def marks():
-    """One state with an edge for each of 131,072 letters, all to one state, whose marks meet in a table with a fixed seed."""
+    """A state with an edge for each of 131,072 letters, all to the same state; the sets of acceptance marks would
+    collide in a hash table with a fixed seed."""
     masks = map(int, colliding(1 << 17, 17, 1 << 60, 0))
     row = ("[" + "&".join(f"{'!' * (1 - (k >> b) % 2)}{b}" for b in range(17)) + f"] 0 {{{' '.join(str(s) for s in range(64) if mask >> s & 1)}}}\n"
            for k, mask in enumerate(masks))
@@ -102,13 +103,13 @@ def marks():
 
 
 def inputs():
-    """64 inputs, of which each of 65,535 states reads one."""
+    """64 inputs and 65,535 states, each of which reads one of the inputs."""
     rows = (f"State: {q} [{q % 64}] {(q + 1) % 65535} {{0}} [!{q % 64}] {(q * 5 + 2) % 65535}\n" for q in range(65535))
     return on_automata(filled(head(propositions(64), [], "1 Inf(0)"), rows, "--END--\n"))
 
 
 def cascades():
-    """States that look at 16 inputs one after another, and go on at the first that is true."""
+    """States that test 16 inputs one after another; the first true input chooses the next state."""
     def row(q):
         edges = (f"[{'&'.join([f'!{(q + j) % 48}' for j in range(e)] + [str((q + e) % 48)])}] {(q * 17 + e) % 20000}" for e in range(16))
         return f"State: {q} {' '.join(edges)}\n"
@@ -116,7 +117,7 @@ def cascades():
 
 
 def nesting():
-    """Labels, and a condition, that nest as deep as is allowed; and a label that nests once more."""
+    """Labels and a condition that nest as deep as psyn allows, and a label that nests one level deeper."""
     deep = "!(" * 128 + "0" + ")" * 128
     rows = (f"State: {q} [{deep}] 0 {{0}}\n" for q in range(65535))
     condition_text = "(" * 256 + "Inf(0)" + ")" * 256
@@ -125,7 +126,7 @@ def nesting():
 
 
 def comments():
-    """Comments in comments, closed and not; a string of 16 MiB; signs that open and never close."""
+    """Nested comments, closed and unclosed; a string of 16 MiB; and parentheses that open and never close."""
     half = SIZE // 4 - 100
     tail = ' Start: 0 controllable-AP: Acceptance: 0 t --BODY-- State: 0 [t] 0 --END--'
     named = filled('HOA: v1 name: "', repeated("\\\"", SIZE // 2), '"' + tail)
@@ -135,7 +136,7 @@ def comments():
 
 
 def names():
-    """64 propositions, or 4,096 aliases, with long names that differ in their last bytes alone."""
+    """64 propositions, or 4,096 aliases, with long names that differ only in their last bytes."""
     long = ["n" * (SIZE // 65) + f"{k:04}" for k in range(64)]
     start = head(propositions(8), [7], "1 Inf(0)").removesuffix("--BODY--\n")
     aliases = [f"@{'n' * 2000}{k:04}" for k in range(4096)]
@@ -152,12 +153,13 @@ def on_games(text, larger=()):
 
 
 def vertices():
-    """Vertices with three edges each and seven priorities."""
+    """Many vertices with three edges each and seven priorities."""
     return on_games(filled("", (f"{v} {v % 7} {v % 2} {v},{max(v - 1, 0)},{v // 2};\n" for v in range(SIZE)), ""))
 
 
 def colliding(count, bits, most, *first):
-    """Numbers that the tables of the toolchain put into one place, alone or after a first number."""
+    """Numbers that collide in a hash table with the toolchain's hash function and a fixed seed, alone or after a given
+    first number."""
     with tempfile.TemporaryDirectory() as room:
         program = os.path.join(room, "colliding")
         subprocess.run(["cc", "-O2", "-o", program, os.path.join(os.path.dirname(os.path.abspath(__file__)), "colliding.c")], check=True)
@@ -166,14 +168,15 @@ def colliding(count, bits, most, *first):
 
 
 def ids():
-    """131,072 ids that meet in a table with a fixed seed."""
+    """131,072 ids that would collide in a hash table with a fixed seed."""
     found = colliding(1 << 17, 14, 1 << 40)
     pad = "n" * (SIZE // len(found) - 2 * len(found[-1]) - 12)
     return on_games("".join(f'{vertex} 0 0 {vertex} "{pad}";\n' for vertex in found))
 
 
 def priorities():
-    """Some 900,000 vertices and priorities: loops, a path up, and a path down to a loop."""
+    """Games of 690,000 vertices and more, all with different priorities: self-loops only, a cycle of rising priorities,
+    and a path of falling priorities to a self-loop."""
     loops = filled("", (f"{v} {v} 0 {v};\n" for v in range(SIZE)), "")
     rising = filled("", (f"{v} {v} {v % 2} {v + 1};\n" for v in range(690000)), "690000 690000 0 0;\n")
     falling = filled("", (f"{v} {v} {v % 2} {max(v - 1, 0)};\n" for v in range(SIZE)), "")
@@ -182,16 +185,19 @@ def priorities():
 
 
 def fan():
-    """One vertex with some 900,000 edges, to vertices that lead back to it; and one with edges to itself alone."""
+    """A vertex with some 600,000 edges to vertices that lead back to it; and a vertex with millions of edges, all to
+    itself."""
     count = 600000
     fanned = f"0 1 0 {','.join(map(str, range(1, count)))};\n" + "".join(f"{v} 2 1 0;\n" for v in range(1, count))
     return on_games(fanned) + on_games(f"0 0 0 0{',0' * (SIZE // 2 - 10)};\n")
 
 
-# Games by rungs. A family says of each vertex of a rung, a, b, c and so on, its player, its priority, and where its edges lead: to a
-# vertex of the same rung, or with + of the next one, with - of the one before. Edges past the ends are left out, and a vertex that has
-# none then leads to itself. A priority is low where all rungs have the same ones; else it rises or falls from rung to rung, by a step.
-# Where a family turns, players and low priorities change sides with each rung.
+# Games by rungs. A family describes each vertex (a, b, c and so on) of a rung by its player, its priority and its
+# edges. An edge leads to a vertex of the same rung, with `+` to one of the next rung, and with `-` to one of the rung
+# before. Edges beyond the first or the last rung are left out; a vertex that has no edge then gets a self-loop. A
+# priority of kind `low` is the same in all rungs; a priority of kind `rises` or `falls` changes from rung to rung by
+# the family's step. In a family with `turns`, the players and the parities of low priorities are exchanged in every
+# second rung.
 Family = collections.namedtuple("Family", "step turns vertices")
 
 
@@ -202,7 +208,7 @@ def priority_at(family, kind, number, rung, rungs):
 
 
 def targets_at(family, leads, rung, rungs):
-    """The places to which the edges lead, each once."""
+    """The distinct vertices to which the edges lead."""
     places = []
     for lead in leads.split():
         to = rung + lead.count("+") - lead.count("-")
@@ -247,32 +253,36 @@ SLOW_TO_IMPROVE = Family(4, False, (
 
 
 def ladder(rungs=40):
-    """A ladder for solvers that go down and up again: some 2.1 times as many calls for each rung of five vertices."""
+    """A ladder game for recursive solvers: each further rung of five vertices multiplies the number of calls by about
+    2.1."""
     return on_games(game_by_rungs(LADDER, rungs))
 
 
 def second_ladder(rungs=40):
-    """The same shape with two priorities exchanged and other players: twice as many calls for each rung."""
+    """The game `ladder` with two priorities exchanged and other players: each further rung doubles the number of
+    calls."""
     return on_games(game_by_rungs(SECOND_LADDER, rungs))
 
 
 def twisted(rungs=40):
-    """Rungs of eight vertices that stay hard where each call takes components, and for priority promotion."""
+    """Rungs of eight vertices that stay hard for solvers that split the game into components, and for priority
+    promotion."""
     return on_games(game_by_rungs(TWISTED, rungs))
 
 
 def braided(rungs=40):
-    """The same of six vertices."""
+    """Rungs of six vertices with the same property as in `twisted`."""
     return on_games(game_by_rungs(BRAIDED, rungs))
 
 
 def steep(rungs=40):
-    """2.55 times as many calls for each rung of five vertices, the most that was found."""
+    """Each further rung of five vertices multiplies the number of calls by 2.55, the greatest factor that was found."""
     return on_games(game_by_rungs(STEEP, rungs))
 
 
 def slow_to_improve(rungs=40):
-    """Twice as many calls for each rung of six vertices, and rounds of strategy improvement that grow with the rungs."""
+    """Each further rung of six vertices doubles the number of calls; the rounds of strategy improvement grow with the
+    number of rungs."""
     return on_games(game_by_rungs(SLOW_TO_IMPROVE, rungs))
 
 
@@ -280,7 +290,7 @@ BY_RUNGS = (ladder, second_ladder, twisted, braided, steep, slow_to_improve)
 
 
 def names_of_games():
-    """One name of 16 MiB, and a number of so many digits."""
+    """A vertex with a name of 16 MiB, an id with 16 MiB of leading zeros, and a number of 16 MiB of nines."""
     return on_games(f'0 0 0 0 "{"n" * (SIZE - 20)}";\n') + on_games(f'{"0" * (SIZE - 20)} 0 0 0;\n') + on_games("9" * SIZE)
 
 
@@ -314,7 +324,7 @@ def circuit(inputs, latches, outputs, gates, variables):
 
 
 def gates():
-    """Chains of gates, rising and falling, and one of them closed to a cycle."""
+    """Chains of gates in rising order and in falling order, and a chain that is closed to a cycle."""
     count = 620000
     rising = [f"{2 * v} {2 * v - 1} {2 * v - 2}" for v in range(2, count)]
     closed = [f"2 {2 * count - 2} 3", *rising]
@@ -325,14 +335,15 @@ def gates():
 
 
 def latches():
-    """900,000 latches, each of which takes the next one's value."""
+    """900,000 latches in a ring, each of which takes the next one's value."""
     count = 900000
     listed = [f"{2 * v} {2 * (v % count) + 2}" for v in range(1, count + 1)]
     return on_circuits(circuit([], listed, [], [], count), "\n\n")
 
 
 def wires():
-    """Two million inputs, and a letter for them; then as many outputs, and symbols."""
+    """Circuits with two million inputs, with eight million outputs, with 700,000 symbols, and with a symbol of 16 MiB;
+    each with a stimulus of one letter."""
     count = 2000000
     listed = [str(2 * v) for v in range(1, count + 1)]
     few = 700000
@@ -344,7 +355,7 @@ def wires():
 
 
 def variables():
-    """130,000 variables that meet in a table with a fixed seed, as latches and as gates."""
+    """130,000 variables that would collide in a hash table with a fixed seed, as latches and as gates."""
     found = [2 * int(number) for number in colliding(130000, 14, (1 << 31) - 1)]
     most = (1 << 31) - 1
     as_latches = circuit([], [f"{v} {w}" for v, w in zip(found, found[1:] + found[:1])], [], [], most)
@@ -353,21 +364,22 @@ def variables():
 
 
 def stimuli():
-    """Letters without a digit, letters of one digit, and one letter of 16 MiB; to the limit of the input without a digit."""
+    """Stimuli of 16 MiB: empty letters, letters of one digit, and one long letter; and a stimulus of empty letters up
+    to the limit of the input."""
     none, one = circuit([], [], [], [], 0), circuit(["2"], [], ["2"], [], 1)
     runs = on_circuits(none, "\n" * SIZE) + on_circuits(one, "1\n" * (SIZE // 2)) + on_circuits(one, "1" * SIZE + "\n")
     return runs + [Run("sim", (none, "\n" * ((1 << 26) - 50)))]
 
 
 def letters_and_gates():
-    """A circuit of 20,000 gates and a stimulus of 20,000 letters: 400 million gates are worked out."""
+    """A circuit of 20,000 gates and a stimulus of 20,000 letters, so that 400 million gates are evaluated."""
     count = 20000
     rising = [f"{2 * v} {2 * v - 1} {2 * v - 2}" for v in range(2, count)]
     return on_circuits(circuit(["2"], [], [str(2 * count - 2)], rising, count), "1\n0\n" * 10000)
 
 
 def counting():
-    """A circuit that counts through 40 latches: a lap of it repeats after 2^40 laps."""
+    """A 40-bit counter: on a lasso, its latches repeat only after 2^40 laps."""
     count, lines, gates_of, carry, top = 40, [], [], 1, 40
     for v in range(1, count + 1):
         if carry == 1:
@@ -382,12 +394,12 @@ def counting():
 
 
 def inputs_at_the_limit():
-    """Inputs at, and above, the 64 MiB that are read."""
+    """Inputs just below, and above, the limit of 64 MiB."""
     return [Run("solve", ("0 0 0 0;" + " " * ((1 << 26) - 100),)), Run("solve", (" " * (1 << 26),))]
 
 
 def first_lines():
-    """First lines of 16 MiB: one word, words of one letter, flags, blanks."""
+    """First lines of 16 MiB: one word, words of one letter, flags, and blanks."""
     lines = ["x" * SIZE, "x " * (SIZE // 2), "solve" + " --compact" * (SIZE // 10), "solve" + " " * SIZE, "synth --" + "c" * SIZE]
     return [Run(line, ("0 0 0 0;",)) for line in lines]
 

@@ -1,16 +1,17 @@
 #!/usr/bin/env python3
-"""Runs circuits on 256 stimuli at once and one by one, compares the two, and times a step of either.
+"""Runs circuits on 256 stimuli at once (in lanes) and on one stimulus after another, compares the results, and times a
+step of either.
 
   bench/lanes.py [--random N] [--program PROGRAM]
 
-psyn has no command that runs many stimuli, so the program bench/lanes is made in a temporary folder, over copies of the crates
-with what earlier checks kept in out/. --program gives one that was made before. It draws eight letters for each of 256 runs, and
-stops with an error where an output or a latch of a lane differs from that of the plain run. The times of the lanes are taken
-between those of the plain runs, and the least of each counts.
+psyn has no command that runs many stimuli, so the program bench/lanes is built in a temporary folder, on copies of the
+crates with what earlier checks kept in out/. --program names a program that was built before. The program runs eight
+random letters in each of the 256 lanes, and fails if an output or a latch of a lane differs from that of the plain run.
+Runs in lanes alternate with plain runs, and the least time of each kind counts.
 
---random makes N (200) small circuits at random for that, with latches that follow one another and gates in any order. Then come
-circuits of 10000, 100000 and 1000000 gates (those of bench/simulate.py): a line for each with the nanoseconds of a step for each
-gate, in all lanes at once and in one run, and the one over the other.
+--random makes N (200) small random circuits for this comparison, with latches that may read any variable and gates in
+any order. Then come circuits of 10000, 100000 and 1000000 gates (those of bench/simulate.py). A line for each has the
+nanoseconds that a step takes for each gate, in all lanes at once and in one plain run, and the ratio of the two.
 """
 import argparse
 import os
@@ -31,7 +32,7 @@ LETTERS = 8
 
 
 def lines_below(names):
-    """The lines of crates.txt of these crates and of all that they use, by their names."""
+    """The lines of crates.txt, by crate, for the given crates and all crates that they use."""
     with open(os.path.join(TOP, "crates.txt"), encoding="utf-8") as file:
         lines = {line.split(":")[0]: line for line in file if ":" in line and not line.startswith("#")}
     found, pending = {}, list(names)
@@ -60,7 +61,7 @@ def made(folder):
 
 
 def times(program, text):
-    """The least nanoseconds of all steps, by `lanes` and `plain`."""
+    """The least nanoseconds for all steps, for the words `lanes` and `plain`."""
     run = subprocess.run([program], input=text.encode(), capture_output=True, check=False)
     if run.returncode != 0:
         sys.exit(f"status {run.returncode}: {run.stderr[:200]!r}\n{text[:2000]}")
@@ -71,7 +72,7 @@ def times(program, text):
 
 
 def circuit_text(dice):
-    """A small circuit, as ASCII AIGER."""
+    """A small random circuit in ASCII AIGER."""
     inputs, latches, gates, outputs = dice.randrange(5), dice.randrange(5), dice.randrange(12), dice.randrange(4)
     most = inputs + latches + gates
     order = list(range(1 + inputs + latches, most + 1))

@@ -1,10 +1,11 @@
 #!/usr/bin/env python3
-"""Says how much memory psyn holds for each vertex, gate, letter, state or sign of a text, command by command.
+"""Prints how much memory psyn uses for each vertex, gate, letter, state or byte of a text, command by command.
 
   bench/memory.py PSYN
 
-Each kind of text is run at two sizes; the most memory held, and the bytes of the input, are compared. A line for each kind has
-the bytes held for each unit more, the bytes of the input for each unit more, and how many times that is.
+Each kind of text is run at two sizes; the greatest memory use and the length of the input are compared. A line for each
+kind has the additional bytes of memory for each additional unit, the additional bytes of input for each unit, and the
+ratio of the two.
 """
 import os
 import random
@@ -56,7 +57,7 @@ class Bench:
         self.program, self.input, self.output = program, os.path.join(room, "input"), os.path.join(room, "output")
 
     def run(self, command, *texts):
-        """The bytes held and the bytes of the input."""
+        """The greatest memory use of a run, and the length of its input, in bytes."""
         with open(self.input, "w", encoding="ascii") as file:
             file.write(command + "\n" + "%%\n".join(texts))
         open(self.output, "wb").close()

@@ -1,17 +1,19 @@
 #!/usr/bin/env python3
-"""Solves games at random and compares the answers with plain enumeration; then times games of growing size.
+"""Solves random games, and compares the answers with a plain enumeration; then times games of growing size.
 
   bench/regions.py [--random N] [--program PROGRAM] [--beside SOLVER] [--games FOLDER]
 
-psyn has no command that only solves, so the program bench/regions is made in a temporary folder, over copies of the crates with
-what earlier checks kept in out/. --program gives one that was made before.
+psyn has no command that only solves, so the program bench/regions is built in a temporary folder, on copies of the
+crates with what earlier checks kept in out/. --program names a program that was built before.
 
---random draws N (1000) games of at most 12 vertices. Each table of the one player is played against each of the other; a vertex
-is a player's who has a table that wins from there against all of the other's, and what the program prints has to win there.
+--random makes N (1000) random games of at most 12 vertices. Each positional strategy of one player is played against
+each of the other. A player wins the vertices from which one of the player's strategies beats all of the opponent's. The
+printed winners must be the same, and the printed moves must win.
 
-Then come paths and loops in which each vertex has a priority of its own, up to 100000 of them, the last also under a stack of
-256 KiB, and the files of FOLDER: a line for each with the milliseconds and the depth of the calls. SOLVER is another one that is run on the same text as
-`SOLVER solve --stats --counts none --out none`, and writes `solve_ms` and its milliseconds to its standard error.
+Then come paths of up to 10000 vertices, and up to 100000 vertices with self-loops only, all with different priorities;
+the largest game once more with a stack of 256 KiB; and the games in FOLDER. A line for each has the milliseconds and
+the depth of the recursion. SOLVER is another solver. It is run on the same text as `SOLVER solve --stats --counts none
+--out none`, and must write `solve_ms` and its milliseconds to standard error.
 """
 import argparse
 import itertools
@@ -39,7 +41,7 @@ def small_stack():
 
 
 def answer(program, text, limit=None):
-    """The nanoseconds, the depth, and a line for each vertex of a small game."""
+    """The nanoseconds, the depth of the recursion and, for a small game, a line for each vertex."""
     run = subprocess.run([program], input=text.encode(), capture_output=True, check=False, preexec_fn=limit)
     if run.returncode != 0:
         sys.exit(f"status {run.returncode}: {run.stderr[:200]!r}\n{text[:2000]}")
@@ -54,7 +56,7 @@ def game_text(game):
 
 
 def drawn(dice):
-    """A game with few tables."""
+    """A random game with few positional strategies."""
     while True:
         count = dice.randrange(1, 13)
         most = dice.randrange(1, 9)
@@ -67,7 +69,7 @@ def drawn(dice):
 
 
 def winners(game, moves):
-    """Who wins from each vertex where each has its move."""
+    """The winner of the play from each vertex if both players' moves are fixed."""
     found = [None] * len(game)
     for start in range(len(game)):
         path, place = [], {}
@@ -89,7 +91,7 @@ def tables(game, player):
 
 
 def check(game, lines):
-    """The printed moves win, and the winners are those of the enumeration."""
+    """Checks that the printed moves win, and that the printed winners are those of the enumeration."""
     where = [None, None]
     for player in (0, 1):
         where[player] = set()
@@ -130,7 +132,7 @@ def made(folder):
 
 
 def beside(solver, text):
-    """The milliseconds that another solver took."""
+    """The milliseconds that another solver took; None if it did not print them."""
     run = subprocess.run([solver, "solve", "--stats", "--counts", "none", "--out", "none"], input=text.encode(), capture_output=True, check=False)
     found = re.search(r"solve_ms (\d+\.\d+)", run.stderr.decode())
     return float(found[1]) if found else None

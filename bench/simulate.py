@@ -1,11 +1,12 @@
 #!/usr/bin/env python3
-"""Times psyn's `sim`: the steps a second of a circuit, and their growth with its gates.
+"""Times psyn's `sim`: the steps of a circuit in a second, and the growth of the time with the number of gates.
 
   bench/simulate.py PSYN [ARGUMENTS..]
 
-Makes circuits of 25000, 50000, 100000 and 200000 gates and a stimulus of 1000 letters, the same in each run, and runs the built
-psyn with the stimulus and without. The difference is the time of the steps. Each gate reads two of those before it, of the
-inputs and of the latches, at random; the gates are in the text in a random order.
+Makes circuits of 25000, 50000, 100000 and 200000 gates and a fixed stimulus of 1000 letters, and runs the built psyn on
+each circuit with the stimulus and with an empty one. The difference of the two times is the time of the steps. Each
+gate reads two random variables among the inputs, the latches and the gates before it; the text has the gates in random
+order.
 """
 import random
 import subprocess
@@ -19,7 +20,7 @@ LETTERS = 1000
 
 
 def circuit_text(gates):
-    """A circuit of so many gates, as ASCII AIGER."""
+    """A random circuit with the given number of gates, in ASCII AIGER."""
     dice = random.Random(gates)
     first = 1 + INPUTS + LATCHES
     lines = []
@@ -35,13 +36,13 @@ def circuit_text(gates):
 
 
 def stimulus():
-    """Letters at random, a line for each."""
+    """Random letters, one on each line."""
     dice = random.Random(0)
     return "".join("".join(dice.choice("01") for _ in range(INPUTS)) + "\n" for _ in range(LETTERS))
 
 
 def timed(program, text):
-    """The least time of three runs, and how many lines were answered."""
+    """The least time of three runs, and the number of lines in the answer."""
     best = None
     for _ in range(3):
         start = time.monotonic()

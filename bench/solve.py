@@ -1,16 +1,17 @@
 #!/usr/bin/env python3
-"""Times `solve` and `check`, from text to text, compared with another solver.
+"""Times `solve` and `check` of psyn, from reading a text to writing the answer, compared with another solver.
 
   bench/solve.py PSYN GAMES [SOLVER] [--runs N]
   bench/solve.py PSYN --compact
 
-GAMES is a folder of game texts NAME.pg. SOLVER is run on the same text as `SOLVER solve`, and as `SOLVER check GAME CERTIFICATE`
-on what psyn printed. The least processor time of N (3) whole processes, in turn, is taken of each. A row for each game has the
-seconds of psyn and, compared with the other one, their ratio; the last row has the ratios of the sums. psyn's `check` must say that
-psyn's certificate is valid.
+GAMES is a folder of game texts NAME.pg. SOLVER is run as `SOLVER solve` on the same text, and as `SOLVER check GAME
+CERTIFICATE` on the certificate that psyn printed. For each command, the least processor time of N (3) whole processes
+counts; the runs of the commands alternate. A row for each game has psyn's seconds and, with a SOLVER, psyn's seconds
+divided by the other's; the last row does the same for the sums. psyn's `check` must answer that psyn's certificate is
+valid.
 
-With --compact it makes games of N vertices with N priorities and times `solve --compact`, with the bytes of the certificate and
-the most memory that the process held.
+With --compact, the script times `solve --compact` on games with as many priorities as vertices, and prints the bytes of
+the certificate and the greatest memory use of the processes.
 """
 import os
 import resource
@@ -21,20 +22,20 @@ import time
 
 
 def timed(words, text):
-    """The seconds of a process, and what it printed."""
+    """The seconds that a process took, and its output."""
     start = time.perf_counter()
     run = subprocess.run(words, input=text, capture_output=True, check=False)
     return time.perf_counter() - start, run.stdout
 
 
 def path(count):
-    """A path of so many vertices, each of another priority, to a loop of player 0: hardly a count is not 0."""
+    """A path of vertices with different priorities to a self-loop that player 0 wins; almost all counts are 0."""
     lines = [f"{v} {v} {v % 2} {min(v + 1, count - 2)};" for v in range(count)]
     return "\n".join(lines)
 
 
 def ladder(count):
-    """Vertices of so many priorities that lead anywhere, by a fixed rule, with two or three edges each."""
+    """Vertices with different priorities and up to three pseudorandom edges each."""
     lines, state = [], 1
     for v in range(count):
         targets = []
@@ -46,7 +47,7 @@ def ladder(count):
 
 
 def compact(psyn):
-    """`solve --compact` of games with as many priorities as vertices."""
+    """Times `solve --compact` on games with as many priorities as vertices."""
     wrong = 0
     for name, make in (("path", path), ("ladder", ladder)):
         for count in (2_500, 5_000, 10_000):
@@ -69,13 +70,14 @@ def processor(words, text, output):
 
 
 def least(runs, calls):
-    """The least seconds of each call, the calls made in turn."""
+    """The least seconds of each call in several rounds; each round makes every call once."""
     seconds = [[call() for call in calls] for _ in range(runs)]
     return [min(of) for of in zip(*seconds)]
 
 
 def row_of(psyn, game, solver, runs, room):
-    """The least seconds of psyn's `solve` and `check`, and of the other's, and whether the certificate is valid."""
+    """The least seconds of psyn's `solve` and `check`, and of the other solver's, and whether psyn's certificate is
+    valid."""
     path_to = {name: os.path.join(room, name) for name in ("solve", "check", "certificate", "said")}
     with open(game, "rb") as file:
         text = file.read().rstrip(b"\n") + b"\n"

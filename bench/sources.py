@@ -1,6 +1,7 @@
-"""The programs of the benches, as crates.
+"""The source code of the benches' programs, as crates.
 
-Their files lie here with the ending `.in`, since the gate wants each source in a crate that it proves."""
+The source files here have the additional ending `.in`, because the gate requires that each source belongs to a crate
+that it proves."""
 import os
 import shutil
 
@@ -8,7 +9,7 @@ BENCH = os.path.dirname(os.path.abspath(__file__))
 
 
 def copy_program(name, crates):
-    """Copies the program of a bench to a folder of crates."""
+    """Copies the source code of a bench's program to a folder of crates."""
     copied = os.path.join(crates, name)
     shutil.copytree(os.path.join(BENCH, name), copied)
     for folder, _, files in os.walk(copied):

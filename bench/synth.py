@@ -1,13 +1,13 @@
 #!/usr/bin/env python3
-"""Times synthesis, from an HOA text to a circuit, and shows that it takes time proportional to the automaton.
+"""Times synthesis, from an HOA text to a circuit, and shows that the time is proportional to the size of the automaton.
 
   bench/synth.py PSYN [--most STATES]
 
 Automata of 10 states and more (ten times as many each, at most STATES, which is 65,000 if not given) are made in these ways:
-    states         2 inputs and 2 outputs: each request is granted some steps later; a controller exists
-    inputs         1,000 states and 2 to 62 inputs, of which each state reads two
-    priorities     a state for each of up to 64 sets of a chain
-    unrealizable   an output must foretell an input, in one state after another
+    states         2 inputs and 2 outputs: each request must be granted at some later step; a controller exists
+    inputs         1,000 states and 2 to 62 inputs; each state reads two of the inputs
+    priorities     a state for each of the 2 to 64 sets of a chain condition
+    unrealizable   the output must equal the next step's input, in every state
 A line for each has the seconds of `game` (read, build, game, its text), of `cert` (solve, check and the certificate's text in
 the place of the game's), and of `synth` (besides the machine, the circuit and its text); the growth of `synth` against that of
 the states (1.00 is proportional); the first line of the answer, the gates, and the most memory that `synth` held.
@@ -27,7 +27,8 @@ def head(inputs, outputs, acceptance):
 
 
 def states(count):
-    """A request (input 0) leads on, a grant (output 0) back; input 1 jumps ahead, output 1 is free."""
+    """A request (input 0) leads to another state, and a grant (output 0) two or five states on, in the acceptance set;
+    input 1 jumps ahead, and output 1 chooses between the grants."""
     lines = [head(2, 2, "1 Inf(0)")]
     for q in range(count):
         lines.append(f"State: {q} [0&!2] {(q + 1) % count} [!0&!2&!1] {q} [!0&!2&1] {(q * 7 + 3) % count} [2&!3] {(q + 2) % count} {{0}} [2&3] {(q + 5) % count} {{0}}\n")
@@ -35,7 +36,7 @@ def states(count):
 
 
 def inputs(count):
-    """1,000 states, each of which reads two of the inputs, and requires the output to be their conjunction."""
+    """1,000 states, each of which reads two of the inputs and requires the output to be their conjunction."""
     lines = [head(count, 1, "0 t")]
     for q in range(1_000):
         a, b = q % count, (q * 5 + 1) % count
@@ -44,7 +45,8 @@ def inputs(count):
 
 
 def priorities(count):
-    """A state for each set of a chain; the environment moves up by one, the controller down to any third."""
+    """A state for each set of a chain condition; the environment can move to the next set, and the controller down to a
+    half or a third of the set's number."""
     chain = "t"
     for k in reversed(range(count)):
         chain = f"Inf({k}) | ({chain})" if k % 2 == 0 else f"Fin({k}) & ({chain})"
@@ -55,7 +57,7 @@ def priorities(count):
 
 
 def unrealizable(count):
-    """In each state the output of this step must be the input of the next one."""
+    """In each state, the output must equal the input of the next step."""
     lines = [head(1, 1, "0 t")]
     half = max(count // 2, 1)
     for q in range(half):
@@ -65,7 +67,7 @@ def unrealizable(count):
 
 
 def timed(psyn, command, text):
-    """The seconds of a run, what it printed, and the most memory that it held, in MB."""
+    """The seconds of a run, its output, and its greatest memory use in MB."""
     begin = time.perf_counter()
     with subprocess.Popen([psyn], stdin=subprocess.PIPE, stdout=subprocess.PIPE) as run:
         run.stdin.write(f"{command}\n{text}".encode())

@@ -1,20 +1,21 @@
 #!/usr/bin/env python3
-"""Judges printed circuits with a literal changed, by `verify` and by an enumeration; or times `verify`.
+"""Compares the verdicts of `verify` and of an enumeration on printed circuits with one literal changed; or times
+`verify`.
 
   bench/verify.py PSYN --changed SEED [--literals N] [--most VERTICES] [FILE..]
   bench/verify.py PSYN --times RUNS [FILE..]
 
-A FILE is an HOA text. Where none is given, the automata are two of examples/files, those of the gallery and of bench/synth.py.
-The circuits are those that `synth` prints, with and without --moore.
+A FILE is an HOA text. If no FILE is given, the automata are two of examples/files, those of the gallery, and those of
+bench/synth.py. The circuits are those that `synth` prints, with and without --moore.
 
---changed changes N literals of each circuit (50; all, where there are no more), which SEED draws, one at a time. What `verify`
-answers must be what an enumeration of the product in Python says (tools/tests/products.py), and `lasso` must confirm each
-counterexample. A line for each circuit has the answers, and how many products had more than VERTICES vertices (50,000), or more
-than 20 inputs.
+--changed changes one literal at a time: N literals of each circuit (50, or all if there are fewer), which the random
+seed SEED chooses. The verdict of `verify` must be that of an enumeration of the product in Python
+(tools/tests/products.py), and `lasso` must confirm each counterexample. A line for each circuit has the number of each
+verdict, and the number of products with more than VERTICES vertices (50,000) or more than 20 inputs.
 
---times has a line for each circuit: the least processor time of RUNS runs of `synth` and of `verify` of the same text, in
-turn, in seconds, and the second over the first. Where no FILE is given, there is also a circuit that copies 20 inputs to 20
-outputs, of which the automaton looks at one pair in each state.
+--times prints a line for each circuit: the least processor seconds of RUNS alternating runs of `synth` and of `verify`
+on the same automaton, and the time of `verify` divided by that of `synth`. If no FILE is given, there is also a circuit
+that copies 20 inputs to 20 outputs; the automaton compares one input with one output in each state.
 """
 import argparse
 import collections
@@ -45,7 +46,7 @@ MOST_IN_VAIN = 3
 
 
 def automata(psyn, files):
-    """The names and the texts."""
+    """The names and the texts of the automata."""
     for path in files:
         with open(path, encoding="utf-8") as file:
             yield os.path.basename(path).removesuffix(".hoa"), file.read()
@@ -63,7 +64,7 @@ def gallery(psyn):
 
 
 def cases(psyn, named):
-    """For each automaton and either order a line's beginning, and the case."""
+    """For each automaton and each order of moves, the beginning of the output line, and the case."""
     for name, spec in named:
         for moore in (False, True):
             try:
@@ -91,7 +92,8 @@ def compare(psyn, seed, literals, files):
 
 
 def answers(case, seed, literals):
-    """How often each answer was given. No more are tried where some products, or that of the circuit itself, are too large."""
+    """How often each verdict was given. A circuit's literals are no longer changed after several products were too
+    large, or if the product of the unchanged circuit is too large."""
     told = collections.Counter()
     for text in case.drawn(seed, literals):
         try:
@@ -111,7 +113,7 @@ def tell(told):
 
 
 def timed(psyn, given):
-    """The processor time of a run."""
+    """The processor seconds of a run of psyn."""
     with open(os.devnull, "wb") as nowhere, subprocess.Popen([psyn], stdin=subprocess.PIPE, stdout=nowhere) as run:
         run.stdin.write(given)
         run.stdin.close()
@@ -121,7 +123,8 @@ def timed(psyn, given):
 
 
 def copies(psyn, count=20):
-    """A circuit without gates, and an automaton that in each state wants one output to be its input."""
+    """An automaton that in each state requires one output to equal one input, with the circuit of `synth` and with a
+    circuit without gates."""
     states = [f"State: {q} [{q}&{count + q} | !{q}&!{count + q}] {(q + 1) % count}\n" for q in range(count)]
     spec = synth.head(count, count, "0 t") + "".join(states) + "--END--\n"
     case = changes.case_of(psyn, spec, False)

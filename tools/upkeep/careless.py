@@ -5,10 +5,10 @@ A `[[line]]` has
 
   name      what the line shows; no name occurs twice
   defect    the number of the bug report that the line tests, if there is one
-  command   what bash runs in a folder with `slow.pg` and the files of `FILES` and `PROGRAMS`; the command `psyn` is
-            the tool, and `install-psyn` is tools/install
-  cut       an interruption: Ctrl-C or the signal TERM, HUP or KILL while the program works, or `closed pipe`, a standard
-            output that nobody reads; left out if nothing interrupts the command
+  command   what bash runs in a folder with `slow.pg` and the files of `FILES` and `PROGRAMS`; in it, `psyn` runs the
+            tool, and `install-psyn` runs tools/install
+  cut       an interruption: Ctrl-C or the signal TERM, HUP or KILL while the program works, or `closed pipe`, a
+            standard output that nobody reads; left out if nothing interrupts the command
   output    the expected standard output; if it is left out, any output is right
   error     the exact standard error
   status    the exit status as a shell reports it: 128 plus the signal's number if a signal ended the command
