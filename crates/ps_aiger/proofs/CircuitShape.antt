@@ -1,4 +1,4 @@
--- What is built from given gates is a circuit, and the circuit is tidy.
+-- A circuit that is built from given gates is well formed, and its variables are numbered in order (`IsTidy`).
 use Rattle.std.proofs.Common.{◌≡◌, ◌∙◌, ℕ, zero, suc, ◌+◌, ◌-◌, ◌*◌, ◌<◌, ◌≤◌, false, List, [], ◌∷◌, rules, map, length}
 use Rattle.std.proofs.Common.{get_or, slice_get, Option, Some, None, refl, sym, ap, subst, arith, inl, inr, All}
 use Rattle.std.proofs.Common.{replicate}

@@ -1,4 +1,4 @@
--- The step of the circuit of a machine is the machine's.
+-- Each step of a machine's circuit is a step of the machine.
 use Rattle.std.proofs.Common.{rules, ◌≡◌, ◌∙◌, ℕ, ◌+◌, ◌*◌, ◌^◌, ◌<◌, ◌≤◌, Bool, false, List, map, length, get_or, sym}
 use Rattle.std.proofs.Common.{refl, ap, ap₂, subst, arith, All, IsTrue}
 use Rattle.std.specs.List.{range_with_len}

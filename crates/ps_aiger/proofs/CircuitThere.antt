@@ -1,4 +1,4 @@
--- A machine has a circuit, which is built from its wires, if there is a literal for each variable.
+-- If there are enough literals for its gates, a machine has a circuit, which is built from these gates.
 use Rattle.std.proofs.Common.{rules, ◌≡◌, ◌∙◌, ℕ, zero, suc, ◌+◌, ◌*◌, ◌^◌, ◌<◌, ◌≤◌, ◌⊎◌, false, List, length, map}
 use Rattle.std.proofs.Common.{get_or, Some, None, sym, ap, subst, arith, inl, inr, replicate}
 use Rattle.std.specs.List.{range_with_len}
@@ -30,7 +30,7 @@ use Rattle.ps_aiger.proofs.WiredMade.{AreWires, IsBit, wires-made}
 
 -- ## What is built from the wires
 
--- a circuit that is built from the wires
+-- the circuit that is built from the machine's gates
 pub record IsWhole (b : Behaviour) (latches : ℕ) (c : CircuitData) : Type 0 where
   pub room : HasRoom (output_wires b latches).draft
   pub built : IsBuilt b (output_wires b latches).draft (next_wires b latches).literals

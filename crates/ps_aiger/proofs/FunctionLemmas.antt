@@ -1,4 +1,4 @@
--- Lemmas about constant literals, nodes without a leaf, and codes that fit in 64 bits.
+-- Lemmas about constant literals, diagram nodes that lead to no leaf, and codes that fit in 64 bits.
 use Rattle.std.proofs.Common.{◌≡◌, ℕ, zero, suc, ◌+◌, ◌-◌, ◌*◌, ◌/◌, ◌%◌, ◌^◌, ◌<◌, ◌≤◌, Bool, false}
 use Rattle.std.proofs.Common.{cond, nat_eq, List, [], ◌∷◌, length, get_or, slice_get, Some, refl, sym, ap, subst, arith}
 use Rattle.std.proofs.Common.{inl, inr, if◌then◌else◌}
@@ -58,7 +58,7 @@ halves (suc n) h = grind (arith, pow-suc)
 pub shl_is : (latch : ℕ) → latch < 64 → 1 * 2 ^ latch % 18446744073709551616 ≡ 2 ^ latch
 shl_is latch lt = one_shl latch 64 lt
 
--- so few latches that each code fits
+-- there are at most 64 latches, because each code fits in 64 bits
 pub few_latches : (latches code : ℕ) → (latches ≡ 0 → ⊥) → code + 2 ^ latches ≤ 18446744073709551616 → latches - 1 < 64
 few_latches latches code some fits = elim (cases_lt (latches - 1) 64) [
   | inl lt ↦ lt

@@ -48,7 +48,7 @@ multiple_more : (m p : ℕ) (b : Bool) (ps : List ℕ) (bits : List Bool) → m 
 multiple_more m p b ps bits le rest =
     grind (arith, one_multiple b p m le, add-mul (cond b (2 ^ (p - m)) 0) rest.0 (2 ^ m))
 
--- a letter over propositions from m on is a multiple of 2^m
+-- a letter over propositions from m on is, as a number, a multiple of 2^m
 multiple : (m : ℕ) (ps : List ℕ) (bits : List Bool) → AreFrom m ps → (n : ℕ) × (letter_over ps bits ≡ n * 2 ^ m)
 multiple m [] bits a = (0, omega arith)
 multiple m (p ∷ ps) [] a = (0, omega arith)

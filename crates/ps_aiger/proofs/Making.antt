@@ -1,7 +1,7 @@
--- What a call gives that makes the gates of a literal, at its exits.
---     fails      a call before this one fails, for want of a variable only if there are too many
---     gives      the literal is there, and needs no gate
---     as-made, by-choice      the last call makes the literal, by other gates or by a choice
+-- What a function that builds the gates of a literal returns, at each of its exits.
+--     fails      an earlier call fails, and reports too many variables only if the literal needs too many
+--     gives      the literal exists already, and needs no gate
+--     as-made, by-choice      the last call builds the literal: as another literal, or as a choice between two
 --     test-split, test-chosen      the gates of a node that tests an input
 use Rattle.std.proofs.Common.{◌≡◌, ◌∙◌, ℕ, ◌+◌, ◌*◌, Bool, Err, IsErrAnd, List, Ok, Result, Some, ap, slice_get, subst, sym}
 use Rattle.std.proofs.Common.{rules}
@@ -34,7 +34,7 @@ pub gives : {d : Drafted} {literal : ℕ} {all : Made} → IsHeld d literal → 
     MakesLiteral d d (Ok literal) all
 gives {d} held made = record { extends = extends-refl d; held = held; made = made; too_large = search rules }
 
--- the last call makes the literal
+-- the last call builds the literal
 pub as-made : {old mid new : Drafted} {result : Result ℕ EncodeFault} {whole all : Made} → whole ≡ all →
     Extends old mid → MakesLiteral mid new result all → MakesLiteral old new result whole
 as-made {old} {mid} {new} {result} {whole} {all} is x m = record {

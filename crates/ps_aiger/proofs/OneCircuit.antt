@@ -58,7 +58,7 @@ circuit_same : (c d : CircuitData) → c.most ≡ d.most → c.inputs ≡ d.inpu
     c.input_names ≡ d.input_names → c.latch_names ≡ d.latch_names → c.output_names ≡ d.output_names → c ≡ d
 circuit_same c d most inputs latches outputs gates input_names latch_names output_names = grind (arith, input_names)
 
--- the number of definitions is the greatest variable
+-- the number of inputs, latches and gates together is the greatest variable
 many_defined : (x : CircuitData) → IsTidy x → length x.inputs + length x.latches + length x.gates ≡ x.most
 many_defined x numbered = ap₂ (λ n m. length x.inputs + n + m) (sym (length-map x.latches (λ l. l.literal)))
     (sym (length-map x.gates (λ g. g.literal))) ∙ ap (λ n. n + length (map (λ (g : Gate). g.literal) x.gates))

@@ -1,4 +1,5 @@
--- The literals of functions: building a literal again needs no new gate, and a diagram has the gates of its function.
+-- The literals of Boolean functions: building a literal a second time adds no gate, and a decision diagram has the
+-- gates of its function.
 use Rattle.std.proofs.Common.{rules}
 use Rattle.std.proofs.Common.{◌≡◌, ◌∙◌, ℕ, zero, suc, ◌+◌, ◌*◌, ◌<◌, Bool, true, false, cond, if◌then◌else◌, List, []}
 use Rattle.std.proofs.Common.{◌∷◌, length, get_or, slice_get, Option, Some, None, refl, sym, ap, subst, arith, inl, inr}
@@ -148,7 +149,7 @@ pub inputs-again : (m : MachineData) (w : Wanted) (node : ℕ) (d e : Drafted) �
 unfolding node_made
 inputs-again m w node d e x = over-again (range_with_len 1 (length m.inputs)) _ d e x
 
--- the wanted bit of the row to which a leaf leads
+-- the wanted bit of the machine's row to which a leaf of the diagram leads
 abbrev bit_at : MachineData → Wanted → Option ℕ → Bool
 bit_at m w leaf = wanted_bit w (row_at_leaf m (unwrap_or leaf (length m.rows)))
 

@@ -1,4 +1,4 @@
--- Machines with the same behaviour have the same wires.
+-- For machines with the same behaviour, the same gates and literals are built.
 use Rattle.std.proofs.Common.{rules, arith, ◌≡◌, ℕ, zero, suc, ◌+◌, ◌^◌, ◌<◌, Bool, List, [], ◌∷◌, map, refl}
 use Rattle.std.proofs.lemmas.Bool.{ltb-true}
 use Rattle.ps_machine.specs.Behaviours.{Behaviour}
@@ -32,7 +32,7 @@ module _ (b o : Behaviour) (some : 0 < b.memories) (same : BehavesAs b o) where
     code_same f g latch code (code_made o g latch (code + 2 ^ latch) d).draft agree,
   )
 
-  -- if bits of two machines agree, their literals have the same wires
+  -- if the bits of two machines agree, the same gates and literals are built for them
   wired_same : (f g : ℕ → StepBit) (latches : ℕ) (ns : List ℕ) (d : Drafted) → ((n : ℕ) → AgreeAt (f n) (g n)) →
       wired b latches (map f ns) d ≡ wired o latches (map g ns) d
   unfolding wired

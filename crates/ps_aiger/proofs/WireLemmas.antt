@@ -1,4 +1,4 @@
--- Building wires adds gates after the existing ones.
+-- Building a literal only adds gates after the existing ones.
 use Rattle.std.proofs.Common.{rules, arith, ◌≡◌, ℕ, zero, suc, ◌+◌, ◌^◌, List, [], ◌∷◌, length, refl, ap}
 use Rattle.std.proofs.lemmas.List.FromFn.{length-map-range_with_len}
 use Rattle.ps_machine.specs.Behaviours.{Behaviour}
@@ -39,6 +39,6 @@ wired-many b latches (f ∷ fs) d = ap suc (wired-many b latches fs (code_made b
 pub next_many : (b : Behaviour) (latches : ℕ) → length (next_wires b latches).literals ≡ latches
 next_many b latches = grind (arith, wired-many, length-map-range_with_len)
 
--- the drafted circuit is given one variable for each input and latch
+-- the circuit under construction begins with one variable for each input and each latch
 pub output_given : (b : Behaviour) (latches : ℕ) → (output_wires b latches).draft.given ≡ length b.inputs + latches
 output_given b latches = grind (arith, wired-extends)

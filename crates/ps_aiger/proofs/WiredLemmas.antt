@@ -81,7 +81,7 @@ pub code-suc : (m : MachineData) (w : Wanted) (latches latch code upper s : ℕ)
 unfolding code_made
 code-suc m w latches latch code upper s d es eu e = grind arith
 
--- the choice by the highest latch
+-- the gates of the choice by the highest latch
 pub code-halves : (m : MachineData) (w : Wanted) (latches code : ℕ) (d : Drafted) → (latches ≡ 0 → ⊥) →
     code + 2 ^ latches ≤ 18446744073709551616 → code_wanted m w latches code d ≡ choose
     (2 * (length m.inputs + 1 + (latches - 1)))
@@ -94,7 +94,7 @@ code-halves m w latches code d some fits =
 
 -- ## One function after another
 
--- the result of wiring, with the given literals inserted before its own
+-- the given literals, followed by those that are built for the remaining bits
 abbrev pub behind : List ℕ → Wired → Wired
 behind literals rest = record { draft = rest.draft; literals = literals ++ rest.literals }
 

@@ -1,5 +1,5 @@
--- If there is a literal for each variable, the gates of a machine's step are sound, and its literals have the bits of
--- the step.
+-- If there are enough literals, the gates of a machine's step are well formed, and their literals have the values of
+-- the step's bits.
 use Rattle.std.proofs.Common.{◌≡◌, ◌∙◌, ℕ, zero, suc, ◌+◌, ◌*◌, ◌/◌, ◌^◌, ◌<◌, ◌≤◌, Bool, true, false, cond, List, []}
 use Rattle.std.proofs.Common.{◌∷◌, All, map, length, get_or, slice_get, Some, refl, sym, ap, ap₂, subst, arith}
 use Rattle.std.specs.List.{range_with_len}
@@ -77,7 +77,7 @@ code_read b latches v = letter_of latches (λ j. v (length b.inputs + 1 + j))
 abbrev bit_read : Behaviour → StepBit → ℕ → ℕ → (ℕ → Bool) → Bool
 bit_read b f latches code v = f (memory_of_code b (code + code_read b latches v)) (letter_read b v)
 
--- the literal has a bit of the step, for the memory state whose code the latches hold
+-- the literal has the value of a bit of the step, for the memory state whose code the latches hold
 abbrev pub IsBit : Behaviour → ℕ → StepBit → Drafted → ℕ → Type 0
 IsBit b latches f d literal =
     IsMade (record { draft = d; literal = literal }) (λ v. f (memory_of_code b (0 + code_read b latches v))

@@ -19,9 +19,9 @@ use ps_circuit::{Builder, Circuit, EncodeFault, Gate, Latch, Literal, Parts, Sid
 use ps_machine::Machine;
 use std::alloc::{AllocError, Global};
 
-/// Builds the circuit of a machine, each step of which is the machine's step. The circuit begins in memory state 0. The
-/// latches hold the code of a memory state; a code that belongs to no memory state stands for memory state 0. Inputs
-/// and outputs have the names of their propositions.
+/// Builds the circuit of a machine: each step of the circuit is a step of the machine. The circuit begins in memory
+/// state 0. The latches hold the code of a memory state; a code that belongs to no memory state stands for memory state
+/// 0. Inputs and outputs have the names of their propositions.
 ///
 /// # Errors
 ///
@@ -241,7 +241,7 @@ fn symbols(
     Ok(names)
 }
 
-/// A list of `count` missing names.
+/// A list of `count` entries, none of which is a name.
 fn no_symbols(alloc: Global, count: usize) -> Result<Vec<Option<Vec<u8>>>, AllocError>
     ensures many { IfOk result (λ names. length names.items ≡ count) }
     ensures none { IfOk result (λ names. map name_bytes names.items ≡ replicate count None) }

@@ -16,7 +16,7 @@ use ps_diagram::{Node, View};
 use ps_machine::{Machine, Row};
 use std::alloc::Global;
 
-/// One bit of a machine's row.
+/// A bit of a row of the machine, which has the next memory state and the output letter.
 #[derive(Debug, Clone, Copy, PartialEq, Eq)]
 pub(crate) enum Wanted {
     /// The bit with this index in the number of the next memory state.
@@ -120,7 +120,7 @@ fn over_inputs(
     }
 }
 
-/// The constant literal of the bit `wanted` of the row to which a leaf refers.
+/// The literal (0 or 1) of the bit `wanted` of the machine's row to which a leaf of the diagram refers.
 fn constant(machine: &Machine, wanted: Wanted, leaf: u64) -> Literal
     ensures { result ≡ (if wanted_bit wanted (row_at_leaf machine.now leaf) then 1 else 0) }
 {
@@ -130,7 +130,7 @@ fn constant(machine: &Machine, wanted: Wanted, leaf: u64) -> Literal
     }
 }
 
-/// The bit `wanted` of a row.
+/// The bit `wanted` of a row of the machine.
 fn bit_of_row(wanted: Wanted, row: Row) -> bool
     ensures { result ≡ wanted_bit wanted row }
 {
@@ -140,7 +140,7 @@ fn bit_of_row(wanted: Wanted, row: Row) -> bool
     }
 }
 
-/// A bit of a number.
+/// The bit with the given index in a number.
 fn has_bit(number: u64, place: u32) -> bool
     ensures { result ≡ is_in place number }
 {

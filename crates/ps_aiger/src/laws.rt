@@ -1,4 +1,4 @@
-//! Laws about the definitions.
+//! Laws about the circuits of machines.
 
 ghost use Rattle.std.specs.Prelude.{◌≡◌, ◌⊎◌};
 ghost use Rattle.ps_machine.specs.Behaviours.{Behaviour, IsMachine};

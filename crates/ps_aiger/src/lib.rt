@@ -17,7 +17,7 @@
 //!
 //! The latches hold the number of a memory state in binary. Each output and each next value of a latch is a literal
 //! that is built from the machine's decision diagrams, node by node, as a choice by the proposition that the node
-//! tests. An existing gate is used again.
+//! tests. A gate that exists already is not built again.
 #![tactic(auto)]
 
 mod encoding;

@@ -1,4 +1,4 @@
--- The index of an id: its own index, or the index recorded in the table or the tree.
+-- The index of an id: the id's distance from `first`, or the index recorded in the table or in the tree.
 use Rattle.std.proofs.Common.{◌≡◌, ◌≢◌, ℕ, ◌+◌, ◌<◌, ◌≤◌, Bool, false, eqb, List, [], ◌∷◌, ◌++◌, length, get_or}
 use Rattle.std.proofs.Common.{Option, None, Some, refl, sym, ap, subst, inl, inr, ⊎_elim, ◌∙◌, arith, rules}
 use Rattle.std.proofs.Common.{length-append}
@@ -59,7 +59,7 @@ near_at first ids near far id place is above e =
     let at = is.near_sound (own_place first id) place e in
     (at.0, at.1 ∙ omega arith)
 
--- the tree has the index of an id that is neither at its own index nor at the index in the table
+-- the tree has the index of an id, if neither the id's distance from `first` nor the entry of the table is the index
 pub position_by_table : (first : ℕ) (ids near : List ℕ) (far : ℕ → Option ℕ) (id : ℕ) → IsIdTable first ids near far →
     ((first ≤ id) → slice_index near (own_place first id) ≡ 0) → (IsAt ids (own_place first id) id → ⊥) →
     far id ≡ position (is_id id) ids
@@ -87,7 +87,7 @@ some_position p ids = go (position p ids) refl
         ap is_some e ∙ sym (list_any-from_Any p ids (i, get_or ids i 0, at.0, get_or_default_zero ids i _ at.0, at.1))
     go None e = search (rules, some_none, position_at, cases_lt, list_any_none, fails_before_first)
 
--- the tables are still correct after an id is added
+-- the table and the tree are still correct after an id is added
 pub table_push : (first : ℕ) (ids ids' near near' : List ℕ) (old new : ℕ → Option ℕ) (id place : ℕ) →
     IsIdTable first ids near old → place ≡ length ids → KeepsPlace first near near' old new id place →
     (Contains ids id → ⊥) → ids' ≡ ids ++ id ∷ [] → IsIdTable first ids' near' new

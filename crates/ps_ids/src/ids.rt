@@ -13,7 +13,7 @@ use std::alloc::{AllocError, Global};
 use std::collections::BTreeMap;
 use std::marker::Model;
 
-/// The maximal number of entries in the table for each id.
+/// The greatest number of table entries for each id.
 const MOST_PER_ID: usize = 4;
 
 /// Distinct ids in order. An id whose index is its distance from `first` needs no entry. The indices of the other ids
@@ -24,7 +24,8 @@ const MOST_PER_ID: usize = 4;
 pub struct Ids {
     list: Vec<u64>,
     first: u64,
-    /// At the distance of an id from `first`, one more than the index of the id, or 0.
+    /// The entry at an id's distance from `first` is one more than the index of the id, or 0 if the table does not
+    /// record the index.
     near: Vec<u32>,
     far: BTreeMap<u64, usize>,
 }

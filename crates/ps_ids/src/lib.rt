@@ -8,9 +8,9 @@
 //! | `Ids::list`, `into_list` | the ids in order, all distinct |
 //!
 //! An id whose index is its distance from the start (0, or `first`) is found in constant time. An id that was near the
-//! start when it was added is found in constant time too. Near means that its distance from the start was less than
-//! four times the number of ids, including the new id. All other ids are found in a B-tree in logarithmic time, for
-//! every choice of ids.
+//! start when it was added is found in constant time too. An id is near the start if its distance from the start is
+//! less than four times the number of ids, including the new id. All other ids are found in a B-tree in logarithmic
+//! time, for every choice of ids.
 #![tactic(auto)]
 
 mod ids;

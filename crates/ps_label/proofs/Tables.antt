@@ -1,4 +1,4 @@
--- The table of the aliases' truths is unique, and it is the table of the definition.
+-- The table of the aliases' truths is unique: it is the table that the definition `truths_behind` computes.
 use Rattle.std.proofs.Common.{◌≡◌, ℕ, suc, zero, append-nil, ◌+◌, ◌<◌, ◌≤◌, Bool, true, false, cond, List, []}
 use Rattle.std.proofs.Common.{◌∷◌, ◌++◌, length, get_or, refl, ap, sym, ◌∙◌, arith, append_assoc, take, drop, set}
 use Rattle.std.proofs.Common.{length-append, zero-add}

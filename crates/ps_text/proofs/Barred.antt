@@ -1,10 +1,10 @@
--- `barred P Bad` adds the errors that `Bad` states at the sign after P. P does not continue with a sign at which `Bad`
--- states an error.
+-- `barred P Bad` adds to the grammar P the errors that `Bad` states at the symbol after a text of P. No text of P
+-- continues with a symbol at which `Bad` states an error.
 --     laws_barred      the laws of `barred P Bad`
---     read_barred      P is parsed, and `Bad` states no error at the sign after it
+--     read_barred      P is parsed, and `Bad` states no error at the symbol after it
 --     fault_barred      the fault is P's own
---     fault_bar      `Bad` states an error at the sign after P
---     reads_barred, stops_barred, stops_bar      the exits of a parsing function in these three cases
+--     fault_bar      `Bad` states an error at the symbol after P
+--     reads_barred, stops_barred, stops_bar      the results of a parsing function in these three cases
 use Rattle.std.proofs.Common.{◌≡◌, ◌+◌, ◌≤◌, ◌⊎◌, List, [], ◌∷◌, ◌++◌, length, Option, Some, sym, ap, subst, inl}
 use Rattle.std.proofs.Common.{inr, ⊎_elim, ◌∙◌, append_assoc, arith, rules}
 use Rattle.ps_text.specs.Answers.{Begins, Stream, Found, first_of, next_of, offset_of}
@@ -16,7 +16,7 @@ use Rattle.ps_text.proofs.InPlace.{stops_at, read_quiet, quiet_at, fault_begins,
 use Rattle.ps_text.proofs.Joined.{text_begins}
 use Rattle.ps_text.proofs.Exits.{stops_as}
 
--- a sign for which `Bad` states an error, for some value
+-- a symbol for which `Bad` states an error, for some value
 abbrev pub Bar : {T V F : Type 0} → (V → T → F → Type 0) → T → Type 0
 Bar {T} {V} {F} Bad t = (v : V) × (f : F) × Bad v t f
 
@@ -38,7 +38,7 @@ module _ {T V F : Type 0} {odd : T → Type 0} {P : Part T V F} (Bad : V → T �
   }
 
   module _ (apart : Apart More (Bar Bad)) where
-    -- `Bad` states no error at a sign inside a beginning of P
+    -- inside a beginning of a text of P, `Bad` states no error at any symbol
     no_bar : (front m : List T) (t : T) (v : V) (f : F) → Begins P.IsText (front ++ t ∷ m) → P.IsText front v →
         Bad v t f → ⊥
     no_bar front m t v f b h c = apart t (grind (arith, append_assoc)) (v, f, c)

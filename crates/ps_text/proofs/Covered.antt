@@ -1,7 +1,7 @@
--- If the next sign decides which of several forms follows, parsing the whole has the same result as parsing this form
--- (proofs/InPlace.antt). For example, `either` has the result of one of its two forms.
---     Enters P there      the next sign begins a text of P, or is an error of P
---     Avoids A there      the next sign is not in the set A
+-- If the next symbol decides which of several alternatives follows, parsing the whole has the same result as parsing
+-- this alternative (proofs/InPlace.antt). For example, `either P Q` has the result of P or the result of Q.
+--     Enters P there      the next symbol begins a text of P, or is an error of P
+--     Avoids A there      the next symbol is not in the set A
 --     covers_left, covers_right      `either` has the result of one form, if the other form does not begin
 --     laws_either
 use Rattle.std.proofs.Common.{arith, ◌≡◌, ◌⊎◌, List, [], ◌∷◌, ◌++◌, Option, None, Some, refl, subst, inl, inr, ◌∙◌}
@@ -20,7 +20,7 @@ Enters {T} {V} {F} P (Some t) = Begins P.IsText (t ∷ []) ⊎ ((f : F) × P.IsC
 pub enters_broken : {T V F : Type 0} (P : Part T V F) (there : Option T) → Enters P there → IsBroken P [] there → ⊥
 enters_broken P there e b = search rules
 
--- if a part whose texts are not empty was parsed, the first sign that was parsed begins a text of the part
+-- if a nonempty text was parsed, its first symbol begins a text of the grammar
 pub enters_read : {T V F : Type 0} (P : Part T V F) (all rest : List T) (v : V) → ((w : V) → P.IsText [] w → ⊥) →
     IsRead P all v rest → Enters P (first_of all)
 enters_read {T} P all rest v some p = go p.text p.split p.is_text
@@ -29,19 +29,19 @@ enters_read {T} P all rest v some p = go p.text p.split p.is_text
     go [] e h = absurd (some v h)
     go (t ∷ text) e h = search rules
 
--- a sequence of two parts can begin with each sign with which its first part can begin
+-- a sequence of two grammars can begin with each symbol with which the first grammar can begin
 pub enters_then : {T A B F : Type 0} (P : Part T A F) (Q : A → Part T B F) (j : Joint P Q) (there : Option T) →
     Enters P there → Enters (then_by P Q) there
 enters_then P Q j there e = search (rules, begins_left)
 
--- a part whose value is mapped can begin with the same signs as the part itself
+-- a grammar whose value is mapped can begin with the same symbols as the grammar itself
 pub enters_mapped : {T A B F : Type 0} (h : A → B) (P : Part T A F) (there : Option T) → Enters P there →
     Enters (mapped h P) there
 enters_mapped h P None e = e
 enters_mapped h P (Some t) (inl b) = inl (record { more = b.more; value = h b.value; is_text = grind arith })
 enters_mapped h P (Some t) (inr c) = inr c
 
--- a part of one token can begin with each sign that it takes, or for which it has an error
+-- a grammar of one symbol can begin with each symbol that it accepts, or for which it has an error
 pub enters_one : {T V F : Type 0} (take : T → Option V) (Bad : T → F → Type 0) (t : T) →
     (((v : V) × (take t ≡ Some v)) ⊎ ((f : F) × Bad t f)) → Enters (one take Bad) (Some t)
 enters_one take Bad t (inl h) = inl (record { more = []; value = h.0; is_text = (t, refl, h.1) })
@@ -49,11 +49,12 @@ enters_one take Bad t (inr h) = inr (h.0, (refl, h.1))
 
 -- ## either
 
--- the next sign is not in the set `A`
+-- the next symbol is not in the set `A`
 abbrev pub Avoids : {T : Type 0} → (T → Type 0) → Option T → Type 0
 Avoids {T} A there = (t : T) → there ≡ Some t → A t → ⊥
 
--- an error of a part follows a beginning of the part, so the first sign of this beginning is in the set `First`
+-- an error of a grammar follows a beginning of one of its texts, so the first symbol of this beginning is in the set
+-- `First`
 pub first_of_cause : {T V F : Type 0} {odd : T → Type 0} {P : Part T V F} {First More : T → Type 0} {Null : Type 0} →
     Laws odd P First More Null →
     (front rest : List T) (t u : T) (f : F) → P.IsCause front t f → first_of (front ++ t ∷ rest) ≡ Some u → First u
@@ -64,8 +65,8 @@ some_sign : {T : Type 0} (front : List T) (t : T) → (u : T) × (first_of (fron
 some_sign [] t = (t, refl)
 some_sign (s ∷ front) t = (s, refl)
 
--- if W has the texts and errors of P, and otherwise only those of Q, parsing W has the same result as parsing P, at
--- each sign with which Q does not begin
+-- if W has all texts and errors of P, and each other one is one of Q, parsing W has the same result as parsing P, at
+-- each symbol with which Q does not begin
 covers_one : {T V F : Type 0} {odd : T → Type 0} {P Q : Part T V F} {First More : T → Type 0} {Null : Type 0}
     (W : Part T V F) (l : Laws odd Q First More Null) (there : Option T) → Avoids First there → ((text : List T)
     (v : V) → P.IsText text v → W.IsText text v) → ((front : List T) (t : T) (f : F) → P.IsCause front t f → W.IsCause
@@ -95,7 +96,7 @@ module _ {T V F : Type 0} {odd : T → Type 0} (P Q : Part T V F) {First More : 
   covers_right l there a = covers_one (either P Q) l there a (λ _ _ h. inr h) (λ _ _ _ c. inr c)
       (λ _ _ h. swapped h) (λ _ _ _ c. swapped c)
 
--- if Q continues a text of P, this text is empty
+-- if Q can continue a text of P, this text is empty
 module _ {T V F : Type 0} {odd : T → Type 0} {P Q : Part T V F} {F1 M1 F2 M2 : T → Type 0} {N1 N2 : Type 0}
     (l : Laws odd P F1 M1 N1) (r : Laws odd Q F2 M2 N2) (apart : Apart F1 F2) where
   text_across : (text more : List T) (t : T) (v w : V) → P.IsText text v → Q.IsText (text ++ t ∷ more) w → When N1 F2 t
@@ -107,7 +108,7 @@ module _ {T V F : Type 0} {odd : T → Type 0} {P Q : Part T V F} {F1 M1 F2 M2 :
   cause_across (s ∷ text) t v f h k = search (rules, first_of_cause)
 
 module _ {T V F : Type 0} {odd : T → Type 0} {P Q : Part T V F} {F1 M1 F2 M2 : T → Type 0} {N1 N2 : Type 0} where
-  -- the two parts begin with different signs, and at most one of them may be empty
+  -- the two grammars begin with different symbols, and at most one of them has an empty text
   pub laws_either : Laws odd P F1 M1 N1 → Laws odd Q F2 M2 N2 → Apart F1 F2 → (N1 → N2 → ⊥) →
       Laws odd (either P Q) (Or F1 F2) (Or (Or M1 M2) (Or (When N1 F2) (When N2 F1))) (N1 ⊎ N2)
   laws_either l r apart nulls = record {

@@ -1,4 +1,4 @@
--- Decision procedures that find the error of a sign with the smallest number, or show that the sign has no error.
+-- Decision procedures that find the error with the smallest number at a symbol, or show that there is no error.
 --     Decided A      A holds, or it does not
 --     decide_not, decide_as, decide_both, decide_one      combinations of decidable facts are decidable
 --     decide_true, decide_none      the result of a test, and whether an option is None, are decidable

@@ -1,21 +1,23 @@
 -- The exits of a parsing function. The contract of a parsing function is `Meets found causes view part old result new`:
 -- a `Reads` for an Ok, and a `Stops` for an Err. The contracts of the functions that are called have the same form:
 -- `c.call.ensures` and `c.in_err-call.ensures`.
---     reads_then j m n      the first call parsed its part (m), and the other calls parsed the remaining part (n)
+--     reads_then j m n      the first call parsed its grammar (m), and the other calls parsed the rest (n)
 --     stops_first causes j old o s      the first call failed, so the function fails
---     stops_behind causes j m o s      the first call parsed its part, and a later call failed
---     reads_next, stops_bad, stops_refusal      one sign: it is taken; it is bad; it is not allowed, or the text ends
---     reads_give, reads_mapped, stops_mapped      no sign was taken; another function is applied to the value
+--     stops_behind causes j m o s      the first call parsed its grammar, and a later call failed
+--     reads_next, stops_bad, stops_refusal      one symbol: it is accepted; it is an error; it is not allowed, or the
+--               text ends
+--     reads_give, reads_mapped, stops_mapped      no symbol was taken; another function is applied to the value
 --     exits found causes view part old new e r s c      the exit of a `?`, which returns the error e as the result r
 --     then_meets      the result of the last call is returned unchanged
 --     carries_start, carries_then, carries_reads, carries_stops      the invariant of a loop, and its exits
 --
--- Nest `reads_then` for successive calls; j is the `Joint` of the two parts (proofs/Laws.antt). In `exits`, s is the
--- Stops of the error, and c states that the result is this error, `c.from_residual.ensures.1`. For example, these calls
--- parse `line = then_by number (λ n. mapped (λ _. n) semicolon)`:
+-- For successive calls, nest `reads_then`; j is the `Joint` of the two grammars that are parsed one after the other
+-- (proofs/Laws.antt). In `exits`, s states what the error reports (`Stops`), and c, which is
+-- `c.from_residual.ensures.1`, states that the result is this error. For example, the following calls parse the grammar
+-- `line = then_by number (λ n. mapped (λ _. n) semicolon)`:
 --         let n = number(tokens)?; semicolon(tokens)?; Ok(n)
 --
--- With the joint j of the two parts, their proof is:
+-- With the joint j of the two grammars, their proof is:
 --         returns-in_err-n c = exits found causes view line _ _ _ _
 --             (stops_first causes j _ _ c.in_err-n.ensures) c.from_residual.ensures.1
 --         returns c = reads_then j c.in_ok-n.ensures (reads_mapped _ c.in_ok-semicolon.ensures)
@@ -36,7 +38,7 @@ suffix_refl s = record { taken = []; split = refl; end = refl }
 pub suffix_trans : {T : Type 0} (a b c : Stream T) → IsSuffix a b → IsSuffix b c → IsSuffix a c
 suffix_trans a b c x y = grind (arith, append_assoc x.taken y.taken c.pieces)
 
--- the next piece of a stream, if there is a next sign
+-- the next piece of a stream, if there is a next symbol
 pub piece_next : {T : Type 0} (s : Stream T) (t : T) → next_of s ≡ Some t →
     (p : Piece T) × (s.pieces ≡ p ∷ (tail s).pieces) × (p.sign ≡ t)
 piece_next {T} s t e = go s.pieces e
@@ -45,13 +47,13 @@ piece_next {T} s t e = go s.pieces e
     go [] e = absurd (none_is_some t e)
     go (p ∷ ps) e = (p, refl, same_some p.sign t e)
 
--- if each fault of P is a fault of Q, a failure of P is a failure of Q
+-- if each fault of P is a fault of Q, a failed parse of P is a failed parse of Q
 pub stops_as : {T A B F : Type 0} (causes : Causes T F) (P : Part T A F) (Q : Part T B F) (old : Stream T) →
     ((f : F) (rest : List T) → IsFault causes P (signs old.pieces) f rest →
     IsFault causes Q (signs old.pieces) f rest) → (o : Option (Found F)) → Stops causes P old o → Stops causes Q old o
 stops_as causes P Q old h o s = search rules
 
--- a failure of P after some pieces is a failure of Q, if each fault of P there is a fault of Q
+-- a failed parse of P after some pieces is a failed parse of Q, if each fault of P there is a fault of Q
 pub stops_later : {T A B F : Type 0} (causes : Causes T F) (P : Part T A F) (Q : Part T B F) (old mid : Stream T) →
     IsSuffix old mid → ((f : F) (rest : List T) → IsFault causes P (signs mid.pieces) f rest →
     IsFault causes Q (signs old.pieces) f rest) → (o : Option (Found F)) → Stops causes P mid o → Stops causes Q old o
@@ -64,7 +66,7 @@ stops_later causes P Q old mid x h (Some g) s = record {
   offset = s.offset ∙ ap (offset_of s.rest) x.end;
 }
 
--- ## A part was parsed
+-- ## A grammar was parsed
 
 pub reads_give : {T V F : Type 0} (s : Stream T) (v : V) → Reads (give {T = T} {V = V} {F = F} v) s v s
 reads_give s v = (suffix_refl s, read_give (signs s.pieces) v)
@@ -113,7 +115,7 @@ module _ {T F : Type 0} (causes : Causes T F) where
         o ≡ Some (record { cause = f; offset = offset_of old.pieces old.end }) → Stops causes (one take Bad) old o
     stops_bad t f o n b least k = rw k (stops_there f (bad_one take Bad causes (signs old.pieces) t f n b least))
 
-    -- the part has a text, because `take` accepts the sign s
+    -- the grammar has a text, because `take` accepts the symbol s
     pub stops_refusal : (s : T) (w : V) → take s ≡ Some w → ((t : T) → next_of old ≡ Some t → take t ≡ None) →
         ((t : T) (f : F) → next_of old ≡ Some t → Bad t f → ⊥) →
         (o : Option (Found F)) → o ≡ Some (refusal_at causes old) → Stops causes (one take Bad) old o

@@ -1,11 +1,11 @@
--- A part that has the same result, or the same first fault, as another part.
---     stops_by, stops_at, quiet_by, quiet_at      no text continues with the next sign; the next sign is not an error
---     read_quiet      the sign after the parsed text is not an error of the part
---     fault_begins      the signs before a first fault begin the part
+-- A grammar that has the same result, or the same first fault, as another grammar.
+--     stops_by, stops_at, quiet_by, quiet_at      no text continues with the next symbol; the next symbol is no error
+--     read_quiet      the symbol after the parsed text is not an error of the grammar
+--     fault_begins      the symbols before a first fault begin a text of the grammar
 --     fault_from      R has the first fault of P, if R has only texts and errors of P here
---     Covers there P Q      at the next sign `there`, Q has only texts and errors of P
+--     Covers there P Q      at the next symbol `there`, Q has only texts and errors of P
 --     read_as, fault_as      a result of P is a result of Q, and a fault of P is a fault of Q
---     after P left      the remainder of P after the signs `left`
+--     after P left      the remainder of P after the symbols `left`
 --     read_after, fault_after      a result for the remainder is a result for P, if P has no error before it
 use Rattle.std.proofs.Common.{◌≡◌, ℕ, ◌+◌, ◌⊎◌, List, [], ◌∷◌, ◌++◌, length, Option, Some, refl, ap, subst}
 use Rattle.std.proofs.Common.{inl, ◌∙◌, append_assoc, arith, length-append, rules}
@@ -30,12 +30,12 @@ module _ {T V F : Type 0} (P : Part T V F) (front : List T) where
   pub quiet_at : {there : Option T} {t : T} {f : F} → there ≡ Some t → NoCauseAt P front there → P.IsCause front t f → ⊥
   quiet_at {f = f} e n = subst (NoCauseAt P front) e n f
 
--- the sign after the parsed text is not an error of the part
+-- the symbol after the parsed text is not an error of the grammar
 pub read_quiet : {T V F : Type 0} {P : Part T V F} {all rest : List T} {v : V} → (p : IsRead P all v rest) →
     NoCauseAt P p.text (first_of rest)
 read_quiet {P = P} {rest = rest} p = search (rules, quiet_by, head_of)
 
--- the signs before a first fault begin the part, if this holds for the errors of the part
+-- the symbols before a first fault begin a text of the grammar, if this holds for the grammar's errors
 pub fault_begins : {T V F : Type 0} {P : Part T V F} {causes : Causes T F} {all rest : List T} {f : F} →
     ((front : List T) (t : T) (f : F) → P.IsCause front t f → Begins P.IsText front) →
     (p : IsFault causes P all f rest) → Begins P.IsText p.front
@@ -53,7 +53,7 @@ fault_from {T} {A} {B} {F} P R {causes} {all} {rest} {f} p clean begins no_text 
     go (is_cause t e c least) = is_cause t e (cause t c) (λ g k. least g (back t g e (inl c) k))
     go (is_refusal b e) = search (rules, stops_by, quiet_by, quiet_at)
 
--- ## One part in place of another
+-- ## One grammar in place of another
 
 pub record Covers {T V F : Type 0} (there : Option T) (P Q : Part T V F) : Type 0 where
   pub text : (text : List T) (v : V) → P.IsText text v → Q.IsText text v
@@ -62,7 +62,7 @@ pub record Covers {T V F : Type 0} (there : Option T) (P Q : Part T V F) : Type 
   pub cause_back : (front : List T) (t : T) (f : F) → there ≡ first_of (front ++ t ∷ []) → Q.IsCause front t f →
       P.IsCause front t f
 
--- `all` begins with the same sign as `front` followed by t
+-- `all` begins with the same symbol as `front` followed by t
 sign_of : {T : Type 0} {all : List T} {t : T} (front rest : List T) → all ≡ front ++ rest → first_of rest ≡ Some t →
     first_of all ≡ first_of (front ++ t ∷ [])
 sign_of [] rest e x = ap first_of e ∙ x
@@ -90,7 +90,7 @@ module _ {T V F : Type 0} (P Q : Part T V F) where
       no_text [] e b v k = starts (rw e b) v k
       no_text (t ∷ front) e b v k = b.no_text v (c.text_back t front v (ap first_of e) k)
 
--- ## After some signs
+-- ## After some symbols
 
 abbrev pub after : {T V F : Type 0} → Part T V F → List T → Part T V F
 after P left =

@@ -1,6 +1,6 @@
--- The laws of a part, as a record, and the laws of two parts in a row.
---     Laws odd part First More Null      the laws of a part; First and More are the signs that begin and continue it
---     Joint P Q      no sign both continues P and begins Q; the lemma `joint` derives this from the laws
+-- The laws of a grammar, as a record, and the laws of two grammars in a row.
+--     Laws odd part First More Null      the laws of a grammar; First and More are the symbols that begin, or continue, texts
+--     Joint P Q      no symbol both continues P and begins Q; the lemma `joint` derives this from the laws
 --
 -- State the laws of each production of a grammar once, as in `laws_entry : Laws odd entry EntryFirst EntryMore ⊥`. The
 -- laws of a production are proved with the lemma of the production's outermost combinator (proofs/Combined.antt), and
@@ -9,11 +9,12 @@ use Rattle.std.proofs.Common.{◌≡◌, ◌⊎◌, List, [], ◌∷◌, ◌++�
 use Rattle.ps_text.specs.Answers.{Begins}
 use Rattle.ps_text.specs.Parts.{Part}
 
--- Each list of signs has at most one value. First holds for each sign that begins a text of the part, or that is an
--- error of the part at its start. More holds for each sign that continues a text of the part, or that is an error after
--- such a text. Null holds if the empty list is a text. The sets may be larger than that (`weaker`). Each error follows
--- a beginning of a text. The signs `odd` are errors by themselves: they occur in no text, and no part has an error
--- there. The part has at least one text.
+-- Each list of symbols has at most one value. First holds for each symbol that begins a text of the grammar, or that is
+-- an error of the grammar at its start. More holds for each symbol that continues a text of the grammar, or that is an
+-- error after such a text. Null holds if the empty list of symbols is a text. The sets First and More may be larger
+-- than necessary (`weaker`). Each error follows a beginning of a text of the grammar. A symbol in the set `odd` is an
+-- error wherever it occurs: it occurs in no text, and the grammar has no further error there. The grammar has at least
+-- one text.
 pub record Laws {T V F : Type 0} (odd : T → Type 0) (part : Part T V F) (First More : T → Type 0)
     (Null : Type 0) : Type 0 where
   pub some : Begins part.IsText []
@@ -28,7 +29,7 @@ pub record Laws {T V F : Type 0} (odd : T → Type 0) (part : Part T V F) (First
   pub plain_text : (front rest : List T) (t : T) (v : V) → part.IsText (front ++ t ∷ rest) v → odd t → ⊥
   pub plain_cause : (front : List T) (t : T) (f : F) → part.IsCause front t f → odd t → ⊥
 
--- sets of signs: no sign, the signs of either set, and the signs of a set if N holds
+-- sets of symbols: no symbol, the symbols of either set, and the symbols of a set if N holds
 abbrev pub Nothing : {T : Type 0} → T → Type 0
 Nothing _ = ⊥
 
@@ -44,7 +45,7 @@ Within {T} A B = (t : T) → A t → B t
 abbrev pub Apart : {T : Type 0} → (T → Type 0) → (T → Type 0) → Type 0
 Apart {T} A B = (t : T) → A t → B t → ⊥
 
--- the laws still hold with larger sets
+-- the laws still hold with larger sets of symbols
 pub weaker : {T V F : Type 0} {odd : T → Type 0} {part : Part T V F} {First More First' More' : T → Type 0}
     {Null Null' : Type 0} →
     Laws odd part First More Null → Within First First' → Within More More' → (Null → Null') →

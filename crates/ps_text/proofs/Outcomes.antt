@@ -1,9 +1,10 @@
--- Each part of a grammar has an outcome for each list of signs: it is parsed, or its first fault is found. The proof is
--- by recursion over the grammar. Only single signs need a decision: which error has the smallest number (Judged).
---     has_give, .., has_barred      a part that this combinator makes has an outcome for each list of signs
---     entered_or_broken      the next sign enters a part that takes a sign, or the part is broken there
---     has_refusal      the outcome if the next sign does not begin the part
---     some_answer      each text that is one part has an answer; some_answer_of is the law of ps_text
+-- For each list of symbols, each grammar has an outcome: a text is parsed, or the first fault is found. The proof is by
+-- recursion on how the grammar is composed. Only at single symbols is there something to decide: which error has the
+-- smallest number (Judged).
+--     has_give, .., has_barred      a grammar made by this combinator has an outcome for each list of symbols
+--     entered_or_broken      the next symbol begins a grammar without an empty text, or the grammar rejects the symbol
+--     has_refusal      the outcome if the next symbol does not begin the grammar
+--     some_answer      each text has an answer; some_answer_of is the law of ps_text
 use Rattle.std.proofs.Common.{◌≡◌, ℕ, zero, suc, ◌<◌, ◌≤◌, ◌⊎◌, List, [], ◌∷◌, ◌++◌, length, Option, None, Some, Result}
 use Rattle.std.proofs.Common.{Ok, Err, refl, sym, ap, subst, inl, inr, ◌∙◌, arith, rules}
 use Rattle.ps_text.specs.Answers.{Begins, Piece, Stream, Found, HasOneMeaning, first_of, signs, offset_of}
@@ -22,17 +23,17 @@ use Rattle.ps_text.proofs.Branches.{Stands, left_entered, right_otherwise, item_
 use Rattle.ps_text.proofs.Barred.{Bar, read_barred, fault_barred, fault_bar}
 use Rattle.ps_text.proofs.Whole.{Own, answers_ok, answers_fault, answers_trailing}
 
--- a sign has an error with the smallest number, or it has no error
+-- a symbol has an error with the smallest number, or it has no error
 pub data Judged {F : Type 0} (number : F → ℕ) (Bad : F → Type 0) : Type 0 where
   bad : (f : F) → Bad f → ((g : F) → Bad g → number f ≤ number g) → Judged number Bad
   good : ((f : F) → Bad f → ⊥) → Judged number Bad
 
--- a sign has at most one error
+-- a symbol has at most one error
 pub bad_only : {F : Type 0} (number : F → ℕ) (Bad : F → Type 0) (f : F) → Bad f → ((g : F) → Bad g → f ≡ g) →
     Judged number Bad
 bad_only number Bad f b only = bad f b (λ g c. subst (λ h. number f ≤ number h) (only g c) (omega arith))
 
--- the laws still hold if First is exactly the set of signs that enter the part
+-- the laws still hold if First is exactly the set of symbols with which the grammar can begin
 pub exact : {T V F : Type 0} {odd : T → Type 0} {P : Part T V F} {First More : T → Type 0} {Null : Type 0} →
     Laws odd P First More Null → Laws odd P (λ t. Enters P (Some t)) More Null
 exact l = search rules
@@ -41,7 +42,7 @@ module _ {T F : Type 0} (causes : Causes T F) where
   pub has_give : {V : Type 0} (v : V) → HasOutcomes causes (give {T = T} {V = V} {F = F} v)
   has_give v = record { outcome = λ all. was_read v all (read_give all v) }
 
-  -- the part has a text, because `take` accepts the sign s
+  -- the grammar has a text, because `take` accepts the symbol s
   pub has_one : {V : Type 0} (take : T → Option V) (Bad : T → F → Type 0) (s : T) (w : V) → take s ≡ Some w →
       ((t : T) → Judged causes.number (Bad t)) → HasOutcomes causes (one take Bad)
   has_one {V} take Bad s w e judge = record { outcome = go }
@@ -68,7 +69,7 @@ module _ {T F : Type 0} (causes : Causes T F) where
       go all (was_read a rest r) = was_read (h a) rest (read_mapped h P r)
       go all (has_fault f rest r) = has_fault f rest (fault_mapped h P r)
 
-  -- the outcome of P and then Q, from the outcomes of Q after the texts of P
+  -- the outcome of P followed by Q, from the outcomes of Q after the texts of P
   outcome_then : {A B : Type 0} {P : Part T A F} {Q : A → Part T B F} → Joint P Q → (all : List T) → ((mid : List T)
       (a : A) → IsRead P all a mid → Outcome causes (Q a) mid) → Outcome causes P all → Outcome causes (then_by P Q) all
   outcome_then {A} {B} {P} {Q} j all q (has_fault f rest r) = has_fault f rest (fault_left j r)
@@ -82,12 +83,12 @@ module _ {T F : Type 0} (causes : Causes T F) where
       ((a : A) → HasOutcomes causes (Q a)) → HasOutcomes causes (then_by P Q)
   has_then j p q = record { outcome = λ all. outcome_then j all (λ mid a r. (q a).outcome mid) (p.outcome all) }
 
-  -- the outcome if the next sign does not begin P
+  -- the outcome if the next symbol does not begin P
   pub has_refusal : {V : Type 0} {odd : T → Type 0} {P : Part T V F} {First More : T → Type 0} →
       Laws odd P First More ⊥ → (all : List T) → Avoids First (first_of all) → Outcome causes P all
   has_refusal l all avoided = has_fault _ all (refused l causes all avoided)
 
-  -- an outcome of P is an outcome of Q, if parsing Q has the same result as parsing P
+  -- an outcome of P is an outcome of Q, if parsing P and parsing Q have the same result
   as_well : {V : Type 0} (P Q : Part T V F) (all : List T) → Stands (first_of all) P Q → Outcome causes P all →
       Outcome causes Q all
   as_well P Q all w (was_read v rest r) = was_read v rest (read_as P Q w.covers r)
@@ -102,7 +103,7 @@ module _ {T F : Type 0} (causes : Causes T F) where
     entered (t ∷ front) rest there f e (is_cause u x c m) = search (rules, Enters, begins_on)
     entered (t ∷ front) rest there f e (is_refusal b x) = search (rules, Enters, begins_on)
 
-    -- the next sign begins P, or P has no text and no error there
+    -- the next symbol begins P, or P has no text and no error there
     pub entered_or_broken : (Null → ⊥) → (all : List T) → Outcome causes P all →
         Enters P (first_of all) ⊎ IsBroken P [] (first_of all)
     entered_or_broken n all (was_read v rest r) = inl (enters_read P all rest v (λ w h. n (l.null w h)) r)
@@ -112,7 +113,7 @@ module _ {T F : Type 0} (causes : Causes T F) where
       Avoids (λ t. Enters P (Some t)) there
   avoids P there b t x e = enters_broken P there (subst (Enters P) (sym x) e) b
 
-  -- the first form of `either` takes a sign
+  -- the first alternative of `either` has no empty text
   pub has_either : {V : Type 0} {odd : T → Type 0} {P Q : Part T V F} {F1 M1 F2 M2 : T → Type 0} {N2 : Type 0} →
       Laws odd P F1 M1 ⊥ → Laws odd Q F2 M2 N2 → Apart F1 F2 → HasOutcomes causes P → HasOutcomes causes Q →
       HasOutcomes causes (either P Q)
@@ -129,7 +130,7 @@ module _ {T F : Type 0} (causes : Causes T F) where
     has_times zero c = has_give c
     has_times (suc n) c = has_then (joint_times item l apart n c) (p c) (λ d. has_times n d)
 
-    -- if no item begins, no item is parsed
+    -- if the next symbol does not begin an item, no item is parsed
     module _ (c : C) (all : List T) (b : IsBroken (item c) [] (first_of all)) where
       first_item : Laws odd (more_items item c) (Or (λ t. Enters (item c) (Some t)) (When ⊥ First))
           (Or (Or More First) (When (Unit {0}) More)) (⊥ × Unit {0})
@@ -147,7 +148,7 @@ module _ {T F : Type 0} (causes : Causes T F) where
       pub read_no_item : IsRead (many item c) all c all
       read_no_item = read_nothing item c all none
 
-    -- the outcome of `many`, by recursion over the number of unread signs
+    -- the outcome of `many`, by recursion over the number of unread symbols
     many_from : (n : ℕ) (c : C) (all : List T) → length all < n → Outcome causes (many item c) all
     many_from zero c all less = absurd (omega (arith, less))
     many_from (suc n) c all less = go (λ mid d short. many_from n d mid short)
@@ -181,7 +182,7 @@ module _ {T F : Type 0} (causes : Causes T F) where
 
 -- ## The whole text
 
--- a list of pieces can be split wherever its signs are split
+-- a list of pieces can be split wherever the list of its symbols can be split
 parted : {T : Type 0} (ps : List (Piece T)) (front rest : List T) → signs ps ≡ front ++ rest →
     (a : List (Piece T)) × (b : List (Piece T)) × (ps ≡ a ++ b) × (signs b ≡ rest)
 parted ps [] rest e = ([], ps, refl, e)
@@ -219,7 +220,7 @@ module _ {T V F : Type 0} {causes : Causes T F} {part : Part T V F} {First More 
             }),
           )
 
--- the same answer from the premises of the law `some_answer`
+-- the same result, from the premises of the law `some_answer`
 module _ {T V F : Type 0} {causes : Causes T F} {part : Part T V F} where
   some_text : Outcome causes part [] → Begins part.IsText []
   some_text cases = search (rules, append_nil_left, none_is_some, nil_is_cons)

@@ -1,11 +1,12 @@
--- `times` and `many`. Each item takes a sign, and no sign both continues an item and begins an item.
+-- `times` and `many`. No item is empty, and no symbol both continues an item and begins an item.
 --     laws_times, laws_many      the laws of repeated items: they begin with First, and continue with More or First
 --     covers_item      if an item begins here, `many` is parsed as this item followed by `many`
 --     read_nothing, read_none      if no item begins here, `many` is parsed as the empty list
 --     joint_many, joint_times      the joint of an item and the items after it
 --     read_item      `many` is parsed if an item and then `many` are parsed
 --
--- `many` has the laws of `upto n`, which is up to n items: each text and error of `many` is one of `upto n` for some n.
+-- `many` has the laws of `upto n`, the grammar of up to n items, because each text and each error of `many` is one of
+-- `upto n` for some n.
 use Rattle.std.proofs.Common.{rules, ◌≡◌, ℕ, zero, suc, ◌+◌, ◌<◌, ◌≤◌, List, [], ◌∷◌, ◌++◌, length, Option, Some, refl}
 use Rattle.std.proofs.Common.{sym, ap, inl, inr, ⊎_elim, arith}
 use Rattle.ps_text.specs.Answers.{first_of}
@@ -16,7 +17,7 @@ use Rattle.ps_text.proofs.Joined.{joint, read_then}
 use Rattle.ps_text.proofs.Simple.{nil_is_cons, laws_give, laws_then}
 use Rattle.ps_text.proofs.Covered.{Avoids, Enters, laws_either}
 
--- if the right half of a joined text is also a text of R, the whole is a joined text with R for Q
+-- if the second half of a text of P and Q is also a text of R, the whole is a text of P and R
 joined_as : {T A B : Type 0} {P : List T → A → Type 0} {Q R : A → List T → B → Type 0} {text : List T} {b : B} →
     (j : IsJoined P Q text b) → R j.value j.right b → IsJoined P R text b
 joined_as j r = search rules
@@ -61,7 +62,7 @@ module _ {T C F : Type 0} (item : C → Part T C F) where
       clean [] rest t f e n k = none t (ap first_of e) (inr (f, k))
       clean (s ∷ front) rest t f e n k = absurd (omega (arith, n))
 
-  -- the part `upto n`: up to n items
+  -- `upto n`: the grammar of up to n items
   abbrev upto : ℕ → C → Part T C F
   upto zero c = give c
   upto (suc n) c = either (give c) (then_by (item c) (λ d. upto n d))
@@ -83,7 +84,7 @@ module _ {T C F : Type 0} (item : C → Part T C F) where
 
 module _ {T C F : Type 0} {odd : T → Type 0} (item : C → Part T C F) {First More : T → Type 0}
     (l : (c : C) → Laws odd (item c) First More ⊥) (apart : Apart More First) where
-  -- an item, and then a part that is empty or begins with an item
+  -- an item, followed by a text that is empty or begins with an item
   laws_more : {R : C → Part T C F} → ((d : C) → Laws odd (R d) First (Or More First) (Unit {0})) → (c : C) →
       Laws odd (then_by (item c) R) First (Or More First) ⊥
   laws_more r c = weaker (laws_then (l c) r apart) (λ t. grind arith) (λ t. ⊎_elim (λ h. h) (λ h. inl h.1)) (λ h. h.0)

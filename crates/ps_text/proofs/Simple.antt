@@ -1,9 +1,9 @@
 -- `give`, `one` and `mapped`: their laws, and when they are parsed and when they fail. Also the laws of `then_by`.
 --     laws_give, laws_one, laws_mapped, laws_then
---     refused      the fault of a part without an empty text, if the next sign does not begin the part
---     read_give      no sign is taken
---     taken_byte      the sign that is taken for a byte is this byte
---     read_one, bad_one, refused_one      one sign: it is taken; it is bad; it is not allowed, or the text ends
+--     refused      the fault of a grammar without an empty text, if the next symbol does not begin the grammar
+--     read_give      no symbol is taken
+--     taken_byte      the symbol that is taken for a byte is this byte
+--     read_one, bad_one, refused_one      one symbol: accepted; an error; not allowed, or the text ends
 --     read_mapped, fault_mapped
 use Rattle.std.proofs.Common.{◌≡◌, ◌≤◌, List, [], ◌∷◌, ◌++◌, Option, None, Some, refl, sym, ap, subst, inl, inr}
 use Rattle.std.proofs.Common.{◌⊎◌, ◌∙◌, ℕ, append_assoc, arith, rules}
@@ -16,11 +16,11 @@ use Rattle.ps_text.proofs.Laws.{Laws, Nothing, Or, When, Apart}
 use Rattle.ps_text.proofs.InPlace.{stops_by, stops_at, quiet_by, fault_from}
 use Rattle.ps_text.proofs.Joined.{GoesOn, begins_left, begins_right, joint, text_behind, cause_behind}
 
--- equal options hold equal values
+-- if two options `Some` are equal, their values are equal
 pub same_some : {T : Type 0} (u t : T) → Some u ≡ Some t → u ≡ t
 same_some u t e = cc
 
--- nothing is not some value
+-- `None` is not equal to `Some`
 pub none_is_some : {T : Type 0} (t : T) → None ≡ Some t → ⊥
 none_is_some {T} t e = let y : None ≡ Some t = e in cc
 
@@ -35,13 +35,13 @@ append_nil_right : {T : Type 0} (a b : List T) → a ++ b ≡ [] → b ≡ []
 append_nil_right [] b e = e
 append_nil_right (t ∷ a) b e = absurd cc
 
--- a list with a single sign has nothing before or after this sign
+-- a list with a single symbol has nothing before or after this symbol
 pub single_split : {T : Type 0} (front rest : List T) (t s : T) → front ++ t ∷ rest ≡ s ∷ [] →
     (front ≡ []) × (t ≡ s) × (rest ≡ [])
 single_split [] rest t s e = (refl, same_head t s rest [] e, same_tail t s rest [] e)
 single_split (u ∷ front) rest t s e = absurd (nil_is_cons t rest (sym (append_nil_right front (t ∷ rest) cc)))
 
--- the fault of P, if the next sign does not begin P
+-- the fault of P, if the next symbol does not begin P
 pub refused : {T V F : Type 0} {odd : T → Type 0} {P : Part T V F} {First More : T → Type 0} →
     Laws odd P First More ⊥ → (causes : Causes T F) (all : List T) →
     ((t : T) → first_of all ≡ Some t → First t → ⊥) → IsFault causes P all (refusal_of causes (first_of all)) all
@@ -58,7 +58,7 @@ read_give {T} {V} {F} all v = search (rules, stops_by, nil_is_cons)
 
 -- ## one
 
--- the signs with which `one` begins: those that it takes (Taken), and those that are bad (BadSign)
+-- the symbols with which `one` begins: those that it accepts (Taken), and those that are errors (BadSign)
 abbrev pub Taken : {T V : Type 0} → (T → Option V) → T → Type 0
 Taken {T} {V} take t = (v : V) × (take t ≡ Some v)
 
@@ -103,7 +103,7 @@ module _ {T V F : Type 0} (take : T → Option V) (Bad : T → F → Type 0) whe
     fault = is_cause t e (refl, b) (λ g c. least g c.1);
   }
 
-  -- the part has a text, because `take` accepts the sign s
+  -- the grammar has a text, because `take` accepts the symbol s
   pub refused_one : (causes : Causes T F) (s : T) (w : V) → take s ≡ Some w → (all : List T) →
       ((t : T) → first_of all ≡ Some t → take t ≡ None) → ((t : T) (f : F) → first_of all ≡ Some t → Bad t f → ⊥) →
       IsFault causes (one take Bad) all (refusal_of causes (first_of all)) all
@@ -141,7 +141,7 @@ module _ {T A B F : Type 0} {odd : T → Type 0} {P : Part T A F} {Q : A → Par
   goes : (left : List T) (t : T) (a : A) → P.IsText left a → GoesOn P left (Some t) → M1 t
   goes left t a h g = grind (arith, same_some, append_assoc)
 
-  -- P does not continue with the first sign of a text of Q
+  -- a text of P does not continue with the first symbol of a text of Q
   halts : (left right : List T) (a : A) (x : B) → P.IsText left a → (Q a).IsText right x →
       GoesOn P left (first_of right) → ⊥
   halts left right a x h k g = search (rules, none_is_some, goes)
@@ -160,7 +160,7 @@ module _ {T A B F : Type 0} {odd : T → Type 0} {P : Part T A F} {Q : A → Par
   first_cause_then : (t : T) (f : F) → (then_by P Q).IsCause [] t f → Or F1 (When N1 F2) t
   first_cause_then t f cases = search (rules, append_nil_left, append_nil_right)
 
-  -- if P continues after a text of the two parts, the text of Q is empty
+  -- if P can continue after a text of P and Q, the text of Q is empty
   goes_then : (left right more : List T) (t : T) (a : A) (x : B) → P.IsText left a → (Q a).IsText right x →
       GoesOn P left (first_of (right ++ t ∷ more)) → When N2 M1 t
   goes_then left [] more t a x h k g = ((r a).null x k, goes left t a h g)

@@ -1,8 +1,8 @@
--- Two splits of the same list: their fronts are equal, or one front continues where the other ends.
+-- A list that is split in two ways: the two first halves are equal, or one of them continues where the other ends.
 --     Compared, compared      the three cases of two splits
---     Placed, placed      the position of a sign of the list: inside the front, or after it
---     inside_of      a sign before the end of the front is inside the front
---     all_taken_all      a fact about all signs of a front as long as the list is a fact about the list
+--     Placed, placed      the position of a symbol of the list: inside the front, or after it
+--     inside_of      a symbol before the end of the front is inside the front
+--     all_taken_all      a fact about all symbols of a front as long as the list is a fact about the list
 use Rattle.std.proofs.Common.{◌≡◌, ℕ, suc, ◌+◌, ◌<◌, ◌≤◌, List, [], ◌∷◌, ◌++◌, length, take, drop, refl, sym, ap, subst}
 use Rattle.std.proofs.Common.{◌∙◌, arith, append-nil, length-append, Some, rules}
 use Rattle.std.specs.List.{All}
@@ -39,7 +39,7 @@ length_more a m t = length-append a (t ∷ m)
 pub same_split : {T : Type 0} (a b c d : List T) → a ++ b ≡ c ++ d → length a ≡ length c → (a ≡ c) × (b ≡ d)
 same_split {T} a b c d e l = search (rules, compared, length_more)
 
--- a sign of a list is inside the front, or after it
+-- a symbol of a list is inside the first half, or after it
 pub data Placed {T : Type 0} (left mid front rest : List T) (t : T) : Type 0 where
   inside : (m : List T) → left ≡ front ++ t ∷ m → Placed left mid front rest t
   behind : (y : List T) → front ≡ left ++ y → mid ≡ y ++ t ∷ rest → Placed left mid front rest t
@@ -61,7 +61,7 @@ inside_of {T} {all} {left} mid front rest t e f l = go (placed left mid front re
     go (inside m x) = (m, x)
     go (behind y x z) = absurd (omega (arith, l, length-append left y, ap length x))
 
--- a list whose first sign is t is t followed by the rest of the list
+-- a list whose first symbol is t is t followed by the rest of the list
 pub head_of : {T : Type 0} (ts : List T) {t : T} → first_of ts ≡ Some t → ts ≡ t ∷ drop 1 ts
 head_of ts e = search rules
 

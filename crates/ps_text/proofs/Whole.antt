@@ -1,10 +1,11 @@
--- From the result of a part to the answer to a whole text that consists of this part.
---     no_fault      the part was parsed up to the end: its value is the answer
---     first_fault      the first fault of the part is the first error of the text
---     trailing      the part was parsed, and a sign follows: the first error is that this sign is not allowed
+-- From the result of a grammar to the answer to a whole text.
+--     no_fault      the whole text was parsed, and its value is the answer
+--     first_fault      the first fault of the grammar is the first error of the text
+--     trailing      a beginning of the text was parsed: the first error is that the next symbol is not allowed
 --     answers_ok, answers_fault, answers_trailing      as the three lemmas above, from the contract `Meets`
 --
--- The laws of the part are required with `Own causes` for `odd`: the signs that are errors by themselves.
+-- The lemmas require the laws of the grammar with `Own causes` for `odd`: the symbols that are errors wherever they
+-- occur.
 use Rattle.std.proofs.Common.{rules, ◌≡◌, ◌<◌, ◌≤◌, ◌⊎◌, List, [], ◌∷◌, ◌++◌, length, Option, None, Some, Ok, Err}
 use Rattle.std.proofs.Common.{refl, sym, ap, subst, inl, inr, ◌∙◌, append_assoc, append-nil, arith, length-append, drop}
 use Rattle.std.proofs.lemmas.List.{append_cancel_right}
@@ -29,7 +30,8 @@ broken_refused front there b = search rules
 
 module _ {T V F : Type 0} {causes : Causes T F} {part : Part T V F} {First More : T → Type 0} {Null : Type 0}
     (l : Laws (Own causes) part First More Null) where
-  -- if the part has no error inside a beginning, no error of the text precedes the end of this beginning
+  -- if the grammar has no error inside a beginning of a text, no error of the whole text comes before the end of this
+  -- beginning
   later : {all front rest front' rest' : List T} (g : F) → all ≡ front ++ rest → all ≡ front' ++ rest' →
       Begins part.IsText front → CleanUpTo part all (length front) → IsWrong causes part front' (first_of rest') g →
       (length front < length front') ⊎ ((front ≡ front') × (rest ≡ rest'))
@@ -61,8 +63,7 @@ module _ {T V F : Type 0} {causes : Causes T F} {part : Part T V F} {First More 
           go : (length p.text < length front) ⊎ ((p.text ≡ front) × ([] ≡ rest)) → ⊥
           go h = search (rules, length-append, none_wrong)
 
-  -- f is the first error, if it has the smallest number of the errors directly after a beginning of the part without
-  -- errors
+  -- f is the first error, if no error comes earlier and f has the smallest number of the errors at its position
   first_at : {all front rest : List T} {f : F} → all ≡ front ++ rest → Begins part.IsText front → CleanUpTo part all
       (length front) → IsWrong causes part front (first_of rest) f → ((g : F) → IsWrong causes part front
       (first_of rest) g → causes.number f ≤ causes.number g) → IsFirst causes.number (IsWrong causes part) front rest f
@@ -75,7 +76,7 @@ module _ {T V F : Type 0} {causes : Causes T F} {part : Part T V F} {First More 
       go front' rest' g w (inl x) = inl x
       go front' rest' g w (inr x) = inr (x.0, least g (rw (x.0, x.1) w))
 
-  -- if the part has no error at a sign, or at the end, the error that the grammar does not allow the sign, or the end,
+  -- if the grammar has no error of its own at a symbol or at the end, the error for a symbol or end that is not allowed
   -- has the smallest number
   refusal_least : (there : Option T) (front : List T) (g : F) → NoCauseAt part front there →
       IsWrong causes part front there g → causes.number (refusal_of causes there) ≤ causes.number g
@@ -116,7 +117,7 @@ module _ {T V F : Type 0} {causes : Causes T F} {part : Part T V F} {First More 
 
   -- ## With offsets
 
-  -- the same first error in a stream, with offsets
+  -- the first error in a stream of symbols with offsets
   at_pieces : (old : Stream T) (found : Found F) {text : List T} (front rest : List (Piece T)) →
       old.pieces ≡ front ++ rest → signs old.pieces ≡ text ++ signs rest → IsFirst causes.number (IsWrong causes part)
       text (signs rest) found.cause → found.offset ≡ offset_of rest old.end → PartAnswers causes part old (Err found)

@@ -1,21 +1,21 @@
 -- The answer to a text, for every format: the meaning of the text, or its first error.
---     Piece, Stream      a sign of a text with its offset; the pieces of a text, and the offset of its end
---     Begins IsText front      some text of the grammar begins with the signs `front`
+--     Piece, Stream      a symbol of a text with its offset; the pieces of a text, and the offset of its end
+--     Begins IsText front      some text of the grammar begins with the symbols `front`
 --     NoneGoesOn IsText front there      no text begins with `front` and `there`; at the end, `front` is not a text
---     IsUnexpected IsText front there      some text begins with `front`, but none continues with the sign `there`
+--     IsUnexpected IsText front there      some text begins with `front`, but none continues with the symbol `there`
 --     IsClean IsCause all      the text has no error
 --     IsFirst number IsCause front rest f      f is an error between `front` and `rest`, and no other error precedes it
---     IsFirstAt number IsCause stream found      like `IsFirst`, for signs with offsets
+--     IsFirstAt number IsCause stream found      like `IsFirst`, for symbols with offsets
 --     Answers IsText IsCause number stream answer      Ok with the meaning of the text, or Err with its first error
 --
--- A format defines its signs: a sign is a token, a byte or a line, together with what a parser can see after it. IsText
--- states when a list of signs is a text of the grammar, and what the text means. IsCause states when there is an error
--- after some signs, at the next sign or at the end. If one sign has two errors, the error with the smaller number is
--- the answer.
+-- A format defines its symbols: a symbol is a token, a byte or a line, together with what a parser can see after it.
+-- IsText states when a list of symbols is a text of the grammar, and what the text means. IsCause states when there is
+-- an error after some symbols, at the next symbol or at the end. If there are two errors at one symbol, the error with
+-- the smaller number is the answer.
 use Rattle.std.specs.Prelude.{◌≡◌, ℕ, ◌<◌, ◌≤◌, ◌⊎◌, List, [], ◌∷◌, ◌++◌, map, length, Option, None, Some, Result, Ok}
 use Rattle.std.specs.Prelude.{Err}
 
--- a sign of a text, and the offset of its first byte
+-- a symbol of a text, and the offset of its first byte
 pub record Piece (T : Type 0) : Type 0 where
   pub sign : T
   pub start : ℕ
@@ -30,16 +30,16 @@ pub record Found (F : Type 0) : Type 0 where
   pub cause : F
   pub offset : ℕ
 
--- the signs without their offsets
+-- the symbols without their offsets
 abbrev pub signs : {T : Type 0} → List (Piece T) → List T
 signs ps = map (λ p. p.sign) ps
 
--- the next sign, if there is one
+-- the next symbol, if there is one
 abbrev pub first_of : {T : Type 0} → List T → Option T
 first_of [] = None
 first_of (t ∷ ts) = Some t
 
--- the next sign of a stream, if there is one
+-- the next symbol of a stream, if there is one
 abbrev pub next_of : {T : Type 0} → Stream T → Option T
 next_of stream = first_of (signs stream.pieces)
 
@@ -48,20 +48,20 @@ abbrev pub offset_of : {T : Type 0} → List (Piece T) → ℕ → ℕ
 offset_of [] end = end
 offset_of (p ∷ ps) end = p.start
 
--- some text of the grammar begins with the signs `front`
+-- some text of the grammar begins with the symbols `front`
 pub record Begins {T V : Type 0} (IsText : List T → V → Type 0) (front : List T) : Type 0 where
   pub more : List T
   pub value : V
   pub is_text : IsText (front ++ more) value
 
--- no text of the grammar begins with `front` and then the sign `there`; if no sign follows, `front` is not a text of
--- the grammar
+-- no text of the grammar begins with `front` and then the symbol `there`; if no symbol follows, `front` is not a text
+-- of the grammar
 abbrev pub NoneGoesOn : {T V : Type 0} → (List T → V → Type 0) → List T → Option T → Type 0
 NoneGoesOn {T} {V} IsText front None = (v : V) → IsText front v → ⊥
 NoneGoesOn IsText front (Some t) = Begins IsText (front ++ t ∷ []) → ⊥
 
--- some text of the grammar begins with `front`, but none with `front` and then `there`; if no sign follows, `front` is
--- not a text
+-- some text of the grammar begins with `front`, but none with `front` and then `there`; if no symbol follows, `front`
+-- is not a text
 pub record IsUnexpected {T V : Type 0} (IsText : List T → V → Type 0) (front : List T) (there : Option T) : Type 0 where
   pub before : Begins IsText front
   pub none : NoneGoesOn IsText front there
@@ -78,7 +78,7 @@ pub record IsFirst {T F : Type 0} (number : F → ℕ) (IsCause : List T → Opt
   pub least : (front' rest' : List T) (g : F) → front ++ rest ≡ front' ++ rest' → IsCause front' (first_of rest') g →
       (length front < length front') ⊎ ((front ≡ front') × (number f ≤ number g))
 
--- the first error of a text whose signs have offsets
+-- the first error of a text whose symbols have offsets
 pub record IsFirstAt {T F : Type 0} (number : F → ℕ) (IsCause : List T → Option T → F → Type 0) (stream : Stream T)
     (found : Found F) : Type 0 where
   pub front : List (Piece T)
@@ -93,7 +93,7 @@ abbrev pub Answers : {T V F : Type 0} → (List T → V → Type 0) → (List T 
 Answers IsText IsCause number stream (Ok v) = IsText (signs stream.pieces) v × IsClean IsCause (signs stream.pieces)
 Answers IsText IsCause number stream (Err found) = IsFirstAt number IsCause stream found
 
--- each list of signs has at most one meaning
+-- each list of symbols has at most one meaning
 abbrev pub HasOneMeaning : {T V : Type 0} → (List T → V → Type 0) → Type 0
 HasOneMeaning {T} {V} IsText = (text : List T) (v w : V) → IsText text v → IsText text w → v ≡ w
 

@@ -1,6 +1,6 @@
--- Texts whose signs are single bytes: their signs, and the parts made of bytes and of runs of bytes.
---     stream_at at bytes      the signs of the bytes, of which the first is at the offset `at`
---     stream_of text      the signs of a text, with a newline added to its last line if that has none
+-- Texts whose symbols are single bytes: their symbols, and the grammars of bytes and of runs of bytes.
+--     stream_at at bytes      the symbols of the bytes, of which the first is at the offset `at`
+--     stream_of text      the symbols of a text, with a newline added to its last line if that has none
 --     byte_causes number syntax      the causes of a format in which no byte is an error by itself
 --     byte b, word bytes      the byte b; the given bytes in order
 --     run p see Bad      the longest run of bytes that pass p, with at least one byte
@@ -10,7 +10,7 @@ use Rattle.ps_text.specs.Answers.{Piece, Stream}
 use Rattle.ps_text.specs.Parts.{Part, Causes, NoBad, give, one, then_by}
 use Rattle.ps_text.specs.Runs.{AllOf, StopsBefore}
 
--- a sign of the text: a byte, its offset, and the bytes after it, which a parser can see
+-- a symbol of the text: a byte, its offset, and the bytes after it, which a parser can see
 pub record Seen : Type 0 where
   pub byte : ℕ
   pub at : ℕ
@@ -69,7 +69,7 @@ pub record BeginsRun (p : ℕ → Bool) (run bytes : List ℕ) : Type 0 where
   pub all : AllOf p run
   pub longest : StopsBefore p rest
 
--- a run that begins at the sign s has the error f
+-- a run that begins at the symbol s has the error f
 pub record IsBadRun {C : Type 0} (p : ℕ → Bool) (Bad : List ℕ → C → Type 0) (s : Seen) (f : C) : Type 0 where
   pub run : List ℕ
   pub begins : BeginsRun p run (s.byte ∷ s.behind)
@@ -80,8 +80,8 @@ pub record IsByteRun {V : Type 0} (p : ℕ → Bool) (see : ℕ → List ℕ →
   pub all : AllOf p (bytes_of text)
   pub value : v ≡ see (first_at text) (bytes_of text)
 
--- The value of a run is given by `see` from its offset and its bytes. Bad states which errors the run can have; such an
--- error is a fault at the run's first byte, whatever follows.
+-- `see` computes the value of a run from the run's offset and its bytes. Bad states which errors a run can have; such
+-- an error is reported at the run's first byte, whatever follows.
 abbrev pub run : {V C : Type 0} → (ℕ → Bool) → (ℕ → List ℕ → V) → (List ℕ → C → Type 0) → Part Seen V C
 run p see Bad = record { IsText = IsByteRun p see; IsCause = λ front s f. (front ≡ []) × IsBadRun p Bad s f }
 

@@ -1,4 +1,4 @@
--- What a fault states about a text: the cause and its offset, or nothing if the program is out of memory. In psyn's
+-- What a fault says about a text: the cause and its offset, or, if the program ran out of memory, nothing. In psyn's
 -- list of faults, a fault has the number and name of its cause, or of "out of memory".
 use Rattle.std.specs.Prelude.{ℕ, List, Option, None, Some, Result, Ok, Err, codes}
 use Rattle.ps_text.specs.declared.faults.Fault.{Fault}

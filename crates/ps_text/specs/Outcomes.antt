@@ -1,10 +1,11 @@
--- The outcome of a part at the start of a list of signs, and the statement that each text has an answer.
---     Outcome causes part all      the part is parsed at the start of `all`, or has a first fault in `all`
---     HasOutcomes causes part      the part has an outcome for each list of signs
---     IsOrderly causes part      each error follows a beginning of a text, and is not at a sign that is an error itself
+-- The outcome of parsing a grammar at the start of a list of symbols, and the statement that each text has an answer.
+--     Outcome causes part all      the grammar is parsed at the start of `all`, or has a first fault in `all`
+--     HasOutcomes causes part      the grammar has an outcome for each list of symbols
+--     IsOrderly causes part      each error follows a beginning of a text, and is not at a symbol that is an error
+--               wherever it occurs
 --     HasSomeAnswer IsText IsCause number      each text has an answer: its meaning or its first error
 --
--- The outcome of a part does not depend on memory: it is the result of a parser that does not run out of memory.
+-- The outcome does not depend on memory: it is the result of a parser that does not run out of memory.
 use Rattle.std.specs.Prelude.{◌≡◌, ℕ, List, ◌∷◌, ◌++◌, Option, Some, Result}
 use Rattle.ps_text.specs.Answers.{Begins, Stream, Found, Answers}
 use Rattle.ps_text.specs.Parts.{Part, Causes, IsRead, IsFault}
@@ -16,8 +17,8 @@ pub data Outcome {T V F : Type 0} (causes : Causes T F) (part : Part T V F) (all
 pub record HasOutcomes {T V F : Type 0} (causes : Causes T F) (part : Part T V F) : Type 0 where
   pub outcome : (all : List T) → Outcome causes part all
 
--- A sign that is an error by itself occurs in no text of the part, and the part has no error of its own at such a sign.
--- Each error of the part follows a beginning of a text of the part.
+-- A symbol that is an error wherever it occurs is in no text of the grammar, and the grammar has no error of its own at
+-- such a symbol. Each error of the grammar follows a beginning of a text of the grammar.
 pub record IsOrderly {T V F : Type 0} (causes : Causes T F) (part : Part T V F) : Type 0 where
   pub behind : (front : List T) (t : T) (f : F) → part.IsCause front t f → Begins part.IsText front
   pub in_no_text : (front rest : List T) (t : T) (v : V) (f : F) → part.IsText (front ++ t ∷ rest) v →

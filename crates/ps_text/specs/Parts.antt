@@ -1,19 +1,20 @@
--- Grammars composed of parts. A part is a grammar together with the errors that its texts can have. Combinators join
--- parts, so that a grammar reads like the grammar in the standard of the format.
---     Part      which lists of signs are a text with a given value, and which errors can follow which signs
+-- Grammars composed by combinators. A `Part` is a grammar together with the errors that its texts can have. Combinators
+-- make larger grammars of smaller ones, so that a format's grammar reads like the grammar in the format's standard.
+--     Part      which lists of symbols are a text with a given value, and which errors can follow which symbols
 --     Causes      the causes of a format, with their numbers
---     IsWrong causes part      an error of a text whose grammar is the part: the IsCause of `Answers`
---     IsRead part all v rest      the part was parsed at the start of `all`, and `rest` is left
---     IsFault causes part all f rest      the part has its first fault in `all`, and `rest` begins there
+--     IsWrong causes part      an error of a text with this grammar: the IsCause of `Answers`
+--     IsRead part all v rest      the grammar was parsed at the start of `all`, and `rest` is left
+--     IsFault causes part all f rest      the grammar has its first fault in `all`, and `rest` begins there
 --
 -- The combinators:
---     give v      no sign, with the value v
---     one take Bad      one sign, whose value `take` gives; Bad states which errors a sign has here
+--     give v      no symbol, with the value v
+--     one take Bad      one symbol, whose value `take` gives; Bad states which errors a symbol has here
 --     then_by P Q      P and then Q a, for the value a of P; the value of Q a is the value of both
 --     either P Q      a text of P or a text of Q
 --     times n item c, many item c      n items, or any number of items, in a row; c is the context of the first
 --     mapped h P      P with the value h v in place of v
---     barred P Bad      P with additional errors, which Bad finds at the sign after P, given the value of P
+--     barred P Bad      P with additional errors, which Bad states for the symbol after a text of P, given the value of
+--               the text
 --
 -- For example, the grammar of a list of numbers such as `1, 2, 3;` is as follows:
 --         number = one number_of IsTooLarge
@@ -21,33 +22,32 @@
 --         list = then_by number (λ n. then_by (many more (n ∷ [])) (λ ns. mapped (λ _. ns) semicolon))
 --
 -- For each production, a private clause of the parser states that the production was parsed, or that its first fault
--- was found (specs/Readers.antt). From all statements about productions, the theorems in proofs/ derive `Answers` for a
--- text whose grammar is one part.
+-- was found (specs/Readers.antt). From these statements, the theorems in proofs/ derive `Answers` for a whole text.
 use Rattle.std.specs.Prelude.{◌≡◌, ℕ, zero, suc, ◌+◌, ◌<◌, ◌≤◌, ◌⊎◌, List, [], ◌∷◌, ◌++◌, length, Option, None, Some}
 use Rattle.std.specs.Prelude.{Result}
 use Rattle.std.specs.Option.{unwrap_or}
 use Rattle.ps_text.specs.Answers.{Begins, IsUnexpected, Stream, Found, Answers, first_of}
 
--- IsText: a list of signs is a text of the part, with a value. IsCause: after a list of signs of the part, a further
--- sign is an error, with its kind. A sign that the grammar itself does not allow is not an error of a part.
+-- IsText: a list of symbols is a text of the grammar, with a value. IsCause: a symbol after a list of symbols is an
+-- error, with a cause. A symbol that is only not allowed by the grammar is not an error in the sense of IsCause.
 pub record Part (T V F : Type 0) : Type 1 where
   pub IsText : List T → V → Type 0
   pub IsCause : List T → T → F → Type 0
 
--- the number of each cause, the error that a sign is by itself wherever it occurs, and the error for a sign (or an end)
--- that the grammar does not allow
+-- the number of each cause, the error that a symbol is wherever it occurs, and the error for a symbol (or the end) that
+-- the grammar does not allow
 pub record Causes (T F : Type 0) : Type 0 where
   pub number : F → ℕ
   pub own : T → Option F
   pub syntax : F
 
--- the error for a sign, or an end, that the grammar does not allow
+-- the error for a symbol, or for the end of the text, that the grammar does not allow
 abbrev pub refusal_of : {T F : Type 0} → Causes T F → Option T → F
 refusal_of causes None = causes.syntax
 refusal_of causes (Some t) = unwrap_or (causes.own t) causes.syntax
 
--- f is an error after `front`, at the next sign or at the end: an error of the part, or of the sign itself, or of the
--- grammar
+-- f is an error after `front`, at the next symbol or at the end: an error of the grammar's IsCause, the error that the
+-- symbol always is, or the error that the symbol is not allowed
 pub data IsWrong {T V F : Type 0} (causes : Causes T F) (part : Part T V F) (front : List T) (there : Option T)
     (f : F) : Type 0 where
   by_part : (t : T) → there ≡ Some t → part.IsCause front t f → IsWrong causes part front there f
@@ -55,27 +55,27 @@ pub data IsWrong {T V F : Type 0} (causes : Causes T F) (part : Part T V F) (fro
   by_grammar : IsUnexpected part.IsText front there → ((t : T) (g : F) → there ≡ Some t → part.IsCause front t g → ⊥)
       → ((t : T) → there ≡ Some t → causes.own t ≡ None) → f ≡ causes.syntax → IsWrong causes part front there f
 
--- the answer to a text whose grammar is one part
+-- the answer to a text of a format with this grammar
 abbrev pub PartAnswers : {T V F : Type 0} → Causes T F → Part T V F → Stream T → Result V (Found F) → Type 0
 PartAnswers causes part = Answers part.IsText (IsWrong causes part) causes.number
 
--- the part has no error after fewer than n signs
+-- the grammar has no error after fewer than n symbols
 abbrev pub CleanUpTo : {T V F : Type 0} → Part T V F → List T → ℕ → Type 0
 CleanUpTo {T} {V} {F} part all n =
     (front rest : List T) (t : T) (f : F) → all ≡ front ++ t ∷ rest → length front < n → part.IsCause front t f → ⊥
 
--- no text of the part begins with `front` and then the next sign
+-- no text of the grammar begins with `front` and then the next symbol
 abbrev pub StopsAt : {T V F : Type 0} → Part T V F → List T → Option T → Type 0
 StopsAt part front None = Unit {0}
 StopsAt part front (Some t) = Begins part.IsText (front ++ t ∷ []) → ⊥
 
--- the part has no error at the next sign
+-- the grammar has no error at the next symbol
 abbrev pub NoCauseAt : {T V F : Type 0} → Part T V F → List T → Option T → Type 0
 NoCauseAt part front None = Unit {0}
 NoCauseAt {T} {V} {F} part front (Some t) = (f : F) → part.IsCause front t f → ⊥
 
--- `all` begins with a text of the part with the value v, and `rest` follows this text. No text of the part continues
--- with the next sign, and the part has no error inside the text or at the next sign
+-- `all` begins with a text of the grammar with the value v, and `rest` follows this text. No text of the
+-- grammar begins with this text and the next symbol, and there is no error inside the text or at the next symbol
 pub record IsRead {T V F : Type 0} (part : Part T V F) (all : List T) (v : V) (rest : List T) : Type 0 where
   pub text : List T
   pub split : all ≡ text ++ rest
@@ -83,15 +83,16 @@ pub record IsRead {T V F : Type 0} (part : Part T V F) (all : List T) (v : V) (r
   pub stops : StopsAt part text (first_of rest)
   pub clean : CleanUpTo part all (length text + 1)
 
--- `front` begins a text of the part but is not such a text. No text continues with the next sign, and the part has no
--- error at that sign
+-- `front` begins a text of the grammar but is not a text itself. No text begins with `front` and the next symbol, and
+-- the grammar has no error at that symbol
 pub record IsBroken {T V F : Type 0} (part : Part T V F) (front : List T) (there : Option T) : Type 0 where
   pub before : Begins part.IsText front
   pub no_text : (v : V) → part.IsText front v → ⊥
   pub stops : StopsAt part front there
   pub no_cause : NoCauseAt part front there
 
--- f is the fault at the next sign: the part's error with the smallest number, or the error that the sign is not allowed
+-- f is the fault at the next symbol: the grammar's error with the smallest number there, or the error that the symbol
+-- is not allowed
 pub data IsFaultAt {T V F : Type 0} (causes : Causes T F) (part : Part T V F) (front : List T) (there : Option T)
     (f : F) : Type 0 where
   is_cause : (t : T) → there ≡ Some t → part.IsCause front t f →
@@ -99,7 +100,7 @@ pub data IsFaultAt {T V F : Type 0} (causes : Causes T F) (part : Part T V F) (f
       → IsFaultAt causes part front there f
   is_refusal : IsBroken part front there → f ≡ refusal_of causes there → IsFaultAt causes part front there f
 
--- the first fault of the part in `all`: the part has no error before it, and `rest` begins there
+-- the first fault of the grammar in `all`: the grammar has no error before it, and `rest` begins at the fault
 pub record IsFault {T V F : Type 0} (causes : Causes T F) (part : Part T V F) (all : List T) (f : F)
     (rest : List T) : Type 0 where
   pub front : List T
@@ -112,14 +113,14 @@ pub record IsFault {T V F : Type 0} (causes : Causes T F) (part : Part T V F) (a
 abbrev pub give : {T V F : Type 0} → V → Part T V F
 give v = record { IsText = λ text x. (text ≡ []) × (x ≡ v); IsCause = λ _ _ _. ⊥ }
 
--- a sign can have an error here whether `take` accepts it or not
+-- `Bad` can state an error for a symbol whether `take` accepts the symbol or not
 abbrev pub one : {T V F : Type 0} → (T → Option V) → (T → F → Type 0) → Part T V F
 one {T} take Bad = record {
   IsText = λ text v. (t : T) × (text ≡ t ∷ []) × (take t ≡ Some v);
   IsCause = λ front t f. (front ≡ []) × Bad t f;
 }
 
--- the sign itself has no error
+-- no symbol has an error
 abbrev pub NoBad : {T F : Type 0} → T → F → Type 0
 NoBad _ _ = ⊥
 
@@ -153,8 +154,8 @@ either P Q = record {
   IsCause = λ front t f. P.IsCause front t f ⊎ Q.IsCause front t f;
 }
 
--- `item c` is the item in the context c. The value of an item is the context of the next item, and the last context is
--- the value of all items.
+-- `item c` is the grammar of an item in the context c. The value of an item is the context of the next item, and the
+-- last context is the value of all items.
 abbrev pub times : {T C F : Type 0} → ℕ → (C → Part T C F) → C → Part T C F
 times zero item c = give c
 times (suc n) item c = then_by (item c) (λ d. times n item d)

@@ -1,10 +1,11 @@
--- What a parsing function states about the part that it parses: the part was parsed, or its first fault was found.
--- `old` and `new` are the unread pieces when the function begins and when it returns: the Model of the code's tokens.
+-- What a parsing function states about the grammar that it parses: a text was parsed, or the first fault was found.
+-- `old` and `new` are the unread pieces when the function begins and when it returns, as the Model of the code's tokens
+-- shows them.
 --     Meets found causes view part old result new      the contract of a parsing function
 --     Parses causes part old result new      the contract of a function that returns the grammar's values and errors
 --     Carries causes whole start rest now      parsing `rest` from `now` gives what parsing `whole` from `start` gives
 --     tail stream      the stream without its next piece
---     refusal_at causes stream      the error, with its offset, for a sign or an end that is not allowed
+--     refusal_at causes stream      the error, with its offset, for a symbol or an end that is not allowed
 use Rattle.std.specs.Prelude.{◌≡◌, List, [], ◌∷◌, ◌++◌, Option, None, Some, Result, Ok, Err}
 use Rattle.ps_text.specs.Answers.{Piece, Stream, Found, signs, next_of, offset_of}
 use Rattle.ps_text.specs.Parts.{Part, Causes, IsRead, IsFault, refusal_of}
@@ -27,7 +28,7 @@ pub record IsSuffix {T : Type 0} (old new : Stream T) : Type 0 where
   pub split : old.pieces ≡ taken ++ new.pieces
   pub end : new.end ≡ old.end
 
--- the first fault of the part in the pieces of `old` is at the first piece of `rest`, or at the end
+-- the first fault of the grammar in the pieces of `old` is at the first piece of `rest`, or at the end
 pub record StopsWith {T V F : Type 0} (causes : Causes T F) (part : Part T V F) (old : Stream T)
     (found : Found F) : Type 0 where
   pub front : List (Piece T)
@@ -40,7 +41,7 @@ abbrev pub Stops : {T V F : Type 0} → Causes T F → Part T V F → Stream T �
 Stops causes part old None = Unit {0}
 Stops causes part old (Some found) = StopsWith causes part old found
 
--- the part was parsed from `old` with the value v, and `new` is what remains
+-- a text of the grammar was parsed from the start of `old`, with the value v, and `new` is what remains
 abbrev pub Reads : {T V F : Type 0} → Part T V F → Stream T → V → Stream T → Type 0
 Reads part old v new = IsSuffix old new × IsRead part (signs old.pieces) v (signs new.pieces)
 
@@ -51,7 +52,7 @@ abbrev pub Meets : {T V F X E : Type 0} → (E → Option (Found F)) → Causes 
 Meets found causes view part old (Ok x) new = Reads part old (view x) new
 Meets found causes view part old (Err e) new = Stops causes part old (found e)
 
--- the part was parsed, or its first fault was found; the value is as the grammar gives it
+-- a text was parsed, or the first fault was found; the value is that of the grammar
 abbrev pub Parses : {T V F : Type 0} → Causes T F → Part T V F → Stream T → Result V (Option (Found F)) →
     Stream T → Type 0
 Parses causes part old (Ok v) new = Reads part old v new

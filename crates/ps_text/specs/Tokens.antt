@@ -4,8 +4,8 @@
 --     AreTokens IsBlank IsToken bytes stream      the stream has the bytes' tokens, perhaps with blanks around them
 --     TokensDiffer IsBlank IsToken      at most one token begins at a position, and no token begins with a blank
 --
--- With `IsToken`, a format states that a token is the longest one, which tokens are never allowed, and how a token
--- depends on the bytes around it. By `TokensDiffer`, a text has at most one list of tokens, as the law
+-- By its `IsToken`, a format states that a token is the longest possible one, which tokens are never allowed, and how a
+-- token depends on the bytes around it. By `TokensDiffer`, a text has at most one list of tokens, as the law
 -- `one_tokenisation` states.
 use Rattle.std.specs.Prelude.{◌≡◌, ℕ, List, [], ◌∷◌, ◌++◌, length}
 use Rattle.std.specs.List.{AllByRecursion}

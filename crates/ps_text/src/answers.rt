@@ -5,7 +5,7 @@ ghost use Rattle.ps_text.specs.Answers.{HasOneMeaning, AreNumbered, HasOneAnswer
 ghost use Rattle.ps_text.specs.Outcomes.{HasOutcomes, IsOrderly, HasSomeAnswer};
 ghost use Rattle.ps_text.specs.Parts.{Part, Causes, IsWrong};
 
-/// A format of texts: its signs, the values that its texts mean, and the reasons why a text is rejected.
+/// A format of texts: its symbols, the values that its texts mean, and the reasons why a text is rejected.
 pub trait Format {
     /// The elements of a text.
     type Sign;
@@ -16,23 +16,23 @@ pub trait Format {
     /// The reasons why a text is rejected.
     type Cause;
 
-    /// A list of signs is a text of the grammar with a given meaning.
+    /// A list of symbols is a text of the grammar with a given meaning.
     ghost is_text: { List Self.Sign → Self.Value → Type 0 };
 
-    /// After a list of signs there is an error: at the sign that follows the list or, for `None`, at the end of the
+    /// After a list of symbols there is an error: at the symbol that follows the list or, for `None`, at the end of the
     /// text.
     ghost is_cause: { List Self.Sign → Option Self.Sign → Self.Cause → Type 0 };
 
-    /// The number of a cause. If one sign has two errors, the error with the smaller number is the answer.
+    /// The number of a cause. If one symbol has two errors, the error with the smaller number is the answer.
     ghost number: { Self.Cause → ℕ };
 }
 
-/// A text has at most one answer, if each list of signs has one meaning and different causes have different numbers.
+/// A text has at most one answer, if each list of symbols has one meaning and different causes have different numbers.
 pub fn one_answer<M: Format>()
     ensures { HasOneMeaning M.is_text → AreNumbered M.number → HasOneAnswer M.is_text M.is_cause M.number }
 {}
 
-/// A format whose texts are the texts of a part.
+/// A format whose texts are defined by a `Part`, a grammar with its errors.
 pub trait Grammar {
     /// The elements of a text.
     type Sign;
@@ -43,14 +43,14 @@ pub trait Grammar {
     /// The reasons why a text is rejected.
     type Cause;
 
-    /// The part that is the grammar of a whole text.
+    /// The grammar of a whole text.
     ghost part: { Part Self.Sign Self.Value Self.Cause };
 
-    /// The causes of the format: their numbers, the causes of bad signs, and the cause of a syntax error.
+    /// The causes of the format: their numbers, the causes of bad symbols, and the cause of a syntax error.
     ghost causes: { Causes Self.Sign Self.Cause };
 }
 
-/// A text has an answer, if on each list of signs its part is parsed or has a first fault.
+/// A text has an answer, if each list of symbols begins with a text of the grammar or has a first fault.
 pub fn some_answer<G: Grammar>()
     ensures { HasOneMeaning G.part.IsText → IsOrderly G.causes G.part → HasOutcomes G.causes G.part →
         HasSomeAnswer G.part.IsText (IsWrong G.causes G.part) G.causes.number }

@@ -1,4 +1,4 @@
-//! A cursor over the bytes of a text, for parsers whose signs are single bytes.
+//! A cursor over the bytes of a text, for parsers whose symbols are single bytes.
 
 ghost use Rattle.std.specs.Prelude.{◌≡◌, ℕ, ◌==◌, ◌≤◌, ◌<◌, ◌^◌, ◌↔◌, IsTrue, Some, false, [], length, take};
 ghost use Rattle.std.specs.Prelude.{take_while, IfSome};

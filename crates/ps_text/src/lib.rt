@@ -1,5 +1,5 @@
-//! What all parsers share, for every format: the answer to a text (its meaning or its first error), grammars made of
-//! parts, digits and blanks, and a cursor over bytes. The crate also writes numbers.
+//! What all parsers share, for every format: the answer to a text (its meaning or its first error), grammars composed
+//! by combinators, digits and blanks, and a cursor over bytes. The crate also writes numbers.
 //!
 //! | Call | What it gives |
 //! |---|---|
@@ -15,8 +15,8 @@
 //! | `answers::some_answer` | a law: a text of a `Grammar` has an answer, if its part always has an outcome |
 //! | `tokens::one_tokenisation` | a law: a text of a `Lexicon` has at most one list of tokens |
 //!
-//! The grammars are in the specs. `Parts` states what a part of a text means and which errors it can have. `Readers`
-//! states what a parsing function returns for a part.
+//! The grammars are in the specs. `Parts` defines grammars: what a text means, and which errors it can have. `Readers`
+//! states what a parsing function returns for a grammar.
 #![tactic(auto)]
 
 pub mod answers;

@@ -1,6 +1,6 @@
--- The result for a product is a judgement on its circuit.
+-- The result computed for a product is a right judgement on the product's circuit.
 --     winning      the judgement if the player wins all loops
---     judgement      the result for a product is a judgement, in both cases
+--     judgement      the result computed for a product is a right judgement, in both cases
 use Rattle.std.proofs.Common.{◌≡◌, ◌≢◌, ℕ, ◌%◌, ◌<◌, ◌↔◌, true, List, length, refl, subst, arith}
 use Rattle.std.proofs.Common.{Some}
 use Rattle.std.proofs.lemmas.Bool.{eq-eqb, eqb-true}
@@ -37,7 +37,7 @@ module _ (role : Role) {file : FileData} {chain : Chain} {auto : Auto} {c : Circ
     (is_chain : chain_of file.condition ≡ Some chain) (is_auto : IsAutoOf file chain auto)
     (product : IsProductOf (other_player (asked_of role)) file.names auto c p)
     (wins : WinsLoops p.game (asked_of role)) where
-  -- the greatest priority of a loop, which the player wins by, decides whether the word is accepted
+  -- the greatest priority of the repeated laps, which is of the player's parity, decides whether the word is accepted
   record IsDecided (stem lap : List ℕ) : Type 0 where
     top : ℕ
     won : top % 2 ≢ other_player (asked_of role)
@@ -76,7 +76,8 @@ module _ (role : Role) {file : FileData} {chain : Chain} {auto : Auto} {c : Circ
       HasSymbols role file.names file.controllable c → IsInTimeWhereReached order role c → IsWinning order role file c
   winning order = winning_by order role all_accepted none_accepted
 
--- the result for the product is a judgement on the circuit, for every file from which the automaton was built
+-- the result computed for the product is a right judgement on the circuit, for every file from which the automaton was
+-- built
 pub judgement : (order : Order) (role : Role) {a : AutomatonData} {c : CircuitData} {p : ProductData} (file : FileData)
     (chain : Chain) (told : Judgement) → IsBuiltFrom file chain a → AreNames a.names → IsCircuit c → HasOneValues c →
     IsGame p.game → IsProductOf (other_player (asked_of role)) a.names (auto_of a) c p →

@@ -1,7 +1,7 @@
--- A lasso trace closes a loop of the product: some laps lead from a vertex back to it.
+-- A lasso trace closes a cycle of the product: some repetitions of the lap lead from a vertex back to it.
 --     reached      the vertex after the stem and some laps
---     laps_fall      how far a count falls along laps
---     loop      some laps lead back to a vertex, and no counts keep the rule for their greatest priority
+--     laps_fall      a count does not rise along laps, and falls if their greatest priority is the given one
+--     loop      some laps lead back to a vertex, and no valid counts exist for their greatest priority
 use Rattle.std.proofs.Common.{◌≡◌, ℕ, zero, suc, ◌+◌, ◌-◌, ◌<◌, ◌≤◌, inr, max, Bool, List, length, refl, sym}
 use Rattle.std.proofs.Common.{ap, subst, ◌∙◌, arith, Some, add-zero}
 use Rattle.std.specs.Prelude.{slice_get}
@@ -58,13 +58,13 @@ module _ {owner : ℕ} {names : List (List ℕ)} {auto : Auto} {c : CircuitData}
   abbrev greatest_behind : ℕ → ℕ → ℕ
   greatest_behind from laps = greatest_of_laps auto (state_after auto start lap from) lap laps
 
-  -- the greatest priority if one lap more is read
+  -- the greatest priority if the lap is read once more
   greatest_more : (from laps : ℕ) → greatest_behind from (suc laps) ≡ max (greatest_behind from laps)
       (greatest_along auto (reached (from + laps)).vertex.state lap)
   greatest_more from laps = ap (λ q. max (greatest_behind from laps) (greatest_along auto q lap))
       (sym (laps_together auto start lap from laps) ∙ sym (reached (from + laps)).state)
 
-  -- the priority with which the laps enter their last vertex
+  -- the priority of the vertex after the laps is at most the greatest priority on the laps
   entered : (from laps : ℕ) → (reached (from + suc laps)).vertex.priority ≤ greatest_behind from (suc laps)
   entered from laps = rw add-suc ((lap_from (from + laps) (reached (from + laps))).entered
       (greatest_behind from (suc laps)) (omega (arith, greatest_more from laps)) (inr some))
@@ -104,13 +104,13 @@ module _ {owner : ℕ} {names : List (List ℕ)} {auto : Auto} {c : CircuitData}
           );
         })
 
-  -- one or more laps lead from a vertex back to it
+  -- one or more repetitions of the lap lead from a vertex back to it
   pub record Loop : Type 0 where
     pub before : ℕ
     pub laps : ℕ
     pub some_laps : 0 < laps
     pub returns : state_after auto start lap (before + laps) ≡ state_after auto start lap before
-    -- no counts keep the rule for the greatest priority of the laps
+    -- no valid counts (a progress measure) exist for the greatest priority on these laps
     pub none : HasCounts p.game (greatest_of_laps auto (state_after auto start lap before) lap laps) → ⊥
 
   module _ (before more : ℕ) (same : (reached (before + suc more)).place ≡ (reached before).place) where

@@ -48,7 +48,7 @@ greatest_of_round : (f : ℕ → ℕ) (cycle : List ℕ) → 0 < length cycle �
 greatest_of_round f [] some = absurd (omega arith)
 greatest_of_round f (x ∷ xs) some = greatest_turned f x xs
 
--- if the circuit's player loses by a priority, the priority has the other parity
+-- a priority by which the circuit's player loses is even exactly if the player is the environment
 wrong : (role : Role) (n : ℕ) → n % 2 ≡ other_player (asked_of role) → IsTrue (is_even n) ↔ (role ≡ Environment)
 wrong Controller n lost = (λ even. absurd (omega (arith, eqb-true (n % 2) 0 even)), λ same. cc)
 wrong Environment n lost = (λ even. refl, λ same. eq-eqb (n % 2) 0 lost)

@@ -1,4 +1,4 @@
--- A stimulus with the wrong verdict gives a lasso word of the circuit with the wrong verdict.
+-- From a stimulus with the wrong verdict, a lasso word of the circuit with the wrong verdict follows.
 --     parted      a trace and its letters, divided at an index
 --     apart      a circuit does not both win and lose
 --     wins      a circuit that no stimulus refutes wins

@@ -28,7 +28,7 @@ module _ {owner : ℕ} {names : List (List ℕ)} {auto : Auto} {c : CircuitData}
     at = slice_get-get_or p.vertices i _ (omega (arith, within, product.one_each));
   }
 
-  -- the moments and letters along a path from the vertex v
+  -- the steps of the circuit (`moments`) and the letters along a path from the vertex v
   pub record Follows (v : ProductVertex) (path : List ℕ) (end : ℕ) (inputs : List (List Bool)) : Type 0 where
     pub w : ProductVertex
     pub at : slice_get p.vertices end ≡ Some w

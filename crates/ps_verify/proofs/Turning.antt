@@ -1,4 +1,4 @@
--- A cycle that the player loses is still one if it begins with another of its vertices.
+-- A cycle that the player loses is also lost if it is rotated to begin with another of its vertices.
 use Rattle.std.proofs.Common.{◌≡◌, ℕ, ◌+◌, ◌-◌, ◌%◌, ◌<◌, inl, inr, max, Bool, List, [], ◌∷◌, ◌++◌, length, map}
 use Rattle.std.proofs.Common.{take}
 use Rattle.std.proofs.Common.{drop, get_or, Option, sym, ap, ◌∙◌, arith, get_or-drop, get_or-take}

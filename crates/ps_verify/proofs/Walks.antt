@@ -1,6 +1,6 @@
 -- The letters of a trace of the circuit lead from vertex to vertex of the product.
---     left      the count of a vertex after it was entered; it falls along an edge of the given priority
---     walk      the vertex to which letters lead, and how the count falls on the way
+--     left      a count that falls along each edge into the given priority
+--     walk      the vertex to which letters lead, and that the count does not rise on the way
 use Rattle.std.proofs.Common.{◌≡◌, ℕ, ◌+◌, ◌<◌, ◌≤◌, ◌⊎◌, inl, inr, Bool, List, [], ◌∷◌, length, refl, ◌∙◌}
 use Rattle.std.proofs.Common.{arith, Some}
 use Rattle.std.specs.Prelude.{nat_eq, if◌then◌else◌, slice_get}
@@ -15,12 +15,12 @@ use Rattle.ps_verify.specs.Inner.Rounds.{HasCounts}
 
 module _ {owner : ℕ} {names : List (List ℕ)} {auto : Auto} {c : CircuitData} {p : ProductData}
     (product : IsProductOf owner names auto c p) where
-  -- the count of a vertex, as it is after the vertex was entered by an edge of its priority
+  -- the count of a vertex, plus 1 unless the vertex has the priority `top`; this number falls on each edge into a
+  -- vertex of that priority
   abbrev pub left : {top : ℕ} → HasCounts p.game top → ℕ → ℕ
   left {top} counts i = if nat_eq (priority_of p.game i) top then counts.count i else counts.count i + 1
 
-  -- how the count falls on the walk from i to j, on which `greatest` is the greatest priority of the edges that are
-  -- taken
+  -- on the walk from i to j, `left` does not rise, and it falls if the greatest priority on the walk is `top`
   pub record Falls {top : ℕ} (counts : HasCounts p.game top) (i j many greatest : ℕ) : Type 0 where
     pub never_rises : left counts j ≤ left counts i
     pub falls : 0 < many → greatest ≡ top → left counts j < left counts i

@@ -1,4 +1,4 @@
--- Whether a circuit wins follows from its words.
+-- Whether a circuit wins follows from which of its words are accepted.
 --     refuted      if a word has the wrong verdict, the inputs that its trace reads are a counterexample
 --     winning_by      a controller wins if all its words are accepted, an environment if none is
 use Rattle.std.proofs.Common.{◌≡◌, ℕ, zero, suc, ◌+◌, ◌*◌, ◌<◌, ◌↔◌, Bool, IsTrue, List, [], ◌∷◌, ◌++◌, length}

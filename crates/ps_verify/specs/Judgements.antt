@@ -22,14 +22,14 @@ use Rattle.ps_traces.specs.Traces.{AllAccepted, NoneAccepted}
 use Rattle.ps_verify.specs.declared.judgement.Judgement.{Judgement}
 use Rattle.ps_verify.specs.declared.judgement.Judgement.TheVariants.{Wins, Loses}
 
--- The circuit has all properties of a printed circuit, except that its outputs need to be in time only at latches that
--- a trace reaches.
+-- The circuit has all properties of a printed circuit, with one exception. If it moves first, its outputs are
+-- independent of the inputs at least at the latch values that a trace reaches.
 pub record IsWinning (order : Order) (role : Role) (file : FileData) (c : CircuitData) : Type 0 where
   pub symbols : HasSymbols role file.names file.controllable c
   pub in_time : IsInTimeWhereReached order role c
   pub accepted : role ≡ Controller → AllAccepted file c
   pub rejected : role ≡ Environment → NoneAccepted file c
-  -- traces, letters and meetings exist, so the two fields above are not true for lack of any
+  -- traces, letters and meetings exist, so the two fields above do not hold vacuously
   pub goes_on : EachInputGoesOn c
   pub letters : (moments : List Moment) → HasLetters file.names c moments
   pub meetings : role ≡ Environment → (k : FiniteController) → IsController order c k → LosesMeeting file c k

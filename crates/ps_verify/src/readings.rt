@@ -58,7 +58,7 @@ fn letters_along(
     Ok(letters)
 }
 
-/// The way from the first vertex to the given vertex.
+/// The path from the first vertex to the given vertex.
 fn way_in(alloc: Global, game: &Game, vertex: usize) -> Result<Vec<usize>, AllocError>
     requires vertex { vertex < vertex_count game.now }
     requires reached { (w : ℕ) → 0 < w → w < vertex_count game.now → IsLedTo game.now w }
@@ -69,7 +69,7 @@ fn way_in(alloc: Global, game: &Game, vertex: usize) -> Result<Vec<usize>, Alloc
     Ok(way)
 }
 
-/// The inputs that are read on the way to a cycle (the stem), and along the cycle (the lap).
+/// The inputs that are read on the path to a cycle (the stem), and along the cycle (the lap).
 pub(crate) fn stimulus_of(
     alloc: Global,
     product: &Product,

@@ -23,14 +23,14 @@ use ps_product::{Product, ProductFault};
 use ps_simulate::{Role, circuit_has_one_values};
 use std::alloc::{AllocError, Global};
 
-/// Whether the automaton accepts each lasso trace of a controller, or none of an environment. If not, the result is a
-/// stimulus that shows this, whose lap repeats from its first occurrence on.
+/// Decides whether the automaton accepts each lasso trace of a controller, or no lasso trace of an environment. If not,
+/// the result is a stimulus that shows this, whose lap repeats from its first occurrence on.
 ///
 /// # Errors
 ///
-/// Fails with [`ProductFault::Symbols`] if the names of the inputs and outputs are not those of the role; else with
-/// [`ProductFault::Timing`] if the circuit moves first, but at some latches that a trace reaches, an output depends on
-/// an input; or if memory runs out.
+/// Fails with [`ProductFault::Symbols`] if the names of the inputs and outputs are not those of the role. Fails with
+/// [`ProductFault::Timing`] if the circuit moves first, but an output depends on an input, at some latch values that a
+/// trace reaches. Fails also if memory runs out.
 pub fn verified(
     alloc: Global,
     circuit: &Circuit,
@@ -49,7 +49,7 @@ pub fn verified(
     Ok(judgement)
 }
 
-/// Properties of every circuit and of every automaton.
+/// Properties that the types `Circuit` and `Automaton` guarantee.
 fn sound(circuit: &Circuit, automaton: &Automaton)
     ensures circuit { IsCircuit circuit.now }
     ensures names { AreNames automaton.now.names }

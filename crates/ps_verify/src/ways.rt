@@ -1,4 +1,4 @@
-//! Ways from the first vertex of a game in which each other vertex is a successor of an earlier one.
+//! Paths from the first vertex of a game in which each other vertex is a successor of an earlier one.
 
 ghost use Rattle.std.specs.Prelude.{◌≡◌, ◌<◌, length, IfOk};
 ghost use Rattle.std.specs.List.{range_with_len};
@@ -41,7 +41,8 @@ fn lower_successors(game: &Game, vertex: usize, firsts: &mut [usize])
     }
 }
 
-/// The way from vertex 0 to the given vertex. The vertex before each vertex of the way is its entry in `firsts`.
+/// The path from vertex 0 to the given vertex. The vertex before each vertex on the path is the entry of that vertex in
+/// `firsts`.
 pub(crate) fn way_to(
     alloc: Global,
     firsts: &[usize],

@@ -16,8 +16,9 @@ use std::alloc::Global;
 /// Reads the whole input, writes the answer to it, and returns the exit status.
 ///
 /// Reading stops at the first read that fails, or at the first byte past `INPUT_LIMIT`. Nothing is written after a
-/// write or a flush that failed, or after a write that accepted no bytes. The status is then 1, and only the first part
-/// of the answer was written. The first solver solves games; the second is used if the input contains a certificate.
+/// write or a flush that failed, or after a write that accepted no bytes. In this case the exit status is 1, and only a
+/// beginning of the answer was written. The first solver solves games; the second is used if the input contains a
+/// certificate.
 pub fn run<R: Source, W: Sink>(
     alloc: Global,
     reader: &mut R,

@@ -13,7 +13,7 @@ use std::alloc::Global;
 
 /// The report on an HOA text. The report contains the game of the text's automaton in the given order of moves, a
 /// certificate of the game that the given solver found, and the circuit of the player who wins from the start. The
-/// certificate has all counts, or is a compact text.
+/// certificate lists all counts, or it is in the compact form.
 ///
 /// # Errors
 ///
@@ -27,14 +27,15 @@ pub fn synthesise(
     compact: bool,
     solver: &mut Box<dyn Solver>,
 ) -> Result<Report, SynthFault>
-    // The report is right, whatever the solver does, and each fault has its cause. The clauses on reports and on faults
-    // refer to what the solver returned.
+    // The report is right, whatever the solver does, and each fault is returned only for its cause. The clauses on
+    // reports and on faults refer to what the solver returned.
     ensures report { IfOk result (IsReport (Answered (known solver.old) (known solver.new)) order compact text.now) }
     ensures refused { IfErr result (IsSynthFault (Answered (known solver.old) (known solver.new)) order text.now) }
-    // If the solver is sure, every accepted text gets a report, unless memory runs out or the circuit is too large.
+    // If the solver is sure (its certificates are always valid, and it fails only if memory runs out), every accepted
+    // text gets a report, unless memory runs out or the circuit is too large.
     ensures sure { (known solver.old).is_sure ≡ true → (file : FileData) → IsAcceptedText text.now file →
         IsReportOrFault (Answered (known solver.old) (known solver.new)) order compact text.now result }
-    // The solver is the same after the call.
+    // The call keeps everything about the solver except the record of its last answer.
     ensures kept { IsKept (known solver.old) (known solver.new) }
 {
     synthesise_by(alloc, text, order, compact, solver)

@@ -2,10 +2,11 @@
 -- functions.)
 --     Wanted, wanted_bit w row      one bit of a row: of the next memory state, or of the letter
 --     node_made m w node d      the literal of the bit w of the row to which a node leads, with its gates
---     IsLiteralOf m w d node literal, KnowsMade m w d known      a literal exists; each known literal exists
+--     IsLiteralOf m w d node literal, KnowsMade m w d known      the literal of a node is built; each literal in
+--               `known` is built
 --     code_wanted m w latches code d      the literal for memory states with the codes `code` to `code` + 2^latches - 1
 --     bits_wired m latches ws d      the literals of the wanted bits, one after another
---     MakesLiteral, MakesLiterals old new result all      what a call returns that makes the gates of `all`
+--     MakesLiteral, MakesLiterals old new result all      what a function that builds the gates of `all` returns
 use Rattle.std.specs.Prelude.{◌≡◌, ℕ, Bool, Err, IfOk, List, length, map, Option, Result, Some, Vec}
 use Rattle.std.specs.Global.{Global}
 use Rattle.std.specs.List.{range_with_len}
@@ -28,7 +29,7 @@ abbrev pub wanted_bit : Wanted → Row → Bool
 wanted_bit (Next j) row = is_in j row.memory
 wanted_bit (Output p) row = is_in p row.letter
 
--- the row to which a node leads at an input letter
+-- the row of the machine to which a node of the diagram leads at an input letter
 abbrev pub row_by : MachineData → ℕ → ℕ → Row
 row_by m node x = row_at_leaf m (unwrap_or (leaf_of m.store node x) (length m.rows))
 
@@ -56,14 +57,16 @@ code_wanted m w latches code d = code_made (behaviour m) (bit_wanted (behaviour 
 abbrev pub bits_wired : MachineData → ℕ → List Wanted → Drafted → Wired
 bits_wired m latches ws d = wired (behaviour m) latches (map (bit_wanted (behaviour m)) ws) d
 
--- the existing gates remain; the result is the literal of `all`, or `all` has too many variables, or memory ran out
+-- the existing gates remain; the result is the literal of `all`, or a fault because `all` has too many variables or
+-- memory ran out
 pub record MakesLiteral (old new : Drafted) (result : Result ℕ EncodeFault) (all : Made) : Type 0 where
   pub extends : Extends old new
   pub held : IfOk result (IsHeld new)
   pub made : IfOk result (λ literal. all ≡ record { draft = new; literal = literal })
   pub too_large : result ≡ Err CircuitTooLarge → HasTooMany all.draft
 
--- the same of the literals of some bits
+-- the existing gates remain; the result is the literals of `all`, or a fault because `all` has too many variables or
+-- memory ran out
 pub record MakesLiterals (old new : Drafted) (result : Result (Vec ℕ Global) EncodeFault) (all : Wired) : Type 0 where
   pub extends : Extends old new
   pub made : IfOk result (λ literals. all ≡ record { draft = new; literals = literals.items })

@@ -1,8 +1,8 @@
--- Lawful parts, and how they are joined into larger parts.
---     Lawful number syntax part First More Null      the part satisfies the laws with these sets, and has outcomes
---     Chain number syntax P Q First More Null      P and then Q: their joint, and that the two are lawful as one part
---     larger      the part is also lawful with larger sets
---     chained, next, tight      a chain of any two parts; neither part is empty; no sign continues the first part
+-- Lawful grammars, and how they are combined into larger grammars.
+--     Lawful number syntax part First More Null      the grammar satisfies the laws with these sets, and has outcomes
+--     Chain number syntax P Q First More Null      P followed by Q: their joint, and that both together are lawful
+--     larger      the grammar is also lawful with larger sets
+--     chained, next, tight      a chain of any two grammars; neither has an empty text; no symbol continues the first
 --     given, mapped_by, either_of, or_nothing, many_by, many_of, one_sign, run_by      the laws of other combinators
 --     byte_of, word_of, chain_word      the laws of bytes and words
 use Rattle.std.proofs.Common.{◌≡◌, ◌⊎◌, ℕ, Bool, true, List, [], ◌∷◌, Option, Some, rules}
@@ -38,7 +38,7 @@ module _ {C : Type 0} {number : C → ℕ} {syntax : C} where
       Within F First → Within M More → (N → Null) → Lawful number syntax P First More Null
   larger p f m n = record { laws = weaker p.laws f m n; has = p.has }
 
-  -- ## One part after another
+  -- ## One grammar after another
 
   module _ {A B : Type 0} {P : Part Seen A C} {Q : A → Part Seen B C} {F M G L : Seen → Type 0} where
     pub chained : {First More : Seen → Type 0} {N K Null : Type 0} → Lawful number syntax P F M N →
@@ -74,7 +74,7 @@ module _ {C : Type 0} {number : C → ℕ} {syntax : C} where
       Lawful number syntax (mapped h P) F M N
   mapped_by h {P} p = record { laws = laws_mapped h P p.laws; has = has_mapped (byte_causes number syntax) h P p.has }
 
-  -- the first of the two forms is never empty
+  -- the first of the two alternatives has no empty text
   pub either_of : {V : Type 0} {P Q : Part Seen V C} {F M G L First More : Seen → Type 0} {N : Type 0} →
       Lawful number syntax P F M ⊥ →
       Lawful number syntax Q G L N → Apart F G → Within F First → Within G First → Within M More → Within L More →
@@ -106,7 +106,7 @@ module _ {C : Type 0} {number : C → ℕ} {syntax : C} where
   many_of item l a =
       larger (many_by item l (λ t x y. x) a) (λ t h. h) (or_in (λ t h. absurd h) (λ t h. h)) (λ n. n)
 
-  -- the part has a text, because `take` accepts the sign s
+  -- the grammar has a text, because `take` accepts the symbol s
   pub one_sign : {V : Type 0} (take : Seen → Option V) (Bad : Seen → C → Type 0) {First : Seen → Type 0} (s : Seen)
       {v : V} → take s ≡ Some v → ((t : Seen) → Judged number (Bad t)) → Within (Taken take) First →
       Within (BadSign Bad) First → Lawful number syntax (one take Bad) First Nothing ⊥

@@ -1,4 +1,4 @@
--- How the moves of a cursor change the unread signs.
+-- What the functions of a cursor do to the list of unread symbols.
 use Rattle.std.proofs.Common.{◌≡◌, ℕ, suc, ◌+◌, ◌-◌, ◌^◌, ◌<◌, ◌≤◌, Bool, true, false, eqb, List, [], ◌∷◌, ◌++◌, length}
 use Rattle.std.proofs.Common.{take, drop, get_or, refl, sym, ap, ap₂, ◌∙◌, append_assoc, arith, length-append, rules}
 use Rattle.std.specs.List.{prefix_len}
@@ -34,7 +34,7 @@ place_is [] false = omega arith
 place_is (b ∷ rest) true = refl
 place_is (b ∷ rest) false = refl
 
--- as long as bytes remain, signs remain
+-- as long as bytes remain, symbols remain
 pub left_some : (at : ℕ) (rest : List ℕ) (u : Bool) → eqb (length rest) 0 ≡ false →
     eqb (length (pieces_at at (rest_with_newline u rest))) 0 ≡ false
 left_some at [] u e = absurd cc

@@ -1,8 +1,8 @@
--- The pieces of a list of bytes: one sign for each byte, with its offset.
---     bytes_append, bytes_at, length_pieces      the bytes of signs, and the number of pieces
+-- The pieces of a list of bytes: one symbol for each byte, with its offset.
+--     bytes_append, bytes_at, length_pieces      the bytes of symbols, and the number of pieces
 --     pieces_with at bytes rest      the pieces of `bytes`, if `rest` follows these bytes
 --     pieces_split      the pieces of two lists of bytes in a row
---     next_at, first_sees      the next byte, and the bytes that the first sign carries
+--     next_at, first_sees      the next byte, and the bytes that the first symbol carries
 use Rattle.std.proofs.Common.{◌≡◌, ℕ, suc, ◌+◌, ◌<◌, List, [], ◌∷◌, ◌++◌, length, refl, ap, ◌∙◌, arith, rules}
 use Rattle.std.specs.Option.{option_map}
 use Rattle.ps_text.specs.Answers.{Piece, Stream, signs, first_of}
@@ -54,7 +54,7 @@ next_at s at bytes e = ap (λ ps. option_map (λ (t : Seen). t.byte) (first_of (
     go [] = refl
     go (b ∷ bytes) = refl
 
--- the first sign carries the bytes that follow it
+-- the first symbol carries the bytes that follow it
 pub first_sees : (at : ℕ) (bytes : List ℕ) (t : Seen) (rest : List Seen) → signs (pieces_at at bytes) ≡ t ∷ rest →
     bytes ≡ t.byte ∷ t.behind
 first_sees at [] t rest e = absurd (nil_is_cons t rest e)

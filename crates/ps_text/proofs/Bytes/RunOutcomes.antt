@@ -1,4 +1,4 @@
--- A run of bytes has an outcome for each list of signs, which is decided from the bytes that its first sign carries.
+-- A run of bytes has an outcome for each list of symbols. It is decided from the bytes that the first symbol carries.
 --     has_run      the outcome, if the errors of a run can be decided
 --     run_of      the longest run at the start of a list
 use Rattle.std.proofs.Common.{◌≡◌, ℕ, Bool, true, false, List, [], ◌∷◌, ◌++◌, Some, refl, rules, sym, ap, subst, arith}

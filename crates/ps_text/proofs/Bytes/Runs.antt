@@ -1,7 +1,7 @@
--- Runs of bytes as parts of a text: their laws, and how they are parsed and how they fail.
+-- Grammars of runs of bytes: their laws, and how they are parsed and how they fail.
 --     laws_run      a run begins and continues with bytes that pass
---     bad_is      an error of the next run, found at its first sign, is an error of the run that was parsed
---     run_read      a list of signs that is one run is parsed
+--     bad_is      an error of the next run, found at its first symbol, is an error of the run that was parsed
+--     run_read      a list of symbols that is one run is parsed
 --     run_reads, run_bad, run_stops      the parser moved past a run without an error; it has an error; there is none
 use Rattle.std.proofs.Common.{◌≡◌, ℕ, ◌<◌, ◌≤◌, Bool, true, false, List, [], ◌∷◌, ◌++◌, length, Option, None, Some}
 use Rattle.std.proofs.Common.{refl, sym, ap, ap₂, subst, ◌∙◌, arith, rules}
@@ -39,7 +39,7 @@ module _ {V C : Type 0} (p : ℕ → Bool) (see : ℕ → List ℕ → V) (Bad :
   pub laws_run : (b : ℕ) → p b ≡ true → Laws (Odd C) (run p see Bad) AtRun AtRun ⊥
   laws_run b e = search (rules, run_begins, head_passes, all_right, bytes_append, none_is_some)
 
-  -- an error found at the first sign of a run is an error of that run
+  -- an error found at the first symbol of a run is an error of that run
   pub bad_is : {t : Seen} {r : List ℕ} {f : C} → BeginsRun p r (t.byte ∷ t.behind) → IsBadRun p Bad t f → Bad r f
   bad_is {t} {r} {f} x b = search (rules, same_run)
 

@@ -1,9 +1,9 @@
--- Single bytes as parts of a text: their laws and outcomes, how they are parsed, and how they fail.
---     Odd      no sign is an error by itself
---     At b, Any      the signs with the byte b; all signs
---     stops_here      the next sign does not begin the part
+-- Grammars of single bytes: their laws and outcomes, how they are parsed, and how they fail.
+--     Odd      the empty set: no symbol is an error by itself
+--     At b, Any      the symbols with the byte b; all symbols
+--     stops_here      the next symbol does not begin the grammar
 --     byte_reads, byte_stops      the next byte is the expected byte, or it is not
---     avoids, enters_byte      a part that begins with the given byte
+--     avoids, enters_byte      a grammar that begins with the given byte
 --     refuted      if a test fails, a statement that implies the test is false
 use Rattle.std.proofs.Common.{◌≡◌, ℕ, Bool, true, false, cond, [], Option, Some, None, refl, sym, ap, subst, ◌∙◌, rules}
 use Rattle.std.specs.Option.{option_map}
@@ -39,11 +39,11 @@ At b s = s.byte ≡ b
 abbrev pub Any : Seen → Type 0
 Any s = Unit {0}
 
--- a sign with the byte b
+-- a symbol with the byte b
 abbrev pub seen : ℕ → Seen
 seen b = record { byte = b; at = 0; behind = [] }
 
--- the part of a byte takes this byte if it is next
+-- the grammar of a byte accepts this byte if it is next
 pub byte_taken : {b : ℕ} (s : Seen) → s.byte ≡ b → take_byte b s ≡ Some tt
 byte_taken {b} s e = ap (λ x. cond x (Some tt) None) (eq-eqb s.byte b e)
 
@@ -53,7 +53,7 @@ taken_byte {b} s {u} e = search (rules, eqb-true)
 pub next_is : {b : ℕ} (o : Option Seen) → option_map (λ s. s.byte) o ≡ Some b → (t : Seen) × (o ≡ Some t) × (t.byte ≡ b)
 next_is o h = search (rules, none_is_some, same_some)
 
--- ## Where a part begins, and where it does not
+-- ## Where a grammar begins, and where it does not
 
 pub avoids : (b : ℕ) (old : Stream Seen) → (next_byte old ≡ Some b → ⊥) → Avoids (At b) (next_of old)
 avoids b old none t n h = none (ap (option_map (λ (s : Seen). s.byte)) n ∙ ap Some h)
@@ -82,7 +82,7 @@ module _ {C : Type 0} (number : C → ℕ) (syntax : C) where
   has_byte b = has_one (byte_causes number syntax) (take_byte b) NoBad (seen b) tt (byte_taken (seen b) refl)
       (λ t. judge_none number)
 
-  -- ## A part that does not begin
+  -- ## A grammar that does not begin
 
   refusal_is : (there : Option Seen) → syntax ≡ refusal_of (byte_causes number syntax) there
   refusal_is None = refl

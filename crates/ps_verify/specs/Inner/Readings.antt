@@ -21,7 +21,7 @@ pub record ReadsPath (p : ProductData) (path : List ℕ) (letters : List (List B
   pub each : (k : ℕ) → k < length letters → ReadsEdge p (slice_index path k) (slice_index path (k + 1))
       (slice_index_or letters k [])
 
--- the stem is read on the way to a cycle that the player loses, and the lap is read along the cycle
+-- the stem is read on the path to a cycle that the player loses, and the lap is read along the cycle
 pub record ReadsRound (player : ℕ) (p : ProductData) (s : StimulusData) : Type 0 where
   pub cycle : List ℕ
   pub lost : IsLostRound p.game player cycle

@@ -1,5 +1,5 @@
 -- Who wins the loops of a game in which only one player moves.
---     WinsLoops game player      for each opposing priority, some counts keep the rule on every edge
+--     WinsLoops game player      for each opposing priority, valid counts (a progress measure) exist
 --     IsLostRound game player cycle      a cycle that the player loses
 --     IsTurned old new      the same cycle, rotated so that it begins with its smallest vertex
 use Rattle.std.specs.Prelude.{◌≡◌, ℕ, ◌%◌, ◌<◌, ◌≤◌, List, [], ◌∷◌, ◌++◌, length, map, slice_index, take}

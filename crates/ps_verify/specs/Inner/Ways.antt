@@ -1,7 +1,8 @@
--- Ways to a vertex. The list `firsts` has, for each vertex, the first vertex that has an edge to it.
+-- Paths from vertex 0 to a given vertex. The list `firsts` has, for each vertex, the first vertex that has an edge to
+-- it.
 --     HasLowered game v count old new      the entries of v's first successors are lowered to v, if larger
 --     AreFirsts game n firsts      the entry of w is w or, if smaller, the first vertex less than n with an edge to w
---     IsWayBy firsts way v      the vertex before each vertex of the way is its entry in `firsts`
+--     IsWayBy firsts way v      the vertex before each vertex of the path is the entry of that vertex in `firsts`
 --     IsWayTo game way v      a path from vertex 0
 use Rattle.std.specs.Prelude.{◌≡◌, ℕ, ◌+◌, ◌<◌, ◌≤◌, ◌⊎◌, List, length, slice_index}
 use Rattle.ps_game.specs.Games.{ParityGame, HasEdge, successors_of, vertex_count}
@@ -37,7 +38,7 @@ pub record IsWayTo (game : ParityGame) (way : List ℕ) (v : ℕ) : Type 0 where
   pub from : slice_index way 0 ≡ 0
   pub ends : last_vertex way ≡ v
 
--- the way in reverse, from the vertex v back to the vertex reached so far
+-- the path in reverse, from the vertex v back to the vertex reached so far
 pub record IsWayBack (firsts : List ℕ) (way : List ℕ) (v first : ℕ) : Type 0 where
   pub begins : 0 < length way
   pub from : slice_index way 0 ≡ v
