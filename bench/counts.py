@@ -39,7 +39,7 @@ WIDE = ["random 100000 2 1000 1", "random 20000 2 1000 1"]
 
 
 def made(folder):
-    """Makes the program in a folder."""
+    """Builds the program in a folder."""
     crates = os.path.join(folder, "crates")
     for name in BELOW:
         shutil.copytree(os.path.join(TOP, "crates", name), os.path.join(crates, name))

@@ -37,7 +37,7 @@ BELOW = ("ps_label", "ps_diagram")
 
 
 def made(folder):
-    """Makes the program in a folder."""
+    """Builds the program in a folder."""
     crates = os.path.join(folder, "crates")
     for name in BELOW:
         shutil.copytree(os.path.join(TOP, "crates", name), os.path.join(crates, name))

@@ -81,7 +81,7 @@ def first(count, dice):
 
 
 def made(folder):
-    """Makes the program in a folder."""
+    """Builds the program in a folder."""
     import lanes  # which crates another one uses
 
     crates = os.path.join(folder, "crates")

@@ -116,7 +116,7 @@ def numbers(size):
 
 
 def made(folder):
-    """Makes the program in a folder."""
+    """Builds the program in a folder."""
     crates = os.path.join(folder, "crates")
     for name in ("ps_text", "ps_label", "ps_hoa"):
         shutil.copytree(os.path.join(TOP, "crates", name), os.path.join(crates, name))

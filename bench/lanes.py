@@ -45,7 +45,7 @@ def lines_below(names):
 
 
 def made(folder):
-    """Makes the program in a folder."""
+    """Builds the program in a folder."""
     crates = os.path.join(folder, "crates")
     below = lines_below(STANDS_ON)
     for name in below:

@@ -114,7 +114,7 @@ def check(game, lines):
 
 
 def made(folder):
-    """Makes the program in a folder."""
+    """Builds the program in a folder."""
     import lanes  # which crates another one uses
 
     crates = os.path.join(folder, "crates")

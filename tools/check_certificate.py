@@ -1,5 +1,6 @@
 #!/usr/bin/env python3
-"""Checks a certificate of a parity game by docs/CERTIFICATES.md alone: tools/check_certificate.py GAME CERTIFICATE
+"""Checks a certificate of a parity game, as docs/CERTIFICATES.md defines it and without psyn:
+tools/check_certificate.py GAME CERTIFICATE
 
 The script prints `valid` (exit status 0) or the certificate's first flaw, worded as by `psyn check` (status 1). If a
 text is malformed, it prints the reason on standard error (status 2).

@@ -168,8 +168,7 @@ class Request:
         return None if said is None else int(said)
 
     def texts(self):
-        """The files that the command reads. A file of a wrong kind is refused here for a command of the tool; otherwise
-        the program reports it."""
+        """The files that the command reads. A command of the tool refuses a file of a wrong kind here."""
         texts = Reader(self).texts(self.command.kinds(self.given), self.words)
         wrong = wrong_kinds(self.command, texts)
         if wrong and not self.command.is_of_the_program:

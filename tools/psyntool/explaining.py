@@ -9,8 +9,8 @@ from psyntool.marking import placed
 from psyntool.program import MOST_BYTES
 from psyntool.texts import Unreadable, automaton, circuit, labels
 
-# The numbers of faults with special explanations. Fault 25 can only mean that the input is too long, because the
-# program reads it from the tool.
+# The numbers of faults with special explanations. Fault 25 (the input could not be read) means here that the input is
+# too long, because the tool feeds the program.
 READ_FAULT, OTHER_GAME, SYMBOLS = 25, 54, 72
 # Longer texts are not parsed here, because parsing them in Python would take longer than the program's own run.
 LONGEST = 1 << 21

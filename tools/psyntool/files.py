@@ -118,8 +118,7 @@ class Reader:
         return data
 
     def text(self, kind, path):
-        """The text of a file (`-` is standard input), normalised as the flags ask. For the kind FILE, the beginning of
-        the text decides its kind."""
+        """The text of a file (`-` is standard input), normalised. FILE stands for the kind that its beginning shows."""
         name, original = title_of(path), self.bytes_of(path)
         return self.mended((kind_of(original) or kind) if kind is Kind.FILE else kind, name, original)
 

@@ -51,15 +51,13 @@ class Solver:
         return texts, program.ask(files.joined("judge", self.request.passed, texts))
 
     def hand_on(self, texts, answer, path, automaton=None):
-        """Writes the answer of `judge`, explains an error, draws a lost cycle if a path is given, and returns the exit
-        status."""
+        """Writes and explains the answer of `judge`, draws a lost cycle to `path`, and returns the exit status."""
         status = asking.hand_on(self.request, texts, answer)
         judging.draw(self.request, path, answer, texts, automaton)
         return status
 
     def run(self, paths):
-        """Runs the solver's command, and waits for its end. Its messages go to standard error or, with --quiet,
-        nowhere."""
+        """Runs the solver's command until it ends; its messages go to standard error or, with --quiet, nowhere."""
         words = self.words
         for sign, path in paths.items():
             words = [word.replace(sign, path) for word in words]

@@ -83,8 +83,7 @@ class Case:
         return automaton.read(self.spec)
 
     def drawn(self, seed, count):
-        """The circuit, and then copies with one literal negated, for `count` of its literals or for all if there are
-        fewer."""
+        """The circuit, and then copies with one literal negated, for `count` randomly chosen literals."""
         found = places(self.text)
         chosen = random.Random(seed).sample(found, min(count, len(found)))
         return [self.text, *(negated(self.text, place) for place in chosen)]

@@ -37,7 +37,7 @@ TWELVE = """\
 
 
 def read(path):
-    """The specification of a list."""
+    """The specification that a list of parts defines."""
     return specification.asked(Request(COMMANDS["core"], {}, [path], COMMANDS))
 
 

@@ -105,8 +105,7 @@ class Rules(unittest.TestCase):
         counts.ran("pages", "plays by the rules under node", sum(map(len, said)))
 
     def look_at(self, board, play):
-        """Checks the states and priorities of the steps against the labels of edges, and that the stimulus consists of
-        the play's letters."""
+        """Checks the steps against the automaton's edges, and the stimulus against the letters of the play."""
         self.assertEqual(play["wrong"], 0)
         state = board.automaton.start
         for step in play["steps"]:
@@ -118,8 +117,7 @@ class Rules(unittest.TestCase):
         self.assertEqual(play["stimulus"].split("\n"), [*lines[:lap], "-", *lines[lap:], ""])
 
     def simulated(self, board, printed, play):
-        """The play's steps, with the latches and the outputs that `sim` prints. The last line of `sim` has the latches
-        after the play."""
+        """The play's steps with the latches and outputs of `sim`, whose last line has the latches after the play."""
         lines = [step["digits"] for step in play["steps"]]
         given = "\n".join(["sim", f"{printed}%%", *lines, lines[-1], ""])
         answer = program.ask(given.encode())
@@ -134,8 +132,7 @@ class Rules(unittest.TestCase):
         return steps
 
     def test_boards_by_hand(self):
-        """Only equal states with equal latches close a loop, a latch may be 1 at reset, and a letter may have no
-        bits."""
+        """Equal states with equal latches close a loop, a latch may start at 1, and a letter may have no bits."""
         made = [report.read(program.ask(f"synth --full\n{text}".encode()).text).parts[1:] for text in (TURNS, NO_INPUT)]
         own = report.read(program.ask(f"synth --full\n{NO_INPUT}".encode()).text).parts[0]
         given = [(TURNS, NO_LATCH, *made[0]), (TURNS, FROM_ONE, *made[0]), (NO_INPUT, own, *made[1])]
@@ -287,8 +284,7 @@ class InChromium(OnFiles):
         return done.stdout.decode()
 
     def page(self, name, path):
-        """The page of a specification, the letters of the play that holds out longest, and what `play` prints for this
-        play."""
+        """The page of a specification; the letters of the play that holds out longest, and its output by `play`."""
         self.assertIn(self.tool("synth", "-o", name, *(["--parts"] if path.endswith(".parts") else []), path).returncode, (10, 20))
         specification = path if path.endswith(".hoa") else f"{name}.hoa"
         said = self.tool("play", "--auto", name, specification).stdout.decode()

@@ -1,4 +1,4 @@
--- The names of propositions as symbols, and bounds on the number of propositions.
+-- The names of propositions as AIGER symbols, and bounds on the number of propositions.
 use Rattle.std.proofs.Common.{rules}
 use Rattle.std.proofs.Common.{◌≡◌, ◌≢◌, ◌∙◌, ℕ, zero, suc, ◌+◌, ◌<◌, ◌≤◌, ◌||◌, Bool, true, false, cond, nat_eq}
 use Rattle.std.proofs.Common.{List, [], ◌∷◌, ◌++◌, map, length, get_or, Option, Some, refl, sym, ap}

@@ -1,4 +1,4 @@
--- A machine has at most one circuit: there is only one way to number its variables, and one way to build its wires.
+-- A machine has at most one circuit: there is only one way to number its variables, and one way to build its gates.
 use Rattle.std.proofs.Common.{rules, ◌≡◌, ◌∙◌, ℕ, ◌+◌, ◌*◌, ◌<◌, false, List, ◌++◌, map, length, get_or, None, sym, ap}
 use Rattle.std.proofs.Common.{ap₂, arith}
 use Rattle.std.specs.List.{All, range_with_len}

@@ -175,7 +175,7 @@ unfolding node_made
 made-low m w node p low high d machine sees none = over-same (range_with_len 1 (length m.inputs)) _ _ d
     (λ bits e. grind (arith, letter_bit 0 m.inputs bits p (rising m machine), bit_for-none m.inputs bits p none))
 
--- the bit of a letter at the proposition q depends only on the bit that the list has for q
+-- the letter that a list of bits gives depends, at the proposition q, only on the list's bit for q
 settled : (ps : List ℕ) (a b : List Bool) (q : ℕ) → length a ≡ length ps → length b ≡ length ps →
     ((j : ℕ) → j < length ps → get_or ps j 0 ≡ q → get_or a j false ≡ get_or b j false) →
     bit_for ps a q ≡ bit_for ps b q

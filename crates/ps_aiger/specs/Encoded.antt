@@ -35,7 +35,7 @@ letter_over (p ∷ ps) (bit ∷ bits) = cond bit (2 ^ p) 0 + letter_over ps bits
 abbrev pub bits_over : List ℕ → ℕ → List Bool
 bits_over ps letter = map (λ p. is_in p letter) ps
 
--- the names of the given propositions as symbols
+-- the names of the given propositions as AIGER symbols
 abbrev pub symbols_of : List (List ℕ) → List ℕ → List (Option (List ℕ))
 symbols_of names ps = map (λ p. Some (slice_index_or names p [])) ps
 

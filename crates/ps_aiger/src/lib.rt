@@ -6,8 +6,8 @@
 //!
 //! Whatever code the latches hold, the circuit's step is the machine's step in the memory state with this code; a code
 //! that belongs to no memory state stands for memory state 0. There are no more latches than the memory states need. If
-//! the player moves first, outputs do not depend on inputs. `encode` fails only if out of memory, or if the circuit
-//! needs more variables than there are literals.
+//! the machine moves first, the circuit's outputs do not depend on its inputs. `encode` fails only if out of memory, or
+//! if the circuit needs more variables than there are literals.
 //!
 //! | Law | What it says |
 //! |---|---|

@@ -1,4 +1,4 @@
--- The operands of a label are the list in its `Vec`.
+-- The operands of a conjunction or disjunction are the elements of its `Vec`.
 use Rattle.std.proofs.Common.{◌≡◌, List, refl, ap, ◌∙◌}
 use Rattle.std.specs.declared.vec.Vec.{Vec}
 use Rattle.std.specs.declared.alloc.Global.{Global}

@@ -1,6 +1,6 @@
--- The exits of a parsing function. The contract of a parsing function is `Meets found causes view part old result new`:
--- a `Reads` for an Ok, and a `Stops` for an Err. The contracts of the functions that are called have the same form:
--- `c.call.ensures` and `c.in_err-call.ensures`.
+-- What a parsing function returns at each of its exits. The contract of a parsing function is `Meets found causes view
+-- part old result new`: a `Reads` for an Ok, and a `Stops` for an Err. The contracts of the functions that are called
+-- have the same form: `c.call.ensures` and `c.in_err-call.ensures`.
 --     reads_then j m n      the first call parsed its grammar (m), and the other calls parsed the rest (n)
 --     stops_first causes j old o s      the first call failed, so the function fails
 --     stops_behind causes j m o s      the first call parsed its grammar, and a later call failed

@@ -1,4 +1,4 @@
--- The lemmas of Exits and Branches for a `Meets` of any result, with the view and the streams written out.
+-- The lemmas of the modules Exits and Branches, restated for the contract `Meets` of functions with any type of result.
 use Rattle.std.proofs.Common.{◌≡◌, ◌<◌, ◌≤◌, [], length, Option, None, Some, Result, Ok, Err, IsErrAnd, subst, sym}
 use Rattle.std.proofs.Common.{rules}
 use Rattle.ps_text.specs.Answers.{Stream, Found, next_of, offset_of}

@@ -35,7 +35,7 @@ compared (s ∷ a) b (t ∷ c) d e = more_compared s t a b c d (cc) (compared a 
 pub length_more : {T : Type 0} (a m : List T) (t : T) → length (a ++ t ∷ m) ≡ length a + suc (length m)
 length_more a m t = length-append a (t ∷ m)
 
--- two splits at the same position are equal
+-- two splits of a list at the same position are equal
 pub same_split : {T : Type 0} (a b c d : List T) → a ++ b ≡ c ++ d → length a ≡ length c → (a ≡ c) × (b ≡ d)
 same_split {T} a b c d e l = search (rules, compared, length_more)
 

@@ -7,7 +7,7 @@ ghost use Rattle.ps_text.specs.Parts.{Part, Causes, IsWrong};
 
 /// A format of texts: its symbols, the values that its texts mean, and the reasons why a text is rejected.
 pub trait Format {
-    /// The elements of a text.
+    /// The symbols of which texts consist.
     type Sign;
 
     /// The meanings of texts.

@@ -1,4 +1,4 @@
-//! Faults of texts, for every format.
+//! The faults of texts, common to all formats.
 
 ghost use Rattle.std.specs.Prelude.{◌≡◌, ℕ, List};
 ghost use Rattle.ps_text.specs.declared.faults.Fault.TheVariants.{OutOfMemory};

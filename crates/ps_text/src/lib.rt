@@ -15,8 +15,8 @@
 //! | `answers::some_answer` | a law: a text of a `Grammar` has an answer, if its part always has an outcome |
 //! | `tokens::one_tokenisation` | a law: a text of a `Lexicon` has at most one list of tokens |
 //!
-//! The grammars are in the specs. `Parts` defines grammars: what a text means, and which errors it can have. `Readers`
-//! states what a parsing function returns for a grammar.
+//! The grammars are defined in the folder specs. `Parts` defines grammars: what a text means, and which errors it can
+//! have. `Readers` states what a parsing function returns for a grammar.
 #![tactic(auto)]
 
 pub mod answers;

@@ -108,7 +108,7 @@ firsts_more {game} {n} {old} {new} so_far lowered = record {
   ];
 }
 
--- a slice that was borrowed as a whole has its new contents afterwards
+-- after a mutable borrow of the whole slice, the vector has the slice's new contents
 pub firsts_lent : {game : ParityGame} {n : ℕ} (len : ℕ) {old : List ℕ} (new : List ℕ) → len ≡ length old →
     AreFirsts game n old →
     HasLowered game n (length (successors_of game n)) old new →

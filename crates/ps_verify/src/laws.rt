@@ -1,4 +1,4 @@
-//! Laws about the definitions.
+//! A law about circuits that win or lose.
 
 ghost use Rattle.ps_hoa.specs.Files.{FileData};
 ghost use Rattle.ps_hoa.specs.Sound.{IsSoundFile};

@@ -40,7 +40,7 @@ pub fn run<R: Source, W: Sink>(
     run_by(alloc, reader, writer, &mut built_in, &mut replay)
 }
 
-/// Like `run`, but with any two solvers.
+/// Like `run`, but with any solvers in place of psyn's own and the replaying one.
 pub fn run_by<R: Source, W: Sink, S: Solver, T: Solver>(
     alloc: Global,
     reader: &mut R,

@@ -57,8 +57,7 @@ class Solving:
         self.request, self.picture, self.solver = request, judging.path_of(request), solvers.Solver(request)
 
     def run(self, texts, paths, others):
-        """The answer to an automaton with a certificate made from the other solver's solution or, if the solution is
-        wrong, an explanation of its error."""
+        """Answers by the certificate of the other solver's solution; explains the error of a wrong solution."""
         request = self.request
         game = program.ask(files.joined("game", [name for name in request.passed if name == MOORE.name], texts))
         if not asking.is_had(game):

@@ -20,7 +20,8 @@ VERDICTS = (
 
 
 def page(title, board, texts):
-    """The page for a board. The page offers each of `texts`, a title, a file name and bytes, for saving."""
+    """The HTML page for a play against a circuit. It offers the given texts, each a title, a file name and bytes, for
+    saving."""
     pictures = {"automaton": drawing.of_automaton(board), "game": drawing.of_game(board)}
     known = {**contents.of(board), "pictures": {name: picture.graph for name, picture in pictures.items()}}
     script = f"{asset('rules.js')}{asset('page.js')}"

@@ -112,8 +112,7 @@ class Diagrams:
         return list(found)
 
     def letter(self, one, is_wanted):
-        """The first letter at which the diagram has a wanted value, as a truth for each proposition; None if there is
-        no such letter."""
+        """The first letter with a wanted value, as a truth for each proposition; None if there is none."""
         waiting, seen = [(one, ())], set()
         while waiting:
             now, path = waiting.pop()

@@ -45,8 +45,7 @@ class Part:
         return "controllable-AP:" in self.automaton.headers
 
     def state_name(self, state):
-        """The name of a state. A state without a name has the part's title and its number, or, if it is the only state,
-        an empty name."""
+        """A state's name, or the part's title and the state's number; empty for an only state without a name."""
         name = self.automaton.state_names.get(state)
         return name or (f"{self.title}:{state}" if len(self.automaton.states) > 1 else "")
 

@@ -62,8 +62,7 @@ class Wishes:
         self.parts, self.outs, self.is_strict = [], None, False
 
     def take(self, given, folder="", sentences=None):
-        """Adds what the flags of a command line or of a list ask for, in their order; paths are relative to the given
-        folder."""
+        """Adds what the flags of a command line or list ask for, in order; paths are relative to `folder`."""
         self.is_strict = self.is_strict or STRICT.name in given
         said = sorted((place, name, word) for name in FLAGS if FLAGS[name].many for place, word in given.get(name, ()))
         count = len(self.parts)

@@ -52,8 +52,7 @@ class Names:
         return Key(number, None, {place: digit == "1" for place, digit in zip(self.first, behind)})
 
     def of_vertex(self, vertex):
-        """The text of a vertex: the state's name and the priority or, after the first player's choice, only the state's
-        number."""
+        """A vertex's text: the state's name and priority or, after the first player's choice, the state's number."""
         key = self.keys[vertex.identity]
         if key.letter is not None:
             return "no edge" if key.state is None else str(key.state)
@@ -71,8 +70,7 @@ class Names:
         return "no edge" if state is None else str(state)
 
     def of_edge(self, source, target):
-        """The letter of an edge: the first player's choice or, after that choice, a letter of the second player that
-        leads to the target."""
+        """The letter of an edge: the first player's choice, or a letter by which the second player completes it."""
         before, after = self.keys[source.identity], self.keys[target.identity]
         if before.state is None:
             return ""
@@ -83,8 +81,8 @@ class Names:
         return labels.letter_text(mine, self.automaton.names)
 
     def leading(self, before, after):
-        """A letter that extends the first player's choice and leads to the given state by an edge of the given
-        priority; for the sink, a letter without an edge."""
+        """A letter that extends the one of `before` and leads to `after`; if `after` is the sink, one without an
+        edge."""
         edges, aliases, chain = self.automaton.edges.get(before.state, ()), self.automaton.aliases, self.automaton.chain
         if after.state is None:
             return labels.meeting([(*edge.label, labels.NOT) for edge in edges], aliases, before.letter)

@@ -96,8 +96,7 @@ class Board:
         return tuple(entry.counts.get(priority, 0) for priority in sorted(self.certificate.opposing(entry.winner), reverse=True))
 
     def choices(self, vertex, theirs, states):
-        """The user's choices while the guarantees are in the given states: classes of letters if the user moves first,
-        else letters that answer the circuit's letter. Choices without an edge come last."""
+        """The user's choices; those without an edge come last. `states` are the present states of the guarantees."""
         found = self.classes(vertex) if self.am_first else self.answers(vertex, theirs, states)
         return sorted(found, key=lambda choice: choice.target is None)
 
@@ -123,8 +122,7 @@ class Board:
                     yield Choice(one, letter, self.set_text(said, letter), after.state, after.priority, self.counts(one), broken)
 
     def ends(self, state):
-        """For each letter the state and the priority to which it leads; for a letter without an edge, those of the
-        game's sink."""
+        """For each letter the state and priority to which it leads; without an edge, those of the game's sink."""
         whole = self.diagrams.leaf((None, 1))
         for edge in self.automaton.edges.get(state, ()):
             taken, ends = self.diagrams.of_label(edge.label, self.aliases), (edge.target, self.automaton.chain.priority(edge.marks))
@@ -148,8 +146,7 @@ class Board:
         return whole
 
     def longest(self, choices):
-        """The choice that holds out longest: the one with the greatest counts, compared from the greatest priority
-        down, and then with the smallest vertex."""
+        """The choice that holds out longest: that of the greatest counts, and then of the smallest vertex."""
         return max(choices, key=lambda choice: (choice.counts, -choice.vertex))
 
 
@@ -228,8 +225,7 @@ class Play:
         return [step.digits for step in self.steps]
 
     def look(self):
-        """Updates the latches, the circuit's letter if the circuit moves first, and the loop if the play has closed
-        one."""
+        """Updates the latches, the circuit's letter if the circuit moves first, and the loop of the play."""
         nothing = self.circuit.digits({number: False for number, _ in self.board.mine})
         self.latches, said = self.circuit.after([*self.lines, nothing])
         self.theirs = None if self.board.am_first else said
@@ -261,8 +257,7 @@ class Play:
             self.look()
 
     def stimulus(self):
-        """The user's letters as a lasso stimulus, whose lap is the loop or, if the play ended without an edge, the last
-        letter."""
+        """The user's letters as a lasso stimulus; its lap is the loop or, without a loop, the last letter."""
         lines = self.lines
         lap = len(lines) - 1 if self.loop is None else self.loop
         return "".join(f"{line}\n" for line in [*lines[:lap], "-", *lines[lap:]])

@@ -8,15 +8,14 @@ from dataclasses import dataclass
 
 @dataclass(frozen=True)
 class Chain:
-    """The links of a chain, each an acceptance set and whether meeting it infinitely often accepts; the first set met
-    so decides. `base` says whether a run that meets none of the sets so is accepted."""
+    """The links of a chain, each an acceptance set and whether meeting it infinitely often accepts. The first link
+    whose set is met infinitely often decides or, if there is none, `base`."""
 
     links: tuple
     base: bool
 
     def priority(self, marks):
-        """The priority of an edge: that of the first link whose set the edge is in, or of the base. Even priorities
-        accept."""
+        """The priority of an edge: that of the first link with one of the edge's sets, or that of the base."""
         numbers, number = [], 0 if self.base else 1
         for _, accepts in reversed(self.links):
             number += accepts != (number % 2 == 0)

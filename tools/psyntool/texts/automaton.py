@@ -47,13 +47,11 @@ class Automaton:
         return labels.texts_of_aliases(self.aliases, self.names)
 
     def written(self, label):
-        """A label with the names of propositions, and with aliases replaced by their definitions unless these are too
-        long."""
+        """A label with the names of propositions; aliases are replaced by their definitions, if these are short."""
         return labels.written(label, self.names, self.alias_texts)[0]
 
     def edge_at(self, state, true):
-        """The first edge of a state whose label holds at a letter, which is given as the set of its true propositions;
-        None if there is none."""
+        """The first edge of a state whose label holds if exactly the propositions in `true` are true, or None."""
         edges = self.edges.get(state, ())
         place = labels.first_met([edge.label for edge in edges], {number: number in true for number in range(len(self.names))}, self.aliases)
         return None if place is None else edges[place]

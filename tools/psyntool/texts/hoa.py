@@ -63,8 +63,7 @@ class Reader:
         return self.tokens[self.at].offset if self.at < len(self.tokens) else 0
 
     def take(self, pattern="", must=True):
-        """Takes the next token if it matches the pattern. Otherwise the text is refused or, if `must` is false, an
-        empty string is returned."""
+        """Takes the next token if it matches; otherwise refuses the text or, without `must`, returns no text."""
         text = self.now
         if not text or not re.fullmatch(pattern or ".*", text, re.S):
             if must:
@@ -83,8 +82,7 @@ class Reader:
         return found
 
     def formula(self, atom):
-        """A formula of !, & and | in postfix form; `atom` parses the formula's atoms. A pair of parentheses counts as
-        an operator."""
+        """A formula of !, &, | and parentheses (also an operator) in postfix form; `atom` parses the atoms."""
         output, waiting, wants_atom = [], [], True
         while True:
             sign = self.now

@@ -77,7 +77,7 @@ passes_run {p} line at {n} rest {run} {behind} u size taken left each =
 pub same_place : {p : ℕ → Bool} {old new : Stream Seen} {r : List ℕ} → Passes p old new r → r ≡ [] → new ≡ old
 same_place {p} {old} {new} x e = search rules
 
--- if the cursor passes an empty run, the next byte is not of the class
+-- if the cursor moves past an empty run of bytes of a class, the next byte is not of this class
 pub avoids_run : {p : ℕ → Bool} {old new : Stream Seen} → Passes p old new [] →
     Avoids (λ (s : Seen). p s.byte ≡ true) (next_of old)
 avoids_run {p} x t n h = search (rules, none_is_some, same_some)

@@ -46,7 +46,7 @@ stops_bytes p bytes h = search rules
 
 module _ {V C : Type 0} (number : C → ℕ) (syntax : C) (p : ℕ → Bool) (see : ℕ → List ℕ → V)
     (Bad : List ℕ → C → Type 0) where
-  -- the case in which the first byte passes the test
+  -- the outcome of a run, in the case that the first byte passes the test
   module _ (t : Seen) (after : List Seen) (passes : p t.byte ≡ true) where
     abbrev seen : Spanned p t.behind
     seen = run_of t.behind
