@@ -5,17 +5,16 @@ A `[[line]]` has
 
   name      what the line shows; no name occurs twice
   defect    the number of the bug report that the line tests, if there is one
-  command   what bash runs in a folder with `slow.pg` and the files of `FILES` and `PROGRAMS`; in it, `psyn` runs the
-            tool, and `install-psyn` runs tools/install
-  cut       an interruption: Ctrl-C or the signal TERM, HUP or KILL while the program works, or `closed pipe`, a
-            standard output that nobody reads; left out if nothing interrupts the command
+  command   what bash runs, in a folder with `slow.pg` and the files of `FILES` and `PROGRAMS`
+  cut       an interruption of the command: Ctrl-C, TERM, HUP or KILL while the program works, or `closed pipe`
   output    the expected standard output; if it is left out, any output is right
   error     the exact standard error
   status    the exit status as a shell reports it: 128 plus the signal's number if a signal ended the command
   files     the files that the command leaves and that were not there before
 
-Ctrl-C is typed at a terminal, to which both standard output and standard error go. The program must not be running any
-more when the tool has ended.
+In a command, `psyn` runs the tool, and `install-psyn` runs tools/install. With `closed pipe`, nobody reads the standard
+output. Ctrl-C is typed at a terminal, to which both standard output and standard error go. The program must not be
+running any more when the tool has ended.
 """
 import os
 import pty
@@ -39,9 +38,8 @@ SECONDS = 300
 # The number of rungs of a game on which psyn works for minutes.
 RUNGS = 300
 FILES = ("arbiter.hoa", "grant.hoa", "delay.hoa", "loop.pg", "loop.cert", "stays.cert", "toggle.aag", "lamp.aag", "presses.stim")
-# Programs that stand in for psyn: one that runs long, psyn itself after it has written its process id, one that is
-# killed during its answer, one without an answer, one with a strange answer, one with half an answer, and a file that
-# is not executable code.
+# Programs that stand in for psyn: one that runs long, psyn itself after it has written its process id, and one that is
+# killed during its answer. Others give no answer, a strange answer or half an answer, and the last file is no program.
 PROGRAMS = {
     "slow": "#!/bin/sh\necho $$ > pid\nexec sleep 60\n",
     "real": '#!/bin/sh\necho $$ > pid\nexec "$REAL"\n',

@@ -3,10 +3,11 @@
 A file of rows is TOML, and each character of its strings stands for a byte (ISO 8859-1). A `[[row]]` has
 
   name      what the row shows; no name occurs twice in a file
-  input     the program's input; or instead `parts`, a list of texts that are joined, in which
-            { text = "..", times = 3 } stands for three copies of a text
-  answer    the program's whole output, as a text or as parts; or instead `one_of`, a list of right answers; or, if many
-            answers are right, `begins`, the first lines, and `contains`, texts that the answer must contain
+  input     the program's input
+  parts     in place of `input`: texts that are joined; { text = "..", times = 3 } stands for three copies
+  answer    the program's whole output, as a text or as parts
+  one_of    in place of `answer`: a list of right answers
+  begins, contains    in place of `answer`: the first lines of a right answer, and texts that it contains
   status    the program's exit status
 
 A `[[cut]]` stands for many rows: one for the first n bytes of a text, for each n.
