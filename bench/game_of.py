@@ -4,9 +4,9 @@
   bench/game_of.py PSYN [--moore] [--runs N] [--edges N] [FAMILY..]
 
 PSYN is the built program (crates/psyn/out/psyn). The families are:
-    states     64 to 64,000 states (more states would make the text too long); each letter of the four inputs is a
-               class: one output leads to another state, the other to the sink
-    classes    64 states with 16 to 8,192 letters of the inputs, each a class of its own
+    states     64 to 64,000 states (more would make the text too long), each with the 16 letters of four inputs as classes
+    classes    64 states, each with 16 to 8,192 letters of the inputs as classes
+In the family `states`, one output leads to another state for each letter of the inputs, and the other to the sink.
 Each automaton is twice as large as the one before, up to --edges edges (1,048,576, the most that psyn reads). A line
 for each automaton has its states, the classes of a state, the vertices and edges of the game, and the bytes of both
 texts. Then it has the least seconds of --runs (3) runs of the whole process, and the growth of the seconds for each

@@ -22,7 +22,7 @@ use Rattle.ps_traces.specs.Traces.{AllAccepted, NoneAccepted}
 use Rattle.ps_verify.specs.declared.judgement.Judgement.{Judgement}
 use Rattle.ps_verify.specs.declared.judgement.Judgement.TheVariants.{Wins, Loses}
 
--- The circuit has all properties of a printed circuit, with one exception. If it moves first, its outputs are
+-- The circuit has all properties of a printed circuit, with one exception. If the circuit moves first, its outputs are
 -- independent of the inputs at least at the latch values that a trace reaches.
 pub record IsWinning (order : Order) (role : Role) (file : FileData) (c : CircuitData) : Type 0 where
   pub symbols : HasSymbols role file.names file.controllable c

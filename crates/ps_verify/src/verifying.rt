@@ -28,9 +28,9 @@ use std::alloc::{AllocError, Global};
 ///
 /// # Errors
 ///
-/// Fails with [`ProductFault::Symbols`] if the names of the inputs and outputs are not those of the role. Fails with
-/// [`ProductFault::Timing`] if the circuit moves first, but an output depends on an input, at some latch values that a
-/// trace reaches. Fails also if memory runs out.
+/// Fails with [`ProductFault::Symbols`] if the names of the inputs and outputs are not those of the role. Otherwise
+/// fails with [`ProductFault::Timing`] if the circuit moves first, but an output depends on an input, at some latch
+/// values that a trace reaches. Fails also if memory runs out.
 pub fn verified(
     alloc: Global,
     circuit: &Circuit,

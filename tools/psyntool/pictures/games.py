@@ -81,8 +81,7 @@ class Names:
         return labels.letter_text(mine, self.automaton.names)
 
     def leading(self, before, after):
-        """A letter that extends the one of `before` and leads to `after`; if `after` is the sink, one without an
-        edge."""
+        """A letter that extends that of `before` and leads to `after`; for the sink, a letter without an edge."""
         edges, aliases, chain = self.automaton.edges.get(before.state, ()), self.automaton.aliases, self.automaton.chain
         if after.state is None:
             return labels.meeting([(*edge.label, labels.NOT) for edge in edges], aliases, before.letter)
@@ -129,8 +128,7 @@ class Drawing:
         return f"  v{vertex.identity} [shape={'box' if vertex.owner else 'diamond'}, label={quoted(said)}{colour}];"
 
     def table_line(self, vertex):
-        """A vertex after the first player's choice, as a table: the state and the chosen letter, and a row for each
-        letter of the second player.
+        """A vertex after the first player's choice, as a table with a row for each letter of the second player.
 
         A row that leads to the sink says so, and has no edge.
         """
