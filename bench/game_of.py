@@ -4,7 +4,7 @@
   bench/game_of.py PSYN [--moore] [--runs N] [--edges N] [FAMILY..]
 
 PSYN is the built program (crates/psyn/out/psyn). The families are:
-    states     64 to 64,000 states (more would make the text too long), each with the 16 letters of four inputs as classes
+    states     64 to 64,000 states (more would make the text too long), each with 16 letters of the inputs as classes
     classes    64 states, each with 16 to 8,192 letters of the inputs as classes
 In the family `states`, one output leads to another state for each letter of the inputs, and the other to the sink.
 Each automaton is twice as large as the one before, up to --edges edges (1,048,576, the most that psyn reads). A line
