@@ -1,8 +1,8 @@
 -- What a function that builds the gates of a literal returns, at each of its exits.
---     fails      an earlier call fails, and reports too many variables only if the literal needs too many
---     gives      the literal exists already, and needs no gate
---     as-made, by-choice      the last call builds the literal: as another literal, or as a choice between two
---     test-split, test-chosen      the gates of a node that tests an input
+-- - `fails`: an earlier call fails, and reports too many variables only if the literal needs too many
+-- - `gives`: the literal exists already, and needs no gate
+-- - `as-made`, `by-choice`: the last call builds the literal: as another literal, or as a choice between two
+-- - `test-split`, `test-chosen`: the gates of a node that tests an input
 use Rattle.std.proofs.Common.{◌≡◌, ◌∙◌, ℕ, ◌+◌, ◌*◌, Bool, Err, IsErrAnd, List, Ok, Result, Some, ap, slice_get, subst, sym}
 use Rattle.std.proofs.Common.{rules}
 use Rattle.std.proofs.lemmas.Result.{IfOk-weaker}

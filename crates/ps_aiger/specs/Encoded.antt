@@ -1,9 +1,9 @@
 -- The circuit of a machine.
---     number_of_bits bits      the first bit counts 1, the next one 2, then 4, and so on
---     memory_of_code b code      the memory state with a code; memory state 0 for a code that belongs to none
---     memory_of b latches      the memory state whose code the latches hold
---     Encodes b c      the circuit begins in memory state 0, and each of its steps is a step of the machine
---     IsTidy c      how the circuit's variables are numbered, and which gates it has
+-- - `number_of_bits bits`: the first bit counts 1, the next one 2, then 4, and so on
+-- - `memory_of_code b code`: the memory state with a code; memory state 0 for a code that belongs to none
+-- - `memory_of b latches`: the memory state whose code the latches hold
+-- - `Encodes b c`: the circuit begins in memory state 0, and each of its steps is a step of the machine
+-- - `IsTidy c`: how the circuit's variables are numbered, and which gates it has
 use Rattle.std.specs.Prelude.{◌≡◌, ◌≢◌, ℕ, ◌+◌, ◌*◌, ◌^◌, ◌<◌, ◌≤◌, Bool, false, cond, List, [], ◌∷◌, length, map}
 use Rattle.std.specs.Prelude.{Option, Some, None, All, AllPairs, nat_lt, if◌then◌else◌, slice_index_or}
 use Rattle.std.specs.List.{range_with_len}

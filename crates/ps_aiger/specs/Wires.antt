@@ -1,10 +1,10 @@
 -- The gates of a machine's circuit in the order in which they are built, without a limit on their number.
---     over_variables variables f d      the literal of f, a Boolean function of the given variables
---     next_bit b j, output_bit b p      a bit of the machine's step, by memory state and input letter
---     code_made b f latches code d      the literal of such a bit, for the codes `code` to `code` + 2^latches - 1
---     next_wires, output_wires b latches      all literals: the next values of the latches, and then the outputs
---     IsWired b c      the circuit has the literals and gates that are built for the machine, in order
---     IsOutOfLiterals b      the gates need too many variables, so that there is no circuit
+-- - `over_variables variables f d`: the literal of f, a Boolean function of the given variables
+-- - `next_bit b j, output_bit b p`: a bit of the machine's step, by memory state and input letter
+-- - `code_made b f latches code d`: the literal of such a bit, for the codes `code` to `code` + 2^latches - 1
+-- - `next_wires, output_wires b latches`: all literals: the next values of the latches, and then the outputs
+-- - `IsWired b c`: the circuit has the literals and gates that are built for the machine, in order
+-- - `IsOutOfLiterals b`: the gates need too many variables, so that there is no circuit
 use Rattle.std.specs.Prelude.{◌≡◌, ℕ, zero, suc, ◌+◌, ◌*◌, ◌^◌, ◌≤◌, Bool, true, false, if◌then◌else◌, List, []}
 use Rattle.std.specs.Prelude.{◌∷◌, length, map, slice_get, Some}
 use Rattle.std.specs.List.{range_with_len}

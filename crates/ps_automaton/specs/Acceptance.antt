@@ -1,6 +1,6 @@
 -- When the automaton that an HOA text states accepts a lasso, which is a stem followed by a lap that repeats for ever.
---     IsRun file w count states sets      a run over the first `count` letters of the word w
---     IsAccepted file stem lap      some run returns to a state and satisfies the condition in between
+-- - `IsRun file w count states sets`: a run over the first `count` letters of the word w
+-- - `IsAccepted file stem lap`: some run returns to a state and satisfies the condition in between
 use Rattle.std.specs.Prelude.{◌≡◌, ℕ, zero, suc, ◌+◌, ◌*◌, ◌<◌, Bool, IsTrue, List, [], ◌∷◌, length}
 use Rattle.ps_hoa.specs.Files.{FileData}
 use Rattle.ps_hoa.specs.Edges.{Goes}

@@ -1,10 +1,10 @@
 -- The correct results of `Automaton::build`: the automaton of an HOA file, or the first of three faults for which a
 -- file has no automaton.
---     AreAlike row one other      two edges of a row have the same target and the same acceptance sets
---     Clash file q first second      two edges of the state q, given by their indices, share a letter and differ
---     IsDeterministic file      no edges clash
---     IsAdmitted file      the file has none of the three faults
---     IsRefused file fault      the file has this fault, and none of the faults before it
+-- - `AreAlike row one other`: two edges of a row have the same target and the same acceptance sets
+-- - `Clash file q first second`: two edges of the state q, given by their indices, share a letter and differ
+-- - `IsDeterministic file`: no edges clash
+-- - `IsAdmitted file`: the file has none of the three faults
+-- - `IsRefused file fault`: the file has this fault, and none of the faults before it
 use Rattle.std.specs.Prelude.{◌≡◌, ℕ, ◌^◌, ◌<◌, ◌≤◌, true, false, length, None, Some, slice_get}
 use Rattle.ps_hoa.specs.Files.{EdgeData, RowData, FileData}
 use Rattle.ps_hoa.specs.Edges.{row_of, IsTaken, is_marked}

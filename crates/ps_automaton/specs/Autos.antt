@@ -1,7 +1,7 @@
 -- Total, deterministic automata with a priority on each edge, and what it means that such an automaton is the automaton
 -- of an HOA file.
---     Auto      a start state, and for each state and letter the next state and the priority
---     IsAutoOf file chain a      a is the automaton of the file, whose acceptance condition is the chain
+-- - `Auto`: a start state, and for each state and letter the next state and the priority
+-- - `IsAutoOf file chain a`: a is the automaton of the file, whose acceptance condition is the chain
 use Rattle.std.specs.Prelude.{◌≡◌, ℕ, zero, suc, ◌+◌, ◌^◌, ◌<◌, ◌≤◌, ◌⊎◌, max, Bool, List, [], ◌∷◌, length}
 use Rattle.ps_hoa.specs.Files.{FileData}
 use Rattle.ps_hoa.specs.Edges.{Goes}

@@ -2,8 +2,8 @@
 -- a Boolean value, its base. A link is an acceptance set together with a flag. A part of a run is accepted if the flag
 -- is true in the first link whose set the part meets. If the part meets no link's set, the base states whether the part
 -- is accepted.
---     chain_of condition      the chain of the condition, if the condition is a chain
---     level chain has      the priority of an edge, given by the first link whose set the edge has, or by the base
+-- - `chain_of condition`: the chain of the condition, if the condition is a chain
+-- - `level chain has`: the priority of an edge, given by the first link whose set the edge has, or by the base
 use Rattle.std.specs.Prelude.{ℕ, ◌+◌, ◌%◌, max, Bool, true, false, not, List, [], ◌∷◌, ◌++◌, Option, None, Some}
 use Rattle.std.specs.Prelude.{if◌then◌else◌, nat_eq}
 use Rattle.ps_hoa.specs.Conditions.{SetData, Condition, Conditions, constant, infinitely, finitely, all_hold, any_holds}

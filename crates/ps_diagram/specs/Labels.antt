@@ -1,7 +1,7 @@
 -- Labels and the diagrams of their truth values: the leaf 1 where a label is true, and no leaf where it is false.
 --
---     HaveTruths t nodes known               each node is the diagram of one of the given truth values
---     AreNodesOf t aliases nodes             the nodes are the diagrams of the truth values of the aliases
+-- - `HaveTruths t nodes known`: each node is the diagram of one of the given truth values
+-- - `AreNodesOf t aliases nodes`: the nodes are the diagrams of the truth values of the aliases
 use Rattle.std.specs.Prelude.{◌≡◌, ℕ, ◌<◌, Bool, true, false, List, length, Option, Some, None}
 use Rattle.std.specs.Prelude.{slice_index, slice_index_or}
 use Rattle.ps_label.specs.Expression.{Expression}

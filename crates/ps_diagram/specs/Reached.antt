@@ -1,7 +1,7 @@
 -- The leaves of a node, and the least letter that leads to each leaf.
 --
---     LeadsToLeaf t node leaf letter     the letter leads from the node to the leaf
---     AreLeaves t node found         all leaves of the node, each with its least letter, in the order of these letters
+-- - `LeadsToLeaf t node leaf letter`: the letter leads from the node to the leaf
+-- - `AreLeaves t node found`: all leaves of the node, each with its least letter, in the order of these letters
 use Rattle.std.specs.Prelude.{◌≡◌, ℕ, ◌^◌, ◌<◌, Bool, true, List, [], ◌∷◌, ◌++◌, All, AllPairs, Any, Some, None, nat_eq}
 use Rattle.std.specs.List.{AllByRecursion}
 use Rattle.std.specs.Map.{lookup}

@@ -1,11 +1,11 @@
 -- A store of decision diagrams as a table of cells, one for each node, and the tree below each node.
 --
---     Table              the number of propositions, and the cells; a node is the index of its cell
---     IsNode t node      the node is in the table
---     tree_of t node     the tree of the node
---     leaf_of t node x   the leaf of the node at the letter x
---     Keeps old new      each old node is in the new table, with the same tree and so with the same leaf at each letter
---     IsSoundTable       what is true of every store
+-- - `Table`: the number of propositions, and the cells; a node is the index of its cell
+-- - `IsNode t node`: the node is in the table
+-- - `tree_of t node`: the tree of the node
+-- - `leaf_of t node x`: the leaf of the node at the letter x
+-- - `Keeps old new`: each old node is in the new table, with the same tree and so with the same leaf at each letter
+-- - `IsSoundTable`: what is true of every store
 use Rattle.std.specs.Prelude.{◌≡◌, ℕ, ◌<◌, ◌≤◌, Option, List, [], ◌∷◌, ◌++◌, length, fold, slice_index_or}
 use Rattle.ps_diagram.specs.declared.view.View.{View}
 use Rattle.ps_diagram.specs.declared.view.View.TheVariants.{Nothing, Leaf, Test}

@@ -1,9 +1,9 @@
 -- Properties of the arguments that follow the names of header items. Each kind of header item has a section in this
 -- file, and a case in `form`.
---     IsForm h part      the properties of a part that follows an item's name, if the earlier items gave h
---     form h item      the arguments of the item have the form (`IsForm`)
---     judge_item      the error at an item's name can be decided
---     joint_.., .._loop, .._begins, .._serves      lemmas for the functions that parse the arguments
+-- - `IsForm h part`: the properties of a part that follows an item's name, if the earlier items gave h
+-- - `form h item`: the arguments of the item have the form (`IsForm`)
+-- - `judge_item`: the error at an item's name can be decided
+-- - `joint_..`, `.._loop`, `.._begins`, `.._serves`: lemmas for the functions that parse the arguments
 use Rattle.std.proofs.Common.{arith, rules, ◌≡◌, ◌<◌, true, Bool, ℕ, List, [], length, Some, refl, sym, ap, ◌∙◌}
 use Rattle.ps_text.specs.Answers.{Stream, next_of as there_of}
 use Rattle.ps_text.specs.Parts.{Part, give, times, many, mapped, barred}

@@ -1,13 +1,13 @@
 -- The body of an HOA text, from after `--BODY--` to `--END--`:
 --     state ::= "State:" ("[" label "]")? INT STRING? sets? edge*
---     edge  ::= ("[" label "]")? INT sets?
---     sets  ::= "{" INT* "}"
+-- - `edge`: ::= ("[" label "]")? INT sets?
+-- - `sets`: ::= "{" INT* "}"
 --
 -- The label of a state is the label of each of its edges. If neither a state nor its edges have labels, the edges have
 -- implicit labels: edge k is taken at the letter k, in which proposition i is bit i.
---     BodyData      the rows so far, and the number of their edges
---     state h body      one more state, after the states of body
---     body h      the whole body: all states, and `--END--`
+-- - `BodyData`: the rows so far, and the number of their edges
+-- - `state h body`: one more state, after the states of body
+-- - `body h`: the whole body: all states, and `--END--`
 use Rattle.std.specs.Prelude.{◌≡◌, ◌≢◌, ℕ, ◌+◌, ◌-◌, ◌^◌, ◌<◌, ◌≤◌, ◌⊎◌, Bool, true, false, List, [], ◌∷◌, ◌++◌, length}
 use Rattle.std.specs.Prelude.{codes, if◌then◌else◌, nat_eq, Option, None, Some, IfSome, slice_get}
 use Rattle.ps_label.specs.Expression.{Expression}

@@ -1,5 +1,5 @@
 -- The classes of bytes in an HOA text. The class of a byte determines which tokens it can begin.
---     class_of b      what a byte begins: a blank, a number, a name, an alias, a string, a comment, a one-byte token
+-- - `class_of b`: what a byte begins: a blank, a number, a name, an alias, a string, a comment, a one-byte token
 use Rattle.std.specs.Prelude.{ℕ, ◌&&◌, Bool, true, false, List, [], ◌∷◌, if◌then◌else◌, nat_le, nat_eq}
 use Rattle.ps_hoa.specs.declared.tokens.Class.{Class}
 use Rattle.ps_hoa.specs.declared.tokens.Class.TheVariants.{Blank, Digit, Letter, At, Quote, Dash, Slash, Sign, Other}

@@ -3,7 +3,7 @@
 --
 -- `&` binds tighter than `|`. Operands that are joined by `&` form one conjunction, and operands that are joined by `|`
 -- form one disjunction. A condition in parentheses is a single operand.
---     condition room      a condition with `(` nested at most `room` deep, not counting `Inf(` and `Fin(`
+-- - `condition room`: a condition with `(` nested at most `room` deep, not counting `Inf(` and `Fin(`
 use Rattle.std.specs.Prelude.{ℕ, ◌≡◌, ◌<◌, Bool, true, false, List, [], ◌∷◌, codes, if◌then◌else◌, Option}
 use Rattle.std.specs.Prelude.{None, Some}
 use Rattle.std.specs.Str.{bytes_eq}

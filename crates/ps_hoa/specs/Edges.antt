@@ -1,8 +1,8 @@
 -- The edges of an automaton: the letters at which an edge is taken, and the sets of the edge.
---     row_of file q      the row of the state q, if there is one
---     IsTaken file row edge letter      the edge of the row is taken at the letter
---     is_marked row edge set      the edge of the row is in the set
---     Goes file q letter marks next      at the letter, an edge with the sets `marks` leads from q to `next`
+-- - `row_of file q`: the row of the state q, if there is one
+-- - `IsTaken file row edge letter`: the edge of the row is taken at the letter
+-- - `is_marked row edge set`: the edge of the row is in the set
+-- - `Goes file q letter marks next`: at the letter, an edge with the sets `marks` leads from q to `next`
 --
 -- A letter is a number whose bit i is proposition i.
 use Rattle.std.specs.Prelude.{◌≡◌, ℕ, ◌^◌, ◌<◌, ◌||◌, Bool, IsTrue, List, [], ◌∷◌, length, nat_eq, if◌then◌else◌}

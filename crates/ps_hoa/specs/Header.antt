@@ -4,12 +4,12 @@
 --            | HEADERNAME (BOOLEAN | INT | STRING | IDENTIFIER)*
 --
 -- Items may be in any order; an alias must come before its use.
---     HeaderData      the values that the items so far give
---     header_data      the values of a stored header
---     item_in s      the item with this name
---     behind_name h item      the arguments of this item, after items that give h
---     item h      one more item
---     header      all items, and `--BODY--`
+-- - `HeaderData`: the values that the items so far give
+-- - `header_data`: the values of a stored header
+-- - `item_in s`: the item with this name
+-- - `behind_name h item`: the arguments of this item, after items that give h
+-- - `item h`: one more item
+-- - `header`: all items, and `--BODY--`
 use Rattle.std.specs.Prelude.{◌≡◌, ◌≢◌, ℕ, ◌<◌, ◌≤◌, ◌⊎◌, ◌||◌, Bool, true, false, List, [], ◌∷◌, ◌++◌, length, drop}
 use Rattle.std.specs.Prelude.{if◌then◌else◌, nat_eq, nat_lt, Option, None, Some, IfSome, option_map}
 use Rattle.std.specs.Str.{bytes_eq}

@@ -3,8 +3,8 @@
 --
 -- `!` binds tightest, then `&`, then `|`. Operands that are joined by `&` form one conjunction, and operands that are
 -- joined by `|` form one disjunction. An expression in parentheses is a single operand.
---     label scope room      a label in which `!` and `(` may be nested to the depth `room`
---     operand scope room      what is allowed on either side of `&`
+-- - `label scope room`: a label in which `!` and `(` may be nested to the depth `room`
+-- - `operand scope room`: what is allowed on either side of `&`
 use Rattle.std.specs.Prelude.{ℕ, ◌≡◌, ◌≤◌, ◌<◌, ◌⊎◌, Bool, true, false, List, codes, if◌then◌else◌, Option}
 use Rattle.std.specs.Prelude.{None, Some, position}
 use Rattle.std.specs.Str.{bytes_eq}

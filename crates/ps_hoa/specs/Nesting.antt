@@ -2,8 +2,8 @@
 -- `!` and each `(` adds one to the depth up to the end of its operand, except for the parentheses of `Inf` and `Fin`.
 -- Up to the nesting depth `room`, the grammars of `Labels` and `Conditions` with the limit `room` equal the grammars of
 -- this file.
---     IsLabel names deep text v, IsCondition deep text v      the text has the meaning v and the nesting depth `deep`
---     Within room Nests      the nesting depth is at most `room`
+-- - `IsLabel names deep text v, IsCondition deep text v`: the text has the meaning v and the nesting depth `deep`
+-- - `Within room Nests`: the nesting depth is at most `room`
 use Rattle.std.specs.Prelude.{ℕ, ◌≡◌, ◌≤◌, ◌⊎◌, suc, max, true, List, [], ◌∷◌, ◌++◌, Some}
 use Rattle.ps_label.specs.Expression.{Expression, not_of}
 use Rattle.ps_hoa.specs.Conditions as conditions

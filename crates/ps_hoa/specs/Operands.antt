@@ -1,10 +1,10 @@
 -- The common grammar of labels and acceptance conditions: single tokens, an operand in parentheses, rows of operands,
 -- and operands that contain other operands.
---     expect test      a single token whose kind passes the test
---     inner part      the given part between parentheses
---     row sign join operand      operands with the sign between them; a single operand keeps its value
---     rows together connective operand      operands with connectives between them; `&` binds tighter than `|`
---     operand g room      an operand of this grammar, in which `!` and `(` may be nested to the depth `room`
+-- - `expect test`: a single token whose kind passes the test
+-- - `inner part`: the given part between parentheses
+-- - `row sign join operand`: operands with the sign between them; a single operand keeps its value
+-- - `rows together connective operand`: operands with connectives between them; `&` binds tighter than `|`
+-- - `operand g room`: an operand of this grammar, in which `!` and `(` may be nested to the depth `room`
 use Rattle.std.specs.Prelude.{ℕ, ◌≡◌, zero, suc, Bool, true, false, List, [], ◌∷◌, ◌++◌, if◌then◌else◌, Option, None}
 use Rattle.std.specs.Prelude.{Some, is_some}
 use Rattle.ps_text.specs.Parts.{Part, NoBad, give, one, then_by, either, many, mapped, barred}

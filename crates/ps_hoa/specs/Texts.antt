@@ -1,8 +1,8 @@
 -- The answer to an HOA text: its meaning, or its first error.
---     file      the header and the body, as one part
---     IsBehindBlanks bytes blanks rest      `rest` is what follows all blanks and comments
---     ReadsFile bytes answer      the answer is the meaning of a text without an error, or the first error
---     IsFileAnswer view bytes result      the result of the parser
+-- - `file`: the header and the body, as one part
+-- - `IsBehindBlanks bytes blanks rest`: `rest` is what follows all blanks and comments
+-- - `ReadsFile bytes answer`: the answer is the meaning of a text without an error, or the first error
+-- - `IsFileAnswer view bytes result`: the result of the parser
 use Rattle.std.specs.Prelude.{◌≡◌, ◌≢◌, ℕ, ◌+◌, ◌<◌, ◌≤◌, ◌||◌, Bool, true, List, [], ◌++◌, length, codes, nat_eq, None}
 use Rattle.std.specs.Prelude.{Some, Result, Ok, Err}
 use Rattle.std.specs.Option.{unwrap_or}

@@ -1,5 +1,5 @@
 -- The abstract values of stored guards, edges and rows.
---     guard_data, edge_data, row_data      the abstract value of a guard, of an edge, of a row
+-- - `guard_data`, `edge_data`, `row_data`: the abstract value of a guard, of an edge, of a row
 use Rattle.std.specs.Prelude.{map, option_map}
 use Rattle.ps_label.specs.Expression.{expression}
 use Rattle.ps_hoa.specs.Files.{GuardData, EdgeData, RowData, stated, of_state, at_letter}

@@ -1,8 +1,8 @@
 -- What the finite machine of a player does, for one order of moves, and the words that the machine makes.
---     Behaviour      a machine's propositions and player, and its step at each letter of the other player
---     IsMachine b      b is the behaviour of a finite machine
---     IsLasso b stem lap      a run from memory state 0 is in the same memory state before and after the lap
---     LassosWon file b      all words of a controller's machine are accepted; of an environment's machine, none is
+-- - `Behaviour`: a machine's propositions and player, and its step at each letter of the other player
+-- - `IsMachine b`: b is the behaviour of a finite machine
+-- - `IsLasso b stem lap`: a run from memory state 0 is in the same memory state before and after the lap
+-- - `LassosWon file b`: all words of a controller's machine are accepted; of an environment's machine, none is
 use Rattle.std.specs.Prelude.{◌≡◌, ◌≢◌, ℕ, ◌+◌, ◌^◌, ◌<◌, ◌≤◌, ◌⊎◌, ◌↔◌, Bool, false, IsTrue, List, ◌++◌, length}
 use Rattle.std.specs.Prelude.{slice_index}
 use Rattle.std.specs.List.{AllPairs}

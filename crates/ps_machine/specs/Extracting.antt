@@ -1,8 +1,8 @@
 -- The machine of a certificate: which memory states it has, and which letter it outputs and which memory state it
 -- enters in each step.
---     IsUsed game certificate v      a path from vertex 0 that follows the moves of the winner of vertex 0 ends at v
---     IsRepresentative .. v      v is the smallest reachable first-player vertex with its memory state
---     IsMachineOf board mover keys game certificate m      m is the machine of the certificate
+-- - `IsUsed game certificate v`: a path from vertex 0 that follows the moves of the winner of vertex 0 ends at v
+-- - `IsRepresentative .. v`: v is the smallest reachable first-player vertex with its memory state
+-- - `IsMachineOf board mover keys game certificate m`: m is the machine of the certificate
 --
 -- A used vertex can be reached from vertex 0 by the winner's moves. The machine of a winner who moves first has a
 -- memory state for each reachable vertex of the first player. The machine of a winner who moves second has a memory

@@ -1,6 +1,6 @@
 -- The game of a file is the game of an automaton that the file describes.
---     board_of_file order file auto      the board of an automaton of the file
---     IsGameOfFile order file game      the game that an automaton of the file defines, for the given order of moves
+-- - `board_of_file order file auto`: the board of an automaton of the file
+-- - `IsGameOfFile order file game`: the game that an automaton of the file defines, for the given order of moves
 use Rattle.std.specs.Prelude.{◌≡◌, List, length, Some}
 use Rattle.ps_automaton.specs.Autos.{Auto, IsAutoOf}
 use Rattle.ps_automaton.specs.Chains.{Chain, chain_of}

@@ -1,10 +1,10 @@
 -- What a solver may answer for a game, and the text that was given to it before (fed).
---     MayAnswer      what a solver may answer for a game
---     SolverData      what is known about a solver
---     once_fed text solver      the solver after it was fed `text`
---     answers_now solver      what the solver may answer, with the text that it was fed last
---     Answered old new      what the solver was allowed to answer, and did answer
---     IsKept old new      what a call keeps: all but the record of the last answer
+-- - `MayAnswer`: what a solver may answer for a game
+-- - `SolverData`: what is known about a solver
+-- - `once_fed text solver`: the solver after it was fed `text`
+-- - `answers_now solver`: what the solver may answer, with the text that it was fed last
+-- - `Answered old new`: what the solver was allowed to answer, and did answer
+-- - `IsKept old new`: what a call keeps: all but the record of the last answer
 use Rattle.std.specs.Prelude.{◌≡◌, ℕ, Bool, List, Option, None, Some, Result}
 use Rattle.ps_certificate.specs.Certificates.{CertificateData}
 use Rattle.ps_game.specs.Games.{NamedGameData}

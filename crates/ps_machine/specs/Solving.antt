@@ -1,12 +1,12 @@
 -- What is true of a solver's answer for a game.
---     IsCertified game c      the certificate fits the game and is valid
---     winner_at_start c      the winner of vertex 0
---     AnswersSurely game r      what a sure solver answers: a valid certificate that fits the game, or out of memory
---     AnswersLeast game r      what psyn's own solver answers: as a sure solver, with the least counts
---     NamesVertices game r      if the answer is a cycle, it consists of vertices of the game
---     Replays game fed r      the answer is the result of parsing the text that was fed
---     own_solver      what is known about psyn's own solver
---     replay_of text      what is known about a solver that only parses the text that it was fed
+-- - `IsCertified game c`: the certificate fits the game and is valid
+-- - `winner_at_start c`: the winner of vertex 0
+-- - `AnswersSurely game r`: what a sure solver answers: a valid certificate that fits the game, or out of memory
+-- - `AnswersLeast game r`: what psyn's own solver answers: as a sure solver, with the least counts
+-- - `NamesVertices game r`: if the answer is a cycle, it consists of vertices of the game
+-- - `Replays game fed r`: the answer is the result of parsing the text that was fed
+-- - `own_solver`: what is known about psyn's own solver
+-- - `replay_of text`: what is known about a solver that only parses the text that it was fed
 use Rattle.std.specs.Prelude.{◌≡◌, ℕ, ◌<◌, true, false, List, length, Option, None, Some, Result, Ok, Err}
 use Rattle.std.specs.List.{All}
 use Rattle.ps_game.specs.Games.{NamedGameData, vertex_count}

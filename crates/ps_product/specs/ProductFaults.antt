@@ -1,6 +1,6 @@
 -- Why a circuit and an automaton have no product.
---     IsProductRefusal order role a c fault      why there is no product: wrong symbols, or else the order of moves
---     asked_of role      the circuit's player, 0 for a controller; the opponent owns all vertices
+-- - `IsProductRefusal order role a c fault`: why there is no product: wrong symbols, or else the order of moves
+-- - `asked_of role`: the circuit's player, 0 for a controller; the opponent owns all vertices
 use Rattle.std.specs.Prelude.{ℕ, ⊤, IsTrue}
 use Rattle.ps_automaton.specs.Automata.{AutomatonData}
 use Rattle.ps_circuit.specs.Circuits.{CircuitData}

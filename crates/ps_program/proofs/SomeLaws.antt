@@ -1,6 +1,6 @@
 -- The laws of lower crates from which it follows that each input has an answer.
---     GoodOrFlawed      a certificate passes the test `IsGood`, or has a first flaw
---     Below      the laws
+-- - `GoodOrFlawed`: a certificate passes the test `IsGood`, or has a first flaw
+-- - `Below`: the laws
 use Rattle.std.proofs.Common.{◌≡◌, ◌≢◌, ◌<◌, ◌⊎◌, ℕ, Bool, List, length, Option, Result, Ok}
 use Rattle.ps_text.specs.Answers.{Found}
 use Rattle.ps_aiger.specs.Encoded.{Encodes}

@@ -1,8 +1,8 @@
 -- A game has a certificate, and a text has a report, if a solver may answer the certificate.
---     certifies_surely, certifies_fed      the result for a solver that may certify, and for one that was fed a text
---     solve_some, cert_some      the commands `solve` and `cert`
---     synthesises_some      a report, or the line of a fault
---     synth_some      the command `synth`
+-- - `certifies_surely`, `certifies_fed`: the result for a solver that may certify, and for one that was fed a text
+-- - `solve_some`, `cert_some`: the commands `solve` and `cert`
+-- - `synthesises_some`: a report, or the line of a fault
+-- - `synth_some`: the command `synth`
 use Rattle.std.proofs.Common.{◌≡◌, ◌≢◌, ℕ, Bool, true, false, List, length, Result, Ok, Err, refl, ap, inl, inr}
 use Rattle.std.proofs.Common.{◌∙◌}
 use Rattle.std.specs.Prelude.{Some}

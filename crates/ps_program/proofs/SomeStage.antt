@@ -1,9 +1,9 @@
 -- Reading a text, making an automaton's game and testing a certificate have results, by laws of lower crates.
---     game_text_some      the game of a text
---     certified_some, certified_is      a game and a certificate from two texts, and what is known of them
---     tests_some, judge_some      a test of a certificate, and the command `judge`
---     automaton_some, automaton_is      the automaton of a text, and what is known of it
---     game_of_some      the game of an automaton
+-- - `game_text_some`: the game of a text
+-- - `certified_some`, `certified_is`: a game and a certificate from two texts, and what is known of them
+-- - `tests_some`, `judge_some`: a test of a certificate, and the command `judge`
+-- - `automaton_some`, `automaton_is`: the automaton of a text, and what is known of it
+-- - `game_of_some`: the game of an automaton
 use Rattle.std.proofs.Common.{◌≡◌, ◌≢◌, Bool, ℕ, List, Result, Ok, Err, refl, sym, inl, inr, subst, ap}
 use Rattle.std.specs.Prelude.{Some}
 use Rattle.ps_game.specs.Games.{NamedGameData, ParityGame, IsGame}

@@ -1,14 +1,14 @@
 -- Inputs have answers: no definition of an answer in this crate excludes every reply.
---     HasReply solvers input      some reply is an answer to the input
---     IsPlainLine line      the line calls no solver, and is not `verify`
---     HasSomeLine      each first line has a meaning as a `Line`
---     HasSomeAnswer solvers      each input has an answer, if its first line is plain (`IsPlainLine`)
---     MayCertify solver      the solver may answer a valid certificate of each game
---     MayReplay solver      the solver may answer the result of parsing each text that it is fed, and is not sure
---     HasSomeSolved solvers      if the first solver may certify, each input with `solve` or `cert` has an answer
---     IsPrintable compact game certificate circuit      a report can hold the three texts, and they are parsed again
---     HasSomeSynthesis solvers      if the solver may certify or replay, and what it answers is printable, each input
---               with `synth` has an answer
+-- - `HasReply solvers input`: some reply is an answer to the input
+-- - `IsPlainLine line`: the line calls no solver, and is not `verify`
+-- - `HasSomeLine`: each first line has a meaning as a `Line`
+-- - `HasSomeAnswer solvers`: each input has an answer, if its first line is plain (`IsPlainLine`)
+-- - `MayCertify solver`: the solver may answer a valid certificate of each game
+-- - `MayReplay solver`: the solver may answer the result of parsing each text that it is fed, and is not sure
+-- - `HasSomeSolved solvers`: if the first solver may certify, each input with `solve` or `cert` has an answer
+-- - `IsPrintable compact game certificate circuit`: a report can hold the three texts, and they are parsed again
+-- - `HasSomeSynthesis solvers`: if the solver may certify or replay, and what it answers is printable, each input with
+--   `synth` has an answer
 use Rattle.std.specs.Prelude.{◌≡◌, ◌↔◌, ⊤, ℕ, Bool, true, false, IsTrue, List, Some, Result, Ok}
 use Rattle.ps_certificate.specs.Certificates.{CertificateData}
 use Rattle.ps_circuit.specs.Circuits.{CircuitData}

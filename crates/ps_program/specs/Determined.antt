@@ -1,14 +1,14 @@
 -- The program's answer is determined, with three exceptions: the lost cycle that `judge` reports, the stimulus that
 -- `verify` reports, and the certificate that a solver chooses. Even in the exceptional cases, any two answers have
 -- something in common.
---     IsUndetermined line texts      the command in the line may have more than one correct answer
---     IsReplaying solver      the solver may only answer the result of parsing the text that it was fed
---     AgreeAsReports order full text a b      two reports for a text have the same winner and the automaton's game
---     AgreeInWinners compact game a b      the answers a and b print certificates of the game with the same winners
---     AgreeAsLosing order role file c a b      both answers show a stimulus on which the circuit loses
---     HasOneAnswer solvers      any two answers are equal, or one of the above holds, or one of them reports a fault
---     HasOneCertified solvers      with a given certificate, `synth` has one answer if the solver replays it
---     NeedsItsTexts solvers      a command with fewer texts than it needs has one answer: a text is missing
+-- - `IsUndetermined line texts`: the command in the line may have more than one correct answer
+-- - `IsReplaying solver`: the solver may only answer the result of parsing the text that it was fed
+-- - `AgreeAsReports order full text a b`: two reports for a text have the same winner and the automaton's game
+-- - `AgreeInWinners compact game a b`: the answers a and b print certificates of the game with the same winners
+-- - `AgreeAsLosing order role file c a b`: both answers show a stimulus on which the circuit loses
+-- - `HasOneAnswer solvers`: any two answers are equal, or one of the above holds, or one of them reports a fault
+-- - `HasOneCertified solvers`: with a given certificate, `synth` has one answer if the solver replays it
+-- - `NeedsItsTexts solvers`: a command with fewer texts than it needs has one answer: a text is missing
 use Rattle.std.specs.Prelude.{◌≡◌, ◌<◌, ◌⊎◌, ◌+◌, ◌-◌, ℕ, Bool, true, false, List, Option, Result, Ok, Err, filter}
 use Rattle.std.specs.Prelude.{length}
 use Rattle.std.specs.List.{AllByRecursion}

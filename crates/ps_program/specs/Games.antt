@@ -1,6 +1,6 @@
 -- The commands that print the game of an automaton, and a certificate of that game.
---     AnswersGameText order text      what the program answers to the command `game`
---     AnswersCert solver order compact text      what the program answers to the command `cert`
+-- - `AnswersGameText order text`: what the program answers to the command `game`
+-- - `AnswersCert solver order compact text`: what the program answers to the command `cert`
 use Rattle.std.specs.Prelude.{◌≡◌, ℕ, Bool, List, Result, Ok, Err}
 use Rattle.ps_game.specs.Games.{NamedGameData}
 use Rattle.ps_hoa.specs.Files.{FileData}

@@ -1,6 +1,6 @@
 -- The faults of synthesis, as the program reports them: by the number and the name of each fault.
---     automaton_line fault      the line of a fault for which a file has no automaton
---     stage_line fault      the line of a fault for which there is no certificate, no circuit or no report
+-- - `automaton_line fault`: the line of a fault for which a file has no automaton
+-- - `stage_line fault`: the line of a fault for which there is no certificate, no circuit or no report
 use Rattle.std.specs.Prelude.{◌≡◌, ⊤, ℕ, List, [], Option, None, Some}
 use Rattle.ps_automaton.specs.FaultNames as automaton_faults
 use Rattle.ps_automaton.specs.declared.fault.AutomatonFault.{AutomatonFault}

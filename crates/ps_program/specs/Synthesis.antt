@@ -1,5 +1,5 @@
 -- The command that makes a circuit from an automaton.
---     AnswersSynth solvers asked texts      what the program answers to the command `synth`
+-- - `AnswersSynth solvers asked texts`: what the program answers to the command `synth`
 use Rattle.std.specs.Prelude.{◌≡◌, ℕ, Bool, true, false, List, ◌++◌, codes, Some, Result, Ok, Err, if◌then◌else◌}
 use Rattle.ps_machine.specs.Solvers.{SolverData, answers_now, once_fed}
 use Rattle.ps_machine.specs.declared.key.Order.{Order}

@@ -1,5 +1,5 @@
 -- Why a lasso has no verdict.
---     IsLassoFault role a c stem lap fault      this is the first fault, in the order `Width`, `EmptyLap`, `Symbols`
+-- - `IsLassoFault role a c stem lap fault`: this is the first fault, in the order `Width`, `EmptyLap`, `Symbols`
 use Rattle.std.specs.Prelude.{◌≡◌, ⊤, ◌<◌, Bool, List, [], length, All}
 use Rattle.ps_circuit.specs.Circuits.{CircuitData}
 use Rattle.ps_automaton.specs.Automata.{AutomatonData}

@@ -1,7 +1,7 @@
 -- The verdict of an automaton on a circuit, a stem that is read once, and a lap that is read repeatedly.
---     IsLetterOf names c m letter      each proposition has the bit of the input or output of its name in the step
---     RepeatsLatches c stem lap i j trace      the first repetition: the latches before lap j are those before lap i
---     IsVerdictOf file c stem lap verdict      whether the trace is accepted, as a lasso that returns to lap i
+-- - `IsLetterOf names c m letter`: each proposition has the bit of the input or output of its name in the step
+-- - `RepeatsLatches c stem lap i j trace`: the first repetition: the latches before lap j are those before lap i
+-- - `IsVerdictOf file c stem lap verdict`: whether the trace is accepted, as a lasso that returns to lap i
 use Rattle.std.specs.Prelude.{◌≡◌, ◌≢◌, ℕ, zero, suc, ◌+◌, ◌-◌, ◌*◌, ◌^◌, ◌<◌, ◌↔◌, Bool, false, IsTrue, List, [], ◌∷◌}
 use Rattle.std.specs.Prelude.{◌++◌, length, map, take, drop, slice_index_or}
 use Rattle.ps_label.specs.Truth.{is_in}

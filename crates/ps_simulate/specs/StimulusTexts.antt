@@ -1,10 +1,10 @@
 -- The text of a stimulus has a line of digits for each letter, with one digit for each input. If stem and lap are
 -- separated, there is one line `-` between them.
---     lines_of text, start_of lines k      the lines without their newlines; the offset of the first byte of line k
---     IsStimulus text width split s      the lines spell the letters
---     IsErrorAt text width split cause offset      there is an error with this cause at this offset
---     IsFirstError S cause offset      the first of the errors in S; at one offset, `Stimulus` precedes `Width`
---     ReadsStimulus text width split answer      the stimulus of a text without an error, and otherwise the first error
+-- - `lines_of text, start_of lines k`: the lines without their newlines; the offset of the first byte of line k
+-- - `IsStimulus text width split s`: the lines spell the letters
+-- - `IsErrorAt text width split cause offset`: there is an error with this cause at this offset
+-- - `IsFirstError S cause offset`: the first of the errors in S; at one offset, `Stimulus` precedes `Width`
+-- - `ReadsStimulus text width split answer`: the stimulus of a text without an error, and otherwise the first error
 use Rattle.std.specs.Prelude.{◌≡◌, ◌≢◌, ℕ, ◌+◌, ◌<◌, ◌≤◌, ◌⊎◌, ◌==◌, Bool, true, false, if◌then◌else◌, List, [], ◌∷◌}
 use Rattle.std.specs.Prelude.{◌++◌, length, map, take, slice_get, sum_by, All, Some, Result, Ok, Err}
 use Rattle.ps_text.specs.Answers.{Found}

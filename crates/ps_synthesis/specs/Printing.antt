@@ -1,8 +1,8 @@
 -- The texts of a report. Each text is what psyn writes for a value, and parsing the text, unless it is too long, gives
 -- the value again.
---     PrintsGame text game      the text of a game
---     PrintsCertificate compact text game certificate      the plain or the compact text of a certificate
---     PrintsCircuit text circuit      the text of a circuit
+-- - `PrintsGame text game`: the text of a game
+-- - `PrintsCertificate compact text game certificate`: the plain or the compact text of a certificate
+-- - `PrintsCircuit text circuit`: the text of a circuit
 use Rattle.std.specs.Prelude.{◌≡◌, ℕ, ◌≤◌, Bool, List, length, Ok}
 use Rattle.ps_circuit.specs.Circuits.{CircuitData}
 use Rattle.ps_circuit.specs.Texts as circuits

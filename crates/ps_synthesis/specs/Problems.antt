@@ -1,9 +1,9 @@
 -- A synthesis problem: an automaton, the player who moves first, and the game that they define.
---     ProblemData      a problem, with the key of each vertex of the game
---     IsProblem p      the game belongs to the automaton, in the problem's order of moves
---     IsProblemOf order text p      the automaton belongs to the text
---     ReturnsOnly game certificate      the possible answers of a solver that returns only this certificate for a game
---     IsReportFault p certificate fault      why a certificate for the problem's game gives no report
+-- - `ProblemData`: a problem, with the key of each vertex of the game
+-- - `IsProblem p`: the game belongs to the automaton, in the problem's order of moves
+-- - `IsProblemOf order text p`: the automaton belongs to the text
+-- - `ReturnsOnly game certificate`: the possible answers of a solver that returns only this certificate for a game
+-- - `IsReportFault p certificate fault`: why a certificate for the problem's game gives no report
 use Rattle.std.specs.Prelude.{◌≡◌, ℕ, ◌<◌, List, Ok}
 use Rattle.ps_automaton.specs.Automata.{AutomatonData}
 use Rattle.ps_certificate.specs.Certificates.{CertificateData}

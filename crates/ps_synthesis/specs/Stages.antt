@@ -1,12 +1,12 @@
 -- The results of the stages of synthesis: an automaton, a certificate, a circuit.
---     IsAutomatonOf text a      the automaton of the file of an accepted text
---     IsTextFault text fault      why a text has no automaton
---     IsSolverFault May game fault      why a solver's answer is not a valid certificate
---     IsFaultFor game given fault      the fault of synthesis that a solver's fault becomes, or out of memory
---     IsCircuitOf order a game certificate circuit      the circuit of the machine of the certificate
---     HasNoCircuit order a game certificate      the circuit of the certificate's machine needs too many variables
---     IsCircuitFault order a game certificate fault      why there is no circuit
---     of_text, of_automaton, of_circuit      the faults of lower crates as faults of synthesis
+-- - `IsAutomatonOf text a`: the automaton of the file of an accepted text
+-- - `IsTextFault text fault`: why a text has no automaton
+-- - `IsSolverFault May game fault`: why a solver's answer is not a valid certificate
+-- - `IsFaultFor game given fault`: the fault of synthesis that a solver's fault becomes, or out of memory
+-- - `IsCircuitOf order a game certificate circuit`: the circuit of the machine of the certificate
+-- - `HasNoCircuit order a game certificate`: the circuit of the certificate's machine needs too many variables
+-- - `IsCircuitFault order a game certificate fault`: why there is no circuit
+-- - `of_text`, `of_automaton`, `of_circuit`: the faults of lower crates as faults of synthesis
 use Rattle.std.specs.Prelude.{◌≡◌, ℕ, List, Err, map, slice_index}
 use Rattle.ps_aiger.specs.Wires.{IsOutOfLiterals, IsWired}
 use Rattle.ps_circuit.specs.Circuits.{CircuitData}

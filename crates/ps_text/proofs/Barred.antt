@@ -1,10 +1,10 @@
 -- `barred P Bad` adds to the grammar P the errors that `Bad` states at the symbol after a text of P. No text of P
 -- continues with a symbol at which `Bad` states an error.
---     laws_barred      the laws of `barred P Bad`
---     read_barred      P is parsed, and `Bad` states no error at the symbol after it
---     fault_barred      the fault is P's own
---     fault_bar      `Bad` states an error at the symbol after P
---     reads_barred, stops_barred, stops_bar      the results of a parsing function in these three cases
+-- - `laws_barred`: the laws of `barred P Bad`
+-- - `read_barred`: P is parsed, and `Bad` states no error at the symbol after it
+-- - `fault_barred`: the fault is P's own
+-- - `fault_bar`: `Bad` states an error at the symbol after P
+-- - `reads_barred`, `stops_barred`, `stops_bar`: the results of a parsing function in these three cases
 use Rattle.std.proofs.Common.{◌≡◌, ◌+◌, ◌≤◌, ◌⊎◌, List, [], ◌∷◌, ◌++◌, length, Option, Some, sym, ap, subst, inl}
 use Rattle.std.proofs.Common.{inr, ⊎_elim, ◌∙◌, append_assoc, arith, rules}
 use Rattle.ps_text.specs.Answers.{Begins, Stream, Found, first_of, next_of, offset_of}

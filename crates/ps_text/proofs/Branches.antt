@@ -1,16 +1,16 @@
 -- The results of a parsing function at a choice and in a loop. The module Meeting restates each of these lemmas for
 -- `Meets`, with the function that maps values written out.
---     Stands there P Q      at the next symbol `there`, parsing P has the same result as parsing Q
---     left_entered, right_entered      `Stands`: the next symbol begins one alternative of `either`, or is an error of
---               this alternative
---     left_otherwise, right_otherwise      `Stands`: the next symbol does not begin the other alternative, which has no
---               empty text
---     item_entered      `Stands`: the next symbol begins an item of `many`
---     reads_as, stops_as_well, meets_as w m      a result for P is also a result for Q
---     many_ends, many_reads, many_fails      `many` ends if no item begins, continues after an item, or fails in one
---     times_reads, times_fails      `times` continues after an item; an item fails
---     carries_many, carries_times      the invariant of a loop still holds after an item
---     reads_shrinks      parsing a nonempty text leaves fewer pieces, which is the measure of a loop
+-- - `Stands there P Q`: at the next symbol `there`, parsing P has the same result as parsing Q
+-- - `left_entered`, `right_entered`: `Stands`: the next symbol begins one alternative of `either`, or is an error of
+--   this alternative
+-- - `left_otherwise`, `right_otherwise`: `Stands`: the next symbol does not begin the other alternative, which has no
+--   empty text
+-- - `item_entered`: `Stands`: the next symbol begins an item of `many`
+-- - `reads_as, stops_as_well, meets_as w m`: a result for P is also a result for Q
+-- - `many_ends`, `many_reads`, `many_fails`: `many` ends if no item begins, continues after an item, or fails in one
+-- - `times_reads`, `times_fails`: `times` continues after an item; an item fails
+-- - `carries_many`, `carries_times`: the invariant of a loop still holds after an item
+-- - `reads_shrinks`: parsing a nonempty text leaves fewer pieces, which is the measure of a loop
 use Rattle.std.proofs.Common.{◌≡◌, ℕ, zero, suc, ◌-◌, ◌<◌, List, [], ◌∷◌, ◌++◌, length, Option, Some, Result, Ok}
 use Rattle.std.proofs.Common.{Err, subst, arith, length-append, rules}
 use Rattle.std.proofs.lemmas.List.{length-map}

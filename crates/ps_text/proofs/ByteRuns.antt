@@ -1,8 +1,8 @@
 -- Runs of bytes that pass a test.
---     all_left, all_right      both halves of a run pass the test
---     run_len, run_all, run_ends      the length of the longest run at the start of a text, its bytes, and its end
---     run_whole      a text that consists of one run
---     same_run      the longest run is unique
+-- - `all_left`, `all_right`: both halves of a run pass the test
+-- - `run_len`, `run_all`, `run_ends`: the length of the longest run at the start of a text, its bytes, and its end
+-- - `run_whole`: a text that consists of one run
+-- - `same_run`: the longest run is unique
 use Rattle.std.proofs.Common.{◌≡◌, ℕ, suc, Bool, List, [], ◌∷◌, ◌++◌, length, take, rules, drop, refl, ap₂}
 use Rattle.std.proofs.Common.{⊎_elim, append-nil, arith}
 use Rattle.std.specs.List.{prefix_len, take_while}

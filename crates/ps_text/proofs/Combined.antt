@@ -1,11 +1,11 @@
 -- The laws of combined grammars, with sets of symbols that are no larger than necessary.
---     both_within, wider_first, wider_more      two sets are within a third set; sets may be replaced by larger ones
---     laws_first      the laws of one symbol, which is in a set if it is accepted, and also if it is an error
---     laws_forms      the laws of a choice between two grammars without an empty text
---     laws_option      the laws of an optional grammar whose texts no symbol continues
---     laws_all, laws_times_all      the laws of any number, or a given number, of items that no symbol continues
---     laws_last      the laws of a grammar whose texts no symbol continues, after one that may have an empty text
---     joint_tight      the joint of two grammars, if no symbol continues a text of the first
+-- - `both_within`, `wider_first`, `wider_more`: two sets are within a third set; sets may be replaced by larger ones
+-- - `laws_first`: the laws of one symbol, which is in a set if it is accepted, and also if it is an error
+-- - `laws_forms`: the laws of a choice between two grammars without an empty text
+-- - `laws_option`: the laws of an optional grammar whose texts no symbol continues
+-- - `laws_all`, `laws_times_all`: the laws of any number, or a given number, of items that no symbol continues
+-- - `laws_last`: the laws of a grammar whose texts no symbol continues, after one that may have an empty text
+-- - `joint_tight`: the joint of two grammars, if no symbol continues a text of the first
 use Rattle.std.proofs.Common.{◌≡◌, ℕ, Option, Some, inl, inr, rules}
 use Rattle.ps_text.specs.Parts.{Part, give, one, then_by, either, times, many}
 use Rattle.ps_text.proofs.Laws.{Laws, Joint, Nothing, Or, Within, Apart, weaker}

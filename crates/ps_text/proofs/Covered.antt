@@ -1,8 +1,8 @@
 -- If the next symbol decides which of several alternatives follows, parsing the whole has the same result as parsing
 -- this alternative (proofs/InPlace.antt). For example, `either P Q` has the result of P or the result of Q.
---     Enters P there      the next symbol begins a text of P, or is an error of P
---     Avoids A there      the next symbol is not in the set A
---     covers_left, covers_right      `either` has the result of one form, if the other form does not begin
+-- - `Enters P there`: the next symbol begins a text of P, or is an error of P
+-- - `Avoids A there`: the next symbol is not in the set A
+-- - `covers_left`, `covers_right`: `either` has the result of one form, if the other form does not begin
 --     laws_either
 use Rattle.std.proofs.Common.{arith, ◌≡◌, ◌⊎◌, List, [], ◌∷◌, ◌++◌, Option, None, Some, refl, subst, inl, inr, ◌∙◌}
 use Rattle.std.proofs.Common.{rules, ⊎_elim}

@@ -1,9 +1,9 @@
 -- Decimal numbers.
---     digit_is, digit_passes      a byte is a digit if and only if it passes the test
---     value_pushed, value_more      how one more digit changes the value
---     value_grows, value_front      more digits never denote a smaller number
---     IsNumberText n digits      `digits` have no leading zero and denote n
---     number_text, plain      the written form of a number
+-- - `digit_is`, `digit_passes`: a byte is a digit if and only if it passes the test
+-- - `value_pushed`, `value_more`: how one more digit changes the value
+-- - `value_grows`, `value_front`: more digits never denote a smaller number
+-- - `IsNumberText n digits`: `digits` have no leading zero and denote n
+-- - `number_text`, `plain`: the written form of a number
 use Rattle.std.proofs.Common.{◌≡◌, ℕ, ◌+◌, ◌-◌, ◌*◌, ◌/◌, ◌%◌, ◌^◌, ◌<◌, ◌≤◌, true, List, [], ◌∷◌, ◌++◌, length}
 use Rattle.std.proofs.Common.{get_or, take, drop, refl, ap, ◌∙◌, arith, length-append, rules, take-append-drop}
 use Rattle.std.specs.Prelude.{decimal}

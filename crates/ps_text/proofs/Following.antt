@@ -1,6 +1,6 @@
 -- The laws of two grammars in a row, for smaller sets than in `laws_then`.
---     laws_next      neither grammar has an empty text
---     laws_tight      the first grammar has no empty text, and no symbol continues its texts
+-- - `laws_next`: neither grammar has an empty text
+-- - `laws_tight`: the first grammar has no empty text, and no symbol continues its texts
 use Rattle.std.proofs.Common.{arith}
 use Rattle.ps_text.specs.Parts.{Part, then_by}
 use Rattle.ps_text.proofs.Laws.{Laws, Nothing, Or, When, Apart, weaker}

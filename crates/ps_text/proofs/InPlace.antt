@@ -1,12 +1,12 @@
 -- A grammar that has the same result, or the same first fault, as another grammar.
---     stops_by, stops_at, quiet_by, quiet_at      no text continues with the next symbol; the next symbol is no error
---     read_quiet      the symbol after the parsed text is not an error of the grammar
---     fault_begins      the symbols before a first fault begin a text of the grammar
---     fault_from      R has the first fault of P, if R has only texts and errors of P here
---     Covers there P Q      at the next symbol `there`, Q has only texts and errors of P
---     read_as, fault_as      a result of P is a result of Q, and a fault of P is a fault of Q
---     after P left      the remainder of P after the symbols `left`
---     read_after, fault_after      a result for the remainder is a result for P, if P has no error before it
+-- - `stops_by`, `stops_at`, `quiet_by`, `quiet_at`: no text continues with the next symbol; the next symbol is no error
+-- - `read_quiet`: the symbol after the parsed text is not an error of the grammar
+-- - `fault_begins`: the symbols before a first fault begin a text of the grammar
+-- - `fault_from`: R has the first fault of P, if R has only texts and errors of P here
+-- - `Covers there P Q`: at the next symbol `there`, Q has only texts and errors of P
+-- - `read_as`, `fault_as`: a result of P is a result of Q, and a fault of P is a fault of Q
+-- - `after P left`: the remainder of P after the symbols `left`
+-- - `read_after`, `fault_after`: a result for the remainder is a result for P, if P has no error before it
 use Rattle.std.proofs.Common.{◌≡◌, ℕ, ◌+◌, ◌⊎◌, List, [], ◌∷◌, ◌++◌, length, Option, Some, refl, ap, subst}
 use Rattle.std.proofs.Common.{inl, ◌∙◌, append_assoc, arith, length-append, rules}
 use Rattle.ps_text.specs.Answers.{Begins, first_of}

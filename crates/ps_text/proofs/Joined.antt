@@ -1,11 +1,11 @@
 -- `then_by P Q` is parsed if P and then Q are parsed. The first fault of `then_by P Q` is the first fault of P, or the
 -- first fault of Q after P.
---     joint      two grammars that satisfy the laws have a joint (`Joint`)
---     text_behind, cause_behind      unless the text of P continues, a text or error of P and Q together after a text
---               of P is one of Q
---     begins_left, begins_right      a beginning of a text of P begins a text of P and Q together; so does a text of P
---               with a beginning of a text of Q
---     read_then, fault_left, fault_right      the result of P and Q together, in terms of IsRead and IsFault
+-- - `joint`: two grammars that satisfy the laws have a joint (`Joint`)
+-- - `text_behind`, `cause_behind`: unless the text of P continues, a text or error of P and Q together after a text of
+--   P is one of Q
+-- - `begins_left`, `begins_right`: a beginning of a text of P begins a text of P and Q together; so does a text of P
+--   with a beginning of a text of Q
+-- - `read_then`, `fault_left`, `fault_right`: the result of P and Q together, in terms of IsRead and IsFault
 use Rattle.std.proofs.Common.{◌≡◌, ◌⊎◌, List, [], ◌∷◌, ◌++◌, length, Option, Some, refl, ap, subst}
 use Rattle.std.proofs.Common.{inl, inr, append_assoc, append-nil, arith, rules}
 use Rattle.ps_text.specs.Answers.{Begins, first_of}

@@ -1,6 +1,6 @@
 -- The laws of a grammar, as a record, and the laws of two grammars in a row.
---     Laws odd part First More Null      the grammar's laws; symbols in First begin texts, those in More continue them
---     Joint P Q      no symbol both continues P and begins Q; the lemma `joint` derives this from the laws
+-- - `Laws odd part First More Null`: the grammar's laws; symbols in First begin texts, those in More continue them
+-- - `Joint P Q`: no symbol both continues P and begins Q; the lemma `joint` derives this from the laws
 --
 -- State the laws of each production of a grammar once, as in `laws_entry : Laws odd entry EntryFirst EntryMore ⊥`. The
 -- laws of a production are proved with the lemma of the production's outermost combinator (proofs/Combined.antt), and

@@ -1,10 +1,10 @@
 -- For each list of symbols, each grammar has an outcome: a text is parsed, or the first fault is found. The proof is by
 -- recursion on how the grammar is composed. Only at single symbols is there something to decide: which error has the
 -- smallest number (Judged).
---     has_give, .., has_barred      a grammar made by this combinator has an outcome for each list of symbols
---     entered_or_broken      the next symbol begins a grammar without an empty text, or the grammar rejects the symbol
---     has_refusal      the outcome if the next symbol does not begin the grammar
---     some_answer      each text has an answer; some_answer_of is the law of ps_text
+-- - `has_give`, `..`, `has_barred`: a grammar made by this combinator has an outcome for each list of symbols
+-- - `entered_or_broken`: the next symbol begins a grammar without an empty text, or the grammar rejects the symbol
+-- - `has_refusal`: the outcome if the next symbol does not begin the grammar
+-- - `some_answer`: each text has an answer; some_answer_of is the law of ps_text
 use Rattle.std.proofs.Common.{◌≡◌, ℕ, zero, suc, ◌<◌, ◌≤◌, ◌⊎◌, List, [], ◌∷◌, ◌++◌, length, Option, None, Some, Result}
 use Rattle.std.proofs.Common.{Ok, Err, refl, sym, ap, subst, inl, inr, ◌∙◌, arith, rules}
 use Rattle.ps_text.specs.Answers.{Begins, Piece, Stream, Found, HasOneMeaning, first_of, signs, offset_of}

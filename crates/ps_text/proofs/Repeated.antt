@@ -1,9 +1,9 @@
 -- `times` and `many`. No item is empty, and no symbol both continues an item and begins an item.
---     laws_times, laws_many      the laws of repeated items: they begin with First, and continue with More or First
---     covers_item      if an item begins here, `many` is parsed as this item followed by `many`
---     read_nothing, read_none      if no item begins here, `many` is parsed as the empty list
---     joint_many, joint_times      the joint of an item and the items after it
---     read_item      `many` is parsed if an item and then `many` are parsed
+-- - `laws_times`, `laws_many`: the laws of repeated items: they begin with First, and continue with More or First
+-- - `covers_item`: if an item begins here, `many` is parsed as this item followed by `many`
+-- - `read_nothing`, `read_none`: if no item begins here, `many` is parsed as the empty list
+-- - `joint_many`, `joint_times`: the joint of an item and the items after it
+-- - `read_item`: `many` is parsed if an item and then `many` are parsed
 --
 -- `many` has the laws of `upto n`, the grammar of up to n items, because each text and each error of `many` is one of
 -- `upto n` for some n.

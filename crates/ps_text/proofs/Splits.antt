@@ -1,8 +1,8 @@
 -- A list that is split in two ways: the two first halves are equal, or one of them continues where the other ends.
---     Compared, compared      the three cases of two splits
---     Placed, placed      the position of a symbol of the list: inside the front, or after it
---     inside_of      a symbol before the end of the front is inside the front
---     all_taken_all      a fact about all symbols of a front as long as the list is a fact about the list
+-- - `Compared`, `compared`: the three cases of two splits
+-- - `Placed`, `placed`: the position of a symbol of the list: inside the front, or after it
+-- - `inside_of`: a symbol before the end of the front is inside the front
+-- - `all_taken_all`: a fact about all symbols of a front as long as the list is a fact about the list
 use Rattle.std.proofs.Common.{◌≡◌, ℕ, suc, ◌+◌, ◌<◌, ◌≤◌, List, [], ◌∷◌, ◌++◌, length, take, drop, refl, sym, ap, subst}
 use Rattle.std.proofs.Common.{◌∙◌, arith, append-nil, length-append, Some, rules}
 use Rattle.std.specs.List.{All}

@@ -1,8 +1,8 @@
 -- From the result of a grammar to the answer to a whole text.
---     no_fault      the whole text was parsed, and its value is the answer
---     first_fault      the first fault of the grammar is the first error of the text
---     trailing      a beginning of the text was parsed: the first error is that the next symbol is not allowed
---     answers_ok, answers_fault, answers_trailing      as the three lemmas above, from the contract `Meets`
+-- - `no_fault`: the whole text was parsed, and its value is the answer
+-- - `first_fault`: the first fault of the grammar is the first error of the text
+-- - `trailing`: a beginning of the text was parsed: the first error is that the next symbol is not allowed
+-- - `answers_ok`, `answers_fault`, `answers_trailing`: as the three lemmas above, from the contract `Meets`
 --
 -- The lemmas require the laws of the grammar with `Own causes` for `odd`: the symbols that are errors wherever they
 -- occur.

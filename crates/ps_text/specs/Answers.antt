@@ -1,12 +1,12 @@
 -- The answer to a text, for every format: the meaning of the text, or its first error.
---     Piece, Stream      a symbol of a text with its offset; the pieces of a text, and the offset of its end
---     Begins IsText front      some text of the grammar begins with the symbols `front`
---     NoneGoesOn IsText front there      no text begins with `front` and `there`; at the end, `front` is not a text
---     IsUnexpected IsText front there      some text begins with `front`, but none continues with the symbol `there`
---     IsClean IsCause all      the text has no error
---     IsFirst number IsCause front rest f      f is an error between `front` and `rest`, and no other error precedes it
---     IsFirstAt number IsCause stream found      like `IsFirst`, for symbols with offsets
---     Answers IsText IsCause number stream answer      Ok with the meaning of the text, or Err with its first error
+-- - `Piece`, `Stream`: a symbol of a text with its offset; the pieces of a text, and the offset of its end
+-- - `Begins IsText front`: some text of the grammar begins with the symbols `front`
+-- - `NoneGoesOn IsText front there`: no text begins with `front` and `there`; at the end, `front` is not a text
+-- - `IsUnexpected IsText front there`: some text begins with `front`, but none continues with the symbol `there`
+-- - `IsClean IsCause all`: the text has no error
+-- - `IsFirst number IsCause front rest f`: f is an error between `front` and `rest`, and no other error precedes it
+-- - `IsFirstAt number IsCause stream found`: like `IsFirst`, for symbols with offsets
+-- - `Answers IsText IsCause number stream answer`: Ok with the meaning of the text, or Err with its first error
 --
 -- A format defines its symbols: a symbol is a token, a byte or a line, together with what a parser can see after it.
 -- IsText states when a list of symbols is a text of the grammar, and what the text means. IsCause states when there is

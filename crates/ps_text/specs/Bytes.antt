@@ -1,9 +1,9 @@
 -- Texts whose symbols are single bytes: their symbols, and the grammars of bytes and of runs of bytes.
---     stream_at at bytes      the symbols of the bytes, of which the first is at the offset `at`
---     stream_of text      the symbols of a text, with a newline added to its last line if that has none
---     byte_causes number syntax      the causes of a format in which no byte is an error by itself
---     byte b, word bytes      the byte b; the given bytes in order
---     run p see Bad      the longest run of bytes that pass p, with at least one byte
+-- - `stream_at at bytes`: the symbols of the bytes, of which the first is at the offset `at`
+-- - `stream_of text`: the symbols of a text, with a newline added to its last line if that has none
+-- - `byte_causes number syntax`: the causes of a format in which no byte is an error by itself
+-- - `byte b, word bytes`: the byte b; the given bytes in order
+-- - `run p see Bad`: the longest run of bytes that pass p, with at least one byte
 use Rattle.std.specs.Prelude.{◌≡◌, ℕ, ◌+◌, ◌<◌, Bool, false, List, [], ◌∷◌, ◌++◌, length, map, Option, None, Some, ◌==◌}
 use Rattle.std.specs.Prelude.{◌&&◌, ◌||◌, nat_le, not, if◌then◌else◌}
 use Rattle.ps_text.specs.Answers.{Piece, Stream}

@@ -1,7 +1,7 @@
 -- A cursor over bytes as clauses see it: the symbols that are still unread.
---     next_byte stream, stream_offset stream      the next byte; its offset, or the offset of the end
---     IsAhead stream      each symbol carries the bytes that follow it
---     Passes p old new run      the cursor moved past `run`, the longest run of bytes that pass p, which may be empty
+-- - `next_byte stream, stream_offset stream`: the next byte; its offset, or the offset of the end
+-- - `IsAhead stream`: each symbol carries the bytes that follow it
+-- - `Passes p old new run`: the cursor moved past `run`, the longest run of bytes that pass p, which may be empty
 use Rattle.std.specs.Prelude.{◌≡◌, ℕ, ◌+◌, Bool, true, false, List, [], ◌∷◌, ◌++◌, length, Option, ◌==◌}
 use Rattle.std.specs.Option.{option_map}
 use Rattle.ps_text.specs.Answers.{Stream, offset_of, next_of}

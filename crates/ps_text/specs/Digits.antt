@@ -1,8 +1,8 @@
 -- Digits, decimal numbers, letters and blanks, from which the tokens of formats are built.
---     IsDigit b, IsLetter b, IsBlank b      the byte is a digit 0 to 9; a letter a to z or A to Z; a byte 9 to 13 or 32
---     decimal_value digits      the number that the digits denote, of any size, including leading zeros
---     AreDigits run      one digit or more, and no other byte
---     IsPlainNumber run      a single 0, or digits that do not begin with 0
+-- - `IsDigit b, IsLetter b, IsBlank b`: the byte is a digit 0 to 9; a letter a to z or A to Z; a byte 9 to 13 or 32
+-- - `decimal_value digits`: the number that the digits denote, of any size, including leading zeros
+-- - `AreDigits run`: one digit or more, and no other byte
+-- - `IsPlainNumber run`: a single 0, or digits that do not begin with 0
 use Rattle.std.specs.Prelude.{◌≡◌, ℕ, ◌-◌, ◌<◌, ◌≤◌, ◌⊎◌, List, [], ◌∷◌, length, map}
 use Rattle.std.specs.List.{All}
 use Rattle.std.specs.Int.Digits.{number_from_digits}

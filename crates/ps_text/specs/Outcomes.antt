@@ -1,9 +1,9 @@
 -- The outcome of parsing a grammar at the start of a list of symbols, and the statement that each text has an answer.
---     Outcome causes part all      the grammar is parsed at the start of `all`, or has a first fault in `all`
---     HasOutcomes causes part      the grammar has an outcome for each list of symbols
---     IsOrderly causes part      each error follows a beginning of a text, and is not at a symbol that is an error
---               wherever it occurs
---     HasSomeAnswer IsText IsCause number      each text has an answer: its meaning or its first error
+-- - `Outcome causes part all`: the grammar is parsed at the start of `all`, or has a first fault in `all`
+-- - `HasOutcomes causes part`: the grammar has an outcome for each list of symbols
+-- - `IsOrderly causes part`: each error follows a beginning of a text, and is not at a symbol that is an error wherever
+--   it occurs
+-- - `HasSomeAnswer IsText IsCause number`: each text has an answer: its meaning or its first error
 --
 -- The outcome does not depend on memory: it is the result of a parser that does not run out of memory.
 use Rattle.std.specs.Prelude.{◌≡◌, ℕ, List, ◌∷◌, ◌++◌, Option, Some, Result}

@@ -1,20 +1,20 @@
 -- Grammars composed by combinators. A `Part` is a grammar together with the errors that its texts can have. Combinators
 -- make larger grammars of smaller ones, so that a format's grammar reads like the grammar in the format's standard.
---     Part      which lists of symbols are a text with a given value, and which errors can follow which symbols
---     Causes      the causes of a format, with their numbers
---     IsWrong causes part      an error of a text with this grammar: the IsCause of `Answers`
---     IsRead part all v rest      the grammar was parsed at the start of `all`, and `rest` is left
---     IsFault causes part all f rest      the grammar has its first fault in `all`, and `rest` begins there
+-- - `Part`: which lists of symbols are a text with a given value, and which errors can follow which symbols
+-- - `Causes`: the causes of a format, with their numbers
+-- - `IsWrong causes part`: an error of a text with this grammar: the IsCause of `Answers`
+-- - `IsRead part all v rest`: the grammar was parsed at the start of `all`, and `rest` is left
+-- - `IsFault causes part all f rest`: the grammar has its first fault in `all`, and `rest` begins there
 --
 -- The combinators:
---     give v      no symbol, with the value v
---     one take Bad      one symbol, whose value `take` gives; Bad states which errors a symbol has here
---     then_by P Q      P and then Q a, for the value a of P; the value of Q a is the value of both
---     either P Q      a text of P or a text of Q
---     times n item c, many item c      n items, or any number of items, in a row; c is the context of the first
---     mapped h P      P with the value h v in place of v
---     barred P Bad      P with additional errors, which Bad states for the symbol after a text of P, given the value of
---               the text
+-- - `give v`: no symbol, with the value v
+-- - `one take Bad`: one symbol, whose value `take` gives; Bad states which errors a symbol has here
+-- - `then_by P Q`: P and then Q a, for the value a of P; the value of Q a is the value of both
+-- - `either P Q`: a text of P or a text of Q
+-- - `times n item c, many item c`: n items, or any number of items, in a row; c is the context of the first
+-- - `mapped h P`: P with the value h v in place of v
+-- - `barred P Bad`: P with additional errors, which Bad states for the symbol after a text of P, given the value of the
+--   text
 --
 -- For example, the grammar of a list of numbers such as `1, 2, 3;` is as follows:
 --         number = one number_of IsTooLarge

@@ -1,11 +1,11 @@
 -- What a parsing function states about the grammar that it parses: a text was parsed, or the first fault was found.
 -- `old` and `new` are the unread pieces when the function begins and when it returns, as the Model of the code's tokens
 -- shows them.
---     Meets found causes view part old result new      the contract of a parsing function
---     Parses causes part old result new      the contract of a function that returns the grammar's values and errors
---     Carries causes whole start rest now      parsing `rest` from `now` gives what parsing `whole` from `start` gives
---     tail stream      the stream without its next piece
---     refusal_at causes stream      the error, with its offset, for a symbol or an end that is not allowed
+-- - `Meets found causes view part old result new`: the contract of a parsing function
+-- - `Parses causes part old result new`: the contract of a function that returns the grammar's values and errors
+-- - `Carries causes whole start rest now`: parsing `rest` from `now` gives what parsing `whole` from `start` gives
+-- - `tail stream`: the stream without its next piece
+-- - `refusal_at causes stream`: the error, with its offset, for a symbol or an end that is not allowed
 use Rattle.std.specs.Prelude.{◌≡◌, List, [], ◌∷◌, ◌++◌, Option, None, Some, Result, Ok, Err}
 use Rattle.ps_text.specs.Answers.{Piece, Stream, Found, signs, next_of, offset_of}
 use Rattle.ps_text.specs.Parts.{Part, Causes, IsRead, IsFault, refusal_of}

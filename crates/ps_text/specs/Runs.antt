@@ -1,6 +1,6 @@
 -- Runs of bytes that pass a test.
---     AllOf p bytes      each byte passes p
---     StopsBefore p rest      the first byte of `rest`, if there is one, does not pass p
+-- - `AllOf p bytes`: each byte passes p
+-- - `StopsBefore p rest`: the first byte of `rest`, if there is one, does not pass p
 use Rattle.std.specs.Prelude.{◌≡◌, ℕ, Bool, true, false, List, [], ◌∷◌}
 use Rattle.std.specs.List.{AllByRecursion}
 

@@ -1,8 +1,8 @@
 -- The tokens of a text, as a relation between its bytes and its pieces. The blanks between tokens are single bytes.
---     IsBlank b      b is a byte that may occur between tokens
---     IsToken before sign text rest      between the bytes `before` and `rest`, `text` is the token `sign`
---     AreTokens IsBlank IsToken bytes stream      the stream has the bytes' tokens, perhaps with blanks around them
---     TokensDiffer IsBlank IsToken      at most one token begins at a position, and no token begins with a blank
+-- - `IsBlank b`: b is a byte that may occur between tokens
+-- - `IsToken before sign text rest`: between the bytes `before` and `rest`, `text` is the token `sign`
+-- - `AreTokens IsBlank IsToken bytes stream`: the stream has the bytes' tokens, perhaps with blanks around them
+-- - `TokensDiffer IsBlank IsToken`: at most one token begins at a position, and no token begins with a blank
 --
 -- By its `IsToken`, a format states that a token is the longest possible one, which tokens are never allowed, and how a
 -- token depends on the bytes around it. By `TokensDiffer`, a text has at most one list of tokens, as the law

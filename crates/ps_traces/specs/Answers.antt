@@ -1,7 +1,7 @@
 -- The properties of the circuit of the player who wins an automaton's game. The winner's circuit is a controller if
 -- player 0 wins, and otherwise an environment.
---     role_of player      player 0 is the controller
---     IsWitness order file player c      the circuit has its role's shape, and all of its words are accepted, or none
+-- - `role_of player`: player 0 is the controller
+-- - `IsWitness order file player c`: the circuit has its role's shape, and all of its words are accepted, or none
 use Rattle.std.specs.Prelude.{◌≡◌, ◌≢◌, ℕ, List, if◌then◌else◌, nat_eq}
 use Rattle.ps_hoa.specs.Files.{FileData}
 use Rattle.ps_circuit.specs.Circuits.{CircuitData, IsCircuit}

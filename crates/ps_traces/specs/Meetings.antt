@@ -1,11 +1,11 @@
 -- Finite-state controllers, and their joint runs (meetings) with the circuit of an environment. Letters are lists of
 -- bits in the circuit's order: a controller reads one bit for each output of the circuit, and outputs one bit for each
 -- input of the circuit.
---     FiniteController      a size, a first memory state, and tables for the next state and the output letter
---     IsController order c k      the tables stay within their ranges, and the controller outputs its letters in time
---     GoesJointly c k latches memory moments to last      the joint trace from these latches and this memory state
---     MeetsInLasso c k      the joint trace extends to a lasso trace, which also returns to the same memory state
---     IsRejected file c k      the automaton does not accept the word of the meeting's lasso trace
+-- - `FiniteController`: a size, a first memory state, and tables for the next state and the output letter
+-- - `IsController order c k`: the tables stay within their ranges, and the controller outputs its letters in time
+-- - `GoesJointly c k latches memory moments to last`: the joint trace from these latches and this memory state
+-- - `MeetsInLasso c k`: the joint trace extends to a lasso trace, which also returns to the same memory state
+-- - `IsRejected file c k`: the automaton does not accept the word of the meeting's lasso trace
 use Rattle.std.specs.Prelude.{◌≡◌, ℕ, ◌<◌, Bool, List, [], ◌∷◌, length}
 use Rattle.ps_hoa.specs.Files.{FileData}
 use Rattle.ps_automaton.specs.Acceptance.{IsAccepted}

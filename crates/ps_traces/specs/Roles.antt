@@ -1,5 +1,5 @@
 -- Which machines are machines for a role.
---     IsMachineFor order role file m      the machine has the file's names, and the role's inputs and order of moves
+-- - `IsMachineFor order role file m`: the machine has the file's names, and the role's inputs and order of moves
 use Rattle.std.specs.Prelude.{◌≡◌, ℕ, ◌<◌, Bool, not, List, length}
 use Rattle.ps_hoa.specs.Files.{FileData, is_among}
 use Rattle.ps_machine.specs.Behaviours.{Behaviour}

@@ -1,6 +1,6 @@
 -- The inputs, the outputs and the order of moves that the circuit of a role must have.
---     HasShape order role file c      the circuit has the role's inputs and outputs, by name, and outputs come in time
---     SeesNoInputWhereReached c      at latches that some trace reaches, the outputs do not depend on the inputs
+-- - `HasShape order role file c`: the circuit has the role's inputs and outputs, by name, and outputs come in time
+-- - `SeesNoInputWhereReached c`: at latches that some trace reaches, the outputs do not depend on the inputs
 use Rattle.std.specs.Prelude.{◌≡◌, Bool, true, false, IsTrue, List}
 use Rattle.ps_hoa.specs.Files.{FileData}
 use Rattle.ps_circuit.specs.Circuits.{CircuitData}

@@ -1,7 +1,7 @@
 -- Lasso traces of a circuit, which return to earlier values of the latches, and their words.
---     IsLassoTrace c stem lap      a trace of the stem and then the lap, with the same latches before and after the lap
---     IsLassoWord names c stem lap      the letters of a lasso trace of the circuit
---     AllAccepted file c, NoneAccepted file c      the automaton accepts each lasso word of the circuit, or none
+-- - `IsLassoTrace c stem lap`: a trace of the stem and then the lap, with the same latches before and after the lap
+-- - `IsLassoWord names c stem lap`: the letters of a lasso trace of the circuit
+-- - `AllAccepted file c, NoneAccepted file c`: the automaton accepts each lasso word of the circuit, or none
 use Rattle.std.specs.Prelude.{ℕ, ◌<◌, Bool, List, length}
 use Rattle.ps_hoa.specs.Files.{FileData}
 use Rattle.ps_automaton.specs.Acceptance.{IsAccepted}

@@ -1,8 +1,8 @@
 -- Paths from vertex 0, found from a table that has, for each vertex, the first vertex with an edge to it.
---     lowered_none, lowered_here, lowered_kept      the successors of a vertex are handled one by one
---     firsts_none, firsts_more      the vertices are handled one by one
---     fall      the entry of each vertex except 0 is an earlier vertex
---     way_is      the vertices that the table's entries give are a path
+-- - `lowered_none`, `lowered_here`, `lowered_kept`: the successors of a vertex are handled one by one
+-- - `firsts_none`, `firsts_more`: the vertices are handled one by one
+-- - `fall`: the entry of each vertex except 0 is an earlier vertex
+-- - `way_is`: the vertices that the table's entries give are a path
 use Rattle.std.proofs.Common.{◌≡◌, ℕ, ◌+◌, ◌-◌, ◌<◌, ◌≤◌, ◌⊎◌, inl, inr, List, length, get_or, set, refl, sym}
 use Rattle.std.proofs.Common.{ap, subst, ◌∙◌, arith, length-set, [], ◌∷◌, ◌++◌, reverse, take, drop, append-nil}
 use Rattle.std.specs.List.{range_with_len}

@@ -1,6 +1,6 @@
 -- The result computed for a product is a right judgement on the product's circuit.
---     winning      the judgement if the player wins all loops
---     judgement      the result computed for a product is a right judgement, in both cases
+-- - `winning`: the judgement if the player wins all loops
+-- - `judgement`: the result computed for a product is a right judgement, in both cases
 use Rattle.std.proofs.Common.{◌≡◌, ◌≢◌, ℕ, ◌%◌, ◌<◌, ◌↔◌, true, List, length, refl, subst, arith}
 use Rattle.std.proofs.Common.{Some}
 use Rattle.std.proofs.lemmas.Bool.{eq-eqb, eqb-true}

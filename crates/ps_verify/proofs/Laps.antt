@@ -1,7 +1,7 @@
 -- A lasso trace closes a cycle of the product: some repetitions of the lap lead from a vertex back to it.
---     reached      the vertex after the stem and some laps
---     laps_fall      a count does not rise along laps, and falls if their greatest priority is the given one
---     loop      some laps lead back to a vertex, and no valid counts exist for their greatest priority
+-- - `reached`: the vertex after the stem and some laps
+-- - `laps_fall`: a count does not rise along laps, and falls if their greatest priority is the given one
+-- - `loop`: some laps lead back to a vertex, and no valid counts exist for their greatest priority
 use Rattle.std.proofs.Common.{◌≡◌, ℕ, zero, suc, ◌+◌, ◌-◌, ◌<◌, ◌≤◌, inr, max, Bool, List, length, refl, sym}
 use Rattle.std.proofs.Common.{ap, subst, ◌∙◌, arith, Some, add-zero}
 use Rattle.std.specs.Prelude.{slice_get}

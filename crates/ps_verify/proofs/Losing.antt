@@ -1,5 +1,5 @@
 -- If the circuit reads a stimulus along a cycle that its player loses, the verdict on the stimulus is wrong.
---     losing      a stimulus that is read along such a cycle is a counterexample
+-- - `losing`: a stimulus that is read along such a cycle is a counterexample
 use Rattle.std.proofs.Common.{◌≡◌, ℕ, ◌%◌, ◌<◌, ◌↔◌, max, Bool, IsTrue, List, []}
 use Rattle.std.proofs.Common.{◌∷◌, ◌++◌, length, map, get_or, Some, refl, ap, subst, ◌∙◌}
 use Rattle.std.proofs.Common.{arith}

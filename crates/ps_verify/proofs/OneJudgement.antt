@@ -1,7 +1,7 @@
 -- From a stimulus with the wrong verdict, a lasso word of the circuit with the wrong verdict follows.
---     parted      a trace and its letters, divided at an index
---     apart      a circuit does not both win and lose
---     wins      a circuit that no stimulus refutes wins
+-- - `parted`: a trace and its letters, divided at an index
+-- - `apart`: a circuit does not both win and lose
+-- - `wins`: a circuit that no stimulus refutes wins
 use Rattle.std.proofs.Common.{◌≡◌, ℕ, zero, suc, ◌≤◌, Bool, List, [], ◌∷◌, length, take, drop}
 use Rattle.std.proofs.Common.{get_or}
 use Rattle.std.proofs.Common.{refl, sym, subst, arith, length-drop}

@@ -1,7 +1,7 @@
 -- The inputs that are read along a path of the product belong to a trace of the circuit, whose letters the automaton
 -- reads.
---     Follows      steps of the circuit (`moments`) from the latches of a vertex, and the letters along a path
---     follow      if the edges of a path read the given inputs, such steps and letters exist
+-- - `Follows`: steps of the circuit (`moments`) from the latches of a vertex, and the letters along a path
+-- - `follow`: if the edges of a path read the given inputs, such steps and letters exist
 use Rattle.std.proofs.Common.{rules, ◌≡◌, ℕ, suc, ◌+◌, ◌<◌, Bool, List, [], ◌∷◌, length, map, get_or, refl}
 use Rattle.std.proofs.Common.{arith, Some}
 use Rattle.std.specs.Prelude.{slice_get}

@@ -1,7 +1,7 @@
 -- If the region has all vertices, and the player owns none of them, counts for the region are counts for the game, and
 -- a lost cycle of the region is a lost cycle of the game.
---     wins_loops      there are counts for each priority that opposes the player
---     lost_round      the cycle followed by its first vertex is a path
+-- - `wins_loops`: there are counts for each priority that opposes the player
+-- - `lost_round`: the cycle followed by its first vertex is a path
 use Rattle.std.proofs.Common.{◌≡◌, ℕ, ◌+◌, ◌<◌, ◌⊎◌, inl, inr, List, [], ◌∷◌, length, get_or, Option}
 use Rattle.std.proofs.Common.{Bool, true, ◌∙◌, refl, arith, rules}
 use Rattle.std.proofs.lemmas.Bool.{cases_eq, cases_lt}

@@ -1,6 +1,6 @@
 -- The letters of a trace of the circuit lead from vertex to vertex of the product.
---     left      a count that falls along each edge into the given priority
---     walk      the vertex to which letters lead, and that the count does not rise on the way
+-- - `left`: a count that falls along each edge into the given priority
+-- - `walk`: the vertex to which letters lead, and that the count does not rise on the way
 use Rattle.std.proofs.Common.{◌≡◌, ℕ, ◌+◌, ◌<◌, ◌≤◌, ◌⊎◌, inl, inr, Bool, List, [], ◌∷◌, length, refl, ◌∙◌}
 use Rattle.std.proofs.Common.{arith, Some}
 use Rattle.std.specs.Prelude.{nat_eq, if◌then◌else◌, slice_get}

@@ -1,7 +1,7 @@
 -- What it means that an automaton accepts each lasso trace of a circuit, or none, and what a counterexample is.
---     IsWinning order role file c      all lasso traces of a controller are accepted, or none of an environment's
---     IsLosing order role file c s      the lasso trace of the stimulus has the wrong verdict
---     IsJudgement order role file c judgement      the circuit wins, or the stimulus is a counterexample
+-- - `IsWinning order role file c`: all lasso traces of a controller are accepted, or none of an environment's
+-- - `IsLosing order role file c s`: the lasso trace of the stimulus has the wrong verdict
+-- - `IsJudgement order role file c judgement`: the circuit wins, or the stimulus is a counterexample
 use Rattle.std.specs.Prelude.{◌≡◌, ◌<◌, ◌↔◌, IsTrue, List, length}
 use Rattle.ps_hoa.specs.Files.{FileData}
 use Rattle.ps_circuit.specs.Circuits.{CircuitData}

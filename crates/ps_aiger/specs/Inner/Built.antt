@@ -1,7 +1,7 @@
 -- The parts from which the circuit of a machine is built. (For private functions.)
---     AreLatches from next latches      the latches have the given next literals, and the variables from `from` on
---     IsBuilt b d next outputs c      the circuit has the given gates, next literals and outputs
---     IsCircuitOf b c      the properties of the circuit of a machine
+-- - `AreLatches from next latches`: the latches have the given next literals, and the variables from `from` on
+-- - `IsBuilt b d next outputs c`: the circuit has the given gates, next literals and outputs
+-- - `IsCircuitOf b c`: the properties of the circuit of a machine
 use Rattle.std.specs.Prelude.{◌≡◌, ℕ, ◌+◌, ◌*◌, ◌<◌, false, IsTrue, List, length, map, slice_get, slice_index, Some}
 use Rattle.std.specs.Prelude.{None, replicate}
 use Rattle.std.specs.List.{range_with_len}

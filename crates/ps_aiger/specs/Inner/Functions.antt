@@ -1,12 +1,12 @@
 -- The bits of a machine's step as functions of latches and inputs, and how their literals are built. (For private
 -- functions.)
---     Wanted, wanted_bit w row      one bit of a row: of the next memory state, or of the letter
---     node_made m w node d      the literal of the bit w of the row to which a node leads, with its gates
---     IsLiteralOf m w d node literal, KnowsMade m w d known      the literal of a node is built; each literal in
---               `known` is built
---     code_wanted m w latches code d      the literal for memory states with the codes `code` to `code` + 2^latches - 1
---     bits_wired m latches ws d      the literals of the wanted bits, one after another
---     MakesLiteral, MakesLiterals old new result all      what a function that builds the gates of `all` returns
+-- - `Wanted, wanted_bit w row`: one bit of a row: of the next memory state, or of the letter
+-- - `node_made m w node d`: the literal of the bit w of the row to which a node leads, with its gates
+-- - `IsLiteralOf m w d node literal, KnowsMade m w d known`: the literal of a node is built; each literal in `known` is
+--   built
+-- - `code_wanted m w latches code d`: the literal for memory states with the codes `code` to `code` + 2^latches - 1
+-- - `bits_wired m latches ws d`: the literals of the wanted bits, one after another
+-- - `MakesLiteral, MakesLiterals old new result all`: what a function that builds the gates of `all` returns
 use Rattle.std.specs.Prelude.{◌≡◌, ℕ, Bool, Err, IfOk, List, length, map, Option, Result, Some, Vec}
 use Rattle.std.specs.Global.{Global}
 use Rattle.std.specs.List.{range_with_len}

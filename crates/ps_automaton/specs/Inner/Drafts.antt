@@ -1,9 +1,9 @@
 -- How the decision diagrams of an automaton's steps are built, one state of the file after another. (For private
 -- functions.)
---     IsReady t g      the diagrams for a row's guards are in the table
---     IsWhere leaf value P      the leaf is the value if P is true, and None if P is false
---     IsUnion file row count targets t node      a node leads each letter to the target of the edge that is taken
---     IsStepsOf file chain q steps t node      a node leads each letter to the step of the state q
+-- - `IsReady t g`: the diagrams for a row's guards are in the table
+-- - `IsWhere leaf value P`: the leaf is the value if P is true, and None if P is false
+-- - `IsUnion file row count targets t node`: a node leads each letter to the target of the edge that is taken
+-- - `IsStepsOf file chain q steps t node`: a node leads each letter to the step of the state q
 use Rattle.std.specs.Prelude.{◌≡◌, ℕ, ◌^◌, ◌<◌, ◌≤◌, ◌⊎◌, Bool, List, length, None, Some, Option, IsSomeAnd, slice_get}
 use Rattle.std.specs.Prelude.{slice_index, ◌+◌}
 use Rattle.ps_label.specs.Expression.{Expression}

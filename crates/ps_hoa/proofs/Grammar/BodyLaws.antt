@@ -1,9 +1,10 @@
 -- Which tokens can begin and continue the sets, labels and edges of a body (`Laws`), and how these grammars are joined.
 -- For states, see proofs/Grammar/StateLaws.
---     laws_marks, .., laws_edge      the laws of the body's sets, labels and edges
---     joint_braces, joint_sets      how `{`, the numbers and `}` are joined
---     joint_bracket, joint_label      how `[`, a label and `]` are joined
---     joint_edge_label, joint_edge_target, joint_edge_marks, joint_plain_marks      how the parts of an edge are joined
+-- - `laws_marks`, `..`, `laws_edge`: the laws of the body's sets, labels and edges
+-- - `joint_braces`, `joint_sets`: how `{`, the numbers and `}` are joined
+-- - `joint_bracket`, `joint_label`: how `[`, a label and `]` are joined
+-- - `joint_edge_label`, `joint_edge_target`, `joint_edge_marks`, `joint_plain_marks`: how the parts of an edge are
+--   joined
 use Rattle.std.proofs.Common.{arith, ℕ, Bool, List, [], Option, None, refl, ap}
 use Rattle.ps_label.specs.Expression.{Expression}
 use Rattle.ps_text.specs.Parts.{Part, give, one, then_by, many, mapped, barred}

@@ -1,7 +1,7 @@
 -- The parts of a header that consist of a single token.
---     reads_token      a function that returns the result for the next token has parsed this token
---     signs_expect, .., signs_body      some token is taken, and the end of the text is neither taken nor an error
---     takes_refused, takes_bad      the result for a token that is not allowed here, and for a token with an error
+-- - `reads_token`: a function that returns the result for the next token has parsed this token
+-- - `signs_expect`, `..`, `signs_body`: some token is taken, and the end of the text is neither taken nor an error
+-- - `takes_refused`, `takes_bad`: the result for a token that is not allowed here, and for a token with an error
 use Rattle.std.proofs.Common.{◌≡◌, ℕ, ◌≤◌, Bool, cond, List, [], codes, Option, None, Some, Result, Err}
 use Rattle.std.proofs.Common.{refl, sym, ap, inl, inr, arith}
 use Rattle.ps_text.specs.Answers.{Piece, Stream}

@@ -1,9 +1,9 @@
 -- Which tokens can begin and continue operands and rows of operands with connectives between them (`Laws`). The first
 -- token of an operand tells its form.
---     laws_not, .., laws_right      the laws of single tokens
---     laws_both, laws_rows, laws_nested      the laws of rows of operands, and of rows in parentheses
---     laws_negation, laws_holding, laws_operand      the laws of operands: after `!`, with others inside, and any
---     joint_bar      the joint of the check of the nesting depth and a leaf
+-- - `laws_not`, `..`, `laws_right`: the laws of single tokens
+-- - `laws_both`, `laws_rows`, `laws_nested`: the laws of rows of operands, and of rows in parentheses
+-- - `laws_negation`, `laws_holding`, `laws_operand`: the laws of operands: after `!`, with others inside, and any
+-- - `joint_bar`: the joint of the check of the nesting depth and a leaf
 use Rattle.std.proofs.Common.{rules, arith, ◌≡◌, ℕ, zero, suc, Bool, true, List, Option, None, Some, refl}
 use Rattle.ps_text.specs.Parts.{Part, then_by}
 use Rattle.ps_text.proofs.Barred.{laws_barred}

@@ -1,12 +1,12 @@
 -- Lemmas about sets of kinds of tokens, and proofs that grammars of a single token satisfy `Laws`. Each lemma about
 -- sets is checked by trying all kinds of tokens, so `refl` proves its premise `Each`.
---     within, within_both, apart      a set, or two sets, are within another set; two sets have no common kind
---     test_of      a set has exactly one kind
---     plain      no kind of the set is an error by itself
---     laws_sign      the laws of a token whose kind is in a set
---     laws_value      the laws of a token whose kind is in a set, and which has no error unless it has a value
---     laws_expect      the laws of a token whose kind is in a set, and which has no value
---     laws_behind_option      a part that follows a part which may be empty
+-- - `within`, `within_both`, `apart`: a set, or two sets, are within another set; two sets have no common kind
+-- - `test_of`: a set has exactly one kind
+-- - `plain`: no kind of the set is an error by itself
+-- - `laws_sign`: the laws of a token whose kind is in a set
+-- - `laws_value`: the laws of a token whose kind is in a set, and which has no error unless it has a value
+-- - `laws_expect`: the laws of a token whose kind is in a set, and which has no value
+-- - `laws_behind_option`: a part that follows a part which may be empty
 use Rattle.std.proofs.Common.{rules, ◌≡◌, ℕ, zero, suc, ◌<◌, Bool, true, not, cond, List, [], ◌∷◌, length, get_or}
 use Rattle.std.proofs.Common.{Option, None, Some, is_some, sym, ap, subst, ◌∙◌, arith, ◌&&◌, ◌||◌}
 use Rattle.std.proofs.lemmas.Bool.{and_parts, or_left, or_right}

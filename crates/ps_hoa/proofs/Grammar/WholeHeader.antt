@@ -1,8 +1,8 @@
 -- Which tokens can begin and continue a header item and the whole header (`Laws`).
---     joint_item, joint_header      how an item's name and arguments, and the items and `--BODY--`, are joined
---     item_begins, item_elsewhere      the next token begins an item, or does not
---     item_loop      the properties of an item that the loop over the items needs
---     laws_header      the laws of the header
+-- - `joint_item`, `joint_header`: how an item's name and arguments, and the items and `--BODY--`, are joined
+-- - `item_begins`, `item_elsewhere`: the next token begins an item, or does not
+-- - `item_loop`: the properties of an item that the loop over the items needs
+-- - `laws_header`: the laws of the header
 use Rattle.std.proofs.Common.{◌≡◌, [], true, false, is_some, refl, ap, sym, ◌∙◌}
 use Rattle.ps_text.specs.Answers.{Stream, next_of as there_of}
 use Rattle.ps_text.specs.Parts.{many}

@@ -1,7 +1,7 @@
 -- Each step of the scan is sound: it skips a blank or a comment, or finds the longest token that begins at its offset.
---     sound      the step at any bytes is sound
---     begins_is      the bytes begin with a given word
---     skip_within, found_within      a step stays within the bytes, and moves forward unless there are none
+-- - `sound`: the step at any bytes is sound
+-- - `begins_is`: the bytes begin with a given word
+-- - `skip_within`, `found_within`: a step stays within the bytes, and moves forward unless there are none
 use Rattle.std.proofs.Common.{◌≡◌, ℕ, suc, zero, ◌+◌, ◌<◌, ◌≤◌, ◌&&◌, Bool, true, false, cond, List, [], ◌∷◌, ◌++◌}
 use Rattle.std.proofs.Common.{length, take, drop, subst, length-take, refl, ap, sym, ◌∙◌, arith, inl, inr, rules}
 use Rattle.std.specs.Prelude.{Option, None, Some, codes, nat_eq}

@@ -1,7 +1,7 @@
 -- The step that a scan of the bytes takes at a token, by the form of the token.
---     run_len, run_sound      the scan finds the length of a run of bytes
---     comment_found, quoted_found      the scan finds the end of a comment or a string
---     stand_step      the step at a token finds the token
+-- - `run_len`, `run_sound`: the scan finds the length of a run of bytes
+-- - `comment_found`, `quoted_found`: the scan finds the end of a comment or a string
+-- - `stand_step`: the step at a token finds the token
 use Rattle.std.proofs.Common.{rules, ◌≡◌, ◌≢◌, ℕ, suc, ◌+◌, ◌<◌, ◌≤◌, ◌&&◌, ◌||◌, Bool, true, false, cond, List, []}
 use Rattle.std.proofs.Common.{◌∷◌, ◌++◌, length, take, drop, refl, ap, ◌∙◌, arith, length-append, append_assoc}
 use Rattle.std.specs.Prelude.{Option, Some, nat_eq, nat_lt}

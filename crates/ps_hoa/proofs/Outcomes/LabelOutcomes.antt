@@ -1,8 +1,8 @@
 -- For each list of tokens, labels and acceptance conditions have an outcome: they are parsed, or they have a first
 -- error.
---     has_signs, has_int, has_string, has_expect, has_loop      tokens, numbers, strings and loops have an outcome
---     has_infix      rows of the operands of a grammar have an outcome
---     has_label, has_condition      labels and acceptance conditions have an outcome
+-- - `has_signs`, `has_int`, `has_string`, `has_expect`, `has_loop`: tokens, numbers, strings and loops have an outcome
+-- - `has_infix`: rows of the operands of a grammar have an outcome
+-- - `has_label`, `has_condition`: labels and acceptance conditions have an outcome
 use Rattle.std.proofs.Common.{arith, Option, None, Some, ℕ, zero, suc, Bool, true, false, List}
 use Rattle.ps_text.specs.Parts.{Part, one, many}
 use Rattle.ps_text.specs.Outcomes.{HasOutcomes}

@@ -1,6 +1,6 @@
 -- Up to the nesting limit, the grammars of labels and conditions that limit the nesting of `!` and `(` equal the
 -- grammars without a limit.
---     to_operand, of_operand      for a grammar in which one more level of nesting adds one form to the operands
+-- - `to_operand`, `of_operand`: for a grammar in which one more level of nesting adds one form to the operands
 use Rattle.std.proofs.Common.{◌≡◌, ◌↔◌, ◌⊎◌, ℕ, zero, suc, ◌≤◌, max, true, List, [], ◌∷◌, ◌++◌, refl, sym, ap, subst}
 use Rattle.std.proofs.Common.{inl, inr, ◌∙◌, arith}
 use Rattle.ps_label.specs.Expression.{Expression}

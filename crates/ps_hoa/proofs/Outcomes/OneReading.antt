@@ -1,7 +1,7 @@
 -- An HOA text has at most one answer: its meaning, or its first error.
---     one_behind      the blanks at the start of a text are unique
---     one_version      the version is unique
---     one_reading      the answer is unique
+-- - `one_behind`: the blanks at the start of a text are unique
+-- - `one_version`: the version is unique
+-- - `one_reading`: the answer is unique
 use Rattle.std.proofs.Common.{if◌then◌else◌, ◌≡◌, ℕ, ◌+◌, eqb, List, ◌++◌, length, codes, Result, refl, sym, ap, ap₂}
 use Rattle.std.proofs.Common.{subst, ◌∙◌, append_assoc, arith, rules}
 use Rattle.std.proofs.lemmas.List.{append_cancel_left}

@@ -1,17 +1,17 @@
 -- Lemmas about the ways in which a parsing function of HOA texts can return.
---     Serves old P Q      from `old` on, each result of P is also a result of Q: it is parsed, or it stops at an error
---     serves_as, itself, serves_both      `Serves` holds because of the next token; for a part and itself; in two steps
---     serves_meets      a result that meets the contract of P also meets that of Q
---     Leads P old Q now      if Q, read from `now`, stops at an error, then P, read from `old`, stops at the same error
---     here, first      a part leads to itself, and two parts in a row lead to the first
---     behind      two parts in a row, of which the first was parsed, lead to what the second leads to
---     under      a part whose value is mapped leads to the part itself
---     instead      if each result of P is also a result of Q, then Q leads to what P leads to
---     exit      at a `?`: the function returns the error that was found
---     entered      a token that begins the first of two parts begins both
---     value_is      the parsed part has this value
---     Loop item      the laws of the items of a loop
---     loop_more, loop_fails, loop_ends, loop_shrinks      the loop after one more item, at a wrong item, at its end
+-- - `Serves old P Q`: from `old` on, each result of P is also a result of Q: it is parsed, or it stops at an error
+-- - `serves_as`, `itself`, `serves_both`: `Serves` holds because of the next token; for a part and itself; in two steps
+-- - `serves_meets`: a result that meets the contract of P also meets that of Q
+-- - `Leads P old Q now`: if Q, read from `now`, stops at an error, then P, read from `old`, stops at the same error
+-- - `here`, `first`: a part leads to itself, and two parts in a row lead to the first
+-- - `behind`: two parts in a row, of which the first was parsed, lead to what the second leads to
+-- - `under`: a part whose value is mapped leads to the part itself
+-- - `instead`: if each result of P is also a result of Q, then Q leads to what P leads to
+-- - `exit`: at a `?`: the function returns the error that was found
+-- - `entered`: a token that begins the first of two parts begins both
+-- - `value_is`: the parsed part has this value
+-- - `Loop item`: the laws of the items of a loop
+-- - `loop_more`, `loop_fails`, `loop_ends`, `loop_shrinks`: the loop after one more item, at a wrong item, at its end
 use Rattle.std.proofs.Common.{arith, ◌≡◌, ◌<◌, length, Option, Result, IsErrAnd}
 use Rattle.ps_text.specs.Answers.{Stream, Found, next_of as there_of}
 use Rattle.ps_text.specs.Parts.{Part, then_by, mapped, many}

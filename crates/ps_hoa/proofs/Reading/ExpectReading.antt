@@ -1,9 +1,9 @@
 -- Lemmas for the functions that read single tokens, and parts in parentheses.
---     Tests test kind      the given kind is the only one that passes the test
---     sign_begins, avoids_kind      the next token begins its part; the next token does not pass a test
---     expect_read, expect_begins, expect_elsewhere      the next token has the kind, begins a part, or has another kind
---     tests_not, .., tests_string      only tokens of one kind pass each of these tests
---     inner_reads, inner_fails, inner_stays_open      the results for a part in parentheses, after its `(`
+-- - `Tests test kind`: the given kind is the only one that passes the test
+-- - `sign_begins`, `avoids_kind`: the next token begins its part; the next token does not pass a test
+-- - `expect_read`, `expect_begins`, `expect_elsewhere`: the next token has the kind, begins a part, or has another kind
+-- - `tests_not`, `..`, `tests_string`: only tokens of one kind pass each of these tests
+-- - `inner_reads`, `inner_fails`, `inner_stays_open`: the results for a part in parentheses, after its `(`
 use Rattle.std.proofs.Common.{◌≡◌, ◌≤◌, Bool, true, cond, length, Option, None, Some, Ok, refl, sym, ap, subst, ◌∙◌}
 use Rattle.std.proofs.Common.{inl, rules}
 use Rattle.ps_text.specs.Answers.{Stream, next_of as there_of}

@@ -1,9 +1,9 @@
 -- Lemmas for the functions that parse operands with connectives between them: rows of operands, and the forms of an
 -- operand.
---     operand_row      the hypotheses of the lemmas about rows
---     leaf_serves, too_deep      an operand that contains no other operand, and an operand that is nested too deep
---     not_reads, not_fails      the results for an operand after `!`
---     paren_reads, paren_fails, paren_stays_open      the results for an operand in parentheses
+-- - `operand_row`: the hypotheses of the lemmas about rows
+-- - `leaf_serves`, `too_deep`: an operand that contains no other operand, and an operand that is nested too deep
+-- - `not_reads`, `not_fails`: the results for an operand after `!`
+-- - `paren_reads`, `paren_fails`, `paren_stays_open`: the results for an operand in parentheses
 use Rattle.std.proofs.Common.{◌≡◌, ℕ, zero, suc, ◌-◌, true, false, List, Option, None, Some, is_some, IfSome, refl}
 use Rattle.std.proofs.Common.{sym, ap, subst, ◌∙◌, arith, rules}
 use Rattle.ps_text.specs.Answers.{Stream, Piece, Found, next_of as there_of, offset_of}

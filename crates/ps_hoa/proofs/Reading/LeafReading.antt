@@ -1,8 +1,8 @@
 -- Lemmas for the functions that parse the leaves of labels and of acceptance conditions, and sets.
---     leaf_signs      a leaf of a label is a single token
---     visit_unopened, visit_fails, visit_stays_open, visit_reads      the results after `Inf` or `Fin`
---     constant_serves      an operand without `Inf` and `Fin` is a constant
---     complement_meets, set_serves      a set is parsed, with or without `!` before it
+-- - `leaf_signs`: a leaf of a label is a single token
+-- - `visit_unopened`, `visit_fails`, `visit_stays_open`, `visit_reads`: the results after `Inf` or `Fin`
+-- - `constant_serves`: an operand without `Inf` and `Fin` is a constant
+-- - `complement_meets`, `set_serves`: a set is parsed, with or without `!` before it
 use Rattle.std.proofs.Common.{◌≡◌, Bool, true, false, [], codes, None, Some, Result, Ok, refl, arith}
 use Rattle.ps_text.specs.Answers.{Stream, signs, next_of as there_of}
 use Rattle.ps_text.specs.Parts.{NoBad, one, then_by}

@@ -1,10 +1,10 @@
 -- Lemmas for each way in which the functions that parse states can return.
---     next_signs, end_signs      the parts that consist of `State:` or of `--END--`
---     state_enters, avoids_state      the next token is `State:`, or is not
---     label_serves, no_label_serves      the state has a label, or has none
---     name_serves, no_name_serves      the state has a name, or has none
---     edges_serve      the edges of a row that has no edge yet
---     state_loop, edge_loop, set_loop      what the loops over states, edges and sets need
+-- - `next_signs`, `end_signs`: the parts that consist of `State:` or of `--END--`
+-- - `state_enters`, `avoids_state`: the next token is `State:`, or is not
+-- - `label_serves`, `no_label_serves`: the state has a label, or has none
+-- - `name_serves`, `no_name_serves`: the state has a name, or has none
+-- - `edges_serve`: the edges of a row that has no edge yet
+-- - `state_loop`, `edge_loop`, `set_loop`: what the loops over states, edges and sets need
 use Rattle.std.proofs.Common.{arith, ◌≡◌, true, false, List, [], Option, None, Some, is_some, refl, sym, ap, ◌∙◌, rules}
 use Rattle.std.specs.Prelude.{codes, ℕ}
 use Rattle.ps_text.specs.Answers.{Stream, next_of as there_of}

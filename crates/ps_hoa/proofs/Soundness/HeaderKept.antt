@@ -1,9 +1,9 @@
 -- The invariant of the header items parsed so far: numbers are within their limits, names differ, and each alias uses
 -- only earlier aliases.
---     Kept h      items that give h satisfy the invariant
---     keeps_number, keeps_int      a number that was parsed has no error, and is within its limit
---     one_more_alias, few_more      the invariant holds with one more alias
---     keeps_names      the names of propositions differ and are allowed
+-- - `Kept h`: items that give h satisfy the invariant
+-- - `keeps_number`, `keeps_int`: a number that was parsed has no error, and is within its limit
+-- - `one_more_alias`, `few_more`: the invariant holds with one more alias
+-- - `keeps_names`: the names of propositions differ and are allowed
 use Rattle.std.proofs.Common.{◌≡◌, ℕ, zero, suc, ◌+◌, ◌<◌, ◌≤◌, true, List, [], ◌∷◌, ◌++◌, length, Option, None}
 use Rattle.std.proofs.Common.{Some, refl, sym, subst, inl, ◌∙◌, arith, length-append}
 use Rattle.std.specs.Option.{IfSome}

@@ -1,7 +1,7 @@
 -- Properties that hold for the value of each text of a grammar if the text has no error.
---     Keeps part S      S holds for the value of each text of the part without an error
---     keeps_give, .., keeps_barred      `Keeps` holds for each combinator if it holds for the combined parts
---     keeps_read      S holds for the value of a part that was parsed
+-- - `Keeps part S`: S holds for the value of each text of the part without an error
+-- - `keeps_give`, `..`, `keeps_barred`: `Keeps` holds for each combinator if it holds for the combined parts
+-- - `keeps_read`: S holds for the value of a part that was parsed
 use Rattle.std.proofs.Common.{◌≡◌, ℕ, zero, suc, List, [], ◌∷◌, ◌++◌, Option, Some, refl, sym, subst}
 use Rattle.std.proofs.Common.{inl, inr, append_assoc, arith, length-append}
 use Rattle.ps_text.specs.Parts.{Part, IsRead, give, one, then_by, either, times, many, mapped, barred}

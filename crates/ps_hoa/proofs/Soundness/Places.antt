@@ -1,5 +1,5 @@
 -- The slots of numbers, each of which keeps one number.
---     different_kept      numbers that are kept differ
+-- - `different_kept`: numbers that are kept differ
 use Rattle.std.proofs.Common.{◌≡◌, ℕ, false, List, [], ◌∷◌, refl, rules}
 use Rattle.std.specs.Prelude.{nat_eq}
 use Rattle.std.proofs.lemmas.Bool.{cond_both, eqb-true, eqb-false, false_from_ne_true}

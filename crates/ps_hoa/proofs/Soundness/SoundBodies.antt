@@ -1,6 +1,6 @@
 -- Properties of the states and edges of a parsed body.
---     edges_within      a row whose edges were parsed keeps the limit on edges, and belongs to its state
---     keeps_body      the properties hold for each body
+-- - `edges_within`: a row whose edges were parsed keeps the limit on edges, and belongs to its state
+-- - `keeps_body`: the properties hold for each body
 use Rattle.std.proofs.Common.{◌≡◌, ℕ, suc, ◌+◌, ◌-◌, ◌<◌, ◌≤◌, ◌⊎◌, false, List, [], ◌∷◌, ◌++◌, length, Option, None}
 use Rattle.std.proofs.Common.{Some, refl, sym, ap, subst, inl, inr, ◌∙◌, arith, length-append, rules}
 use Rattle.std.specs.Option.{IfSome}

@@ -1,6 +1,6 @@
 -- The flaws that the code finds in a header at `--BODY--`.
---     IsSoundHeader h      the header has no flaw
---     IsLeastFlaw h f      f is a flaw of the header, and no flaw has a smaller number
+-- - `IsSoundHeader h`: the header has no flaw
+-- - `IsLeastFlaw h f`: f is a flaw of the header, and no flaw has a smaller number
 use Rattle.std.specs.Prelude.{◌≤◌, Option}
 use Rattle.ps_hoa.specs.Causes.{cause_number}
 use Rattle.ps_hoa.specs.Header.{HeaderData, IsBadHeader, body_value}

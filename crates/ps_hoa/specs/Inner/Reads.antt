@@ -1,6 +1,6 @@
 -- Contracts of the parsing functions.
---     ReadsAs view part old result new      the part was parsed, or the result is the first error of the part
---     Takes view take Bad piece result      the next token is taken, has an error, or is not allowed here
+-- - `ReadsAs view part old result new`: the part was parsed, or the result is the first error of the part
+-- - `Takes view take Bad piece result`: the next token is taken, has an error, or is not allowed here
 use Rattle.std.specs.Prelude.{◌≡◌, ◌≤◌, ◌⊎◌, Option, None, Some, Result, Ok, Err}
 use Rattle.ps_text.specs.Answers.{Piece}
 use Rattle.ps_text.specs.Parts.{Part, refusal_of}

@@ -1,8 +1,8 @@
 -- A file has at most one game: its automata have the same steps wherever a game can go.
---     alike      the automata have the same steps at each state, at the sink, and for each letter
---     listed_fine      each key of a game has a state of the file or the sink, and a first-player letter
---     leads_too      each key of a game leads to the same keys in both automata
---     game_too      the game of one automaton is therefore the game of the other
+-- - `alike`: the automata have the same steps at each state, at the sink, and for each letter
+-- - `listed_fine`: each key of a game has a state of the file or the sink, and a first-player letter
+-- - `leads_too`: each key of a game leads to the same keys in both automata
+-- - `game_too`: the game of one automaton is therefore the game of the other
 use Rattle.std.proofs.Common.{◌≡◌, ℕ, zero, suc, ◌+◌, ◌^◌, ◌<◌, ◌≤◌, List, [], ◌∷◌, length, get_or}
 use Rattle.std.proofs.Common.{sym, ◌∙◌, arith, inl, inr, rules}
 use Rattle.std.specs.List.{All, Contains}

@@ -1,9 +1,9 @@
 -- The diagrams, rows and propositions from which a machine is assembled. (For private functions.)
---     AreDrawn .. t rows nodes n      the first n memory states have their diagrams, and the rows are right
---     AreListedBelow n is list      the list has the numbers less than n that pass the test `is`, ascending
---     IsAssembled .. m      the machine's propositions, diagrams and rows are right
---     machine_of player is_first propositions diagrams      the player's machine with these propositions and diagrams
---     HasRoles is_first board inputs outputs      which propositions the machine reads and which it outputs
+-- - `AreDrawn .. t rows nodes n`: the first n memory states have their diagrams, and the rows are right
+-- - `AreListedBelow n is list`: the list has the numbers less than n that pass the test `is`, ascending
+-- - `IsAssembled .. m`: the machine's propositions, diagrams and rows are right
+-- - `machine_of player is_first propositions diagrams`: the player's machine with these propositions and diagrams
+-- - `HasRoles is_first board inputs outputs`: which propositions the machine reads and which it outputs
 use Rattle.std.specs.Prelude.{◌≡◌, ℕ, ◌<◌, ◌≤◌, Bool, not, List, length, map, slice_index, IsTrue}
 use Rattle.std.specs.List.{All, AllPairs}
 use Rattle.ps_certificate.specs.Certificates.{CertificateData}

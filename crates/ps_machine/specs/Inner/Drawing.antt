@@ -1,12 +1,12 @@
 -- What is known while the machine of a certificate is built. A plan has the data from which the machine is made:
 -- automaton, keys, certificate, memory states. The diagrams are made one after another; each memory state has a diagram
 -- that leads each letter of the other player to a row. (For private functions.)
---     AreUsed game certificate found      `found` are the reachable vertices
---     GoesOn game certificate v w      a path by the moves of the winner of vertex 0 can continue from v to w
---     AreMemories is_first keys used kept anchors      the vertex and the anchor of each memory state are right
---     IsPlan ..      the data from which the machine is made are right
---     IsDrawn .. v node      the diagram leads each letter to the right row for the memory state of v
---     IsReply .. q x r p, IsReplyRow .. q x row      the second player's step after the letter x, and the row for it
+-- - `AreUsed game certificate found`: `found` are the reachable vertices
+-- - `GoesOn game certificate v w`: a path by the moves of the winner of vertex 0 can continue from v to w
+-- - `AreMemories is_first keys used kept anchors`: the vertex and the anchor of each memory state are right
+-- - `IsPlan ..`: the data from which the machine is made are right
+-- - `IsDrawn .. v node`: the diagram leads each letter to the right row for the memory state of v
+-- - `IsReply .. q x r p, IsReplyRow .. q x row`: the second player's step after the letter x, and the row for it
 use Rattle.std.specs.Prelude.{◌≡◌, ◌≢◌, ℕ, ◌+◌, ◌<◌, ◌≤◌, ◌↔◌, ◌==◌, Bool, true, false, List, [], ◌∷◌, length, Some}
 use Rattle.std.specs.Prelude.{◌++◌, slice_get, slice_index}
 use Rattle.std.specs.List.{All, AllPairs, Contains}

@@ -2,9 +2,9 @@
 -- the player's letter, the automaton's diagram can lead to certain leaves, and `places` has the index of a row for each
 -- of them. The machine's diagram is that part of the automaton's diagram, in which the indices of rows replace the
 -- leaves. (For private functions.)
---     PlaysClass board keys certificate v q letter      the letter that is output at the vertex v of the state q
---     IsEntered .. leaf      the machine can take the step that the leaf names
---     IsPlaced .. letter leaf      the row for the leaf is stored
+-- - `PlaysClass board keys certificate v q letter`: the letter that is output at the vertex v of the state q
+-- - `IsEntered .. leaf`: the machine can take the step that the leaf names
+-- - `IsPlaced .. letter leaf`: the row for the leaf is stored
 use Rattle.std.specs.Prelude.{◌≡◌, ℕ, ◌<◌, Bool, List, length, Some, slice_get}
 use Rattle.ps_certificate.specs.Certificates.{CertificateData, choice_of}
 use Rattle.ps_automaton.specs.Automata.{AutomatonData, pair_of}

@@ -1,7 +1,7 @@
 -- The definitions of `Drawing`, `Placing` and `Dividing`, applied to the fields of the struct `Plan`. (For private
 -- functions.)
---     IsPlanned plan      the machine can be made from the plan
---     AreDividedBy plan      each state that occurs in a key has its classes
+-- - `IsPlanned plan`: the machine can be made from the plan
+-- - `AreDividedBy plan`: each state that occurs in a key has its classes
 use Rattle.std.specs.Prelude.{ℕ, nat_eq, List}
 use Rattle.std.specs.List.{All}
 use Rattle.indexmap.specs.IndexMap.{get}

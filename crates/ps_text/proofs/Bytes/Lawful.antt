@@ -1,10 +1,11 @@
 -- Lawful grammars, and how they are combined into larger grammars.
---     Lawful number syntax part First More Null      the grammar satisfies the laws with these sets, and has outcomes
---     Chain number syntax P Q First More Null      P followed by Q: their joint, and that both together are lawful
---     larger      the grammar is also lawful with larger sets
---     chained, next, tight      a chain of any two grammars; neither has an empty text; no symbol continues the first
---     given, mapped_by, either_of, or_nothing, many_by, many_of, one_sign, run_by      the laws of other combinators
---     byte_of, word_of, chain_word      the laws of bytes and words
+-- - `Lawful number syntax part First More Null`: the grammar satisfies the laws with these sets, and has outcomes
+-- - `Chain number syntax P Q First More Null`: P followed by Q: their joint, and that both together are lawful
+-- - `larger`: the grammar is also lawful with larger sets
+-- - `chained`, `next`, `tight`: a chain of any two grammars; neither has an empty text; no symbol continues the first
+-- - `given`, `mapped_by`, `either_of`, `or_nothing`, `many_by`, `many_of`, `one_sign`, `run_by`: the laws of other
+--   combinators
+-- - `byte_of`, `word_of`, `chain_word`: the laws of bytes and words
 use Rattle.std.proofs.Common.{◌≡◌, ◌⊎◌, ℕ, Bool, true, List, [], ◌∷◌, Option, Some, rules}
 use Rattle.ps_text.specs.Parts.{Part, give, one, then_by, either, many, mapped}
 use Rattle.ps_text.specs.Outcomes.{HasOutcomes}

@@ -1,8 +1,8 @@
 -- The pieces of a list of bytes: one symbol for each byte, with its offset.
---     bytes_append, bytes_at, length_pieces      the bytes of symbols, and the number of pieces
---     pieces_with at bytes rest      the pieces of `bytes`, if `rest` follows these bytes
---     pieces_split      the pieces of two lists of bytes in a row
---     next_at, first_sees      the next byte, and the bytes that the first symbol carries
+-- - `bytes_append`, `bytes_at`, `length_pieces`: the bytes of symbols, and the number of pieces
+-- - `pieces_with at bytes rest`: the pieces of `bytes`, if `rest` follows these bytes
+-- - `pieces_split`: the pieces of two lists of bytes in a row
+-- - `next_at`, `first_sees`: the next byte, and the bytes that the first symbol carries
 use Rattle.std.proofs.Common.{◌≡◌, ℕ, suc, ◌+◌, ◌<◌, List, [], ◌∷◌, ◌++◌, length, refl, ap, ◌∙◌, arith, rules}
 use Rattle.std.specs.Option.{option_map}
 use Rattle.ps_text.specs.Answers.{Piece, Stream, signs, first_of}

@@ -1,6 +1,6 @@
 -- A run of bytes has an outcome for each list of symbols. It is decided from the bytes that the first symbol carries.
---     has_run      the outcome, if the errors of a run can be decided
---     run_of      the longest run at the start of a list
+-- - `has_run`: the outcome, if the errors of a run can be decided
+-- - `run_of`: the longest run at the start of a list
 use Rattle.std.proofs.Common.{◌≡◌, ℕ, Bool, true, false, List, [], ◌∷◌, ◌++◌, Some, refl, rules, sym, ap, subst, arith}
 use Rattle.std.specs.List.{AllByRecursion}
 use Rattle.ps_text.specs.Answers.{first_of}

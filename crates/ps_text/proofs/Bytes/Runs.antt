@@ -1,8 +1,8 @@
 -- Grammars of runs of bytes: their laws, and how they are parsed and how they fail.
---     laws_run      a run begins and continues with bytes that pass
---     bad_is      an error of the next run, found at its first symbol, is an error of the run that was parsed
---     run_read      a list of symbols that is one run is parsed
---     run_reads, run_bad, run_stops      the parser moved past a run without an error; it has an error; there is none
+-- - `laws_run`: a run begins and continues with bytes that pass
+-- - `bad_is`: an error of the next run, found at its first symbol, is an error of the run that was parsed
+-- - `run_read`: a list of symbols that is one run is parsed
+-- - `run_reads`, `run_bad`, `run_stops`: the parser moved past a run without an error; it has an error; there is none
 use Rattle.std.proofs.Common.{◌≡◌, ℕ, ◌<◌, ◌≤◌, Bool, true, false, List, [], ◌∷◌, ◌++◌, length, Option, None, Some}
 use Rattle.std.proofs.Common.{refl, sym, ap, ap₂, subst, ◌∙◌, arith, rules}
 use Rattle.ps_text.specs.Answers.{Begins, Stream, signs, first_of}

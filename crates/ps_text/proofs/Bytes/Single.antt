@@ -1,10 +1,10 @@
 -- Grammars of single bytes: their laws and outcomes, how they are parsed, and how they fail.
---     Odd      the empty set: no symbol is an error by itself
---     At b, Any      the symbols with the byte b; all symbols
---     stops_here      the next symbol does not begin the grammar
---     byte_reads, byte_stops      the next byte is the expected byte, or it is not
---     avoids, enters_byte      a grammar that begins with the given byte
---     refuted      if a test fails, a statement that implies the test is false
+-- - `Odd`: the empty set: no symbol is an error by itself
+-- - `At b, Any`: the symbols with the byte b; all symbols
+-- - `stops_here`: the next symbol does not begin the grammar
+-- - `byte_reads`, `byte_stops`: the next byte is the expected byte, or it is not
+-- - `avoids`, `enters_byte`: a grammar that begins with the given byte
+-- - `refuted`: if a test fails, a statement that implies the test is false
 use Rattle.std.proofs.Common.{◌≡◌, ℕ, Bool, true, false, cond, [], Option, Some, None, refl, sym, ap, subst, ◌∙◌, rules}
 use Rattle.std.specs.Option.{option_map}
 use Rattle.std.proofs.lemmas.Bool.{eq-eqb, eqb-true}

@@ -1,7 +1,7 @@
 -- The inputs that are read along paths of a product.
---     ReadsEdge p v w inputs      a step along the edge reads these inputs
---     ReadsPath p path letters      the letters are the inputs of steps along the path, one for each edge
---     IsToldOf player p judgement      the player wins all loops, or the stimulus follows a cycle the player loses
+-- - `ReadsEdge p v w inputs`: a step along the edge reads these inputs
+-- - `ReadsPath p path letters`: the letters are the inputs of steps along the path, one for each edge
+-- - `IsToldOf player p judgement`: the player wins all loops, or the stimulus follows a cycle the player loses
 use Rattle.std.specs.Prelude.{◌≡◌, ℕ, ◌+◌, ◌<◌, Bool, List, [], length, slice_get, slice_index, slice_index_or, Some}
 use Rattle.ps_game.specs.Games.{successors_of}
 use Rattle.ps_product.specs.Products.{ProductData, inputs_at}

@@ -1,7 +1,7 @@
 -- Who wins the loops of a game in which only one player moves.
---     WinsLoops game player      for each opposing priority, valid counts (a progress measure) exist
---     IsLostRound game player cycle      a cycle that the player loses
---     IsTurned old new      the same cycle, rotated so that it begins with its smallest vertex
+-- - `WinsLoops game player`: for each opposing priority, valid counts (a progress measure) exist
+-- - `IsLostRound game player cycle`: a cycle that the player loses
+-- - `IsTurned old new`: the same cycle, rotated so that it begins with its smallest vertex
 use Rattle.std.specs.Prelude.{◌≡◌, ℕ, ◌%◌, ◌<◌, ◌≤◌, List, [], ◌∷◌, ◌++◌, length, map, slice_index, take}
 use Rattle.std.specs.Prelude.{drop}
 use Rattle.ps_game.specs.Games.{ParityGame, HasEdge, priority_of}

@@ -1,9 +1,9 @@
 -- Paths from vertex 0 to a given vertex. The list `firsts` has, for each vertex, the first vertex that has an edge to
 -- it.
---     HasLowered game v count old new      the entries of v's first successors are lowered to v, if larger
---     AreFirsts game n firsts      the entry of w is w or, if smaller, the first vertex less than n with an edge to w
---     IsWayBy firsts way v      the vertex before each vertex of the path is the entry of that vertex in `firsts`
---     IsWayTo game way v      a path from vertex 0
+-- - `HasLowered game v count old new`: the entries of v's first successors are lowered to v, if larger
+-- - `AreFirsts game n firsts`: the entry of w is w or, if smaller, the first vertex less than n with an edge to w
+-- - `IsWayBy firsts way v`: the vertex before each vertex of the path is the entry of that vertex in `firsts`
+-- - `IsWayTo game way v`: a path from vertex 0
 use Rattle.std.specs.Prelude.{◌≡◌, ℕ, ◌+◌, ◌<◌, ◌≤◌, ◌⊎◌, List, length, slice_index}
 use Rattle.ps_game.specs.Games.{ParityGame, HasEdge, successors_of, vertex_count}
 use Rattle.ps_game.specs.Plays.{IsPath}
