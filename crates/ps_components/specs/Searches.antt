@@ -1,10 +1,10 @@
 -- The search for strongly connected components, and what each of its methods does to its state.
---     `IsSound`: the lists of the search satisfy its invariant.
---     `EndsAt` and `HasNext`: the search is sound, its last segment begins at the given index, and the given link is
---     followed next.
---     `IsIdle` and `IsFresh`: the search is sound and its search path is empty; for `IsFresh`, no vertex was seen
---     either.
---     `Visits`, `Runs`, `Advances`, `Enters`, `Merges`, `Takes`: what the methods of the search do.
+-- - `IsSound`: the lists of the search satisfy its invariant.
+-- - `EndsAt` and `HasNext`: the search is sound, its last segment begins at the given index, and the given link is
+--   followed next.
+-- - `IsIdle` and `IsFresh`: the search is sound and its search path is empty; for `IsFresh`, no vertex was seen
+--   either.
+-- - `Visits`, `Runs`, `Advances`, `Enters`, `Merges`, `Takes`: what the methods of the search do.
 use Rattle.std.specs.Prelude.{◌≡◌, ℕ, ◌-◌, ◌<◌, ◌≤◌, List, [], ◌∷◌, ◌++◌, length, slice_get, slice_set, Some, All}
 use Rattle.ps_components.specs.Graphs.{Digraph}
 use Rattle.ps_components.specs.Searching.{IsSoundSearch, IsSoundBut, IsSettled, KeepsStatuses, ChangesReached, HasMet}

@@ -1,13 +1,13 @@
 -- Claimed solutions of a game: the vertices that player 0 is claimed to win, and a table of moves for each player.
 -- Player 1 is claimed to win all other vertices.
---     `won_by`: the vertices that a player is claimed to win.
---     `moves_by`: the table of moves of a player.
---     `claimed`: the claimed solution as a certificate without priorities and counts.
---     `AreSizedFor`: the region and both tables of moves have an entry for each vertex.
---     `IsSolution`: by its table, each player holds the vertices that it is claimed to win, so the solution is correct.
---     `IsCycleOf`: the solution is closed, but the player loses the given cycle.
---     `IsRefusal`: the fault states what is wrong with the solution.
---     `IsCertificateOf`: the certificate of a correct solution.
+-- - `won_by`: the vertices that a player is claimed to win.
+-- - `moves_by`: the table of moves of a player.
+-- - `claimed`: the claimed solution as a certificate without priorities and counts.
+-- - `AreSizedFor`: the region and both tables of moves have an entry for each vertex.
+-- - `IsSolution`: by its table, each player holds the vertices that it is claimed to win, so the solution is correct.
+-- - `IsCycleOf`: the solution is closed, but the player loses the given cycle.
+-- - `IsRefusal`: the fault states what is wrong with the solution.
+-- - `IsCertificateOf`: the certificate of a correct solution.
 use Rattle.std.specs.Prelude.{◌≡◌, ℕ, ◌<◌, ◌==◌, if◌then◌else◌, List, [], length, map, Option, None, Bool, not}
 use Rattle.std.specs.List.{range_with_len}
 use Rattle.ps_game.specs.Games.{ParityGame, vertex_count, owner_of}

@@ -3,7 +3,7 @@
 -- - `Enters P there`: the next symbol begins a text of P, or is an error of P
 -- - `Avoids A there`: the next symbol is not in the set A
 -- - `covers_left`, `covers_right`: `either` has the result of one form, if the other form does not begin
---     laws_either
+-- - `laws_either`: the laws of `either`
 use Rattle.std.proofs.Common.{arith, ◌≡◌, ◌⊎◌, List, [], ◌∷◌, ◌++◌, Option, None, Some, refl, subst, inl, inr, ◌∙◌}
 use Rattle.std.proofs.Common.{rules, ⊎_elim}
 use Rattle.ps_text.specs.Answers.{Begins, first_of}

@@ -1,10 +1,10 @@
 -- `give`, `one` and `mapped`: their laws, and when they are parsed and when they fail. Also the laws of `then_by`.
---     laws_give, laws_one, laws_mapped, laws_then
+-- - `laws_give`, `laws_one`, `laws_mapped`, `laws_then`: the laws of each combinator
 -- - `refused`: the fault of a grammar without an empty text, if the next symbol does not begin the grammar
 -- - `read_give`: no symbol is taken
 -- - `taken_byte`: the symbol that is taken for a byte is this byte
 -- - `read_one`, `bad_one`, `refused_one`: one symbol: accepted; an error; not allowed, or the text ends
---     read_mapped, fault_mapped
+-- - `read_mapped`, `fault_mapped`: when `mapped` is parsed, and when it fails
 use Rattle.std.proofs.Common.{◌≡◌, ◌≤◌, List, [], ◌∷◌, ◌++◌, Option, None, Some, refl, sym, ap, subst, inl, inr}
 use Rattle.std.proofs.Common.{◌⊎◌, ◌∙◌, ℕ, append_assoc, arith, rules}
 use Rattle.std.specs.Prelude.{◌==◌, if◌then◌else◌}

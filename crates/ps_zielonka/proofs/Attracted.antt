@@ -1,10 +1,10 @@
 -- Each target in a subgame has an attractor: vertices are added to the target one at a time, as long as one can be
 -- added.
---     `all_or_some`: all numbers less than a bound have one property, or some number has another property.
---     `size`: the number of vertices of a set that are less than a bound.
---     `update`: a function that is changed at one vertex.
---     `Attracted`: the set of the vertices from which the player can force every play to the target.
---     `attracted`: the attractor to a target exists.
+-- - `all_or_some`: all numbers less than a bound have one property, or some number has another property.
+-- - `size`: the number of vertices of a set that are less than a bound.
+-- - `update`: a function that is changed at one vertex.
+-- - `Attracted`: the set of the vertices from which the player can force every play to the target.
+-- - `attracted`: the attractor to a target exists.
 use Rattle.std.proofs.Common.{◌≡◌, ◌≢◌, ℕ, zero, suc, ◌+◌, ◌<◌, ◌≤◌, ◌⊎◌, inl, inr, Bool, true, false, cond, not, ◌&&◌}
 use Rattle.std.proofs.Common.{length, get_or, Option, None, Some, IsSomeAnd, nat_eq, refl, sym, subst, ◌∙◌, arith, rules}
 use Rattle.std.specs.Prelude.{IsTrue}

@@ -1,9 +1,9 @@
 -- The vertices of each game are divided into a region that player 0 holds and a rest that player 1 holds. The proof is
 -- by induction on the number of vertices of a subgame, and follows Zielonka's algorithm.
---     `Divided`: a subgame whose vertices are divided between the players, each of whom holds its vertices by a table
---     of moves.
---     `all_mine`, `both_parts`: the two ways in which an iteration of the algorithm ends.
---     `game_divided`: the law `each_game_is_divided`.
+-- - `Divided`: a subgame whose vertices are divided between the players, each of whom holds its vertices by a table
+--   of moves.
+-- - `all_mine`, `both_parts`: the two ways in which an iteration of the algorithm ends.
+-- - `game_divided`: the law `each_game_is_divided`.
 use Rattle.std.proofs.Common.{◌≡◌, ◌≢◌, ℕ, zero, suc, ◌-◌, ◌%◌, ◌<◌, ◌⊎◌, inl, inr, Bool, true, false, not, ◌&&◌}
 use Rattle.std.proofs.Common.{◌||◌, Option, None, Some, IsSomeAnd, nat_eq, replicate, refl, sym, subst, ap, ◌∙◌, arith}
 use Rattle.std.specs.Prelude.{IsTrue}
