@@ -83,7 +83,7 @@ header_data h =
 abbrev pub names_of : HeaderData → List (List ℕ)
 names_of h = unwrap_or h.names []
 
--- ## Signs
+-- ## Symbols
 
 -- the limits on the numbers of states, propositions, sets and aliases; without `States:`, every state must be less than
 -- the limit on states

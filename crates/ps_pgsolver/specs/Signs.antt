@@ -1,4 +1,4 @@
--- The tokens of a game text as the grammar sees them, here called signs.
+-- The tokens of a game text as the grammar sees them, here called symbols.
 use Rattle.std.specs.Prelude.{ℕ, List}
 
 pub data Sign : Type 0 where

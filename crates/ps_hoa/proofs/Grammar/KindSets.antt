@@ -84,7 +84,7 @@ test_of p kind is e = (
       (chosen (p k) (sameb the_type k kind) true (each (λ x. cond (p x) (sameb the_type x kind) true) e k) h),
 )
 
--- ## One sign
+-- ## One symbol
 
 -- whatever a token's bytes: if its kind is in the set, the token is no error by itself; otherwise `take` gives it no
 -- value

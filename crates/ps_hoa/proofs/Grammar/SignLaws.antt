@@ -27,7 +27,7 @@ use Rattle.ps_hoa.proofs.Grammar.OperandLaws.{false_true, Odd, Of, Tight}
 use Rattle.ps_hoa.proofs.Grammar.KindSets.{plain, laws_value}
 use Rattle.ps_hoa.proofs.Grammar.ConditionLaws.{is_int}
 
--- ## Kinds of signs
+-- ## Kinds of symbols
 
 abbrev pub is_string : Kind → Bool
 is_string Text = true

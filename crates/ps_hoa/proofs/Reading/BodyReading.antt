@@ -38,7 +38,7 @@ use Rattle.ps_hoa.proofs.Reading.ExpectReading.{taken_there, expect_begins, expe
 use Rattle.ps_hoa.proofs.Reading.NextSign.{next_there, next_same, start_there}
 use Rattle.ps_hoa.proofs.Reading.SingleSigns.{IsOfSigns, signs_of}
 
--- ## Single signs
+-- ## Single symbols
 
 pub int_signs : (Bad : ℕ → HoaCause → Type 0) → IsOfSigns int_in (BadIn Bad)
 int_signs Bad = signs_of Int [] refl refl (λ f b. b.1 refl)
