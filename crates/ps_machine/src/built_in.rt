@@ -29,9 +29,13 @@ const PLACED_EACH: u64 = 256;
 /// each vertex of the game.
 const PLACED_BESIDE: u64 = 1024;
 
-/// How many array cells an attempt at strategy improvement may read or write, for each time that the recursion may
-/// assign a vertex to a player. With this value, an attempt takes longer than the recursion of its own round, and less
-/// time than the recursion of the next round.
+/// The greatest number of assignments that the recursion may make in the first round because of the square of the number
+/// of vertices. In games with few priorities, the number of assignments may grow with that square. So the recursion may
+/// make half that number of assignments, up to `PLACED_SQUARE`, if the other two limits allow fewer.
+const PLACED_SQUARE: u64 = 1 << 26;
+
+/// How many array cells an attempt at strategy improvement may read or write in the first round, for each assignment
+/// that `PLACED_EACH` and `PLACED_BESIDE` allow the recursion.
 const CELLS_EACH: u64 = 64;
 
 /// The limits, in one round, for the recursion and for the attempt at strategy improvement.
@@ -48,12 +52,13 @@ impl Budget {
     /// The limits of the first round.
     fn first<A: Arena>(arena: &A) -> Budget {
         let count = arena.count() as u64;
-        let placed = count
+        let linear = count
             .saturating_mul(PLACED_EACH)
             .saturating_add(PLACED_BESIDE);
+        let square = count.saturating_mul(count) / 2;
         Budget {
-            placed,
-            cells: placed.saturating_mul(CELLS_EACH),
+            placed: linear.max(square.min(PLACED_SQUARE)),
+            cells: linear.saturating_mul(CELLS_EACH),
         }
     }
 
