@@ -17,8 +17,8 @@ use Rattle.ps_automaton.proofs.ChainLaws.{greatest_decides}
 use Rattle.ps_automaton.proofs.Orbits.{any_return_decides, priorities_repeat, word_repeats, word_within, word_behind}
 use Rattle.ps_automaton.proofs.Orbits.{all_below, place_below, laps_are_read, greatest_is_read}
 
--- if f gives each edge's priority, the greatest priority that the chain gives to consecutive edges of a run is the
--- greatest of these values of f
+-- if f gives the priority of each edge in a part of a run, the greatest priority of this part is the greatest of these
+-- values of f
 levels_are : (chain : Chain) (f : ℕ → ℕ) (sets : ℕ → ℕ → Bool) (from count : ℕ) →
     ((t : ℕ) → from ≤ t → t < from + count → f t ≡ level chain (sets t)) →
     greatest_level chain (part sets from count) ≡ greatest_from f from count
@@ -80,8 +80,8 @@ module _ {file : FileData} {chain : Chain} {a : Auto} (is_chain : chain_of file.
         | inr behind ↦ (λ set. false, λ h. absurd (omega arith))
       ]
 
-      -- the deterministic automaton's run is also a run of the file's automaton, and satisfies the acceptance condition
-      -- on the segment that returns to its first state
+      -- the deterministic automaton's run is also a run of the file's automaton; its part between two visits of the
+      -- same state satisfies the acceptance condition
       pub run_of_auto : (sets : ℕ → ℕ → Bool) × IsRun file w (from + count) (state_at a w) sets ×
           IsTrue (holds (is_met (part sets from count)) file.condition)
       run_of_auto =
@@ -166,7 +166,8 @@ module _ (file : FileData) (chain : Chain) (a : Auto) (is_chain : chain_of file.
           ∙ run_is_even is_chain is_auto w letters_are from count (some_letters accepted.laps accepted.some) run
           accepted.met
 
--- If some laps lead from a state back to this state, their greatest priority decides whether the lasso is accepted.
+-- If some laps lead from a state back to this state, the lasso is accepted exactly if the greatest priority during
+-- these laps is even.
 pub laps_decide : (file : FileData) (chain : Chain) (a : Auto) (stem lap : List ℕ) (before laps s : ℕ) →
     chain_of file.condition ≡ Some chain → IsAutoOf file chain a → 0 < length lap →
     All (λ letter. letter < 2 ^ length file.names) stem → All (λ letter. letter < 2 ^ length file.names) lap →

@@ -44,7 +44,7 @@ first_left_out : (base : Bool) (link : ChainLink) (links : List ChainLink) (edge
 first_left_out base link links [] unmet = refl
 first_left_out base link links (has ∷ edges) unmet = grind (arith, first_left_out base link links edges)
 
--- if a chain has no links, the greatest priority of one or more edges is that of the chain's base
+-- if a chain has no links, the greatest priority of one or more edges is the priority that the chain's base gives
 greatest_of_base : (base : Bool) (has : ℕ → Bool) (edges : List (ℕ → Bool)) →
     greatest base [] (has ∷ edges) ≡ base_number base
 greatest_of_base base has [] = omega arith
@@ -59,7 +59,7 @@ key_law base (link ∷ links) edges some =
 
 -- ## The chain of a condition
 
--- the truth value of the disjunction of the operands if the flag is true, and of their conjunction otherwise
+-- the truth value of the operands' disjunction if the second argument is true, and otherwise that of their conjunction
 abbrev together : (ℕ → Bool) → Bool → Conditions → Bool
 together met true cs = one_of_them met cs
 together met false cs = all_of_them met cs
@@ -68,8 +68,8 @@ abbrev joined : Bool → Bool → Bool → Bool
 joined true a b = cond a true b
 joined false a b = cond a b false
 
--- if the set of a link's operand is met, the link's flag is the value of the disjunction or conjunction; otherwise the
--- other operands give the value
+-- if the acceptance set of a link is met, the disjunction or conjunction has the truth value of the link's flag;
+-- otherwise the other operands decide its truth value
 link_decides : (met : ℕ → Bool) (accepts : Bool) (c : Condition) {link : ChainLink} (b : Bool) →
     link_of accepts c ≡ Some link → joined accepts (holds met c) b ≡ cond (met link.colour) link.accepts b
 link_decides met accepts c b e = grind arith

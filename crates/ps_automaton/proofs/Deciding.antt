@@ -1,5 +1,5 @@
--- It is decidable which faults an HOA file has and which of its clashes comes first, so each file is either admitted or
--- refused.
+-- It is decidable which faults an HOA file has, and which pair of clashing edges is the first, so each file is either
+-- admitted or refused.
 use Rattle.std.proofs.Common.{◌≡◌, ◌≢◌, ◌∙◌, ℕ, zero, suc, ◌+◌, ◌^◌, ◌<◌, ◌≤◌, ◌⊎◌, inl, inr, Bool, true, false, rules}
 use Rattle.std.proofs.Common.{List, [], ◌∷◌, length, Option, Some, None, slice_get, refl, sym, arith}
 use Rattle.std.proofs.lemmas.Bool.{cases_eq, cases_lt}

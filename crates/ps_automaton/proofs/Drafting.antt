@@ -57,7 +57,8 @@ module _ (file : FileData) (chain : Chain) (steps : List Step) (t : Table) (node
   one_more {count} {node} {more} size is each last q within =
       grind (arith, cases_lt q count, get_or_append_left, get_or_push)
 
-  -- if the earlier states have no clash, the first fault of the next state is the first fault of the whole file
+  -- if no edges of earlier states clash, the first pair of clashing edges of the next state is the first in the whole
+  -- file
   pub first_fault : (count : ℕ) → AreStepsOf count → (f : AutomatonFault) → IsStateFault file count f →
       IsDraftFault file f
   first_fault count each ComplementedSet h = h

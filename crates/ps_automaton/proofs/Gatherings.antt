@@ -1,4 +1,4 @@
--- The links of the operands of a disjunction or conjunction, collected one by one.
+-- The links of a chain (specs/Chains), collected from the operands of a disjunction or conjunction one after another.
 use Rattle.std.proofs.Common.{rules, ◌≡◌, ℕ, ◌+◌, ◌<◌, ◌≤◌, Bool, true, false, not, List, [], ◌∷◌, ◌++◌, length, map}
 use Rattle.std.proofs.Common.{drop, get_or, Option, None, Some, ap, append_assoc, append-nil, add-one, add-zero}
 use Rattle.std.proofs.Common.{drop-cons, arith}
@@ -22,8 +22,8 @@ use Rattle.std.specs.declared.alloc.Global.{Global}
 abbrev pub from_place : List Cond → ℕ → Conditions
 from_place operands k = operands_in (map condition_of (drop k operands))
 
--- the invariant before operand k: the links collected so far, and the index of the operand that is not a link, if it
--- has occurred
+-- the invariant of the loop before operand k: the links collected so far, and the index of an earlier operand that is
+-- not a link, if there is one
 abbrev pub IsGathering : Bool → List Cond → List Link → List Link → ℕ → Option ℕ → Type 0
 IsGathering accepts operands before after k None =
     whole accepts operands before ≡ in_front (Some (map link_data after)) (chain_of_all accepts (from_place operands k))
@@ -126,7 +126,8 @@ pub behind_all : {condition : Cond} (v : Vec Cond Global) {operands : List Cond}
     in_front (Some (map link_data before)) (chain_of (condition_of condition)) ≡ whole false operands before
 behind_all v before is items = cc (is, condition_of-All v, items)
 
--- the collected links, followed by the chain of the one operand that is not a link, are the chain of all operands
+-- the collected links, followed by the chain of the only operand that is not a link, are the chain of the disjunction
+-- or conjunction
 pub but_gathered : (accepts : Bool) {operands items : List Cond} (before after : List Link) {is : Gathered} (k : ℕ)
     {c : Cond} → is ≡ gathered.AllBut k → operands ≡ items → c ≡ get_or items k c →
     IsGathered accepts operands before after is → in_front (Some (map link_data after)) (chain_of (condition_of c)) ≡

@@ -1,4 +1,4 @@
--- Rows of states whose edges have implicit labels, so that each edge is taken at exactly one letter.
+-- States whose edges have implicit labels: each edge is taken at exactly one letter.
 use Rattle.std.proofs.Common.{◌≡◌, ℕ, ◌+◌, ◌%◌, ◌^◌, ◌<◌, List, [], ◌∷◌, ◌++◌, length, get_or, Some}
 use Rattle.std.proofs.Common.{refl, ap, ◌∙◌, arith}
 use Rattle.std.specs.List.{slice_get}

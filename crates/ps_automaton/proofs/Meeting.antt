@@ -1,4 +1,4 @@
--- Pairs of decision diagrams that both have a leaf at some letter.
+-- Pairs of decision diagrams that have a leaf at the same letter.
 use Rattle.std.proofs.Common.{arith, ◌≡◌, ℕ, ◌^◌, ◌<◌, inl, inr, Bool, Option, Some, None, IsTrue, refl, sym}
 use Rattle.std.proofs.Common.{ap, ◌∙◌}
 use Rattle.std.specs.Option.{option_map}

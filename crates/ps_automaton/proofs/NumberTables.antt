@@ -12,7 +12,7 @@ use Rattle.ps_automaton.specs.Inner.Views.{link_data}
 use Rattle.ps_automaton.specs.declared.chain.Link as code
 use Rattle.ps_automaton.proofs.ChainLaws.{level_below_first, raised_more}
 
--- the greatest among a base priority and the table's priorities for those of the first k sets that an edge has
+-- the greatest of a base priority and of the table's priorities for the edge's sets, if only sets less than k count
 abbrev pub most : ℕ → List ℕ → (ℕ → Bool) → ℕ → ℕ
 most base numbers has zero = base
 most base numbers has (suc k) =
@@ -53,14 +53,14 @@ alone_below_level base [] has s is = omega arith
 alone_below_level base (link ∷ links) has s is =
     grind (arith, alone_below_level base links has s is, level_grows base link links has)
 
--- the edge has a set below 64 that alone gives the edge's priority
+-- the edge has a set below 64 such that an edge with only this set has the same priority
 record Attained (base : Bool) (links : List ChainLink) (has : ℕ → Bool) : Type 0 where
   set : ℕ
   small : set < 64
   has_it : has set ≡ true
   is : level_by base links has ≡ alone base links set
 
--- an edge's priority is that of the chain's base, or is the priority that one of the edge's sets alone gives
+-- an edge has the priority that the chain's base gives, or the priority of an edge with only one of its sets
 attained : (base : Bool) (links : List ChainLink) (has : ℕ → Bool) → AreSetsBelow 64 links →
     (level_by base links has ≡ base_number base) ⊎ Attained base links has
 attained base [] has small = inl refl

@@ -134,7 +134,7 @@ pub laps_together : (a : Auto) (q : ℕ) (lap : List ℕ) (m n : ℕ) →
 laps_together a q lap m zero = ap (state_after a q lap) (add-zero m)
 laps_together a q lap m (suc n) = rw add-suc (ap (λ s. state_behind a s lap) (laps_together a q lap m n))
 
--- the greatest priority of the run during `laps` laps that follow the stem and `before` laps
+-- the greatest priority of the run during `laps` laps, after it has read the stem and `before` laps
 pub greatest_is_read : (a : Auto) (stem lap : List ℕ) (before laps : ℕ) →
     greatest_from (priority_at a (lasso_word stem lap)) (length stem + before * length lap) (laps * length lap)
     ≡ greatest_of_laps a (state_after a (state_behind a a.start stem) lap before) lap laps

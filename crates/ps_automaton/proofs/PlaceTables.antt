@@ -1,4 +1,4 @@
--- A table with the index of each target, to which a new target is added.
+-- The table with the index of each target in a list of targets of edges, after a target is added to the list.
 use Rattle.std.proofs.Common.{◌≡◌, ℕ, ◌⊎◌, inl, inr, true, cond, List, [], ◌∷◌, ◌++◌, length, Option, None, Some, arith}
 use Rattle.std.specs.List.{slice_get}
 use Rattle.std.specs.Ordering.{is_eq}

@@ -24,7 +24,8 @@ use Rattle.ps_automaton.specs.declared.targets.Target.{Target}
 use Rattle.ps_automaton.proofs.TakenEdges.{edge_of, goes_of}
 use Rattle.ps_automaton.proofs.Unions.{at_leaf, union_clear}
 
--- the priority of an edge depends only on the edge's sets less than 64
+-- if all sets in a chain's links have numbers less than 64, the priority of an edge depends only on its sets with such
+-- numbers
 level_by_same : (base : Bool) (links : List ChainLink) (f g : ℕ → Bool) → AreSetsBelow 64 links →
     ((set : ℕ) → set < 64 → f set ≡ g set) → level_by base links f ≡ level_by base links g
 level_by_same base [] f g few same = refl
@@ -33,7 +34,7 @@ level_by_same base (link ∷ links) f g few same = cc (
   level_by_same base links f g (λ k d l. few (suc k) d (omega arith)) same,
 )
 
--- each leaf of the joined diagram of a row's edges is the index of a target
+-- each leaf of the joined diagram of a state's edges is the index of a target
 pub leaf_within : {file : FileData} {row : RowData} {count : ℕ} {targets : List Target} {t : Table} {node : ℕ} →
     IsUnion file row count targets t node → (letter : ℕ) → letter < 2 ^ length file.names →
     IfSome (leaf_of t node letter) (λ k. k < length targets)
@@ -46,8 +47,8 @@ leaf_within {row} {targets} {t} {node} union letter small = by_leaf (leaf_of t n
         (IsTargetAt row (union.joined.from letter k small e).edge targets) (leaf_of t node letter) e (grind arith) in
         slice_get_within targets k there.0 there.1
 
--- the joined diagram of all edges of a row: its leaf at a letter is the index of the taken edge's target, and it has no
--- leaf if no edge is taken
+-- the joined diagram of all edges of a state: its leaf at a letter is the index of the taken edge's target, and it has
+-- no leaf if no edge is taken
 module _ {file : FileData} (sound : IsSoundFile file) {row : RowData} (row_sound : IsSoundRow file row) {chain : Chain}
     (few : AreSetsBelow 64 chain.links) {targets : List Target} {place_at : ℕ → Option ℕ}
     (joined : AreJoined file row (length row.edges) targets place_at) {steps : List Step}

@@ -1,4 +1,4 @@
--- The steps of a state are derived from the row with the state's edges.
+-- The steps of a state are computed from the state's row in the file, which has the edges of the state.
 use Rattle.std.proofs.Common.{arith, ◌≡◌, ℕ, Some, sym, ◌∙◌}
 use Rattle.ps_text.proofs.Simple.{same_some}
 use Rattle.ps_hoa.specs.Edges.{row_of}

@@ -1,6 +1,7 @@
--- Edges that are taken at a letter: the edges of a row, the edges by which a state moves, and two edges that clash.
--- - `clash_of`: two edges that are taken and are not alike clash
--- - `edge_of`, `goes_of`: an edge by which a state moves is an edge that is taken, and conversely
+-- Lemmas about the edges of a state that are taken at a letter, and about two edges that clash (`AreClashing`).
+-- - `clash_of`: two edges that are taken at the same letter clash if they differ in their targets or acceptance sets
+-- - `edge_of`, `goes_of`: if `Goes` holds for a state at a letter, an edge of the state is taken at the letter, and
+--   conversely
 use Rattle.std.proofs.Common.{arith, ◌≡◌, ◌∙◌, ℕ, ◌^◌, ◌<◌, Bool, length, Some, slice_get, ap}
 use Rattle.std.proofs.lemmas.Option.{slice_get_within}
 use Rattle.ps_hoa.specs.Files.{EdgeData, RowData, FileData}

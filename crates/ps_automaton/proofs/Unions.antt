@@ -110,7 +110,7 @@ module _ {file : FileData} (sound : IsSoundFile file) {row : RowData} (row_sound
               (λ alike. grind (arith, target_of_alike there.2 is alike)),
         )
 
-  -- the clash that is found first in a row satisfies `IsFirstOfRow`
+  -- the clashing edges that are found first in a state's row satisfy `IsFirstOfRow`
   pub first_of_row : {count : ℕ} {targets : List Target} {t : Table} {node : ℕ} →
       IsUnion file row count targets t node → {first : ℕ} → AreClashing file row first count →
       ((a : ℕ) → AreClashing file row a count → first ≤ a) → IsFirstOfRow file row first count

@@ -1,4 +1,4 @@
--- When the automaton that an HOA text states accepts a lasso, which is a stem followed by a lap that repeats for ever.
+-- The lassos that the automaton of an HOA text accepts. A lasso is a stem followed by a lap that repeats for ever.
 -- - `IsRun file w count states sets`: a run over the first `count` letters of the word w
 -- - `IsAccepted file stem lap`: some run returns to a state and satisfies the condition in between
 use Rattle.std.specs.Prelude.{◌≡◌, ℕ, zero, suc, ◌+◌, ◌*◌, ◌<◌, Bool, IsTrue, List, [], ◌∷◌, length}

@@ -1,10 +1,12 @@
 -- The correct results of `Automaton::build`: the automaton of an HOA file, or the first of three faults for which a
 -- file has no automaton.
--- - `AreAlike row one other`: two edges of a row have the same target and the same acceptance sets
--- - `Clash file q first second`: two edges of the state q, given by their indices, share a letter and differ
--- - `IsDeterministic file`: no edges clash
+-- - `AreAlike row one other`: two edges of a state have the same target and the same acceptance sets
+-- - `Clash file q first second`: two edges of the state q, given by their indices, are taken at a common letter, but
+--   differ in their targets or acceptance sets
+-- - `IsDeterministic file`: no two edges of a state clash
 -- - `IsAdmitted file`: the file has none of the three faults
--- - `IsRefused file fault`: the file has this fault, and none of the faults before it
+-- - `IsRefused file fault`: the file has this fault, and none of the faults before it; `OutOfMemory` is possible for
+--   every file
 use Rattle.std.specs.Prelude.{◌≡◌, ℕ, ◌^◌, ◌<◌, ◌≤◌, true, false, length, None, Some, slice_get}
 use Rattle.ps_hoa.specs.Files.{EdgeData, RowData, FileData}
 use Rattle.ps_hoa.specs.Edges.{row_of, IsTaken, is_marked}
@@ -40,8 +42,8 @@ pub record Clash (file : FileData) (q first second : ℕ) : Type 0 where
 abbrev pub IsDeterministic : FileData → Type 0
 IsDeterministic file = (q first second : ℕ) → Clash file q first second → ⊥
 
--- of all clashes in a file, the one with the smallest state; among these, the one with the smallest later edge, and
--- then with the smallest earlier edge
+-- of all pairs of clashing edges in a file, the pair of the smallest state; among these, the pair with the smallest
+-- later edge, and then with the smallest earlier edge
 pub record IsFirstClash (file : FileData) (q first second : ℕ) : Type 0 where
   pub clash : Clash file q first second
   pub least_state : (p a b : ℕ) → Clash file p a b → q ≤ p

@@ -1,4 +1,4 @@
-//! A list of different targets, with their indices.
+//! A list of different targets of edges, with their indices.
 
 ghost use Rattle.std.specs.Prelude.{◌≡◌, List, [], IfOk, OnOk};
 ghost use Rattle.std.specs.BTreeMap.{get};

@@ -94,7 +94,7 @@ pub(crate) fn first_clash(
     unreachable!()
 }
 
-/// Whether two edges of the row clash; `letters` is the diagram of the letters at which the later edge is taken.
+/// Whether two edges of the state clash; `letters` is the diagram of the letters at which the later edge is taken.
 fn clashes(
     store: &mut Store,
     guards: &Guards,

@@ -59,7 +59,7 @@ fn add_all(store: &mut Store, guards: &Guards, union: &mut Union) -> Result<(), 
     Ok(())
 }
 
-/// Joins the row's edge at the index `place` to the diagram of the edges before it.
+/// Joins the state's edge at the index `place` to the diagram of the edges before it.
 fn add(
     store: &mut Store,
     guards: &Guards,

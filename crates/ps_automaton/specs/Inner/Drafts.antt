@@ -1,9 +1,10 @@
 -- How the decision diagrams of an automaton's steps are built, one state of the file after another. (For private
 -- functions.)
--- - `IsReady t g`: the diagrams for a row's guards are in the table
+-- - `IsReady t g`: the diagram store has the diagrams of the file's aliases and of the state's label
 -- - `IsWhere leaf value P`: the leaf is the value if P is true, and None if P is false
--- - `IsUnion file row count targets t node`: a node leads each letter to the target of the edge that is taken
--- - `IsStepsOf file chain q steps t node`: a node leads each letter to the step of the state q
+-- - `IsUnion file row count targets t node`: at each letter, the node's leaf is the index of the target of the edge
+--   that is taken
+-- - `IsStepsOf file chain q steps t node`: at each letter, the node's leaf is the index of the step from the state q
 use Rattle.std.specs.Prelude.{◌≡◌, ℕ, ◌^◌, ◌<◌, ◌≤◌, ◌⊎◌, Bool, List, length, None, Some, Option, IsSomeAnd, slice_get}
 use Rattle.std.specs.Prelude.{slice_index, ◌+◌}
 use Rattle.ps_label.specs.Expression.{Expression}
@@ -44,8 +45,8 @@ pub record IsReady (t : Table) (g : Guards) : Type 0 where
   pub aliases : AreNodesOf t g.file.now.aliases g.aliases.now
   pub label : IsLabelNode t g.file.now (row_data g.row.now).label g.label
 
--- the label of a guard uses only propositions and aliases of the file, or its letter is a letter over the file's
--- propositions
+-- an edge's own label uses only propositions and aliases of the file; the single letter of an implicit label is a
+-- letter over the file's propositions
 abbrev pub IsFit : FileData → GuardData → Type 0
 IsFit file (stated e) = IsLabelOf file e
 IsFit file of_state = Unit {0}
@@ -71,7 +72,7 @@ abbrev pub IsTargetAt : RowData → EdgeData → List Target → ℕ → Type 0
 IsTargetAt row edge targets place =
     (target : Target) × (slice_get targets place ≡ Some target) × IsTargetOf row edge target
 
--- one of the first `count` edges of a state's row that is taken at a letter
+-- an edge that is taken at a letter, and is one of the first `count` edges of a state
 pub record TakenEdge (file : FileData) (row : RowData) (count letter : ℕ) : Type 0 where
   pub place : ℕ
   pub within : place < count
@@ -104,7 +105,7 @@ pub record AreTargets (row : RowData) (targets : List Target) : Type 0 where
   pub one_each : length targets ≡ length row.edges
   pub each : (k : ℕ) (edge : EdgeData) → slice_get row.edges k ≡ Some edge → IsTargetAt row edge targets k
 
--- the first pair of clashing edges in a row
+-- the first pair of clashing edges of a state, given by their indices in the state's row
 pub record IsFirstOfRow (file : FileData) (row : RowData) (first second : ℕ) : Type 0 where
   pub clashing : AreClashing file row first second
   pub least_second : (a b : ℕ) → AreClashing file row a b → second ≤ b
@@ -171,7 +172,7 @@ IsStateFault file q (Nondeterministic p first second) =
     ((a : ℕ) → Clash file q a second → first ≤ a)
 IsStateFault file q OutOfMemory = Unit {0}
 
--- the diagram store and the list of steps only grow while the steps of states are built
+-- while the steps of states are built, the diagram store keeps its nodes, and the list of steps keeps its entries
 pub record Grows (states : ℕ) (old new : Pairs) : Type 0 where
   pub keeps : Keeps old.store new.store
   pub extends : Extends old.steps.keys new.steps.keys

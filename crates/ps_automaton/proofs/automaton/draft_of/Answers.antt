@@ -11,7 +11,7 @@ use Rattle.ps_automaton.proofs.ChainSets.{chain_sets_below}
 use Rattle.ps_automaton.proofs.automaton.draft_of.Goals as goal
 use Rattle.ps_automaton.proofs.automaton.draft_of.Goals.{In-Some}
 
--- the chain is that of the file's acceptance condition
+-- the chain that the code computes is the chain of the file's acceptance condition
 chain_is : (c : In-Some) → chain_of c.args.file.now.condition ≡ Some (chain_data c.in-Some.chain)
 chain_is c = grind arith
 

@@ -3,7 +3,8 @@ use Rattle.ps_automaton.specs.Chains.{base_number, first_number, level_by}
 use Rattle.ps_automaton.specs.Inner.Views.{link_data}
 use Rattle.ps_automaton.proofs.numbers.table_of.Given as goal
 
--- the table has the priorities that the links from the index k on give to edges with one set each
+-- for each acceptance set, the table has the priority that the links from the index k on give to an edge with only this
+-- set
 abbrev pub invariant-loop-k : goal.invariant-loop-k
 invariant-loop-k l = record {
   within : l.k ≤ length l.chain.links.items;
