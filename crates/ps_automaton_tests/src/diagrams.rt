@@ -1,4 +1,4 @@
-//! Tests that call, with ample memory, every operation on decision diagrams that allocates memory.
+//! Tests that call, with ample memory, operations on decision diagrams that allocate memory.
 
 use indexmap::IndexSet;
 use ps_diagram::{OverlayError, Store};
@@ -6,7 +6,8 @@ use ps_label::{Label, Labels};
 use std::alloc::{AllocError, Global};
 use std::test::Fail;
 
-/// The leaves after three operations: `relabel` and `guard` on the leaf 2, and `fill` on the diagram without leaves.
+/// The leaves of three diagrams: those that `relabel` and `guard` make from the leaf 2, and the one that `fill` makes
+/// from the diagram without leaves.
 fn changed(store: &mut Store) -> Result<[Option<u64>; 3], AllocError> {
     let two = store.leaf(2)?;
     let relabelled = store.relabel(two, &[4, 5, 6])?;
@@ -20,7 +21,7 @@ fn changed(store: &mut Store) -> Result<[Option<u64>; 3], AllocError> {
     ])
 }
 
-/// The leaf that `relabel_from` makes in a new store from the leaf 2 of another store.
+/// The leaf of the diagram that `relabel_from` makes, in a new store, from the leaf 2 of the given store.
 fn relabelled_from(alloc: Global, store: &mut Store) -> Result<Option<u64>, AllocError> {
     if store.propositions() != 2 {
         return Ok(None);
@@ -31,7 +32,7 @@ fn relabelled_from(alloc: Global, store: &mut Store) -> Result<Option<u64>, Allo
     Ok(made.eval(relabelled, 0))
 }
 
-/// Whether `overlay` reports a clash of the leaves 4 and 1.
+/// Whether `overlay` reports that two diagrams have different leaves at the same letter, namely 4 and 1.
 fn clashes(store: &mut Store) -> Result<bool, AllocError> {
     let first = store.leaf(4)?;
     let second = store.leaf(1)?;
@@ -53,8 +54,8 @@ fn least_letter(alloc: Global, store: &mut Store) -> Result<Option<u64>, AllocEr
     store.path_to(node, 1)
 }
 
-/// The number of leaves in the diagram of the letter 3, and the number of classes that `classes_from` computes for this
-/// diagram.
+/// The number of leaves in the diagram of the condition that the letter is 3, and the number of classes of letters that
+/// `classes_from` computes for this diagram.
 fn leaves_and_classes(alloc: Global, store: &mut Store) -> Result<(usize, usize), AllocError> {
     if store.propositions() != 2 {
         return Ok((0, 0));
@@ -66,8 +67,8 @@ fn leaves_and_classes(alloc: Global, store: &mut Store) -> Result<(usize, usize)
     Ok((leaves, classes.list.len()))
 }
 
-/// The values of two diagrams, each at the letters 1 and 0. The first diagram has the leaf 4 where the first
-/// proposition is true, and otherwise the leaf 5. The second diagram is the negation of the first proposition.
+/// The leaves of two diagrams, each at the letters 1 and 0. The first diagram has the leaf 4 where the first
+/// proposition is true, and otherwise the leaf 5. The second diagram is that of the first proposition's negation.
 fn chosen(store: &mut Store) -> Result<[Option<u64>; 4], AllocError> {
     if store.propositions() != 2 {
         return Ok([None; 4]);
@@ -85,8 +86,8 @@ fn chosen(store: &mut Store) -> Result<[Option<u64>; 4], AllocError> {
     ])
 }
 
-/// Joins the diagram of the first proposition with the leaf 7 to a diagram of pairs. Returns the indices of the pairs
-/// at the letters 1 and 0, and the number of pairs.
+/// Joins the diagram of the first proposition and the leaf 7 to one diagram, whose leaves are indices of pairs of
+/// leaves. Returns its leaves at the letters 1 and 0, and the number of pairs.
 fn paired(alloc: Global, store: &mut Store) -> Result<([Option<u64>; 2], usize), AllocError> {
     if store.propositions() != 2 {
         return Ok(([None; 2], 0));

@@ -1,5 +1,5 @@
 //! Tests of labels, of the parser of automata, of diagrams and of automata. The tests check what no contract states,
-//! and make each call once with ample memory. What the program prints for automata is tested in
+//! such as that the tested calls succeed if there is ample memory. What the program prints for automata is tested in
 //! `examples/rows/libraries-automata.toml`.
 #![tactic(auto)]
 
