@@ -1,5 +1,5 @@
--- The laws of a grammar: which tokens can begin and continue the texts of each production, and how productions are
--- joined.
+-- The laws of a grammar: which tokens can begin and continue the texts of each production, and that no token can both
+-- continue one part and begin the next.
 
 pub mod SignLaws
 pub mod OperandLaws

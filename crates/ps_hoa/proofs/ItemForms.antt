@@ -1,8 +1,8 @@
 -- Properties of the arguments that follow the names of header items. Each kind of header item has a section in this
 -- file, and a case in `form`.
--- - `IsForm h part`: the properties of a part that follows an item's name, if the earlier items gave h
--- - `form h item`: the arguments of the item have the form (`IsForm`)
--- - `judge_item`: the error at an item's name can be decided
+-- - `IsForm h part`: the properties of the arguments of an item, if the earlier items gave the values h
+-- - `form h item`: the arguments of each kind of item have these properties
+-- - `judge_item`: it is decidable which errors the name of an item has
 -- - `joint_..`, `.._loop`, `.._begins`, `.._serves`: lemmas for the functions that parse the arguments
 use Rattle.std.proofs.Common.{arith, rules, ◌≡◌, ◌<◌, true, Bool, ℕ, List, [], length, Some, refl, sym, ap, ◌∙◌}
 use Rattle.ps_text.specs.Answers.{Stream, next_of as there_of}

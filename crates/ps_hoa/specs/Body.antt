@@ -5,8 +5,8 @@
 --
 -- The label of a state is the label of each of its edges. If neither a state nor its edges have labels, the edges have
 -- implicit labels: edge k is taken at the letter k, in which proposition i is bit i.
--- - `BodyData`: the rows so far, and the number of their edges
--- - `state h body`: one more state, after the states of body
+-- - `BodyData`: the rows of the states so far, and the number of their edges
+-- - `state h body`: one more state of a text with the header h, after the states of body
 -- - `body h`: the whole body: all states, and `--END--`
 use Rattle.std.specs.Prelude.{◌≡◌, ◌≢◌, ℕ, ◌+◌, ◌-◌, ◌^◌, ◌<◌, ◌≤◌, ◌⊎◌, Bool, true, false, List, [], ◌∷◌, ◌++◌, length}
 use Rattle.std.specs.Prelude.{codes, if◌then◌else◌, nat_eq, Option, None, Some, IfSome, slice_get}
@@ -146,7 +146,8 @@ IsBadPlainTarget states before row n f =
 abbrev pub plain_target : HeaderData → ℕ → RowData → Part Sign ℕ HoaCause
 plain_target h before row = barred (one int_in (BadIn (IsBadPlainTarget h.states before row))) IsAlternating
 
--- the guard of an edge without a label
+-- the letters at which an edge without a label is taken (its guard): those of its state's label, or the letter with the
+-- edge's index
 abbrev pub plain_guard : RowData → GuardData
 plain_guard row = elim row.label [ Some e ↦ of_state | None ↦ at_letter (length row.edges) ]
 

@@ -1,7 +1,8 @@
 -- The causes for which an HOA text is rejected, with their numbers in psyn's list of faults. Tokens of some kinds have
 -- a cause of their own, with which they are rejected wherever they occur.
--- - `hoa_causes`: the numbers of causes, the causes of tokens by themselves, and the cause of all others
--- - `found_of`: what a fault states about the text
+-- - `hoa_causes`: the number of each cause, the cause of each token that is always an error, and the cause of a token
+--   that is not allowed at its place
+-- - `found_of`: the cause and the offset of an error in the text; running out of memory has neither
 use Rattle.std.specs.Prelude.{ℕ, ◌||◌, Bool, false, List, codes, if◌then◌else◌, Option, None, Some, is_some}
 use Rattle.std.specs.Str.{bytes_eq}
 use Rattle.ps_text.specs.Parts.{Causes}

@@ -1,5 +1,5 @@
 -- The edges of an automaton: the letters at which an edge is taken, and the sets of the edge.
--- - `row_of file q`: the row of the state q, if there is one
+-- - `row_of file q`: the row of the state q, which is what the text states about q, if there is one
 -- - `IsTaken file row edge letter`: the edge of the row is taken at the letter
 -- - `is_marked row edge set`: the edge of the row is in the set
 -- - `Goes file q letter marks next`: at the letter, an edge with the sets `marks` leads from q to `next`

@@ -1,6 +1,6 @@
 -- The meaning of an HOA text: the automaton as the text states it, with the names of its propositions, its aliases and
 -- its acceptance condition.
--- - `FileData`: the whole text; a state without a row has no edges
+-- - `FileData`: the whole text; a state about which the text states nothing has no row, and no edges
 use Rattle.std.specs.Prelude.{ℕ, ◌+◌, max, List, [], ◌∷◌, ◌++◌, Option, None, Some, if◌then◌else◌, nat_eq, Bool, true}
 use Rattle.std.specs.Prelude.{false}
 use Rattle.ps_label.specs.Expression.{Expression}

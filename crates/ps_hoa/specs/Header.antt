@@ -6,9 +6,9 @@
 -- Items may be in any order; an alias must come before its use.
 -- - `HeaderData`: the values that the items so far give
 -- - `header_data`: the values of a stored header
--- - `item_in s`: the item with this name
--- - `behind_name h item`: the arguments of this item, after items that give h
--- - `item h`: one more item
+-- - `item_in s`: the header item whose name is the token s
+-- - `behind_name h item`: the arguments of this item, if the earlier items gave the values h
+-- - `item h`: one more item, after items that gave the values h
 -- - `header`: all items, and `--BODY--`
 use Rattle.std.specs.Prelude.{◌≡◌, ◌≢◌, ℕ, ◌<◌, ◌≤◌, ◌⊎◌, ◌||◌, Bool, true, false, List, [], ◌∷◌, ◌++◌, length, drop}
 use Rattle.std.specs.Prelude.{if◌then◌else◌, nat_eq, nat_lt, Option, None, Some, IfSome, option_map}
@@ -245,8 +245,8 @@ abbrev pub counted_condition : HeaderData → Part Sign HeaderData HoaCause
 counted_condition h =
     then_by (int set_limit) (λ n. mapped (with_acceptance h n) (conditions.condition nesting_limit))
 
--- Among the numbers of `controllable-AP:`, each proposition has a slot of its own. All numbers that are not
--- propositions share one slot, since it only matters whether there is such a number.
+-- Among the numbers of `controllable-AP:`, each number less than 64 has a slot of its own. All other numbers share one
+-- slot: none of them is a proposition, so it only matters whether there is such a number.
 abbrev pub slot_of : ℕ → ℕ
 slot_of n = if nat_lt n proposition_limit then n else proposition_limit
 

@@ -164,7 +164,7 @@ pub record IsLexeme (source : List ℕ) (found : Lexeme) : Type 0 where
 unfoldable pub stream_of : ScanState → Stream Sign
 stream_of r = record { pieces = in_context r.history (lex r.at (drop r.at r.source)); end = length r.source }
 
--- the next token; at the end of the text, a piece of the kind `Finish`
+-- the next token; at the end of the text, a token of the kind `Finish`
 abbrev pub next_of : Stream Sign → Piece Sign
 next_of s = elim s.pieces [ [] ↦ record { sign = record { kind = Finish; text = [] }; start = s.end } | p ∷ ps ↦ p ]
 

@@ -6,7 +6,7 @@
 -- - `IsLongestToken kind text rest`: a token of the kind, before `rest`, is the longest token that can begin here
 -- - `IsToken kind text rest`: like `IsLongestToken`, or an unclosed comment, or a byte that begins no token
 -- - `AreTokens at bytes pieces`: the tokens of `bytes`, with blanks between them; `at` is the offset of the bytes
--- - `in_context history pieces`: the tokens, in which repeated names and tokens after `--END--` have other kinds
+-- - `in_context history pieces`: the tokens, in which repeated names and tokens after `--END--` have kinds of their own
 use Rattle.std.specs.Prelude.{◌≡◌, ℕ, suc, ◌+◌, ◌<◌, ◌⊎◌, ◌≢◌, ◌||◌, Bool, true, false, List, [], ◌∷◌, ◌++◌, length}
 use Rattle.std.specs.Prelude.{codes, if◌then◌else◌, nat_eq, get_or, set, Option, None, Some}
 use Rattle.std.specs.Str.{bytes_eq}

@@ -30,7 +30,7 @@ pub enum Guard {
 /// An edge of a state (HOA v1, body).
 #[derive(Debug, Drop)]
 pub struct Edge {
-    /// When the edge is taken.
+    /// The letters at which the edge is taken.
     pub guard: Guard,
     /// The state to which the edge leads.
     pub target: u32,

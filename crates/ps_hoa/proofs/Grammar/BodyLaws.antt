@@ -1,10 +1,9 @@
--- Which tokens can begin and continue the sets, labels and edges of a body (`Laws`), and how these grammars are joined.
--- For states, see proofs/Grammar/StateLaws.
+-- Which tokens can begin and continue the sets, labels and edges of a body (`Laws`). No token can both continue one
+-- part of them and begin the next (`Joint`). For states, see proofs/Grammar/StateLaws.
 -- - `laws_marks`, `..`, `laws_edge`: the laws of the body's sets, labels and edges
--- - `joint_braces`, `joint_sets`: how `{`, the numbers and `}` are joined
--- - `joint_bracket`, `joint_label`: how `[`, a label and `]` are joined
--- - `joint_edge_label`, `joint_edge_target`, `joint_edge_marks`, `joint_plain_marks`: how the parts of an edge are
---   joined
+-- - `joint_braces`, `joint_sets`: `Joint` for `{`, the numbers and `}`
+-- - `joint_bracket`, `joint_label`: `Joint` for `[`, a label and `]`
+-- - `joint_edge_label`, `joint_edge_target`, `joint_edge_marks`, `joint_plain_marks`: `Joint` for the parts of an edge
 use Rattle.std.proofs.Common.{arith, ℕ, Bool, List, [], Option, None, refl, ap}
 use Rattle.ps_label.specs.Expression.{Expression}
 use Rattle.ps_text.specs.Parts.{Part, give, one, then_by, many, mapped, barred}
@@ -38,7 +37,8 @@ use Rattle.ps_hoa.proofs.Grammar.SignLaws.{laws_alternating}
 abbrev pub lengthens_edge : Kind → Bool
 lengthens_edge = union is_and is_left_brace
 
--- where the number of a target, a set or a state is expected, the grammar adds errors only for an `INT`
+-- where the number of a target, a set or a state is expected, no token but an `INT` is accepted, or has one of the
+-- errors in `Bad`
 pub laws_target_number : (Bad : ℕ → HoaCause → Type 0) → Tight (one int_in (BadIn Bad)) is_int
 laws_target_number Bad = laws_value is_int Int [] _ refl (λ _. refl) (λ t f b. b.1)
 

@@ -1,6 +1,6 @@
 -- Which tokens can begin and continue the whole of a text after the version, its header and its body (`Laws`).
 -- - `laws_file`: the laws of the whole text
--- - `joint_file`: how the body is joined to the header
+-- - `joint_file`: no token can both continue the header and begin the body (`Joint`)
 use Rattle.ps_text.specs.Parts.{mapped}
 use Rattle.ps_text.proofs.Combined.{joint_tight}
 use Rattle.ps_text.proofs.Following.{laws_tight}

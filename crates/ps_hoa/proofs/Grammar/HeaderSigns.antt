@@ -1,6 +1,7 @@
 -- The parts of a header that consist of a single token.
--- - `reads_token`: a function that returns the result for the next token has parsed this token
--- - `signs_expect`, `..`, `signs_body`: some token is taken, and the end of the text is neither taken nor an error
+-- - `reads_token`: a function whose result is right for the next token meets the contract of parsing a single token
+-- - `signs_expect`, `..`, `signs_body`: the grammar accepts some token, and the end of the text is neither accepted nor
+--   an error
 -- - `takes_refused`, `takes_bad`: the result for a token that is not allowed here, and for a token with an error
 use Rattle.std.proofs.Common.{◌≡◌, ℕ, ◌≤◌, Bool, cond, List, [], codes, Option, None, Some, Result, Err}
 use Rattle.std.proofs.Common.{refl, sym, ap, inl, inr, arith}
@@ -36,7 +37,7 @@ pub expect_none : (test : Kind → Bool) (kind : Kind) (sign : Sign) → IsTestO
     expect_in test sign ≡ None
 expect_none test kind sign is differs = grind arith
 
--- proves `IsOfSigns` from one token that is accepted, given by its kind, its text and its value
+-- proves `IsOfSigns` from the kind, the text and the value of one token that the grammar accepts
 signs : {V : Type 0} {take : Sign → Option V} {Bad : Sign → HoaCause → Type 0} (kind : Kind) (text : List ℕ) (v : V) →
     take (record { kind = kind; text = text }) ≡ Some v → take (record { kind = Finish; text = [] }) ≡ None →
     ((f : HoaCause) → Bad (record { kind = Finish; text = [] }) f → ⊥) → IsOfSigns take Bad

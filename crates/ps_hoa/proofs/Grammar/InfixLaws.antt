@@ -2,8 +2,9 @@
 -- token of an operand tells its form.
 -- - `laws_not`, `..`, `laws_right`: the laws of single tokens
 -- - `laws_both`, `laws_rows`, `laws_nested`: the laws of rows of operands, and of rows in parentheses
--- - `laws_negation`, `laws_holding`, `laws_operand`: the laws of operands: after `!`, with others inside, and any
--- - `joint_bar`: the joint of the check of the nesting depth and a leaf
+-- - `laws_negation`, `laws_holding`, `laws_operand`: the laws of an operand after `!`, of one that contains another,
+--   and of any
+-- - `joint_bar`: `Joint` for the check of the nesting depth and an operand that contains no other
 use Rattle.std.proofs.Common.{rules, arith, ◌≡◌, ℕ, zero, suc, Bool, true, List, Option, None, Some, refl}
 use Rattle.ps_text.specs.Parts.{Part, then_by}
 use Rattle.ps_text.proofs.Barred.{laws_barred}

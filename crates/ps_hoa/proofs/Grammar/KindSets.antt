@@ -1,12 +1,12 @@
 -- Lemmas about sets of kinds of tokens, and proofs that grammars of a single token satisfy `Laws`. Each lemma about
--- sets is checked by trying all kinds of tokens, so `refl` proves its premise `Each`.
+-- sets has a premise `Each`, which `refl` proves by trying all kinds of tokens.
 -- - `within`, `within_both`, `apart`: a set, or two sets, are within another set; two sets have no common kind
 -- - `test_of`: a set has exactly one kind
 -- - `plain`: no kind of the set is an error by itself
 -- - `laws_sign`: the laws of a token whose kind is in a set
 -- - `laws_value`: the laws of a token whose kind is in a set, and which has no error unless it has a value
 -- - `laws_expect`: the laws of a token whose kind is in a set, and which has no value
--- - `laws_behind_option`: a part that follows a part which may be empty
+-- - `laws_behind_option`: the laws of a part that may be empty together with the part after it
 use Rattle.std.proofs.Common.{rules, ◌≡◌, ℕ, zero, suc, ◌<◌, Bool, true, not, cond, List, [], ◌∷◌, length, get_or}
 use Rattle.std.proofs.Common.{Option, None, Some, is_some, sym, ap, subst, ◌∙◌, arith, ◌&&◌, ◌||◌}
 use Rattle.std.proofs.lemmas.Bool.{and_parts, or_left, or_right}
@@ -86,8 +86,8 @@ test_of p kind is e = (
 
 -- ## One symbol
 
--- whatever a token's bytes: if its kind is in the set, the token is no error by itself; otherwise `take` gives it no
--- value
+-- if the kind of a token is in the set, the token is no error by itself, whatever its bytes; otherwise `take` gives it
+-- no value
 abbrev pub AreSigns : {V : Type 0} → (Kind → Bool) → (Sign → Option V) → Type 0
 AreSigns p take = (text : List ℕ) → Each (λ k. cond (p k) (not (is_some (own_cause k text)))
     (not (is_some (take (record { kind = k; text = text })))))

@@ -1,9 +1,11 @@
 -- Which tokens can begin and continue single tokens, operands in parentheses, and rows of operands (`Laws`). The second
 -- half of this file is about the loop that parses operands with connectives between them: its invariant, and each way
 -- in which the parsing function can return.
--- - `Known`, `Tight`: the laws of a part, stated with sets of kinds
--- - `laws_behind`, `laws_held`, `laws_row`: the laws of a token with a part, of a part with `)`, and of a row
--- - `joint_expect`, `joint_closed`, `joint_operands`: what follows a token, a part with `)`, and the first operand
+-- - `Known`, `Tight`: the laws of a grammar, stated with sets of kinds of tokens
+-- - `laws_behind`, `laws_held`, `laws_row`: the laws of a part after a token, of a part before `)`, and of a row of
+--   operands
+-- - `joint_expect`, `joint_closed`, `joint_operands`: `Joint` for a token, a part before `)`, and the first operand,
+--   each with what follows it
 -- - `row_fails`, `row_alone`, `row_begins`, `row_goes_on`, `row_stops`, `row_ends`: the loop goes on, fails or ends
 use Rattle.std.proofs.Common.{arith, ◌≡◌, Bool, true, false, cond, List, Option, None, Some, inl}
 use Rattle.ps_text.specs.Answers.{Stream, Found, next_of, signs}

@@ -1,8 +1,8 @@
 -- Which tokens are the names, numbers, strings and aliases of a header (`Laws`).
--- - `Named name`: the tokens that are this name
+-- - `Named name`: the tokens of the kind `Header` that consist of this name
 -- - `laws_item_name`, `laws_int`, `laws_string`, `laws_proposition_name`, `laws_new_alias`: the laws of single tokens
 -- - `laws_alternating`: a token that `&` must not follow
--- - `item_header`: the name of an item is a name
+-- - `item_header`: a token that names a header item has the kind `Header`
 use Rattle.std.proofs.Common.{arith, ◌≡◌, ℕ, ◌||◌, Bool, true, false, cond, List, [], codes, Option, None, Some}
 use Rattle.std.proofs.Common.{is_some, refl, sym, ap, ◌∙◌, rules}
 use Rattle.std.proofs.lemmas.Slice.Eq.{bytes_eq-Decides}

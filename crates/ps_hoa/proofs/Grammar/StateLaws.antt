@@ -1,8 +1,8 @@
--- Which tokens can begin and continue a state and the whole body (`Laws`), and how these grammars are joined.
+-- Which tokens can begin and continue a state and the whole body (`Laws`). No token can both continue one part of them
+-- and begin the next (`Joint`).
 -- - `laws_state`, `laws_states`, `laws_ended`, `laws_body`: the laws of one state, of all states, and of the body
--- - `joint_state`, `joint_state_label`, `joint_number`, `joint_name`, `joint_marks`: how the parts of a state are
---   joined
--- - `joint_body`: how the states and `--END--` are joined
+-- - `joint_state`, `joint_state_label`, `joint_number`, `joint_name`, `joint_marks`: `Joint` for the parts of a state
+-- - `joint_body`: `Joint` for the states and `--END--`
 use Rattle.std.proofs.Common.{rules, arith, ◌≡◌, ℕ, Bool, List, [], codes, Option, Some, refl}
 use Rattle.ps_label.specs.Expression.{Expression}
 use Rattle.ps_text.specs.Parts.{Part, give, then_by, many, mapped}

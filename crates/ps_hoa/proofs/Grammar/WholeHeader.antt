@@ -1,5 +1,6 @@
 -- Which tokens can begin and continue a header item and the whole header (`Laws`).
--- - `joint_item`, `joint_header`: how an item's name and arguments, and the items and `--BODY--`, are joined
+-- - `joint_item`, `joint_header`: no token can both continue an item's name and begin its arguments, or continue the
+--   items and be `--BODY--` (`Joint`)
 -- - `item_begins`, `item_elsewhere`: the next token begins an item, or does not
 -- - `item_loop`: the properties of an item that the loop over the items needs
 -- - `laws_header`: the laws of the header

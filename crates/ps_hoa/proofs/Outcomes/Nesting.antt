@@ -1,6 +1,7 @@
 -- Up to the nesting limit, the grammars of labels and conditions that limit the nesting of `!` and `(` equal the
 -- grammars without a limit.
--- - `to_operand`, `of_operand`: for a grammar in which one more level of nesting adds one form to the operands
+-- - `to_operand`, `of_operand`: an operand that is nested at most `room` deep is an operand of the grammar with the
+--   limit `room`, and conversely
 use Rattle.std.proofs.Common.{◌≡◌, ◌↔◌, ◌⊎◌, ℕ, zero, suc, ◌≤◌, max, true, List, [], ◌∷◌, ◌++◌, refl, sym, ap, subst}
 use Rattle.std.proofs.Common.{inl, inr, ◌∙◌, arith}
 use Rattle.ps_label.specs.Expression.{Expression}

@@ -1,10 +1,12 @@
 -- Lemmas about the ways in which a parsing function of HOA texts can return.
--- - `Serves old P Q`: from `old` on, each result of P is also a result of Q: it is parsed, or it stops at an error
--- - `serves_as`, `itself`, `serves_both`: `Serves` holds because of the next token; for a part and itself; in two steps
+-- - `Serves old P Q`: from `old` on, if P is parsed, so is Q, with the same value; if P stops at an error, Q stops at
+--   the same error
+-- - `serves_as`, `itself`, `serves_both`: `Serves` follows from the next token; holds for a part and itself; is
+--   transitive
 -- - `serves_meets`: a result that meets the contract of P also meets that of Q
 -- - `Leads P old Q now`: if Q, read from `now`, stops at an error, then P, read from `old`, stops at the same error
--- - `here`, `first`: a part leads to itself, and two parts in a row lead to the first
--- - `behind`: two parts in a row, of which the first was parsed, lead to what the second leads to
+-- - `here`, `first`: `Leads` holds for a part and itself, and for two parts in a row and the first of them
+-- - `behind`: if the first of two parts in a row was parsed, both together lead to what the second part leads to
 -- - `under`: a part whose value is mapped leads to the part itself
 -- - `instead`: if each result of P is also a result of Q, then Q leads to what P leads to
 -- - `exit`: at a `?`: the function returns the error that was found

@@ -1,7 +1,9 @@
 -- Lemmas for the functions that read single tokens, and parts in parentheses.
 -- - `Tests test kind`: the given kind is the only one that passes the test
--- - `sign_begins`, `avoids_kind`: the next token begins its part; the next token does not pass a test
--- - `expect_read`, `expect_begins`, `expect_elsewhere`: the next token has the kind, begins a part, or has another kind
+-- - `sign_begins`, `avoids_kind`: the next token begins a text of the grammar of one token; the next token is not in a
+--   set
+-- - `expect_read`, `expect_begins`, `expect_elsewhere`: a next token of the expected kind is parsed, and begins the
+--   grammar; one of another kind is not in the set
 -- - `tests_not`, `..`, `tests_string`: only tokens of one kind pass each of these tests
 -- - `inner_reads`, `inner_fails`, `inner_stays_open`: the results for a part in parentheses, after its `(`
 use Rattle.std.proofs.Common.{◌≡◌, ◌≤◌, Bool, true, cond, length, Option, None, Some, Ok, refl, sym, ap, subst, ◌∙◌}

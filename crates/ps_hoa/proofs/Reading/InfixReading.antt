@@ -1,6 +1,6 @@
 -- Lemmas for the functions that parse operands with connectives between them: rows of operands, and the forms of an
 -- operand.
--- - `operand_row`: the hypotheses of the lemmas about rows
+-- - `operand_row`: the hypotheses of the lemmas about rows of operands hold
 -- - `leaf_serves`, `too_deep`: an operand that contains no other operand, and an operand that is nested too deep
 -- - `not_reads`, `not_fails`: the results for an operand after `!`
 -- - `paren_reads`, `paren_fails`, `paren_stays_open`: the results for an operand in parentheses

@@ -1,6 +1,6 @@
 -- The next token, as the tokenizer sees it and as the grammar sees it.
--- - `next_there`: unless the text ends here, the next token is the next symbol of the stream
--- - `next_same`: the next symbol of the stream is the next token
+-- - `next_there`: unless the text ends here, the tokenizer's next token is the next symbol that the grammar sees
+-- - `next_same`: the next symbol that the grammar sees is the tokenizer's next token
 -- - `start_there`: the next token is at the offset at which an error there is reported
 use Rattle.std.proofs.Common.{arith, ◌≡◌, Some}
 use Rattle.ps_text.specs.Answers.{Stream, next_of as next_sign, offset_of}

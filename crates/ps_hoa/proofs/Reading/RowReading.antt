@@ -1,6 +1,6 @@
 -- The loop that parses operands with a connective between them.
 -- - `IsRow sign operand old vs now`: the operands with the values `vs` were parsed from `old` to `now`
--- - `Row sign operand`: the hypotheses of the lemmas about rows
+-- - `Row sign operand`: the hypotheses of the lemmas about rows of operands
 -- - `first_fails`, `first_alone`: the first operand fails, or is the only operand
 -- - `row_starts`, `row_more`, `row_shrinks`: the invariant of the loop holds, and its measure falls
 -- - `row_fails`, `row_done`: a later operand fails; the end of the loop

@@ -3,7 +3,7 @@
 -- - `state_enters`, `avoids_state`: the next token is `State:`, or is not
 -- - `label_serves`, `no_label_serves`: the state has a label, or has none
 -- - `name_serves`, `no_name_serves`: the state has a name, or has none
--- - `edges_serve`: the edges of a row that has no edge yet
+-- - `edges_serve`: parsing further edges of equal rows, after equally many edges, gives equal results
 -- - `state_loop`, `edge_loop`, `set_loop`: what the loops over states, edges and sets need
 use Rattle.std.proofs.Common.{arith, ◌≡◌, true, false, List, [], Option, None, Some, is_some, refl, sym, ap, ◌∙◌, rules}
 use Rattle.std.specs.Prelude.{codes, ℕ}
@@ -77,7 +77,7 @@ module _ (s : Stream Sign) where
   no_name_serves differs =
       search (rules, serves_as, right_otherwise, laws_named, laws_no_name, expect_elsewhere, tests_string)
 
--- parsing the edges of a row that has no edge yet
+-- parsing further edges of equal rows, after equally many edges of earlier states, gives equal results
 pub edges_serve : (h : HeaderData) {before count : ℕ} {row empty : RowData} → before ≡ count → row ≡ empty →
     (s : Stream Sign) → Serves s (edges h before row) (edges h count empty)
 edges_serve h {before} {count} {row} e q s = search (rules, Serves, itself)

@@ -1,7 +1,7 @@
 -- Lists in which each number is kept only once. If all numbers have a property, the kept numbers have it, and the kept
 -- numbers differ.
--- - `neither`: if a list fails a test, its first entry and the rest of the list fail it
--- - `all_once`, `different_once`: the property and the differences are kept after one more number
+-- - `neither`: if a disjunction is false, both operands are false
+-- - `all_once`, `different_once`: after one more number, the kept numbers still have the property, and still differ
 use Rattle.std.proofs.Common.{◌≡◌, ℕ, Bool, true, false, cond, List, [], ◌∷◌, ◌++◌, refl, arith, rules}
 use Rattle.std.proofs.lemmas.Bool.{cond_both}
 use Rattle.std.specs.List.{AllByRecursion}

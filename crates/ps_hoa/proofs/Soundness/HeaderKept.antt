@@ -1,6 +1,6 @@
 -- The invariant of the header items parsed so far: numbers are within their limits, names differ, and each alias uses
 -- only earlier aliases.
--- - `Kept h`: items that give h satisfy the invariant
+-- - `Kept h`: the values h, which the items so far give, satisfy the invariant
 -- - `keeps_number`, `keeps_int`: a number that was parsed has no error, and is within its limit
 -- - `one_more_alias`, `few_more`: the invariant holds with one more alias
 -- - `keeps_names`: the names of propositions differ and are allowed
@@ -34,7 +34,7 @@ use Rattle.ps_hoa.proofs.Soundness.SoundLabels.{NamesBelow, below}
 if_there : {X : Type 0} {o : Option X} (P : X → Type 0) {x : X} → o ≡ Some x → P x → IfSome o P × (o ≡ None → ⊥)
 if_there P {x} e h = (subst (λ o. IfSome o P) (sym e) h, λ k. none_is_some x (sym k ∙ e))
 
--- the number of an accepted `INT` has none of the errors that `Bad` states
+-- the number of an accepted `INT` has none of the errors in `Bad`
 pub keeps_number : (Bad : ℕ → HoaCause → Type 0) → Keeps (one int_in (BadIn Bad)) (λ n. (f : HoaCause) → Bad n f → ⊥)
 keeps_number Bad = keeps_one int_in (BadIn Bad) (λ t n e good f b. good f (if_there (λ m. Bad m f) e b))
 

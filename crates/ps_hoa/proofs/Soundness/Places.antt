@@ -1,5 +1,5 @@
--- The slots of numbers, each of which keeps one number.
--- - `different_kept`: numbers that are kept differ
+-- The slots of the numbers that `controllable-AP:` lists. Each slot keeps one number.
+-- - `different_kept`: the kept numbers differ from each other
 use Rattle.std.proofs.Common.{◌≡◌, ℕ, false, List, [], ◌∷◌, refl, rules}
 use Rattle.std.specs.Prelude.{nat_eq}
 use Rattle.std.proofs.lemmas.Bool.{cond_both, eqb-true, eqb-false, false_from_ne_true}

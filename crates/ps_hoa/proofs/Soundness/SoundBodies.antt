@@ -1,5 +1,5 @@
 -- Properties of the states and edges of a parsed body.
--- - `edges_within`: a row whose edges were parsed keeps the limit on edges, and belongs to its state
+-- - `edges_within`: after the edges of a state are parsed, its row still belongs to it, and the limit on edges is kept
 -- - `keeps_body`: the properties hold for each body
 use Rattle.std.proofs.Common.{◌≡◌, ℕ, suc, ◌+◌, ◌-◌, ◌<◌, ◌≤◌, ◌⊎◌, false, List, [], ◌∷◌, ◌++◌, length, Option, None}
 use Rattle.std.proofs.Common.{Some, refl, sym, ap, subst, inl, inr, ◌∙◌, arith, length-append, rules}
@@ -41,7 +41,7 @@ use Rattle.ps_hoa.proofs.Soundness.SoundLabels.{InScope, below, keeps_label, all
 
 -- ## Numbers
 
--- a number of a state; without `States:`, any number below the limit on states
+-- a number that a state may have: less than the number of states or, without `States:`, less than the limit on states
 abbrev pub IsStateOf : Option ℕ → ℕ → Type 0
 IsStateOf (Some states) n = n < states
 IsStateOf None n = n < state_limit
@@ -131,7 +131,7 @@ pub record IsRowKept (h : HeaderData) (row : RowData) : Type 0 where
   pub edges : AllByRecursion (IsEdgeKept h) row.edges
   pub labelled : LabelledBy row.label row.edges
 
--- the text may have one more edge, and the row may have one more edge with a label
+-- the text has fewer edges than the limit, and the next edge of the row may have a label
 abbrev MayBegin : ℕ → RowData → Type 0
 MayBegin before row = (edge_limit ≤ before + length row.edges → ⊥) × ((MayHaveLabel (labelling row) → ⊥) → ⊥)
 

@@ -1,6 +1,6 @@
 -- A parsed header has no flaw, at most 64 propositions, and aliases that use only earlier aliases.
--- - `keeps_header`: a header that was parsed has no flaw, few propositions, and aliases in order
--- - `sound_aliases`: the aliases of the header are sound
+-- - `keeps_header`: a parsed header has no flaw, at most 64 propositions, and aliases that use only earlier aliases
+-- - `sound_aliases`: each alias of the header uses only earlier aliases and propositions that exist
 use Rattle.std.proofs.Common.{◌≡◌, ℕ, ◌+◌, List, [], ◌∷◌, length, Some, refl, inl, inr, arith, rules}
 use Rattle.ps_label.specs.Expression.{Expression}
 use Rattle.ps_text.proofs.Simple.{none_is_some, same_some}

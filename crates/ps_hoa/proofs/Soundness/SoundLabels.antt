@@ -1,7 +1,7 @@
 -- A parsed label uses only propositions and aliases that exist.
 -- - `NamesBelow count e`: e uses only aliases with numbers below count
--- - `label_from`: if e uses no proposition that does not exist, e is sound
--- - `keeps_label`: each parsed label uses only what its scope has
+-- - `label_from`: a label e is sound if it uses only aliases and propositions that exist
+-- - `keeps_label`: each parsed label uses only aliases and propositions of its scope
 use Rattle.std.proofs.Common.{◌≡◌, ℕ, zero, suc, ◌<◌, ◌≤◌, Bool, List, [], ◌∷◌, ◌++◌, length, Some, refl, sym, subst}
 use Rattle.std.proofs.Common.{inl, inr, arith, rules}
 use Rattle.std.specs.List.{AllByRecursion}

@@ -69,7 +69,7 @@ returns-clause-part c =
     (reads_then (joint_marks h b l c.in_ok-state.state) c.in_ok-marks.ensures (reads_mapped (with_row b)
     ((edges_serve h c.edges-before.ensures.value same _).reads _ _ c.in_ok-edges.ensures))))))
 
--- the parsed row belongs to the parsed state, and keeps the limit on edges
+-- the parsed row belongs to the state whose number was parsed, and all edges so far are within the limit on edges
 row_of : (c : In_ok-edges) → IsRowOf c.edges-before.result c.in_ok-state.state (row_data c.edges.new.row)
 row_of c = edges_within (header_data c.args.header.now) c.edges-before.result c.in_ok-state.state _
     (refl, grind arith) c.in_ok-edges.ensures

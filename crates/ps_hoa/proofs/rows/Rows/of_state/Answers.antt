@@ -1,4 +1,4 @@
--- The row of a state is at the index that the table has for the state.
+-- The row of a state is at the index that the table of indices has for the state.
 use Rattle.std.proofs.Common.{arith}
 use Rattle.std.proofs.lemmas.Option.{slice_get-map}
 use Rattle.ps_hoa.proofs.Reading.RowTable.{row_at}
