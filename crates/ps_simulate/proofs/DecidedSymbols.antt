@@ -1,5 +1,5 @@
--- It is decidable whether a circuit has the inputs and outputs of a role, since only finitely many symbols and names
--- are compared.
+-- It is decidable whether a circuit has the inputs and outputs that its role (controller or environment) requires,
+-- since only finitely many symbols and names are compared.
 -- - `decide_all`, `decide_some`: it is decidable whether all, or some, numbers below a bound have a property
 -- - `symbols_decided`: the law `symbols_are_decided`
 use Rattle.std.proofs.Common.{◌≡◌, ℕ, zero, suc, ◌<◌, ◌⊎◌, inl, inr, Bool, List, [], length, Option, None}
@@ -67,7 +67,8 @@ module _ (names : List (List ℕ)) (controllable : List ℕ) (wanted : Bool) (sy
       (decide_both (decide_below (suc p) (length names))
       (decide_name (slice_index_or symbols k None) (slice_index_or names p [])))
 
-  -- for each proposition, it is decidable whether it is of another kind than the wanted one or some symbol names it
+  -- for each proposition, it is decidable whether it is not of the wanted kind (controllable or not), or some symbol
+  -- names it
   decide_each : (p : ℕ) →
       Decided (is_among p controllable ≡ wanted → (k : ℕ) × IsSymbol names symbols k p)
   decide_each p = decide_implied (decide_same (is_among p controllable) wanted)
@@ -75,7 +76,7 @@ module _ (names : List (List ℕ)) (controllable : List ℕ) (wanted : Bool) (sy
       (λ found. (found.0, within symbols found.0 (slice_index_or names p []) found.1.is, found.1))
       (decide_some (λ k. IsSymbol names symbols k p) (length symbols) (λ k. decide_symbol k p)))
 
-  -- it is decidable whether the symbol k names a proposition of the wanted kind
+  -- it is decidable whether the symbol k names a proposition of the wanted kind (controllable or not)
   decide_one_of : (k : ℕ) →
       Decided ((p : ℕ) × IsSymbol names symbols k p × (is_among p controllable ≡ wanted))
   decide_one_of k = decide_as (λ found. (found.0, found.2.0, found.2.1))

@@ -1,4 +1,5 @@
--- In a table for 256 runs at once, the bits of each run behave like the bits in the table of a single run.
+-- In a table of values for 256 runs at once, the bits of each run (its lane) behave like the bits in the table of a
+-- single run.
 use Rattle.std.proofs.Common.{◌≡◌, ℕ, ◌+◌, ◌/◌, ◌%◌, ◌<◌, ◌&&◌, ◌==◌, Bool, true, false, not, cond, List, []}
 use Rattle.std.proofs.Common.{◌∷◌, ◌++◌, map, take, drop, length, get_or, arith, rules}
 use Rattle.std.specs.Prelude.{◌^◌, replicate, slice_set, slice_get, Some}
@@ -37,7 +38,8 @@ bit_in-and a b lane lt la lb = search (rules, get_or-zip2, bit_at_and, both, bit
 pub bit_in-mask : (b : Bool) (lane : ℕ) → lane < 256 → lane_bit (replicate 4 (all_or_none b)) lane ≡ b
 bit_in-mask b lane lt = search (rules, get_or-replicate, mask_bit)
 
--- the exclusive or of a value's words with a mask negates the value in each lane if all bits of the mask are 1
+-- the exclusive or of a value's words with a mask negates the value in each lane if all bits of the mask are 1, and
+-- keeps it if all are 0
 bit_in-flipped : (a : List ℕ) (b : Bool) (lane : ℕ) → lane < 256 → length a ≡ 4
     → lane_bit (zip2 bit_xor a (replicate 4 (all_or_none b))) lane ≡ cond b (not (lane_bit a lane)) (lane_bit a lane)
 bit_in-flipped a b lane lt le =
@@ -60,7 +62,7 @@ pub bit_in-read : (values : List (List ℕ)) (wire : Wire) {m : ℕ} (lane : ℕ
     lane_bit (zip2 bit_xor (get_or values wire.place []) (replicate 4 m)) lane ≡ read (lane_of values lane) wire
 bit_in-read values wire lane lt place four e = search (rules, bit_in-flipped, get_or-map)
 
--- if one row is evaluated in all 256 lanes at once, it is evaluated in each single lane
+-- if one row of the plan is evaluated in all 256 lanes at once, it is evaluated in each single lane
 pub worked_on : (rows : List Row) (values initial : List (List ℕ)) (a b : List ℕ) (k lane : ℕ) → lane < 256 →
     k < length rows → length a ≡ 4 → length b ≡ 4 → lane_bit a lane ≡ read (lane_of values lane)
     (get_or rows k no_row).first → lane_bit b lane ≡ read (lane_of values lane) (get_or rows k no_row).second →
@@ -107,7 +109,7 @@ reset_on latches words {m} k lane lt room is grown before =
       map-append reset (take k latches) (get_or latches k no_latch ∷ []),
     )
 
--- the lanes of two tables agree at indices where their words agree
+-- if two tables have the same words at two indices, they have the same value there in each lane
 pub same_lane : (xs ys : List (List ℕ)) (p q lane : ℕ) → p < length xs → q < length ys → get_or xs p [] ≡ get_or ys q []
     → get_or (lane_of xs lane) p false ≡ get_or (lane_of ys lane) q false
 same_lane xs ys p q lane hp hq e = search (rules, get_or-map)

@@ -1,4 +1,4 @@
--- The plan of a circuit for 256 runs at once, which gives new indices to the values of the gates.
+-- The evaluation plan of a circuit for 256 runs at once, which gives new indices to the values of the gates.
 use Rattle.std.proofs.Common.{◌≡◌, ℕ, zero, suc, ◌+◌, ◌-◌, ◌/◌, ◌^◌, ◌⊎◌, ◌<◌, ◌≤◌, Bool, inl, inr, List, [], ◌∷◌, ◌++◌}
 use Rattle.std.proofs.Common.{map, take, drop, length, get_or, refl, ap, ◌∙◌, arith, All, rules}
 use Rattle.std.proofs.Common.{get_or-set_same, get_or-set_other}
@@ -38,7 +38,7 @@ module _ {c : CircuitData} (is : IsCircuit c) where
     abbrev pub front : ℕ
     front = 1 + length c.inputs + length c.latches
 
-    -- a plan has at most as many rows as the circuit has gates
+    -- an evaluation plan has at most as many rows as the circuit has gates
     pub few_rows : length rows ≤ length c.gates
     few_rows = grind (arith, few_below, slice_get-get_or, length-rows is are)
 
@@ -54,7 +54,8 @@ module _ {c : CircuitData} (is : IsCircuit c) where
         at : (k : ℕ) → k < length rows → (numbered_row rows k).target ≡ (get_or rows k d).target
         at k lt = ap (λ (r : Row). r.target) (get_or_default rows k no_row d lt)
 
-    -- each index of the table of values belongs to the constant, an input or a latch, or is the target of a row
+    -- each index of the table of values belongs to the constant, an input or a latch, or to the value that a row of the
+    -- plan computes
     whose : (p : ℕ) → p < length (variables c) →
         (p < front) ⊎ ((k : ℕ) × (k < length rows) × (p ≡ (numbered_row rows k).target))
     whose p lt = elim (cases_lt p front) [
@@ -87,7 +88,8 @@ module _ {c : CircuitData} (is : IsCircuit c) where
       pub AreMoved-rows : AreMoved (length (variables c)) front places
       AreMoved-rows = record { each = each; within = within_table; once = one_each; kept = kept }
 
-    -- the lemmas about a circuit's rows, stated for all rows and sizes that are equal to the circuit's
+    -- the lemmas about the rows of a circuit's plan, for rows and sizes that are only known to be equal to those of the
+    -- plan
     pub gate_rows_at : {size f : ℕ} {given : List Row} → size ≡ length (variables c) → f ≡ front → given ≡ rows →
         All (IsGateRow f size) given
     gate_rows_at size_is front_is e k d lt = search (rules, gate_rows)
@@ -128,7 +130,8 @@ rows_from-append : (place : ℕ) (gates : List Operands) (g : Operands) →
 rows_from-append place [] g = ap (λ n. row_of_operands n g ∷ []) (omega arith)
 rows_from-append place (h ∷ gates) g = grind (arith, rows_from-append (place + 1) gates g)
 
--- if the first k rows were renumbered, the list of gates can be extended by one more renumbered row
+-- if the list of gates stands for the first k rows with renumbered indices, it can be extended by the next row with
+-- renumbered indices
 pub rows_more : (rows : List Row) (places : List ℕ) (gates : List Operands) {more : List Operands}
     (first second front k : ℕ) → k < length rows → AreInOrder front places rows →
     wire_in first ≡ move_wire places (get_or rows k no_row).first →
@@ -149,7 +152,7 @@ rows_more rows places gates first second front k lt in_order at_first at_second 
       map-append (move_row places) (take k rows) (r ∷ []),
     )
 
--- the properties of a renumbering are kept when one more row gets its new index
+-- the properties of a renumbering of indices are kept when the value of one more row gets its new index
 module _ (rows : List Row) (places : List ℕ) (front : ℕ) {size : ℕ} (n : ℕ) {target : ℕ} (lt : n < length rows)
     (e : target ≡ (get_or rows n no_row).target) (gates : All (IsGateRow front size) rows) (many : length places ≡ size)
   where
@@ -192,7 +195,7 @@ pub gates_end : (front size : ℕ) (gates : List Operands) (rows : List Row) (pl
     rows_from front gates ≡ map (move_row places) rows → front + length rows ≤ size → front + length gates ≤ size
 gates_end front size gates rows places e fit = search (rules, length-rows_from, length-map)
 
--- after the last gate, all rows are evaluated
+-- after the loop over all gates, all rows of the plan are evaluated
 pub all_done : (front : ℕ) (gates : List Operands) (k : ℕ) → length gates ≤ k → (values initial : List Bool)
     → work_out (drop k (rows_from front gates)) values ≡ work_out (rows_from front gates) initial →
     values ≡ work_out (rows_from front gates) initial

@@ -41,7 +41,7 @@ module _ {c : CircuitData} {p : LanePlan} {values latches : List (List ℕ)} (t 
   pub size_is : p.size ≡ length (variables c)
   size_is = t.is_lane_plan.size_is ∙ t.is_lane_plan.is_plan.size_is
 
-  -- the table has one value for the constant and one for each input, latch and gate
+  -- the table of values has one value for the constant and one for each input, latch and gate
   pub room : p.size ≡ 1 + length c.inputs + length c.latches + length c.gates
   room = omega (arith, size_is, length-variables c)
 
@@ -75,7 +75,7 @@ module _ {c : CircuitData} {p : LanePlan} {values latches : List (List ℕ)} (t 
   pub nexts_many : length p.nexts.items ≡ length c.latches
   nexts_many = search (rules, length-map)
 
-  -- the gates have indices within the table
+  -- the values of the gates have indices within the table of values
   pub gates_fit : p.front + length p.gates.items ≤ p.size
   gates_fit = gates_end p.front p.size p.gates.items t.plan.rows.items t.places t.is_lane_plan.gates_are
       (grind (arith, few_rows, room))

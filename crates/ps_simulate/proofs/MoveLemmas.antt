@@ -1,4 +1,4 @@
--- Lemmas about evaluating rows in a table with renumbered indices.
+-- Lemmas about evaluating the rows of a plan in a table of values with renumbered indices.
 use Rattle.std.proofs.Common.{◌≡◌, ℕ, suc, ◌+◌, ◌<◌, ◌≤◌, Bool, false, not, cond, List, []}
 use Rattle.std.proofs.Common.{◌∷◌, map, length, get_or, refl, sym, ap, ap₂, ◌∙◌, arith, All, length-set, rules}
 use Rattle.std.specs.Prelude.{slice_set}
@@ -12,7 +12,7 @@ use Rattle.ps_simulate.specs.LanePlans.{moved, move_wire, move_row, unmoved, Are
 length-unmoved : (places : List ℕ) (values : List Bool) → length (unmoved places values) ≡ length places
 length-unmoved places values = length-map places (λ p. get_or values p false)
 
--- the value at an old index is the value that the table has at the new index
+-- the value at an old index is the value that the renumbered table has at the new index
 pub unmoved_at : (places : List ℕ) (values : List Bool) (p : ℕ) → p < length places →
     get_or (unmoved places values) p false ≡ get_or values (moved places p) false
 unmoved_at places values p lt = get_or-map (λ q. get_or values q false) places p 0 false lt
@@ -48,7 +48,7 @@ module _ {size front : ℕ} {places : List ℕ} (are : AreMoved size front place
       work_out-unmoved rows next (grind (arith, length-set)) (λ k d lt. within (suc k) d (omega arith))
       ∙ ap (work_out rows) (grind (arith, unmoved-set, read-unmoved))
 
-  -- evaluating the renumbered rows gives the same values as evaluating the original rows
+  -- evaluating rows with renumbered indices gives the same values as evaluating the original rows
   pub IsWorkedOut-unmoved : (rows : List Row) {moved_rows : List Row} {inputs latches values : List Bool} →
       moved_rows ≡ map (move_row places) rows → All (IsRowInTable size) rows
       → 1 + length inputs + length latches ≤ front → front ≤ size → IsWorkedOut moved_rows inputs latches size values →

@@ -1,4 +1,4 @@
--- A step need not evaluate the rows whose values are not needed.
+-- A step need not evaluate the rows of the plan whose values are not needed.
 use Rattle.std.proofs.Common.{◌≡◌, ◌≢◌, ℕ, suc, ◌<◌, ◌≤◌, ◌⊎◌, ◌&&◌, inl, inr, Bool, true, false, List, [], ◌∷◌, map}
 use Rattle.std.proofs.Common.{length}
 use Rattle.std.proofs.Common.{get_or, refl, sym, subst, ap, ap₂, ◌∙◌, arith, All, length-set, get_or-set_same}
@@ -33,7 +33,7 @@ needs_less needed q p n = elim (cases_eq p q) [
   | inr differ ↦ inl (sym (get_or-set_other needed q p true false differ) ∙ n)
 ]
 
--- the needed values, after the values that a row reads are added to them
+-- the list of needed values, in which the two values that a row reads are marked as well
 abbrev pub with_sides : List Bool → Row → List Bool
 with_sides needed r = slice_set (slice_set needed r.first.place true) r.second.place true
 

@@ -1,4 +1,4 @@
--- The indices of a circuit's variables.
+-- The indices of a circuit's variables in the table of values.
 use Rattle.std.proofs.Common.{◌≡◌, ◌≢◌, ℕ, zero, suc, ◌<◌, inl, inr, List, [], ◌∷◌, ◌++◌, map, length, get_or, refl}
 use Rattle.std.proofs.Common.{sym, arith, nat_eq, AllPairs, Contains, rules}
 use Rattle.std.specs.List.{flat_map}
@@ -20,7 +20,7 @@ module _ {c : CircuitData} (is : IsCircuit c) where
   many : length (map variable (definitions c)) ≡ length (definitions c)
   many = length-map (definitions c) variable
 
-  -- no variable has two indices
+  -- no variable is twice in the list of variables, so each has one index
   pub variables_once : AllPairs (λ v w. v ≢ w) (variables c)
   variables_once = search (rules, many, variables_at)
 
@@ -47,7 +47,7 @@ module _ {c : CircuitData} (is : IsCircuit c) where
       Contains (map f xs) (f (get_or xs i d))
   contains_mapped f xs i d lt = (i, omega (arith, length-map xs f), get_or-map f xs i d (f (get_or xs i d)) lt)
 
-  -- the variable of the literal that stands for a gate's own value is defined
+  -- the circuit defines the variable of the literal that stands for a gate's own value
   pub gate_known : (i : ℕ) (d : Gate) → i < length c.gates → IsKnown (definitions c) (get_or c.gates i d).literal
   gate_known i d lt = contains_variable _ (Contains-append_right (c.inputs ++ map (λ l. l.literal) c.latches) _ _
       (contains_mapped (λ g. g.literal) c.gates i d lt))
@@ -59,7 +59,7 @@ module _ {c : CircuitData} (is : IsCircuit c) where
   reads_contain (g ∷ gates) zero d lt = ((0, omega arith, refl), (1, omega arith, refl))
   reads_contain (g ∷ gates) (suc i) d lt = search (rules, Contains-append_right, reads_contain gates i d (omega arith))
 
-  -- for both literals that a gate reads, the variable is defined or 0
+  -- for both literals that a gate reads, the variable is 0 or the circuit defines it
   pub sides_known : (i : ℕ) (d : Gate) → i < length c.gates
       → IsKnown (definitions c) (get_or c.gates i d).first × IsKnown (definitions c) (get_or c.gates i d).second
   sides_known i d lt =

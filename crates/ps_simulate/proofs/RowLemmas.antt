@@ -1,4 +1,4 @@
--- The rows of a plan, one for each gate of a circuit.
+-- The rows of a circuit's evaluation plan, one for each gate.
 use Rattle.std.proofs.Common.{◌≡◌, ℕ, suc, ◌+◌, ◌<◌, List, ◌++◌, map, length, rules}
 use Rattle.std.proofs.Common.{get_or, sym, subst, ap, ◌∙◌, arith, Some, length-append}
 use Rattle.std.proofs.lemmas.List.{length-map, get_or-map, get_or_append_left, get_or-append-add}

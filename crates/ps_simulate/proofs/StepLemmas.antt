@@ -29,7 +29,7 @@ module _ {c : CircuitData} (is : IsCircuit c) {plan : Plan} (p : IsPlan c plan) 
   nexts_within = rw p.nexts_are (All-map (λ w. w.place < length (variables c)) (λ (l : Latch). wire_of c l.next)
       c.latches (grind (arith, All-from_get_or, place_known, next_known)))
 
--- what is read from the table for some literals are the values of these literals
+-- if the table of values has the right value for each of some literals, reading all of them gives their values in order
 reads : {A : Type 0} (literal : A → ℕ) (wire : A → Wire) (table values : List Bool) (xs : List A) (d : A)
     → ((k : ℕ) → k < length xs → read table (wire (get_or xs k d)) ≡ bit_of values (literal (get_or xs k d)))
     → map (read table) (map wire xs) ≡ map (λ x. bit_of values (literal x)) xs
@@ -37,8 +37,8 @@ reads literal wire table values [] d same = refl
 reads literal wire table values (x ∷ xs) d same =
     ap₂ ◌∷◌ (same 0 (omega arith)) (reads literal wire table values xs d (λ k lt. same (suc k) (omega arith)))
 
--- after the rows are evaluated, the outputs and latch values that are read from the table complete a step of the
--- circuit
+-- after the rows of the plan are evaluated, the outputs and next latch values that are read from the table complete a
+-- step of the circuit
 pub Steps-worked_out : {c : CircuitData} → IsCircuit c → {plan : Plan} → IsPlan c plan →
     {inputs latches values outputs next : List Bool} → length inputs ≡ length c.inputs →
     length latches ≡ length c.latches → IsWorkedOut plan.rows.items inputs latches (length (variables c)) values →

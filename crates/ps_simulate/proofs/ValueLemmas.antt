@@ -1,4 +1,4 @@
--- The relation between the values in a table, by index, and the values of the circuit, by variable.
+-- The relation between the values of a circuit in the table of values, by index, and in a list, by variable.
 use Rattle.std.proofs.Common.{◌≡◌, ℕ, suc, ◌+◌, ◌<◌, ◌&&◌, Bool, false, inl, inr, List, ◌∷◌, ◌++◌}
 use Rattle.std.proofs.Common.{map, length, get_or, sym, ap, subst, ◌∙◌, arith, length-append, rules}
 use Rattle.std.specs.Prelude.{replicate}
@@ -55,7 +55,7 @@ module _ {c : CircuitData} (is : IsCircuit c) where
   module _ {rows : List Row} (are : AreGateRows c rows) {inputs latches table : List Bool}
       (each : length table ≡ length (variables c)) (many_inputs : length inputs ≡ length c.inputs)
       (many_latches : length latches ≡ length c.latches) (holds : HasSources inputs latches table) where
-    -- evaluating the rows does not change the values of the constant, the inputs and the latches
+    -- evaluating the rows of the plan does not change the values of the constant, the inputs and the latches
     kept : (p : ℕ) → p < suc (length c.inputs + length c.latches) →
         get_or (work_out rows table) p false ≡ get_or table p false
     kept p lt = work_out-other rows table p (λ k less e. omega (arith, target_is is are k less))
@@ -106,7 +106,7 @@ module _ {c : CircuitData} (is : IsCircuit c) where
           bit_of-values_by all g.second sides.1,
         )
 
-    -- the table after the evaluation of the rows has the circuit's values
+    -- after the evaluation of the plan's rows, the table of values has the values of the circuit
     pub AreValues-work_out : AreValues c inputs latches (values_by c (work_out rows table))
     AreValues-work_out = record {
       each = length-map-range_with_len (λ v. get_or (work_out rows table) (place_of_variable c v) false) 0 (c.most + 1);

@@ -1,5 +1,5 @@
--- The plan for 256 simultaneous runs, which is the plan of a single run with renumbered indices. The new indices list
--- the gates in the order of evaluation.
+-- The evaluation plan for 256 simultaneous runs, which is the plan of a single run with renumbered indices. The new
+-- indices list the gates in the order of evaluation.
 use Rattle.std.specs.Prelude.{◌≡◌, ◌≢◌, ℕ, ◌+◌, ◌<◌, ◌≤◌, Bool, false, List, [], ◌∷◌, map, length, slice_index_or}
 use Rattle.ps_circuit.specs.Circuits.{CircuitData}
 use Rattle.ps_circuit.specs.Literals.{is_negated, variable}
@@ -10,7 +10,7 @@ use Rattle.ps_simulate.specs.declared.lane_plan.Operands.{Operands}
 use Rattle.ps_simulate.specs.declared.lane_plan.LanePlan.{LanePlan}
 use Rattle.ps_simulate.specs.Plans.{IsPlan}
 
--- the wire of a literal whose variable is an index into the table
+-- the stored form (`Wire`) of a literal whose variable is an index into the table of values
 abbrev pub wire_in : ℕ → Wire
 wire_in literal = record { place = variable literal; is_negated = is_negated literal }
 

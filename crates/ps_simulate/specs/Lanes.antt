@@ -25,7 +25,7 @@ pub record LaneSimulation : Type 0 where
   pub circuit : CircuitData
   pub latches : List (List ℕ)
 
--- in each lane, the values are those in the table of a single run, with renumbered indices
+-- in each lane, the table of values is that of a single run with renumbered indices
 pub record AreLaneTables (c : CircuitData) (p : LanePlan) (values latches : List (List ℕ)) : Type 0 where
   pub plan : Plan
   pub places : List ℕ

@@ -1,4 +1,4 @@
--- Why a lasso has no verdict.
+-- Why an automaton gives no verdict on a circuit that reads a stem once and then a lap repeatedly.
 -- - `IsLassoFault role a c stem lap fault`: this is the first fault, in the order `Width`, `EmptyLap`, `Symbols`
 use Rattle.std.specs.Prelude.{◌≡◌, ⊤, ◌<◌, Bool, List, [], length, All}
 use Rattle.ps_circuit.specs.Circuits.{CircuitData}

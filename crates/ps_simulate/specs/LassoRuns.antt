@@ -21,7 +21,7 @@ pub record ReadsWord (names : List (List ℕ)) (c : CircuitData) (from : List Bo
   pub are_letters : AreLetters names c trace letters
   pub new_is : new ≡ old ++ letters
 
--- the letters of a trace that ends at the first repetition
+-- the letters of a trace that ends at the first repetition of latch values
 pub record RepeatsBy (names : List (List ℕ)) (c : CircuitData) (stem lap : List (List Bool)) (i : ℕ)
     (letters : List ℕ) : Type 0 where
   pub j : ℕ

@@ -1,7 +1,11 @@
--- The verdict of an automaton on a circuit, a stem that is read once, and a lap that is read repeatedly.
--- - `IsLetterOf names c m letter`: each proposition has the bit of the input or output of its name in the step
--- - `RepeatsLatches c stem lap i j trace`: the first repetition: the latches before lap j are those before lap i
--- - `IsVerdictOf file c stem lap verdict`: whether the trace is accepted, as a lasso that returns to lap i
+-- The verdict of an automaton on a circuit that reads a stem once and then a lap repeatedly: whether the automaton
+-- accepts the circuit's trace.
+-- - `IsLetterOf names c m letter`: in the letter, each proposition has the bit that the input or output of its name has
+--   in the step m
+-- - `RepeatsLatches c stem lap i j trace`: the trace ends at the first repetition of latch values: those before lap j
+--   are those before lap i
+-- - `IsVerdictOf file c stem lap verdict`: the verdict tells whether the trace is accepted, with its letters since lap
+--   i repeated for ever
 use Rattle.std.specs.Prelude.{◌≡◌, ◌≢◌, ℕ, zero, suc, ◌+◌, ◌-◌, ◌*◌, ◌^◌, ◌<◌, ◌↔◌, Bool, false, IsTrue, List, [], ◌∷◌}
 use Rattle.std.specs.Prelude.{◌++◌, length, map, take, drop, slice_index_or}
 use Rattle.ps_label.specs.Truth.{is_in}

@@ -1,5 +1,5 @@
--- The gates that a step needs: a gate is needed if an output, a latch's next value or another needed gate reads it.
--- Gates that are not needed are not evaluated.
+-- The gates that a step needs: a gate is needed if an output, a latch's next value or another needed gate reads it. A
+-- single run evaluates only needed gates; 256 runs at once evaluate all gates.
 use Rattle.std.specs.Prelude.{◌≡◌, ℕ, ◌<◌, Bool, true, false, List, length, slice_index_or, All}
 use Rattle.std.specs.List.{filter}
 use Rattle.ps_simulate.specs.declared.plan.Wire.{Wire}

@@ -28,7 +28,7 @@ gate_row c g =
 abbrev pub no_gate : Gate
 no_gate = record { literal = 0; first = 0; second = 0 }
 
--- the row of the gate with index i
+-- the plan's row for the circuit's gate with the index i
 abbrev pub row_at : CircuitData → ℕ → Row
 row_at c i = gate_row c (slice_index_or c.gates i no_gate)
 
@@ -53,25 +53,25 @@ read values w = if w.is_negated then not (slice_index_or values w.place false) e
 abbrev pub work_row : List Bool → Row → List Bool
 work_row values row = slice_set values row.target (read values row.first && read values row.second)
 
--- the values after the rows are evaluated in order
+-- the table of values after the rows are evaluated in order
 abbrev pub work_out : List Row → List Bool → List Bool
 work_out [] values = values
 work_out (row ∷ rows) values = work_out rows (work_row values row)
 
--- the indices in the row are less than `size`, the length of the table
+-- the indices in the row are less than `size`, the length of the table of values
 pub record IsRowInTable (size : ℕ) (row : Row) : Type 0 where
   pub target : row.target < size
   pub first : row.first.place < size
   pub second : row.second.place < size
 
--- the values begin with the constant, the inputs and the latches
+-- the table of values begins with the constant, the inputs and the latches
 pub record HasSources (inputs latches values : List Bool) : Type 0 where
   pub constant : slice_index_or values 0 false ≡ false
   pub inputs_there : (k : ℕ) → k < length inputs → slice_index_or values (1 + k) false ≡ slice_index_or inputs k false
   pub latches_there : (k : ℕ) → k < length latches → slice_index_or values (1 + length inputs + k) false ≡
       slice_index_or latches k false
 
--- a table of the given size with the given inputs and latches, after the rows were evaluated
+-- a table of values of the given size with the given inputs and latches, after the rows were evaluated
 pub record IsWorkedOut (rows : List Row) (inputs latches : List Bool) (size : ℕ) (values : List Bool) : Type 0 where
   pub table : List Bool
   pub each : length table ≡ size

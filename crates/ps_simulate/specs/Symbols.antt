@@ -1,8 +1,11 @@
 -- The inputs and outputs of a circuit that carry the names of an automaton's propositions.
 -- - `IsSymbol names symbols k p`: symbol k is the name of proposition p
--- - `IsPropositionOf names controllable wanted symbol p`: p is the wanted kind's proposition that the symbol names
--- - `AreNamesOnce names controllable wanted symbols`: the symbols name all propositions of the wanted kind, once
--- - `HasSymbols role names controllable c`: the circuit has the inputs and outputs of its role
+-- - `IsPropositionOf names controllable wanted symbol p`: p is the proposition that the symbol names; it is
+--   controllable exactly if `wanted` is true
+-- - `AreNamesOnce names controllable wanted symbols`: the symbols name each proposition of the wanted kind
+--   (controllable or not) once, and nothing else
+-- - `HasSymbols role names controllable c`: the circuit has the inputs and outputs that its role (controller or
+--   environment) requires
 use Rattle.std.specs.Prelude.{◌≡◌, ℕ, ◌<◌, Bool, true, false, List, [], length, Option, None, Some, slice_index_or}
 use Rattle.ps_hoa.specs.Files.{is_among}
 use Rattle.ps_circuit.specs.Circuits.{CircuitData}

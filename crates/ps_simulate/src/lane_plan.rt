@@ -20,8 +20,8 @@ pub struct Operands {
 
 /// What a step evaluates in 256 runs at once: the gates, the outputs and the next values of the latches. The values of
 /// the gates are in the order of evaluation, so a gate needs only eight bytes, and a step writes its table from front
-/// to back. The table does not fit into the processor's fastest caches, so the time of a step depends on how much it
-/// reads from and writes to the table.
+/// to back. The table of a large circuit does not fit into the processor's fastest caches, so the time of a step
+/// depends on how much it reads from and writes to the table.
 #[derive(Drop)]
 pub struct LanePlan {
     /// The length of the table of values.
@@ -59,8 +59,8 @@ impl LanePlan {
     }
 }
 
-/// A renumbering of the indices of a table. The indices before the gates stay, and the gates get the following indices,
-/// in the order of their rows. Fails if out of memory.
+/// A renumbering of the indices of a table of values: the new index for each old one. The indices before the gates
+/// stay, and the gates get the following indices, in the order of their rows. Fails if out of memory.
 fn moved_places(
     alloc: Global,
     rows: &[Row],
@@ -93,7 +93,7 @@ fn places_up_to(alloc: Global, count: usize) -> Result<Vec<usize>, AllocError>
     Ok(places)
 }
 
-/// The literal of a wire, with the renumbered index of its variable.
+/// A wire as a literal: the literal's variable is the wire's renumbered index.
 fn literal(places: &[usize], wire: Wire) -> Literal
     requires places { All (λ p. p < 2 ^ 31) places.now }
     requires within { wire.place < length places.now }
@@ -107,7 +107,7 @@ fn literal(places: &[usize], wire: Wire) -> Literal
     }
 }
 
-/// The literals of some wires, with the renumbered indices of their variables. Fails if out of memory.
+/// Wires as literals: each literal's variable is the renumbered index of its wire. Fails if out of memory.
 fn literals(alloc: Global, places: &[usize], wires: &[Wire]) -> Result<Vec<Literal>, AllocError>
     requires places { All (λ p. p < 2 ^ 31) places.now }
     requires within { All (λ w. w.place < length places.now) wires.now }

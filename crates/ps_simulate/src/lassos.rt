@@ -36,7 +36,7 @@ pub struct Verdict {
     pub lap: usize,
 }
 
-/// Why a lasso has no verdict.
+/// Why an automaton gives no verdict on a circuit, a stem and a lap.
 #[derive(Clone, Copy, Debug, PartialEq, Eq, Error)]
 pub enum LassoFault {
     /// The length of a letter differs from the number of inputs.
@@ -45,7 +45,8 @@ pub enum LassoFault {
     /// The lap has no letters.
     #[error("the lap is empty")]
     EmptyLap,
-    /// The symbols of the inputs or of the outputs are not the names of the role's propositions, each exactly once.
+    /// The symbols of the inputs or of the outputs are not the names of the propositions that the circuit's role
+    /// requires, each exactly once.
     #[error("the symbols are not the names of the propositions")]
     Symbols,
     /// Out of memory.

@@ -22,7 +22,8 @@ pub fn lanes_are_plain_runs()
     circuit_has_one_values();
 }
 
-/// For a circuit with the inputs and outputs of a role, an automaton, a stem and a lap, there is at most one verdict.
+/// An automaton gives at most one verdict on a circuit, a stem and a lap, if the circuit has the inputs and outputs
+/// that its role (controller or environment) requires.
 pub fn verdict_is_one()
     ensures { (role : Role) (file : FileData) (c : CircuitData) (stem lap : List (List Bool)) → IsCircuit c →
         HasSymbols role file.names file.controllable c → HasOneVerdict file c stem lap }
@@ -30,7 +31,7 @@ pub fn verdict_is_one()
     circuit_has_one_values();
 }
 
-/// A circuit has the inputs and outputs of a role, or it does not.
+/// A circuit has the inputs and outputs that a role (controller or environment) requires, or it does not.
 pub fn symbols_are_decided()
     ensures { (role : Role) (names : List (List ℕ)) (controllable : List ℕ) (c : CircuitData) →
         HasSymbols role names controllable c ⊎ ¬ HasSymbols role names controllable c }

@@ -26,9 +26,10 @@
 //! | `stimulus_text_has_one_answer`, `stimulus_text_has_some_answer` | a text has exactly one answer |
 //!
 //! A step stores the values of the outputs, and sets each latch to the value of its next literal. Latches begin with
-//! their resets. A step allocates no memory, and takes time proportional to the number of gates. A lasso is run until a
-//! lap begins with the same latch values as an earlier lap, which may take as many laps as the latches have
-//! combinations of values. The combinations of latch values that were seen are in a search tree.
+//! their resets. A step allocates no memory, and takes time proportional to the number of inputs, latches, outputs and
+//! gates together. A lasso is run until a lap begins with the same latch values as an earlier lap, which may take as
+//! many laps as the latches have combinations of values. The combinations of latch values that were seen are in a
+//! search tree.
 #![tactic(auto)]
 
 mod fault;

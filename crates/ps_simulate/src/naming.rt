@@ -28,8 +28,8 @@ pub(crate) struct Naming<'a> {
 }
 
 impl<'a> Naming<'a> {
-    /// The naming of a circuit with the given role, or `None` if the circuit's symbols are not the names of the role's
-    /// propositions. Fails if out of memory.
+    /// The naming of a circuit with the given role, or `None` if the circuit's symbols are not the names of the
+    /// propositions that the role requires. Fails if out of memory.
     pub fn new(
         alloc: Global,
         circuit: &Circuit,
@@ -104,7 +104,7 @@ fn places_of(
 }
 
 /// Stores the index of each symbol at the proposition that it names. The result is `None` if a symbol does not name a
-/// proposition of the wanted kind, or if two symbols name the same proposition.
+/// proposition of the wanted kind (controllable or not), or if two symbols name the same proposition.
 fn put_places(
     alloc: Global,
     names: &[Vec<u8>],
@@ -131,7 +131,8 @@ fn put_places(
     Ok(Some(places))
 }
 
-/// Whether each controllable proposition has an index (or each that is not controllable, if `wanted` is false).
+/// Whether each controllable proposition has an index or, if `wanted` is false, each proposition that is not
+/// controllable.
 fn is_full(controllable: &[u32], wanted: bool, places: &[Option<usize>]) -> bool
     ensures full { result ≡ true → (p : ℕ) → p < length places.now → is_among p controllable.now ≡ wanted →
         slice_index_or places.now p None ≢ None }

@@ -36,7 +36,7 @@ fn needed_places(alloc: Global, plan: &Plan) -> Result<Vec<bool>, AllocError>
     Ok(needed)
 }
 
-/// Marks as needed the values that the given wires read.
+/// Marks as needed the values of the given wires (literals).
 fn need_each(wires: &[Wire], needed: &mut [bool])
     requires within { All (λ w. w.place < length needed.old) wires.now }
     ensures needed { All (NeedsWire needed.new) wires.now }
@@ -47,7 +47,7 @@ fn need_each(wires: &[Wire], needed: &mut [bool])
     }
 }
 
-/// Marks as needed the values that needed rows read, from the last row to the first.
+/// Marks as needed the values that the needed rows of the plan read, from the last row to the first.
 fn need_what_is_read(rows: &[Row], needed: &mut [bool])
     requires within { All (IsRowInTable (length needed.old)) rows.now }
     requires scheduled { IsScheduled rows.now }

@@ -1,4 +1,5 @@
--- At most one letter belongs to a step of a circuit.
+-- At most one letter of an automaton belongs to a step of a circuit whose inputs and outputs have the names of the
+-- propositions.
 use Rattle.std.proofs.Common.{◌≡◌, ◌∙◌, ℕ, ◌⊎◌, inl, inr, Bool, List, [], ◌∷◌, length, sym, rules}
 use Rattle.std.specs.Int.{bit_at}
 use Rattle.std.proofs.lemmas.Nat.Bits.{same_from_bits_below, bit_at-lt}
@@ -10,7 +11,7 @@ use Rattle.ps_simulate.specs.Symbols.{HasSymbols, reads_controllable, sets_contr
 use Rattle.ps_simulate.specs.Lassos.{IsLetterOf, AreLetters}
 use Rattle.ps_automaton.proofs.Bits.{same_bit}
 
--- each proposition belongs to the inputs or to the outputs of a role
+-- both for a controller and for an environment, each proposition belongs to the inputs or to the outputs
 pub side : (role : Role) (b : Bool) → (b ≡ reads_controllable role) ⊎ (b ≡ sets_controllable role)
 side role b = search rules
 

@@ -1,4 +1,4 @@
--- A circuit with unique values has exactly one trace for given letters.
+-- From given latch values and on given inputs, a circuit with unique values has at most one trace.
 use Rattle.std.proofs.Common.{◌≡◌, ◌∙◌, ℕ, suc, ◌<◌, Bool, List, [], ◌∷◌, map, length, get_or, refl, sym, ap₂, arith}
 use Rattle.ps_circuit.specs.Circuits.{CircuitData, IsCircuit}
 use Rattle.ps_circuit.specs.declared.parts.Latch.{Latch}

@@ -1,4 +1,4 @@
--- For an automaton, a circuit, a stem and a lap, there is at most one verdict.
+-- An automaton gives at most one verdict (`IsVerdictOf`) on a circuit that reads a stem once and then a lap repeatedly.
 use Rattle.std.proofs.Common.{◌≡◌, ◌∙◌, ℕ, zero, suc, ◌<◌, ◌≤◌, inl, inr, Bool, List, [], ◌∷◌, ◌++◌, map, get_or}
 use Rattle.std.proofs.Common.{length, refl, sym, ap, arith, rules, append_assoc}
 use Rattle.std.specs.Prelude.{◌↔◌, IsTrue}
@@ -31,7 +31,8 @@ module _ {c : CircuitData} (is_circuit : IsCircuit c) (one : HasOneValues c) whe
   Behind ms last ns last' more =
       (rest : List Moment) × (ns ≡ ms ++ rest) × GoesOn c last rest last' × (map (λ m. m.inputs) rest ≡ more)
 
-  -- a trace whose letters begin with those of another trace begins with that trace
+  -- if two traces start with the same latch values, and the inputs of one trace begin with those of the other, the one
+  -- trace begins with the other
   goes_behind : (latches last last' : List Bool) (ms ns : List Moment) (more : List (List Bool)) →
       GoesOn c latches ms last → GoesOn c latches ns last'
       → map (λ m. m.inputs) ns ≡ map (λ m. m.inputs) ms ++ more → Behind ms last ns last' more

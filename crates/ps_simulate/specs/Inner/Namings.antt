@@ -16,7 +16,8 @@ pub record ArePut (names : List (List ℕ)) (controllable : List ℕ) (wanted : 
   pub is : (p k : ℕ) → slice_index_or places p None ≡ Some k → IsSymbol names symbols k p
   pub side : (p k : ℕ) → slice_index_or places p None ≡ Some k → is_among p controllable ≡ wanted
 
--- a proposition has the index of the symbol that names it, and only propositions of the wanted kind have an index
+-- a proposition has the index of the symbol that names it, and only propositions of the wanted kind (controllable or
+-- not) have an index
 pub record ArePlacesOf (names : List (List ℕ)) (controllable : List ℕ) (wanted : Bool)
     (symbols : List (Option (List ℕ))) (places : List (Option ℕ)) : Type 0 where
   pub size : length places ≡ length names
@@ -27,7 +28,8 @@ pub record ArePlacesOf (names : List (List ℕ)) (controllable : List ℕ) (want
 abbrev pub names_of : Naming → List (List ℕ)
 names_of naming = map bytes_of naming.names.now
 
--- the naming belongs to the circuit, and no input has the name of an output
+-- the naming has the index of each input and output of the circuit at the proposition of its name, and no input has the
+-- name of an output
 pub record IsNaming (c : CircuitData) (naming : Naming) : Type 0 where
   pub few : length naming.names.now ≤ 64
   pub inputs_size : length naming.inputs.items ≡ length naming.names.now

@@ -9,7 +9,7 @@ use Rattle.ps_simulate.proofs.LaneStepLemmas.{IsValueTable-lane}
 use Rattle.ps_simulate.proofs.lanes.LaneSimulator.step_lanes.Goals as goal
 use Rattle.ps_simulate.proofs.lanes.LaneSimulator.step_lanes.Goals.{After-fill_words, After-read_words-2}
 
--- what the table of values holds after the gates are evaluated
+-- after the call of `fill_words`, the simulator's table of values consists of the values that the call wrote
 table_is : (c : After-fill_words) → take c.self.inside.values.len
     (c.fill_words.new.values ++ drop (length c.fill_words.new.values) c.self.inside.values.items) ≡
     c.fill_words.new.values

@@ -6,7 +6,7 @@ use Rattle.ps_simulate.proofs.NeededLemmas.{Steps-cut}
 use Rattle.ps_simulate.proofs.simulator.Simulator.step.Goals as goal
 use Rattle.ps_simulate.proofs.simulator.Simulator.step.Goals.{After-fill, After-read_all-2}
 
--- what the table of values holds after the rows are evaluated
+-- after the call of `fill`, the simulator's table of values consists of the values that the call wrote
 table_is : (c : After-fill) → take c.self.inside.values.len (c.fill.new.values ++
     drop (length c.fill.new.values) c.self.inside.values.items) ≡ c.fill.new.values
 table_is c = take_at c.fill.new.values _ _ (omega (arith, c.fill.auto.values, c.deref_mut.ensures.len))
