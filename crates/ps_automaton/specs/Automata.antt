@@ -1,7 +1,7 @@
 -- The definitions by which contracts describe an `Automaton`, the result of `Automaton::build`. The automaton's steps
 -- are in decision diagrams, one for each state and one for the sink.
 -- - `step_of a q letter`: the step from the state q (or from the sink) by the letter
--- - `auto_of a`: the automaton as functions
+-- - `auto_of a`: the automaton as an `Auto`, whose functions give the next state and the priority of each step
 -- - `IsBuiltFrom file chain a`: a is the automaton of the file, whose acceptance condition is the chain
 use Rattle.std.specs.Prelude.{◌≡◌, ℕ, ◌+◌, ◌<◌, ◌≤◌, List, length, Some, IsSomeAnd, slice_index, slice_index_or}
 use Rattle.std.specs.Option.{unwrap_or}

@@ -124,8 +124,8 @@ abbrev pub raised : Bool → ℕ → ℕ
 raised true next = if is_even next then next else next + 1
 raised false next = if is_even next then next + 1 else next
 
--- the priority that a chain's first link gives, or its base if there is no link; priorities are computed from the end
--- of the chain
+-- the priority that a chain's first link gives or, if there is no link, that its base gives; priorities are computed
+-- from the end of the chain
 abbrev pub first_number : Bool → List ChainLink → ℕ
 first_number base [] = base_number base
 first_number base (link ∷ links) = raised link.accepts (first_number base links)
