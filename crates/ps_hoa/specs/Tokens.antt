@@ -117,7 +117,7 @@ IsToken OpenComment text rest = IsUnclosedComment text rest
 IsToken Odd text rest = IsOdd text rest
 IsToken kind text rest = IsLongestToken kind text rest
 
--- one token after blanks, and the rest after the token
+-- the bytes consist of blanks, the token `piece`, and the bytes `rest` after the token
 pub record IsNext (at : ℕ) (bytes : List ℕ) (piece : Piece Sign) (rest : List ℕ) : Type 0 where
   pub blanks : List ℕ
   pub split : bytes ≡ blanks ++ (piece.sign.text ++ rest)

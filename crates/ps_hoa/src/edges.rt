@@ -149,7 +149,7 @@ fn plain_edge(
     Ok(())
 }
 
-/// The guard of a state's next edge, which tells at which letters the edge is taken, if this edge has no label.
+/// The guard of a state's next edge if this edge has no label. A guard tells at which letters its edge is taken.
 fn plain_guard(row: &Row) -> Guard
     ensures { guard_data result ≡ parts.plain_guard (row_data row.now) }
 {

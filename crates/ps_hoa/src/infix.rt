@@ -70,7 +70,7 @@ pub(crate) fn read<G: Infix>(
     row(alloc, tokens, grammar, NESTING_LIMIT, Connective::Or)
 }
 
-/// Parses operands that are separated by the given connective or by a tighter one. In them, `!` and `(` may be nested
+/// Parses operands that are separated by the given connective and by tighter ones. In them, `!` and `(` may be nested
 /// up to the depth `room`.
 #[cycle(infix)]
 fn row<G: Infix>(

@@ -20,8 +20,9 @@
 //!
 //! The invariant of `HoaFile` is `IsSoundFile`, so every `HoaFile` is sound. A text has at most 16,777,216 bytes,
 //! 65,535 states, 1,048,576 edges, 64 propositions, 64 sets and 4,096 aliases, and `!` and `(` are nested at most 256
-//! deep. These limits on HOA texts are psyn's own. A text that exceeds a limit is rejected with the cause `Limit`.
-//! Parsing takes time proportional to the length of the text, except that aliases and states are looked up in trees.
+//! deep. These limits on HOA texts are psyn's own. A text that exceeds a limit is rejected with the cause `Limit`,
+//! unless another error in it comes first. Parsing takes time proportional to the length of the text, except that
+//! aliases and states are looked up in trees.
 #![tactic(auto)]
 
 mod assembly;

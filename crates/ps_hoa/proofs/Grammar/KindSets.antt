@@ -122,7 +122,7 @@ module _ {V : Type 0} {take : Sign → Option V} {Bad : Sign → HoaCause → Ty
   pub laws_value : ((t : Sign) (f : HoaCause) → Bad t f → take t ≡ None → ⊥) → Tight (one take Bad) p
   laws_value bad = laws_sign (λ t h. has_kind p take are t (bad t h.0 h.1))
 
--- a token that begins an optional grammar P or the grammar Q after it begins both together
+-- a token begins an optional part P followed by Q if it begins P, or if it begins Q
 pub laws_behind_option : {A V : Type 0} {P : Part Sign A HoaCause} {Q : A → Part Sign V HoaCause} {Null : Type 0}
     (p q m : Kind → Bool) → Known P p p (Unit {0}) → ((a : A) → Known (Q a) q m Null) → Each (beside p q) →
     Each (inside p m) → Known (then_by P Q) (union p q) m Null

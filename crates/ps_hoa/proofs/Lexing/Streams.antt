@@ -124,7 +124,7 @@ module _ (source : List ℕ) (l : Lexeme) (history : History) (h : IsLexeme sour
             grind (arith, pieces_none r done, finish_here r l.kind (l.stop - l.start) done h.token)
       ])
 
--- the state of the tokenizer, given the token that it stores
+-- the tokenizer stores the next token; its abstract state has the offset of this token
 module _ {source : List ℕ} {history : History} {kind : Kind} {token : Token} (k : IsOwnKind source history kind token)
     {r : ScanState}
     (at : (let now : ScanState = record { source = source; at = token.start; history = history } in now) ≡ r)

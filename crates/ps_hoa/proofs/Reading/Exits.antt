@@ -10,10 +10,11 @@
 -- - `under`: a part whose value is mapped leads to the part itself
 -- - `instead`: if each result of P is also a result of Q, then Q leads to what P leads to
 -- - `exit`: at a `?`: the function returns the error that was found
--- - `entered`: a token that begins the first of two parts begins both
+-- - `entered`: a token that begins the first of two parts in a row begins both together
 -- - `value_is`: the parsed part has this value
 -- - `Loop item`: the laws of the items of a loop
--- - `loop_more`, `loop_fails`, `loop_ends`, `loop_shrinks`: the loop after one more item, at a wrong item, at its end
+-- - `loop_more`, `loop_fails`, `loop_ends`, `loop_shrinks`: the loop goes on after an item, stops at an item with an
+--   error, ends; each item leaves fewer tokens
 use Rattle.std.proofs.Common.{arith, ◌≡◌, ◌<◌, length, Option, Result, IsErrAnd}
 use Rattle.ps_text.specs.Answers.{Stream, Found, next_of as there_of}
 use Rattle.ps_text.specs.Parts.{Part, then_by, mapped, many}

@@ -101,7 +101,7 @@ module _ {V : Type 0} (g : InfixGrammar V) (is : IsLeaf g.leaf) where
   bar_read old other = reads_barred (λ _. IsTooDeep g.negated) (laws_give Odd tt) (nothing_apart _) (λ t f e b.
       false_true (sym other ∙ ap (λ (s : Sign). holds g.negated s.kind) (next_same old t e) ∙ b.0)) (reads_give old tt)
 
-  -- if the next token begins no operand that contains another one, an operand is parsed as a leaf of the grammar
+  -- if the next token begins no operand that contains another one, parsing a leaf of the grammar is parsing an operand
   pub leaf_serves : (room : ℕ) (old : Stream Sign) {p : Piece Sign} → p ≡ next_of old →
       holds g.negated p.sign.kind ≡ false → Serves old g.leaf (operand g room)
   unfolding operand
