@@ -27,13 +27,13 @@ stands_or_not xs j = decide_as (λ c. (c.0, c.1, get_or_default xs c.0 0 j c.1 �
 
 module _ (R : ℕ → ℕ → Type 0) (n : ℕ) (to_within : (i j : ℕ) → R i j → j < n) (decide : (i j : ℕ) → Decided (R i j))
     (acyclic : (i : ℕ) → Way R i i → ⊥) where
-  -- distinct numbers below n, each of which comes after all numbers to which it is related
+  -- a list of distinct numbers below n, each of which comes after all numbers to which it is related
   record IsPart (xs : List ℕ) : Type 0 where
     below : (k : ℕ) → k < length xs → get_or xs k 0 < n
     once : (k l : ℕ) → k < l → l < length xs → get_or xs k 0 ≢ get_or xs l 0
     behind : (k j : ℕ) → k < length xs → R (get_or xs k 0) j → (l : ℕ) × (l < k) × (get_or xs l 0 ≡ j)
 
-  -- a list that keeps the numbers of the list `old`, and has all numbers with the property P
+  -- an ordered list that has the numbers of the list `old`, and all numbers with the property P
   record Grown (old : List ℕ) (P : ℕ → Type 0) : Type 0 where
     new : List ℕ
     is_part : IsPart new
@@ -44,7 +44,8 @@ module _ (R : ℕ → ℕ → Type 0) (n : ℕ) (to_within : (i j : ℕ) → R i
       IsPart (xs ++ i ∷ [])
   push {xs} i is lt absent sides = search (rules, at_push, get_or_append_left)
 
-  -- a list can be extended by all numbers below m with a property, if it can be extended by each such number alone
+  -- if an ordered list can be extended by each single number with a property, it can be extended by all such numbers
+  -- below m
   each_below : (P : ℕ → Type 0) → ((j : ℕ) → Decided (P j)) →
       ((j : ℕ) → P j → (xs : List ℕ) → IsPart xs → Grown xs (λ k. j ≡ k))
       → (m : ℕ) (xs : List ℕ) → IsPart xs → Grown xs (λ k. (k < m) × P k)

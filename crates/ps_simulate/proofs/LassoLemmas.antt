@@ -107,7 +107,7 @@ seam [] ys d (suc t) le e = absurd (omega arith)
 seam (z ∷ zs) ys d zero le e = refl
 seam (z ∷ zs) {x} {y} ys d (suc t) le e = seam zs ys d t (omega arith) e
 
--- extending a trace does not change the latch values before its earlier steps
+-- extending a trace by further steps does not change the latch values before its own steps and after them
 pub along_more : (c : CircuitData) (trace ms : List Moment) (last to : List Bool) (t : ℕ) → GoesOn c last ms to →
     t ≤ length trace → get_or (latches_along (trace ++ ms) to) t [] ≡ get_or (latches_along trace last) t []
 along_more c trace [] last to t on le = search (rules, append-nil)
@@ -132,7 +132,7 @@ pub HasRead-start : {names : List (List ℕ)} {c : CircuitData} {stem : List (Li
     ReadsWord names c from stem old letters last → HasRead names c stem lap [] letters last
 HasRead-start {names} {c} {stem} lap {last} none same h = search (rules, append-nil)
 
--- one more lap
+-- what the circuit has read so far, after one more lap
 pub HasRead-lap : {names : List (List ℕ)} {c : CircuitData} {stem lap seen : List (List Bool)} {old new : List ℕ}
     {from last : List Bool} → HasRead names c stem lap seen old from →
     ReadsWord names c from lap old new last → length from ≡ length c.latches →

@@ -48,7 +48,7 @@ pub letter_within : (place count width : ℕ) {size : ℕ} → place < count →
     place * width + width ≤ size
 letter_within place count width lt is = search (rules, mul-le-mul_right)
 
--- if the current line has a first error, this is the first error of the text
+-- in a text without a divider, the first error of the current line is the first error of the text
 pub IsLettersAnswer-line : {text : List ℕ} {width start end : ℕ} {s : StimulusData} →
     HasRead text width false false start s → {line : List ℕ}
     → lines_of (drop start text) ≡ line ∷ lines_of (drop (end + 1) text) → start + length line ≡ end →

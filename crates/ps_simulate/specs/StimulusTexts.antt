@@ -1,10 +1,11 @@
 -- The text of a stimulus has a line of digits for each letter, with one digit for each input. If stem and lap are
--- separated, there is one line `-` between them.
+-- separated, there is one line `-`, the divider, between them.
 -- - `lines_of text, start_of lines k`: the lines without their newlines; the offset of the first byte of line k
--- - `IsStimulus text width split s`: the lines spell the letters
+-- - `IsStimulus text width split s`: the lines of the text spell the letters of the stimulus s
 -- - `IsErrorAt text width split cause offset`: there is an error with this cause at this offset
 -- - `IsFirstError S cause offset`: the first of the errors in S; at one offset, `Stimulus` precedes `Width`
--- - `ReadsStimulus text width split answer`: the stimulus of a text without an error, and otherwise the first error
+-- - `ReadsStimulus text width split answer`: the answer is the stimulus that the text spells, or the first error in the
+--   text
 use Rattle.std.specs.Prelude.{◌≡◌, ◌≢◌, ℕ, ◌+◌, ◌<◌, ◌≤◌, ◌⊎◌, ◌==◌, Bool, true, false, if◌then◌else◌, List, [], ◌∷◌}
 use Rattle.std.specs.Prelude.{◌++◌, length, map, take, slice_get, sum_by, All, Some, Result, Ok, Err}
 use Rattle.ps_text.specs.Answers.{Found}
@@ -62,7 +63,7 @@ pub record IsStimulus (text : List ℕ) (width : ℕ) (split : Bool) (s : Stimul
 abbrev pub IsDigit : ℕ → Type 0
 IsDigit byte = (byte ≡ 48) ⊎ (byte ≡ 49)
 
--- a divider is required, and line k is the first divider
+-- a divider is required, and line k is the first line `-`
 pub record Divides (split : Bool) (lines : List (List ℕ)) (k : ℕ) : Type 0 where
   pub wanted : split ≡ true
   pub there : slice_get lines k ≡ Some divider
@@ -86,7 +87,7 @@ pub record StandsInLetter (text : List ℕ) (width : ℕ) (split : Bool) (cause 
   pub is_letter : IsLetterLine split (lines_of text) k line
   pub in_line : StandsInLine line (start_of (lines_of text) k) width cause offset
 
--- a divider is required, but no line is a divider
+-- a divider is required, but no line is `-`
 pub record MissesDivider (text : List ℕ) (split : Bool) (cause : StimulusCause) (offset : ℕ) : Type 0 where
   pub wanted : split ≡ true
   pub none : (k : ℕ) → slice_get (lines_of text) k ≢ Some divider

@@ -175,7 +175,7 @@ pub letters_of-push : (letters : List (Vec Bool Global)) (letter : Vec Bool Glob
     letters_of (letters ++ letter ∷ []) ≡ letters_of letters ++ letter.items ∷ []
 letters_of-push letters letter = map_push (λ (l : Vec Bool Global). l.items) letters letter
 
--- if the current line has a first error, this is the first error of the text
+-- if the current line is not the required divider, the error that parsing it returns is the right answer to the text
 pub IsStimulusAnswer-line : {text : List ℕ} {width : ℕ} {split in_lap : Bool} {start end : ℕ} {s : StimulusData} →
     HasRead text width split in_lap start s → {line : List ℕ}
     → lines_of (drop start text) ≡ line ∷ lines_of (drop (end + 1) text) → start + length line ≡ end →

@@ -43,7 +43,8 @@ module _ {c : CircuitData} (is : IsCircuit c) {order : List ℕ}
       (sym (grind (arith, get_or-map)) ∙ ap (λ bits. get_or bits k false) (a.latches_are ∙ sym b.latches_are)
       ∙ get_or-map (λ (l : Latch). bit_of others l.literal) c.latches k no_latch false lt)
 
-  -- two lists of values agree at a variable that is 0 or defined, if they agree at the gate that may define it
+  -- two lists of values agree at a variable that is 0 or defined, if they agree at it in the case that a gate defines
+  -- it
   side_same : (literal : ℕ) → IsKnown (definitions c) literal
       → ((i : ℕ) → i < length c.gates → variable literal ≡ variable (get_or c.gates i no_gate).literal →
       Same (variable literal)) → Same (variable literal)
@@ -69,7 +70,7 @@ module _ {c : CircuitData} (is : IsCircuit c) {order : List ℕ}
           let there : length c.inputs + length c.latches + i ≡ k = omega arith in
           gate i less (sym (ap variable (grind (arith, definitions_gate)) ∙ same)))
 
-  -- two lists of values agree at each gate whose position in the order is below n
+  -- two lists of values agree at each gate whose position in the order of evaluation is below n
   gates_same : (n i : ℕ) (less : i < length c.gates) → (is_order.each i less).0 < n →
       Same (variable (get_or c.gates i no_gate).literal)
   gates_same zero i less lt = absurd (omega arith)
