@@ -1,5 +1,5 @@
--- Once the worklist of an attractor computation is processed, the vertices of the subgame without the level `aim.free`
--- are the attractor.
+-- Once the worklist of an attractor computation is processed, the attractor consists of the vertices of the subgame
+-- without the level `aim.free`, which marks unattracted vertices.
 use Rattle.std.proofs.Common.{◌≡◌, ◌≢◌, ℕ, ◌+◌, ◌-◌, ◌<◌, ◌≤◌, ◌⊎◌, inl, inr, Bool, IsTrue, length, get_or, drop, rules}
 use Rattle.std.proofs.Common.{sym, ◌∙◌, arith}
 use Rattle.std.proofs.lemmas.Bool.{cases_eq, cases_lt}

@@ -73,7 +73,7 @@ first_place_more trail places count k within size low so_far v i after inside is
 pub in_or_not : (region : List Bool) (v : ℕ) → IsTrue (has region v) ⊎ (has region v ≡ false)
 in_or_not region v = search rules
 
--- the tables hold a computed attractor, and the region is read from the tables
+-- the tables record a computed attractor, and the set `region` has exactly the vertices with the level `PLACED`
 record Answer (game : ParityGame) (player : ℕ) (subgame target : List Bool) (new : TablesData)
     (region : List Bool) : Type 0 where
   is_subgame : IsSubgame game (has subgame)
@@ -111,11 +111,11 @@ laid_posed {game = game} player {target = target} is_subgame target_within laid 
 
 module _ {game : ParityGame} {player : ℕ} {subgame target : List Bool} {new : TablesData} {region : List Bool}
     (answer : Answer game player subgame target new region) where
-  -- each number in the region is a vertex
+  -- each number in the set `region` is a vertex of the game
   region_vertex : (v : ℕ) → IsTrue (has region v) → v < vertex_count game
   region_vertex v inside = search (rules, cases_lt, false≢true)
 
-  -- each vertex of the resulting region is in the worklist and in the subgame
+  -- each vertex of the set `region` is in the worklist and in the subgame
   stands_inside : (v : ℕ) → IsTrue (has region v) → StandsFrom new 0 v × IsTrue (has subgame v)
   stands_inside v inside =
       let made = answer.made in
@@ -155,7 +155,7 @@ module _ {game : ParityGame} {player : ℕ} {subgame target : List Bool} {new : 
         other = λ v w inside outside others leads. down v w inside (falls.other v w inside outside others leads);
       }
 
-  -- only the player's vertices of the region outside the target have a move
+  -- a vertex has a move only if it belongs to the player and is in the set `region`, but not in the target
   only_moves : {moves : List (Option ℕ)} → AreMovesTo game new player target (vertex_count game) moves →
       (v : ℕ) → IsSome (move_at moves v) → IsTrue (has region v) × (owner_of game v ≡ player) × (has target v ≡ false)
   only_moves {moves = moves} given v some =
@@ -175,7 +175,8 @@ module _ {game : ParityGame} {player : ℕ} {subgame target : List Bool} {new : 
         ]
       ]
 
--- the result that is read from the tables of an attractor is the attractor
+-- if the tables record a computed attractor, the region, the moves and the ranks that are read from them are those of
+-- the attractor
 pub attractor_of : {game : ParityGame} {player : ℕ} {subgame target : List Bool} {new : TablesData} {a : Attracted} →
     IsSubgame game (has subgame) → IsWithin (has target) (has subgame) →
     AreAttracted game player subgame target new → IsReadOff game new player target a →

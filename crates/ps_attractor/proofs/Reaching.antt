@@ -14,13 +14,15 @@ use Rattle.ps_attractor.specs.Steps.{Reaching, From, FromSource, with_placed}
 use Rattle.ps_attractor.proofs.Placing.{Places, trail_before, trail_last, trail_length, not_it, still_free, grown_on}
 use Rattle.ps_attractor.proofs.Placing.{leads_back_on, stands_after, stands_longer}
 
--- if P implies Q, `CanGoOn` for the unexamined edges given by P implies `CanGoOn` for those given by Q
+-- P and Q state which edges are unexamined, and P implies Q: if `CanGoOn` (v has an unattracted successor or an
+-- unexamined edge) holds for P, it holds for Q
 can_map : {game : ParityGame} {aim : Aim} {new : TablesData} {P Q : ℕ → ℕ → Type 0} {v : ℕ} →
     ((j : ℕ) → aim.begin ≤ j → j < length new.trail → HasEdge game v (get_or new.trail j 0) → P v j → Q v j) →
     CanGoOn game aim new P v → CanGoOn game aim new Q v
 can_map map can = search rules
 
--- the invariant `Reaching` for P implies the invariant for Q, if P implies Q for every edge of an unattracted vertex
+-- if P implies Q for every edge of an unattracted vertex, the loop's invariant `Reaching` still holds when Q, instead
+-- of P, states which edges may be unexamined
 reaching_map : {game : ParityGame} {aim : Aim} {old new : TablesData} (P Q : ℕ → ℕ → Type 0) →
     ((v j : ℕ) → level_of new v ≡ aim.free → aim.begin ≤ j → j < length new.trail →
     HasEdge game v (get_or new.trail j 0) → P v j → Q v j) →
@@ -62,7 +64,7 @@ reaching_leave list k n all so_far =
 -- examining the edge from the predecessor at index n of a vertex's list of predecessors
 module _ {game : ParityGame} {aim : Aim} {old mid : TablesData} (list : List ℕ) (k n : ℕ) {u : ℕ}
     (at : get_or list n 0 ≡ u) (so_far : Reaching game aim old mid (FromSource k list n)) where
-  -- an unexamined edge from another vertex stays unexamined
+  -- when the edge from the vertex u is examined, the unexamined edges from all other vertices stay unexamined
   pending_on : (v j : ℕ) → v ≢ u → FromSource k list n v j → FromSource k list (n + 1) v j
   pending_on v j differ pending = search (rules, cases_eq)
 

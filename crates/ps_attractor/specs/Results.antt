@@ -41,7 +41,8 @@ pub record AreAttracted (game : ParityGame) (player : ℕ) (subgame target : Lis
     pub attracted : (set : ℕ → Bool) → IsSetOfPlaced (aim_of player) tables (has subgame) set
         → IsAttracted game (has subgame) player (has target) set (moves_of tables) (rank_of (aim_of player) tables)
 
--- the region has exactly the vertices less than n with the level `PLACED`
+-- the set `region` has exactly those vertices less than n that have the level `PLACED`, which marks the target and the
+-- attracted vertices
 pub record IsRegionTo (tables : TablesData) (n : ℕ) (region : List Bool) : Type 0 where
   pub placed : (v : ℕ) → v < n → IsTrue (has region v) → level_of tables v ≡ PLACED
   pub all : (v : ℕ) → v < n → level_of tables v ≡ PLACED → IsTrue (has region v)
@@ -53,7 +54,8 @@ pub record Moves (game : ParityGame) (tables : TablesData) (player : ℕ) (targe
   pub owns : owner_of game v ≡ player
   pub outside : has target v ≡ false
 
--- exactly the vertices less than n that satisfy `Moves` have a move, which is their move in the tables
+-- exactly those vertices less than n that satisfy `Moves` (attracted vertices of the player outside the target) have a
+-- move in the list `moves`; it is their move in the tables
 pub record AreMovesTo (game : ParityGame) (tables : TablesData) (player : ℕ) (target : List Bool) (n : ℕ)
     (moves : List (Option ℕ)) : Type 0 where
   pub given : (v : ℕ) → v < n → Moves game tables player target v → move_at moves v ≡ Some (slice_index tables.moves v)

@@ -21,7 +21,7 @@ with_placed tables v level =
 abbrev pub with_move : TablesData → ℕ → ℕ → TablesData
 with_move tables v w = record { level = tables.level; moves = slice_set tables.moves v w; trail = tables.trail }
 
--- v has an unattracted successor, which has the level `free`
+-- v has a successor with the level `free`, which marks unattracted vertices
 pub record HasFree (game : ParityGame) (free : ℕ) (tables : TablesData) (v : ℕ) : Type 0 where
   pub to : ℕ
   pub edge : HasEdge game v to
@@ -68,7 +68,7 @@ pub record IsInTrailBefore (aim : Aim) (tables : TablesData) (end v : ℕ) : Typ
   pub is : slice_index tables.trail place ≡ v
 
 -- the attracted vertex v leads to earlier vertices of the worklist: by its move if the player owns v, and otherwise by
--- each edge to a vertex that was unattracted or in the worklist
+-- each edge to a vertex that was unattracted or in the worklist when the call began
 pub record LeadsBack (game : ParityGame) (aim : Aim) (old new : TablesData) (place v : ℕ) : Type 0 where
   pub own : owner_of game v ≡ aim.player → HasEdge game v (slice_index new.moves v) ×
       IsInTrailBefore aim new place (slice_index new.moves v)

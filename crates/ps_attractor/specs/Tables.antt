@@ -18,7 +18,8 @@ pub record FitsGame (game : ParityGame) (tables : TablesData) : Type 0 where
 abbrev pub level_of : TablesData → ℕ → ℕ
 level_of tables v = slice_index tables.level v
 
--- the moves of the tables as a function from vertices to optional moves, which is never None
+-- the moves of the tables as a function that gives an optional move for each vertex; here it always gives a move, never
+-- None
 abbrev pub moves_of : TablesData → ℕ → Option ℕ
 moves_of tables v = Some (slice_index tables.moves v)
 

@@ -33,9 +33,9 @@ const FREE: usize = 2;
 pub struct Attracted {
     /// The vertices from which the player can force every play to the target.
     pub region: Region,
-    /// A move at each vertex of the player that is in the region but not in the target.
+    /// A move at each vertex of the player that is in `region` but not in the target.
     pub moves: Strategy,
-    /// A rank for each vertex of the region. Outside the target, the rank decreases along the player's moves and along
+    /// A rank for each vertex of `region`. Outside the target, the rank decreases along the player's moves and along
     /// every edge of the other player within the subgame.
     pub rank: Vec<usize>,
 }
