@@ -20,7 +20,8 @@ length-close_all statuses [] k = refl
 length-close_all statuses (v ∷ vs) k = length-close_all (set statuses v (Closed k)) vs k
     ∙ length-set statuses v (Closed k)
 
--- after `close_all`, each vertex of the list has the status `Closed k`, and all other vertices keep their statuses
+-- after `close_all`, each vertex of the list has the status `Closed k` (finished, in component k), and all other
+-- vertices keep their statuses
 pub close_all_cases : (statuses : List Status) (vs : List ℕ) (k v : ℕ) →
     ((j : ℕ) × (slice_get vs j ≡ Some v) ×
     (v < length statuses → slice_get (close_all statuses vs k) v ≡ Some (Closed k)))

@@ -13,7 +13,7 @@ use Rattle.ps_components.specs.Searching.{IsSoundSearch, IsSoundBut, wait_of, wa
 use Rattle.ps_components.proofs.Places.{slice_get-append_left, slice_get-append_cases, slice_get-append_right}
 use Rattle.ps_components.proofs.Places.{slice_get-push, slice_get-push_cases, slice_get-set_cases}
 
--- a slot of a vertex adds at most one pending link
+-- each numbered slot of a vertex, which holds the target of a link or is empty, gives at most one pending link
 wait_of-length : (n : ℕ) (side : Option ℕ) → length (wait_of n side) ≤ 1
 wait_of-length n side = search rules
 
@@ -29,7 +29,7 @@ waits-length : (g : Digraph) (p item n : ℕ) → length (waits g p item n) ≤ 
 waits-length g p item zero = omega arith
 waits-length g p item (suc n) = search (rules, wait_of-length, length-append, waits-length g p item n)
 
--- each link that is made pending for a vertex is a link of the graph
+-- each pending link that the slots of a vertex give is a link of the graph from this vertex
 waits-link : (g : Digraph) (p item n : ℕ) → item < g.count → n ≤ g.degree item → (i : ℕ) (e : Pending) →
     slice_get (waits g p item n) i ≡ Some e → (e.from ≡ p) × Link g item e.to
 waits-link g p item zero lt le i e h = cc
@@ -39,7 +39,7 @@ waits-link g p item (suc n) lt le i e h =
       | inr k ↦ search (rules, wait_of-only)
     ]
 
--- for each nonempty slot of a vertex, the link to the slot's target is made pending
+-- each nonempty slot of a vertex gives a pending link to the slot's target
 waits-there : (g : Digraph) (p item n place w : ℕ) → place < n → g.target item place ≡ Some w →
     (i : ℕ) × (slice_get (waits g p item n) i ≡ Some (record { from = p; to = w }))
 waits-there g p item zero place w lt h = absurd (omega arith)
@@ -51,7 +51,8 @@ waits-there g p item (suc n) place w lt h = elim (cases_lt place n) [
   ))
 ]
 
--- how the bound on the remaining steps of the search changes when the status of one vertex changes
+-- if the status of one vertex changes, the sum of what all statuses contribute to the bound on the remaining steps
+-- changes by the difference for this vertex
 turns_from-set : (g : Digraph) (first : ℕ) (statuses : List Status) (i : ℕ) (old new : Status) →
     slice_get statuses i ≡ Some old →
     turns_from g first (set statuses i new) + turns_of g (first + i) old ≡ turns_from g

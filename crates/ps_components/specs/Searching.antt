@@ -67,7 +67,7 @@ pub record IsSoundBut (g : Digraph) (item : ℕ) (statuses : List Status) (activ
   pub lead : (i : ℕ) (e : Pending) → slice_get skipped i ≡ Some e → e.to ≡ item
   pub sound : IsSoundSearch g statuses active bounds (pending ++ skipped) order
 
--- each vertex that is not `Unseen` is in the list `order`, and each entry of `order` has a status
+-- each vertex that is not `Unseen` is in the list `order`, and each entry of `order` is a vertex
 pub record AreListed (statuses : List Status) (order : List ℕ) : Type 0 where
   pub within : (i v : ℕ) → slice_get order i ≡ Some v → v < length statuses
   pub listed : (v : ℕ) (m : Status) → slice_get statuses v ≡ Some m →
@@ -94,7 +94,7 @@ abbrev pub close_all : List Status → List ℕ → ℕ → List Status
 close_all statuses [] k = statuses
 close_all statuses (v ∷ vs) k = close_all (slice_set statuses v (Closed k)) vs k
 
--- each vertex that is not `Unseen` does not become `Unseen`
+-- each vertex that is `Unseen` now was `Unseen` before
 abbrev pub KeepsStatuses : List Status → List Status → Type 0
 KeepsStatuses old new = (v : ℕ) → slice_get new v ≡ Some Unseen → slice_get old v ≡ Some Unseen
 

@@ -33,7 +33,7 @@ impl Model for Components {
 }
 
 impl Components {
-    /// A value without components, which are those of the empty graph.
+    /// A value without any component, as for a graph without vertices.
     pub fn new(alloc: Global) -> Self
         ensures numbers { result.numbers ≡ [] }
         ensures order { result.order ≡ [] }

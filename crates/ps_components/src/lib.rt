@@ -2,8 +2,9 @@
 //! earlier component; and paths through the graph.
 //!
 //! The caller supplies the graph as an `impl Graph`. Gabow's path-based algorithm finds the components, with an
-//! explicit list of pending links instead of recursion. Time and memory are proportional to the numbers of vertices and
-//! links that are visited.
+//! explicit list of pending links instead of recursion. The time is at most proportional to the number of vertices of
+//! the graph and the number of slots, empty or not, of the visited vertices. The memory is at most proportional to the
+//! number of vertices of the graph and the number of visited links.
 //!
 //! | Call | What it gives |
 //! |---|---|

@@ -1,5 +1,6 @@
 //! The search for strongly connected components by Gabow's path-based algorithm. New vertices are appended to the
-//! search path. If a link leads back to a vertex on the path, the segments from that vertex's segment on are merged.
+//! search path. If a link leads back to a vertex on the path, the segment that contains this vertex and all later
+//! segments are merged into one.
 
 ghost use Rattle.std.specs.Prelude.{◌≡◌, ℕ, ◌<◌, ◌≤◌, ◌++◌, ◌∷◌, [], ◌-◌, All, length, slice_get, slice_set, Some};
 ghost use Rattle.std.specs.Prelude.{OnOk, IfOk, ◌^◌};
