@@ -47,7 +47,7 @@ pub successors_of-without_repeats : (draft : ParityGame) (v : ℕ) →
 unfolding successors_of
 successors_of-without_repeats draft v = ap (λ vertex. vertex.successors) (vertex_at draft v)
 
--- what holds for each vertex of an unfinished game without repeated successors
+-- the owner of each vertex of an unfinished game is 0 or 1
 owner_below : (draft : ParityGame) → All (λ v. v.owner < 2) draft → (v : ℕ) → v < vertex_count draft →
     owner_of draft v < 2
 unfolding vertex_count owner_of

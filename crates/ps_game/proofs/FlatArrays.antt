@@ -133,12 +133,14 @@ module _ {game : ParityGame} {offsets successors owners priorities : List ℕ}
   pub edges_count : {other : ParityGame} → game ≡ other → length successors ≡ edge_count other
   edges_count is = search (rules, length-flat_map)
 
-  -- if the limit is at least the number of edges, each entry of the array of offsets is at most the limit
+  -- if the number of edges is at most the limit (the largest number of an integer type), so is each entry of the array
+  -- of offsets
   pub offsets_fit : {other : ParityGame} {limit : ℕ} → game ≡ other → FitsWithin other limit →
       All (λ n. n ≤ limit) offsets
   offsets_fit is fits k d lt = search (rules, get_or_default, front_within, edges_count)
 
-  -- if the limit is at least the number of vertices, each entry of the array of successors is at most the limit
+  -- if the number of vertices is at most the limit (the largest number of an integer type), so is each entry of the
+  -- array of successors
   pub successors_fit : {other : ParityGame} {limit : ℕ} → game ≡ other → IsGame game → FitsWithin other limit →
       length owners < 2 ^ 64 → All (λ w. w ≤ limit) successors
   unfolding vertex_count successors_of

@@ -18,13 +18,13 @@ move_inside : (chosen : List Bool) (moves : List ℕ) (v : ℕ) → v < length m
 unfolding moves_of
 move_inside chosen moves v lt = search (rules, get_or-map-range_with_len)
 
--- an entry of the table is given by the entries of the two lists
+-- the table's move at v is entry v of the list `moves` if v is in the set `chosen`, and otherwise None
 pub move_read : (chosen : List Bool) (moves : List ℕ) {table : List (Option ℕ)} {v : ℕ} {b : Bool} →
     moves_of chosen moves ≡ table → v < length table → has chosen v ≡ b →
     move_at table v ≡ cond b (Some (get_or moves v 0)) None
 move_read chosen moves {v = v} is lt there = search (rules, move_inside, length-moves_of)
 
--- two lists represent a table if the table has the same entries
+-- the lists `chosen` and `moves` represent a table if each entry of the table is the move that the two lists give
 moves_are : (chosen : List Bool) (moves : List ℕ) (table : List (Option ℕ)) → length table ≡ length moves
     → ((v : ℕ) → v < length moves → get_or table v None ≡ move_in chosen moves v) → moves_of chosen moves ≡ table
 unfolding moves_of

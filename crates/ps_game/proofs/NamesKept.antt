@@ -1,4 +1,5 @@
--- If a list has at least `count` names, `with_none count` does not change it.
+-- If a list has at least `count` names, `with_none count`, which extends a list to `count` names by None, does not
+-- change it.
 use Rattle.std.proofs.Common.{◌≡◌, ℕ, ◌-◌, ◌≤◌, List, Option, length, arith}
 use Rattle.std.proofs.lemmas.List.{append-nil}
 use Rattle.ps_game.specs.Names.{with_none}

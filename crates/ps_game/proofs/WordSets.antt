@@ -91,13 +91,14 @@ full_part places n few some is =
 
 -- ---- one bit
 
--- two lists of words represent sets that differ in one vertex
+-- the words `after` have the same bits as the words `before`, except that the bit of the vertex v is b
 record IsChanged (before after : List ℕ) (v : ℕ) (b : Bool) : Type 0 where
   long : length after ≡ length before
   here : bit_in after v ≡ b
   elsewhere : (u : ℕ) → u ≢ v → bit_in after u ≡ bit_in before u
 
--- changing one bit of one word changes whether one vertex is in the set
+-- if one word is replaced by a word w whose bit for v is b and whose other bits are the same, the bit of v becomes b,
+-- and no other bit changes
 one_word : (words : List ℕ) (v w : ℕ) (b : Bool) → v / 64 < length words → (bit_at w (v % 64) == 1) ≡ b →
     ((i : ℕ) → i < 64 → i ≢ v % 64 → bit_at w i ≡ bit_at (get_or words (v / 64) 0) i) →
     IsChanged words (set words (v / 64) w) v b
