@@ -68,8 +68,8 @@ fn attempts_end_with_their_fuel(rt: HostRuntime) -> Result<(), Fail> {
 }
 
 /// A path of 1,000 vertices of player 0. The last vertex leads to itself and has the priority 1. Each other vertex has
-/// an even priority that is greater than that of the next vertex. The rows of the 1,000 vertices, which state how often
-/// a play meets each priority, would have about 500,000 cells.
+/// an even priority that is greater than that of the next vertex. The values of the 1,000 vertices would be rows with
+/// about 500,000 cells, since each row has a cell for each priority that the play from its vertex meets.
 #[test]
 fn attempts_end_where_there_is_no_room(rt: HostRuntime) -> Result<(), Fail> {
     let mut text = String::new(rt.alloc());

@@ -20,7 +20,8 @@ enum Wanted<'a> {
     Text(&'a [u8]),
     /// Writing the certificate compactly gives this text.
     CompactText(&'a [u8]),
-    /// The call `closed` accepts the certificate, and `check` finds the given flaw first.
+    /// The call `closed` finds no wrong move or edge in the certificate, but the call `check`, which also checks the
+    /// counts, reports the given flaw.
     Flaw(Flaw),
     /// Like `Flaw`, but the game is stored in flat arrays.
     FlawInArrays(Flaw),
@@ -49,7 +50,7 @@ fn is_text(text: Result<Vec<u8>, AllocError>, wanted: &[u8]) -> bool {
     }
 }
 
-/// Whether a certificate has an entry for each vertex of a game, `closed` accepts it, and it has the given first flaw.
+/// Whether a certificate fits a game (`fits`), is accepted by `closed`, and is rejected by `check` with the given flaw.
 fn has_flaw<A: Arena>(arena: &A, certificate: &Certificate, flaw: Flaw) -> bool {
     fits(arena, certificate)
         && closed(arena, certificate).is_ok()

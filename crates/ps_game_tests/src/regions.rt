@@ -7,7 +7,8 @@ use std::alloc::{AllocError, Global};
 /// The numbers of vertices of the regions that the tests use.
 const PLACES: [usize; 8] = [0, 1, 63, 64, 65, 511, 512, 513];
 
-/// Sets of the vertices less than a given number `places`, by which regions are tested.
+/// The sets to which the tests compare regions. A vertex that is not less than the size `places` of a region is
+/// ignored.
 #[derive(Clone, Copy)]
 enum Set {
     None,

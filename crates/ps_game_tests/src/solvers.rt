@@ -222,12 +222,12 @@ fn moving(
     Ok(strategy)
 }
 
-/// The expected result of computing the least counts of a region: counts, or a lost cycle.
+/// The expected result of computing the least counts of a region: the counts, or a cycle that the player loses.
 #[derive(Clone, Copy)]
 enum Wanted<'a> {
     /// The only priority by which the player loses, and the count for it at each of three vertices.
     Counts(u64, [u64; 3]),
-    /// A lost cycle.
+    /// A cycle that the player loses.
     Cycle(&'a [usize]),
 }
 
@@ -255,7 +255,7 @@ fn are_counts(alloc: Global, ranks: &Ranks, priority: u64, counts: [u64; 3]) -> 
         && is_count(alloc, ranks, 2, counts[2])
 }
 
-/// Whether the row of a vertex has only one count, which is the given one.
+/// Whether the row of counts of a vertex has only one count, which is the given one.
 fn is_count(alloc: Global, ranks: &Ranks, vertex: usize, count: u64) -> bool {
     if vertex >= ranks.counts.len() {
         return false;
@@ -360,7 +360,7 @@ fn add_attracted<A: Arena>(
     Ok(())
 }
 
-/// Appends the winning region of player 0, the moves of both players, and the counts of the region to a list of
+/// Appends the winning region of player 0, the moves of both players, and the least counts of the region to a list of
 /// results.
 fn add_won<A: Arena>(
     alloc: Global,
@@ -384,7 +384,7 @@ fn add_tables(
     add_table(found, won, second)
 }
 
-/// Appends the counts of all vertices to a list of results.
+/// Appends the counts that a table has for each vertex to a list of results.
 fn add_counts(
     alloc: Global,
     counts: &CountTable,
