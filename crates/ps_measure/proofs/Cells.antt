@@ -37,8 +37,8 @@ next_falls cells h i o k = search rules
 
 module _ (cells : List CountCell)
     (falls : (i : ℕ) (cell : CountCell) → slice_get cells i ≡ Some cell → cell.next ≤ i) where
-  -- `count_from` does not depend on its limit on the number of cells, if the limit is at least the number of the
-  -- chain's first cell
+  -- the count that `count_from` reads from a chain does not depend on its limit on the number of cells read, if the
+  -- limit is at least the number of the chain's first cell
   pub any_fuel : (f g n k : ℕ) → n ≤ f → n ≤ g → count_from cells f n k ≡ count_from cells g n k
   any_fuel f g zero k a b = from_none cells f k ∙ sym (from_none cells g k)
   any_fuel zero g (suc i) k a b = absurd (omega arith)
@@ -51,7 +51,8 @@ module _ (cells : List CountCell)
         any_fuel f g (next_cell (slice_get cells i)) k (omega (arith, less, a)) (omega (arith, less, b)),
       )
 
-  -- at each index, the count of a chain is the greater of the first cell's count and the count of the cells after it
+  -- at each index of a row, the count that a chain gives is the greater of what its first cell gives and what the cells
+  -- after it give
   pub from_number : (i k : ℕ) (cell : CountCell) → slice_get cells i ≡ Some cell →
       count_from cells (suc i) (suc i) k ≡ max (count_here (Some cell) k) (count_from cells cell.next cell.next k)
   from_number i k cell at = search (rules, from_cell, any_fuel)
@@ -67,7 +68,8 @@ module _ (cells : List CountCell)
       let less = falls i old at in
       search (rules, from_cell, slice_get-append_left, from_longer cell f old.next k (omega (arith, less, within)))
 
-  -- the count at index k of the chain that begins with the newly appended cell
+  -- at index k of a row, the count of the chain that begins with the newly appended cell is the greater of what this
+  -- cell gives and what the cells after it give
   pub from_new : (cell : CountCell) (k : ℕ) → cell.next ≤ length cells →
       count_from (cells ++ cell ∷ []) (suc (length cells)) (suc (length cells)) k
       ≡ max (count_here (Some cell) k) (count_from cells cell.next cell.next k)

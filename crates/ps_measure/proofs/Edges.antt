@@ -1,4 +1,5 @@
--- The links of the graphs on which counts are computed, and the remaining edges of the game for which they stand.
+-- Counts are computed on the graphs `remaining_graph` and `low_graph`: which edges of the game the links of these
+-- graphs stand for.
 use Rattle.std.proofs.Common.{rules, ◌≡◌, ℕ, ◌+◌, ◌<◌, ◌≤◌, ◌∙◌, length, inl, inr, refl, sym, ap}
 use Rattle.std.proofs.Common.{arith, Option, Some, Bool, true, false, cond, nat_le, not, ◌&&◌, ◌||◌}
 use Rattle.std.specs.Prelude.{slice_index, ◌==◌}
@@ -102,7 +103,7 @@ leads_nowhere {low = low} {v} {w = w} reverse all none link =
     let there = reverse.back v w parts.0 in
     omega (arith, none.none w there (omega (arith, there.at, all)), parts.1)
 
--- if a vertex has the weight 1, it is in the region and has the priority
+-- if a vertex has the weight 1, it is in the region and has the priority `low.priority`
 heavy_parts : (a b : Bool) → counted (a && b) ≡ 1 → (a ≡ true) × (b ≡ true)
 heavy_parts a b e = search rules
 

@@ -1,5 +1,5 @@
--- Either least counts exist for all priorities by which the player loses, stored as rows, or the player loses some
--- cycle.
+-- Least counts exist for all priorities by which the player loses (those of the opponent's parity), stored as rows; or
+-- there is a cycle that the player loses.
 use Rattle.std.proofs.Common.{◌≡◌, ℕ, zero, suc, ◌%◌, ◌<◌, ◌≤◌, ◌⊎◌, List, [], ◌∷◌, length, map, get_or, inl, inr}
 use Rattle.std.proofs.Common.{arith, Option, Some, Bool, rules}
 use Rattle.std.specs.Prelude.{slice_get}

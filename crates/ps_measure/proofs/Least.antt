@@ -1,5 +1,6 @@
--- The least counts of the reversed graph of the vertices up to a priority are the least counts of the game for this
--- priority. A link of the reversed graph and a path back to the link's source form a cycle of the game.
+-- The least counts of `low_graph`, the graph of the reversed remaining edges between vertices of at most a given
+-- priority, are the game's least counts for this priority. A link of this graph and a path back to the link's source,
+-- both reversed, form a cycle of the game.
 use Rattle.std.proofs.Common.{◌≡◌, ◌≢◌, ℕ, zero, suc, ◌+◌, ◌-◌, ◌%◌, ◌<◌, ◌≤◌, ◌∙◌, List, [], ◌∷◌, length, map, get_or}
 use Rattle.std.proofs.Common.{inl, inr, refl, ap, arith, Bool, true, false, cond, nat_le, rules}
 use Rattle.std.specs.Prelude.{slice_index, IsTrue}
@@ -55,7 +56,8 @@ module _ (r : RemainingData) (low : LowData) (is_game : IsGame r.game) (levels :
   light_none : (v : ℕ) → v < vertex_count r.game → priority_of r.game v ≢ low.priority → low_weight low v ≡ 0
   light_none v below apart = search (rules, ne_eqb)
 
-  -- numbers that keep the rule of counts on the remaining edges satisfy `AreCounts` on the links of `low_graph`
+  -- numbers that keep the rule of counts (`KeepsRule`) on the remaining edges grow along the links of `low_graph` as
+  -- `AreCounts` states
   from_rule : (other : ℕ → ℕ) → KeepRuleWithin r.game r.player (has r.region) (move_at r.strategy) low.priority other →
       AreCounts (low_graph low) (low_weight low) other
   from_rule other keep w v link =
@@ -106,7 +108,8 @@ module _ (r : RemainingData) (low : LowData) (is_game : IsGame r.game) (levels :
       false_unless true not_so = absurd (not_so refl)
       false_unless false not_so = refl
 
-  -- properties of the cycle that a link and a path back to the link's source form
+  -- a cycle of `low_graph` (a link and a path back to the link's source), reversed, is a cycle of remaining edges; the
+  -- player loses it if the priority has the opponent's parity
   module _ {cycle : List ℕ} (way : IsLowCycle low cycle) where
     some : 0 < length cycle
     some = slice_get_within cycle 0 way.from way.trail.first

@@ -1,5 +1,5 @@
--- The pass that raises the values of components along the links, from the last finished vertex to the first, so that
--- each value is final before it is used.
+-- A pass over the finished vertices, from the last to the first, raises the value of each component as far as the links
+-- require. So each value is final before it is used.
 use Rattle.std.proofs.Common.{rules, ◌≡◌, ℕ, ◌+◌, ◌<◌, ◌≤◌, ◌∙◌, List, length, inl, inr, ap, arith, refl}
 use Rattle.std.proofs.Common.{Option, None, Some}
 use Rattle.std.specs.Prelude.{slice_get, slice_index, slice_set}
@@ -24,8 +24,8 @@ pub raised_before : (c : ComponentsData) {old new : List ℕ} (roots : List ℕ)
     AreRaised c old roots → AreRaised c new roots
 raised_before c roots grown raised i v k at is = omega (arith, raised i v k at is, grown.grows k)
 
--- the values still respect a link after the values of components with smaller numbers than the source's component have
--- grown
+-- the values of components still meet the condition of a link (`IsPassed`) after values before index `place`, which is
+-- at most the number of the source's component, have grown
 pub passed_on : {weight : ℕ → ℕ} {c : ComponentsData} {old new : List ℕ} {w v k : ℕ} → IsIn c w k → {place : ℕ} →
     place ≤ k → GrowsBelow old new place → IsPassed weight c old w v → IsPassed weight c new w v
 passed_on is later grown (inside n from to light) = inside n from to light
@@ -40,8 +40,8 @@ module _ {g : Digraph} {weight : ℕ → ℕ} {c : ComponentsData} {values : Lis
   pub number_within : m < length values
   number_within = omega (arith, components.below v m to, column.each)
 
-  -- the column stays correct if a component gets the value x, which is a lower bound for its vertices' counts and at
-  -- most the total weight of this component and later ones
+  -- the values of components stay correct (`IsColumn`) if one gets the value x: a lower bound for the counts of its
+  -- vertices, and at most the total weight of this component and later ones
   set_column : (x : ℕ) → ((d : ℕ → ℕ) → AreCounts g weight d → x ≤ d v) → x ≤ weights_from c weight m g.count →
       IsColumn g weight c (slice_set values m x)
   set_column x least bounded = record {
@@ -81,7 +81,8 @@ module _ {g : Digraph} {weight : ℕ → ℕ} {c : ComponentsData} {values : Lis
 
 -- ## The order
 
--- the values also respect the links that leave the next processed vertex
+-- once the vertex at index `place` of the list of finished vertices is processed, the values also meet the conditions
+-- (`IsPassed`) of the links that leave this vertex
 pub passed_from_here : {g : Digraph} (weight : ℕ → ℕ) {c : ComponentsData} {old new : List ℕ} (place : ℕ) {w k : ℕ} →
     AreComponents g c → slice_get c.order place ≡ Some w → IsIn c w k → GrowsBelow old new k →
     ArePassedFrom g weight c old (place + 1) → ((v : ℕ) → Link g w v → IsPassed weight c new w v) →
@@ -97,7 +98,8 @@ passed_from_here weight place {w} {k} components at is grown before here j w' v 
 
 -- ## The end
 
--- if the values of components respect all links, they are the least counts of the components' vertices
+-- if the values of components meet the conditions of all links (`IsPassed`), they are the least counts of the
+-- components' vertices
 module _ {g : Digraph} {weight : ℕ → ℕ} {c : ComponentsData} {values roots : List ℕ}
     (light : (v : ℕ) → weight v ≤ 1) (components : AreComponents g c) (root : AreRoots g weight roots)
     (met : AreMet g roots c) (column : IsColumn g weight c values) (raised : AreRaised c values roots)

@@ -1,6 +1,7 @@
--- For each priority, least counts exist, or the player loses a cycle. The proof raises counts from 0 along the
--- remaining edges until no edge breaks the rule. Each count is the length of a chain of vertices of the priority, each
--- of which leads to the next one. If a vertex occurs twice in such a chain, the player loses a cycle through it.
+-- For each priority by which the player loses, least counts exist, or there is a cycle that the player loses. The proof
+-- raises counts from 0 along the remaining edges until no edge breaks the rule of counts (`KeepsRule`). Each count is
+-- the length of a chain of vertices of this priority, in which a path of remaining edges leads from each vertex to the
+-- next one. If a vertex occurs twice in such a chain, there is a cycle through it that the player loses.
 use Rattle.std.proofs.Common.{◌≡◌, ℕ, zero, suc, ◌+◌, ◌-◌, ◌*◌, ◌%◌, ◌<◌, ◌≤◌, ◌⊎◌, ◌∙◌, List, [], ◌∷◌, ◌++◌, length}
 use Rattle.std.proofs.Common.{map, max, get_or, inl, inr, refl, sym, ap, arith, add-one, Option, Bool, true}
 use Rattle.std.proofs.Common.{cond, not, nat_le, nat_eq, ◌&&◌, rules}
@@ -146,7 +147,8 @@ module _ (game : ParityGame) (player : ℕ) (set : ℕ → Bool) (table : ℕ �
     | inl d ↦ inl (fits heavy (vertex_count game) us d (λ u at. chain_heavy v us c at.0 u at.1 at.2))
   ]
 
-  -- in a run, a remaining edge leads from each vertex to the next one
+  -- in a run (`IsRun`) from v through the vertices of a list to u, a remaining edge leads from each vertex to the next
+  -- one
   run_edges : (v : ℕ) (ws : List ℕ) (u k : ℕ) → IsRun v ws u → suc k < length (v ∷ ws) →
       Goes (get_or (v ∷ ws) k 0) (get_or (v ∷ ws) (suc k) 0)
   run_edges v [] u k r within = absurd (omega (arith, within))
@@ -300,7 +302,8 @@ module _ (game : ParityGame) (player : ℕ) (set : ℕ → Bool) (table : ℕ �
     | inr (inr more) ↦ settle fuel (suc k) (omega (arith, enough, more.1))
   ]
 
-  -- at each vertex, counts that keep the rule are at least the counts that `counts` gives
+  -- at each vertex, numbers that keep the rule of counts (`KeepsRule`) on all remaining edges are at least the counts
+  -- that `counts` gives
   least : (other : ℕ → ℕ) → KeepRuleWithin game player set table p other → (k v : ℕ) → counts k v ≤ other v
   unfolding counts weight
   least other keep zero v = omega arith

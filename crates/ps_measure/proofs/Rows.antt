@@ -27,7 +27,8 @@ pub raised-le-total : (rows : List Row) (count width : ℕ) → raised_of rows c
 raised-le-total rows count width = grind (arith, sum_below-le, positive_bound)
 
 module _ {game : ParityGame} {player : ℕ} {set : ℕ → Bool} {table : ℕ → Option ℕ} where
-  -- a bound on the number of nonzero counts for one priority
+  -- the number of nonzero counts for one priority is at most the size of the set times the number of the set's vertices
+  -- with this priority
   column_most : {p : ℕ} {counts : ℕ → ℕ} → AreLeastFor game player set table p counts →
       raised_below counts (vertex_count game) ≤ count_below set (vertex_count game) * count_with game set p
   column_most {p} {counts} least = elim (cases_lt 0 (count_with game set p)) [
@@ -77,7 +78,7 @@ module _ {game : ParityGame} {player : ℕ} {set : ℕ → Bool} {table : ℕ �
     raises_is = search (rules, sum_below-same, raised_below, raised_same, sum_below-next);
   }
 
-  -- in an empty set, all counts are 0
+  -- if the set is empty, rows of zeros have the least counts for all priorities
   pub ranked_empty : {priorities : List ℕ} {rows : List Row} → ((v : ℕ) → set v ≡ false) →
       AreZero rows (vertex_count game) (length priorities) →
       AreRanked game player set table priorities rows (length priorities) 0

@@ -20,7 +20,8 @@ use Rattle.ps_measure.proofs.Writing.{written}
 use Rattle.ps_measure.proofs.Passing.{number_within, raise_column, raise_fits, passed_by_raise, passed_on}
 use Rattle.ps_measure.proofs.Passing.{passed_from_here, root_column, raised_before, least_counts}
 
--- raising one value before index `number` satisfies `GrowsBelow`
+-- if one value before index `number` is raised, no value decreases, and the values from this index on do not change
+-- (`GrowsBelow`)
 pub grows_set : {values : List ℕ} {before number y value : ℕ} → before < number → y ≡ get_or values before y →
     y < value → GrowsBelow values (slice_set values before value) number
 grows_set {values} {before} {number} {y} {value} below at more = grind (arith, common_steps)

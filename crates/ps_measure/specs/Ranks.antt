@@ -1,5 +1,5 @@
--- The least counts (a progress measure) of a player's region for the priorities by which the player loses, and cycles
--- that the player loses.
+-- The least counts (a progress measure) of a player's region for the priorities by which the player loses, which are
+-- those of the opponent's parity; and cycles that the player loses.
 use Rattle.std.specs.Prelude.{◌≡◌, ℕ, ◌+◌, ◌-◌, ◌*◌, ◌%◌, ◌<◌, ◌≤◌, ◌&&◌, ◌==◌, List, length, map, Option, None, Some}
 use Rattle.std.specs.Prelude.{Bool, IsTrue, nat_lt, slice_get, slice_index}
 use Rattle.ps_game.specs.Games.{ParityGame, vertex_count, priority_of}
@@ -13,9 +13,9 @@ use Rattle.ps_measure.specs.Sums.{sum_below, count_below}
 abbrev pub count_with : ParityGame → (ℕ → Bool) → ℕ → ℕ
 count_with game set p = count_below (λ v. (priority_of game v == p) && set v) (vertex_count game)
 
--- The counts for the priority p keep the rule of counts on each edge that remains within the set, and are the least
--- counts that do. The counts are 0 at vertices outside the set and at vertices of greater priority. Each count is at
--- most the number of vertices of priority p in the set.
+-- The counts for the priority p keep the rule of counts (`KeepsRule`) on each edge that remains within the set, and are
+-- the least counts that do. The counts are 0 at vertices outside the set and at vertices of greater priority. Each
+-- count is at most the number of vertices of priority p in the set.
 pub record AreLeastFor (game : ParityGame) (player : ℕ) (set : ℕ → Bool) (table : ℕ → Option ℕ) (p : ℕ)
     (count : ℕ → ℕ) : Type 0 where
   pub keep : KeepRuleWithin game player set table p count

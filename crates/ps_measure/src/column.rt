@@ -26,7 +26,7 @@ pub(crate) struct Column {
 }
 
 impl Column {
-    /// An empty column, for no graph.
+    /// A column without components and values.
     pub(crate) fn new(alloc: Global) -> Self {
         Column {
             components: Components::new(alloc),
@@ -34,8 +34,8 @@ impl Column {
         }
     }
 
-    /// Computes the least counts for the priority of `low`. If no counts keep the rule, returns a link that leads to a
-    /// vertex of this priority and lies on a cycle.
+    /// Computes the least counts for the priority of `low`. If no counts keep the rule of counts (`KeepsRule`), returns
+    /// a link that leads to a vertex of this priority and lies on a cycle.
     pub(crate) fn work_out(
         &mut self,
         low: &Low,

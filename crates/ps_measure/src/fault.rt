@@ -1,4 +1,4 @@
-//! The reasons why no counts exist for a region.
+//! The reasons why no counts are computed for a region.
 
 ghost use Rattle.std.specs.Prelude.{◌≡◌};
 ghost use Rattle.ps_measure.specs.declared.fault.MeasureFault.TheVariants.{OutOfMemory};
@@ -10,7 +10,8 @@ use thiserror::Error;
 /// The reason why no counts were computed for a region.
 #[derive(Debug, Drop, Error)]
 pub enum MeasureFault {
-    /// The player loses a cycle of remaining edges within the region.
+    /// The remaining edges within the region have a cycle that the player loses: its greatest priority has the
+    /// opponent's parity.
     #[error("the player loses a cycle of {} vertices", .cycle.len())]
     BadCycle {
         /// The vertices of the cycle. An edge leads from each vertex of the cycle to the next, and from the last to the

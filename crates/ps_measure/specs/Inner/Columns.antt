@@ -15,7 +15,7 @@ pub record AreRoots (g : Digraph) (weight : ℕ → ℕ) (roots : List ℕ) : Ty
   pub sound : (i v : ℕ) → slice_get roots i ≡ Some v → (w : ℕ) × Link g w v × (weight v ≡ 1)
   pub complete : (w v : ℕ) → Link g w v → weight v ≡ 1 → (i : ℕ) × (slice_get roots i ≡ Some v)
 
--- the weight x of a vertex if the vertex has a component and its number is at least k, and otherwise 0
+-- the weight x of a vertex if the vertex has a component whose number is at least k, and otherwise 0
 abbrev pub weight_from : ℕ → Option (Option ℕ) → ℕ → ℕ
 weight_from k None x = 0
 weight_from k (Some None) x = 0
@@ -41,8 +41,8 @@ pub record IsCounting (g : Digraph) (weight : ℕ → ℕ) (c : ComponentsData) 
   pub components : AreComponents g c
   pub column : IsColumn g weight c values
 
--- the values respect the link from w to v: both have one component and v has weight 0, or v's component is earlier, and
--- its value is at least that of w's component plus v's weight
+-- The values of components meet the condition of the link from w to v. Either both vertices have one component, and v
+-- has weight 0. Or v's component is earlier, and its value is at least that of w's component plus v's weight
 pub data IsPassed (weight : ℕ → ℕ) (c : ComponentsData) (values : List ℕ) (w v : ℕ) : Type 0 where
   inside : (k : ℕ) → IsIn c w k → IsIn c v k → weight v ≡ 0 → IsPassed weight c values w v
   across : (k m : ℕ) → IsIn c w k → IsIn c v m → m < k → slice_index values k + weight v ≤ slice_index values m →
@@ -67,7 +67,8 @@ pub record IsRaised (g : Digraph) (weight : ℕ → ℕ) (old new : ComponentsDa
   pub components : new ≡ old
   pub grows : GrowsBelow before after place
 
--- the values respect each link that leaves a vertex at index i or later in the list of finished vertices
+-- the values meet the condition (`IsPassed`) of each link that leaves a vertex at index i or later in the list of
+-- finished vertices
 abbrev pub ArePassedFrom : Digraph → (ℕ → ℕ) → ComponentsData → List ℕ → ℕ → Type 0
 ArePassedFrom g weight c values i =
     (j w v : ℕ) → i ≤ j → slice_get c.order j ≡ Some w → Link g w v → IsPassed weight c values w v

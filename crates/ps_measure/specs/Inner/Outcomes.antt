@@ -1,4 +1,5 @@
--- For one priority, a link that shows that no counts keep the rule: the link's source is reachable from its target.
+-- For one priority, a link that shows that no counts keep the rule of counts (`KeepsRule`): it leads to a vertex of
+-- this priority, and lies on a cycle.
 use Rattle.std.specs.Prelude.{◌≡◌, ℕ}
 use Rattle.ps_components.specs.Graphs.{Digraph, Link, SameOrWay}
 
