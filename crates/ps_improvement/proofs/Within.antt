@@ -1,4 +1,4 @@
--- Successors, sources and the members of components are vertices of the game.
+-- Successors and predecessors (sources) of vertices, and the members of components, are vertices of the game.
 use Rattle.std.proofs.Common.{◌≡◌, ℕ, ◌<◌, List, length, get_or, subst, Some}
 use Rattle.std.specs.List.{All}
 use Rattle.std.proofs.lemmas.List.Elements.{Contains-get_or}

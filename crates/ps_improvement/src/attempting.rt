@@ -13,7 +13,8 @@ use ps_attractor::has_room;
 use ps_game::{Arena, Region, Strategy};
 use std::alloc::{AllocError, Global};
 
-/// The number of cells (entries of rows) that may be stored whatever the game and the fuel are.
+/// The number of cells that may be stored, whatever the game and the fuel are. A cell is an entry of a row, and a row
+/// is the value of a play.
 const ROOM: u64 = 1 << 18;
 
 /// How many units of fuel allow one further cell to be stored.

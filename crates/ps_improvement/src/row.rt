@@ -46,7 +46,7 @@ impl Value<'_> {
     }
 }
 
-/// Compares two rows. The first cell (entry) in which the two rows differ decides.
+/// Compares two rows. The first cell (entry) in which the two rows differ decides which row is worth more to player 0.
 fn order_of_rows(row: &[Cell], other: &[Cell], fuel: &mut Fuel) -> Ordering {
     let same = row
         .iter()
