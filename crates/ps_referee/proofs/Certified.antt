@@ -45,7 +45,8 @@ some_within v is_game (Some w) is = is_game.within v w is
 module _ {game : ParityGame} (is_game : IsGame game) {player : ℕ} {set : ℕ → Bool} {table : ℕ → Option ℕ}
     {priorities : List ℕ} {rows : List (List ℕ)} {c : CertificateData} (holds : Holds game player set table)
     (ranks : AreRanks game player set table priorities rows) where
-  -- an edge that remains according to the certificate also remains for the player's table of moves
+  -- an edge from v that remains by the certificate's moves also remains by the player's table of moves, if the
+  -- certificate names the player as the winner of v
   remains_for : {v w : ℕ} → IsSide game player set table priorities rows c v → Remains game c v w →
       RemainsFor game player table v w
   remains_for s r = search rules
@@ -95,7 +96,8 @@ module _ {game : ParityGame} (is_game : IsGame game) {player : ℕ} {set : ℕ �
 abbrev pub made_of : List ℕ → List ℕ → List EntryData → CertificateData
 made_of odd even entries = record { odd = odd; even = even; entries = entries }
 
--- what is known about the regions, moves and counts of both players before the certificate is made
+-- players 0 and 1 hold the sets `region` and `lost` by their tables, with least counts; the certificate's entries have
+-- these winners, moves and counts
 record AreBoth (game : ParityGame) (region lost : ℕ → Bool) (first second : ℕ → Option ℕ) (odd even : List ℕ)
     (odd_rows even_rows : List (List ℕ)) (entries : List EntryData) : Type 0 where
   is_game : IsGame game

@@ -1,4 +1,4 @@
--- Each claimed solution is correct and has a certificate, or has a first flaw, or a player loses a cycle.
+-- Each claimed solution is correct and has a certificate, or has a first flaw, or has a cycle that a player loses.
 use Rattle.std.proofs.Common.{◌≡◌, ◌⊎◌, inl, inr, ℕ, ◌<◌, List, map, Option, Bool, not, refl, arith, rules}
 use Rattle.std.specs.List.{range_with_len}
 use Rattle.std.proofs.lemmas.List.FromFn.{get_or-map-range_with_len}

@@ -14,7 +14,7 @@ pub enum JudgeFault {
     /// A move is wrong, or a remaining edge leads to a vertex that the other player wins.
     #[error("{}", .0.name())]
     Unclosed(Flaw),
-    /// A player loses a cycle of remaining edges among the vertices that it is claimed to win.
+    /// Among the vertices that a player is claimed to win, there is a cycle of remaining edges that the player loses.
     #[error("player {player} loses a cycle of {} vertices", .cycle.len())]
     BadCycle {
         /// The player, 0 or 1.

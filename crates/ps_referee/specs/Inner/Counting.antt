@@ -1,4 +1,4 @@
--- Why the computation of the counts of one player fails.
+-- What is guaranteed when the computation of one player's counts returns a fault.
 use Rattle.std.specs.Prelude.{◌≡◌, ℕ, Option, Bool}
 use Rattle.ps_game.specs.Games.{ParityGame}
 use Rattle.ps_measure.specs.Ranks.{IsLostCycle}
