@@ -247,8 +247,8 @@ module _ (b : Begun) where
       falls_begun b.old.level b.new.level (length frames) (length more) size (λ i less. size_from-same (2 * i + 2)
       b.old.level b.new.level sizes (agrees_at (2 * i + 2) (agrees b) (omega arith))) (grind (arith, fewer))
 
-  -- the attractor of the first iteration does not contain a vertex outside a set that satisfies `IsClosedToTops`, so
-  -- the vertex is left to the next call
+  -- the first iteration attracts no vertex outside a set that has all vertices of the greatest priority and is closed
+  -- under attraction (`IsClosedToTops`); such a vertex is left to the next call
   pub begun_left : {set : ℕ → Bool} (v : ℕ) → b.depth ≡ 0 →
       ((u : ℕ) → u < vertex_count b.game → level_of b.old u ≡ UNPLACED) → IsClosedToTops b.game set →
       v < vertex_count b.game → ¬ IsTrue (set v) → level_of b.new v ≡ UNPLACED

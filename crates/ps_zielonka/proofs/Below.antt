@@ -55,15 +55,15 @@ pub subgame_below : {game : ParityGame} {c : ℕ} (b : ℕ) {old new : TablesDat
     Agrees c old new winner winner_now → b ≤ c → IsSubgame game (from old.level b) → IsSubgame game (from new.level b)
 subgame_below {game} {c} b {old} {new} {winner} {winner_now} agrees less alive = rw (agrees_from b agrees less) alive
 
--- the tables still satisfy their invariants (`IsSoundBoard`) if each changed level is within the bounds
+-- the tables still satisfy their invariants (`IsSoundBoard`) if each changed level is at least 1 and at most `UNPLACED`
 pub sound_on : {game : ParityGame} {old : TablesData} {winner winner_now order : List ℕ} (new : TablesData) →
     IsSoundBoard game old winner order → FitsGame game new → length winner_now ≡ vertex_count game →
     ((v : ℕ) → (level_of new v ≡ level_of old v) ⊎ ((1 ≤ level_of new v) × (level_of new v ≤ UNPLACED))) →
     IsSoundBoard game new winner_now order
 sound_on new sound fits winners each = search rules
 
--- a prepared iteration (`IsTurned`) stays prepared if its sets, and the winners and moves of the vertices in its
--- attractor, are unchanged
+-- an iteration stays prepared (`IsTurned`: the tops have been chosen, and vertices attracted to them) if its sets, and
+-- the winners and moves of the attracted vertices, are unchanged
 unfoldable pub IsTurned-on : {game : ParityGame} {open_part rest : ℕ → Bool} (open_now rest_now : ℕ → Bool) {player : ℕ}
     {win : ℕ → ℕ} (win_now : ℕ → ℕ) {table : ℕ → Option ℕ} (table_now : ℕ → Option ℕ)
     (turned : IsTurned game open_part rest player win table) → open_now ≡ open_part → rest_now ≡ rest →

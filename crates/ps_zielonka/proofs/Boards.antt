@@ -1,5 +1,5 @@
 -- Two parts of a solver step: testing which tops (target vertices of the attractor) the player keeps, and taking
--- vertices off the trail, some of which are placed again.
+-- vertices off the trail (the list of placed vertices), some of which are placed again.
 use Rattle.std.proofs.Common.{◌≡◌, ◌≢◌, ℕ, ◌+◌, ◌-◌, ◌<◌, ◌≤◌, ◌⊎◌, inl, inr, List, [], ◌∷◌, length, get_or, take}
 use Rattle.std.proofs.Common.{refl, ◌∙◌, arith, rules}
 use Rattle.std.specs.Prelude.{slice_set}
@@ -103,7 +103,8 @@ reopened_lost {level = level} spare k u {mid = mid} new at_k within not_won now 
     (λ j less. get_or_append_left mid.trail (u ∷ []) 0 j less) (λ j more before. grind (arith, get_or_push))
     (λ _. grind (arith, get_or-set_same)) (λ won. absurd (not_won won)) refl (length-set mid.level u level) so_far)
 
--- once the whole list `spare` is handled, the vertices of the old trail from index `turn` on satisfy `IsReopened`
+-- once all vertices of the list `spare`, which were taken off the trail, are handled, those that the player won are
+-- `UNPLACED`, and the others are in the trail again (`IsReopened`)
 pub reopened_end : {winner : List ℕ} {player level turn : ℕ} (k : ℕ) {spare : List ℕ} (old : TablesData)
     {cut new : TablesData} → turn ≤ length old.trail → cut.level ≡ old.level → cut.moves ≡ old.moves →
     cut.trail ≡ take turn old.trail → IsTakenOff turn old.trail spare → k ≡ length spare →

@@ -50,7 +50,8 @@ pub depth_start : (game : ParityGame) (levels : List ℕ) → ((v : ℕ) → v <
     get_or levels v 0 ≡ UNPLACED) → IsDepthSoFar game levels 0 false 0
 depth_start game levels unplaced = search rules
 
--- a recorded maximal depth that satisfies `IsDepth` satisfies the invariant `IsDepthSoFar` in every state
+-- a recorded maximal depth within its promised bounds (`IsDepth`) satisfies the invariant `IsDepthSoFar` in every state
+-- of the solver
 depth_stays : {game : ParityGame} (levels : List ℕ) (calls : ℕ) (solved : Bool) {depth : ℕ} → IsDepth game depth →
     IsDepthSoFar game levels calls solved depth
 depth_stays levels calls solved is_depth = record {
@@ -59,8 +60,8 @@ depth_stays levels calls solved is_depth = record {
   two = λ set closed v is_vertex outside. inl (is_depth.two set closed v is_vertex outside);
 }
 
--- the recorded maximal depth satisfies `IsDepth` if the first iteration has begun, and no vertex is left to a second
--- call that has yet to begin
+-- the recorded maximal depth is within its promised bounds (`IsDepth`) if the first iteration has begun, and no vertex
+-- is left to a second call that has yet to begin
 depth_known : {game : ParityGame} {levels : List ℕ} {calls : ℕ} {solved : Bool} {depth : ℕ} →
     ((v : ℕ) → v < vertex_count game → IsFresh game levels calls solved → ⊥) →
     ((v : ℕ) → IsSecondCall levels calls solved v → ⊥) → IsDepthSoFar game levels calls solved depth →
@@ -80,7 +81,7 @@ depth_known not_fresh not_second so_far = record {
   ];
 }
 
--- if the current call is solved, the recorded maximal depth satisfies `IsDepth`
+-- if the current call is solved, the recorded maximal depth is within its promised bounds (`IsDepth`)
 pub depth_solved : {game : ParityGame} {levels : List ℕ} {calls : ℕ} {solved : Bool} {depth : ℕ} → solved ≡ true →
     IsDepthSoFar game levels calls solved depth → IsDepth game depth
 depth_solved is_solved so_far = depth_known (λ v is_vertex fresh. false≢true (sym fresh.unsolved ∙ is_solved))

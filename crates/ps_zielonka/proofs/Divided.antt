@@ -2,7 +2,8 @@
 -- by induction on the number of vertices of a subgame, and follows Zielonka's algorithm.
 -- - `Divided`: a subgame whose vertices are divided between the players, each of whom holds its vertices by a table
 --   of moves.
--- - `all_mine`, `both_parts`: the two ways in which an iteration of the algorithm ends.
+-- - `all_mine`: an iteration ends with the whole subgame for the player. `both_parts`: it ends with an attractor for
+--   the opponent, and a division of the rest.
 -- - `game_divided`: the law `each_game_is_divided`.
 use Rattle.std.proofs.Common.{◌≡◌, ◌≢◌, ℕ, zero, suc, ◌-◌, ◌%◌, ◌<◌, ◌⊎◌, inl, inr, Bool, true, false, not, ◌&&◌}
 use Rattle.std.proofs.Common.{◌||◌, Option, None, Some, IsSomeAnd, nat_eq, replicate, refl, sym, subst, ap, ◌∙◌, arith}

@@ -15,8 +15,8 @@ pub progress_start : (game : ParityGame) (subgame open_part : ℕ → Bool) (win
     IsWithin open_part subgame → IsWithin subgame open_part → Progress game subgame open_part win table
 progress_start game subgame open_part win table smaller larger = search (rules, HoldsWithin-none)
 
--- an iteration solves the subgame if the player keeps each top: there, every play stays among the vertices that the
--- player wins
+-- an iteration solves the subgame if the player keeps each top, which means that plays go on from the top to vertices
+-- that the player wins
 pub frame_kept : {game : ParityGame} {subgame open_part rest : ℕ → Bool} {player : ℕ} {win : ℕ → ℕ}
     {table : ℕ → Option ℕ} → IsGame game → IsSubgame game open_part → Progress game subgame open_part win table →
     (turned : IsTurned game open_part rest player win table) → Solved game rest win table →

@@ -29,14 +29,15 @@ pub record IsClosedToTops (game : ParityGame) (set : ℕ → Bool) : Type 0 wher
   pub is_target : (v : ℕ) → v < vertex_count game → IsTrue (target v) ↔ (priority_of game v ≡ greatest)
   pub closed : IsClosedUnderAttraction game (is_vertex game) (greatest % 2) target set
 
--- the promised bounds on the maximal depth: at most the number of distinct priorities; at least 1 if there is a vertex,
--- and 2 if some vertex is outside a set that satisfies `IsClosedToTops`
+-- The promised bounds on the maximal depth of calls. The depth is at most the number of distinct priorities, and at
+-- least 1 if there is a vertex. It is at least 2 if some vertex is outside a set that satisfies `IsClosedToTops`
 pub record IsDepth (game : ParityGame) (depth : ℕ) : Type 0 where
   pub most : HasPriorities game (is_vertex game) depth
   pub some : (v : ℕ) → v < vertex_count game → 1 ≤ depth
   pub two : (set : ℕ → Bool) → IsClosedToTops game set → (v : ℕ) → v < vertex_count game → ¬ IsTrue (set v) → 2 ≤ depth
 
--- the region and both strategies solve the game, and `depth` satisfies `IsDepth`
+-- the region and both strategies solve the game, and the maximal depth of calls is within its promised bounds
+-- (`IsDepth`)
 pub record SolvesGame (game : ParityGame) (depth : ℕ) (region : List Bool) (first second : List (Option ℕ)) : Type 0
   where
     pub answer : IsAnswer game region first second

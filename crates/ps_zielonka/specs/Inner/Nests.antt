@@ -136,8 +136,8 @@ pub record StandsBefore (list : List ℕ) (end v : ℕ) : Type 0 where
   pub before : place < end
   pub is : slice_index list place ≡ v
 
--- v may be in the target of an iteration's attractor: it is before index `behind` in `order`, and its priority has the
--- parity of that at index `cursor`, or equals that if `just_greatest` is true
+-- v may be a top, in the target of an iteration's attractor. It is before index `behind` of `order`. Its priority has
+-- the parity of the priority of the vertex at index `cursor`, and equals that priority if `just_greatest` is true
 pub record IsTop (game : ParityGame) (order : List ℕ) (cursor behind : ℕ) (just_greatest : Bool) (v : ℕ) : Type 0 where
   pub stands : StandsBefore order behind v
   pub parity : priority_of game v % 2 ≡ priority_of game (slice_index order cursor) % 2
