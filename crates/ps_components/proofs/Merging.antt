@@ -48,8 +48,8 @@ module _ {g : Digraph} {statuses : List Status} {active bounds : List ℕ} {pend
       still p w (closed k c) = closed k c
       still p w (settled_active q a later) = settled_active q a (λ k b h. later k b (cut.part k b h))
 
-  -- a pending link can be removed if its target is settled: finished, or in the same or a later segment of the search
-  -- path
+  -- a pending link can be removed if its target is settled: finished, or on the search path, in the segment of the
+  -- link's start or in a later one
   pub sound-taken : {e : Pending} → slice_get pending (length pending - 1) ≡ Some e →
       IsSettled statuses bounds e.from e.to →
       IsSoundSearch g statuses active bounds (take (length pending - 1) pending) order
