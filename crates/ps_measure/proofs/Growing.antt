@@ -1,4 +1,4 @@
--- How counts grow along paths, and how the weights of all components from a given one on add up.
+-- How counts grow along paths, and how large the total weight of the vertices in a component and all later ones is.
 use Rattle.std.proofs.Common.{◌≡◌, ℕ, ◌+◌, ◌<◌, ◌≤◌, inl, inr, refl, ap, arith, Option, Some, rules, cond}
 use Rattle.std.specs.Prelude.{slice_get}
 use Rattle.std.proofs.lemmas.Bool.{le-leb, lt-leb}

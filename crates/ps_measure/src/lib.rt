@@ -20,8 +20,8 @@
 //! | `counts_are_there` | a law: a region has least counts or a lost cycle; a region that is held has least counts |
 //!
 //! The counts for a priority are 0 outside the region, and at most the number of vertices of that priority in the
-//! region. Any region and any table may be given; the region need not be closed. `raises` is at least the number of
-//! nonzero counts, and at most the sum of the counts.
+//! region. Any region and any table may be given: edges may leave the region, and moves may be wrong. `raises` is at
+//! least the number of nonzero counts, and at most the sum of the counts.
 #![tactic(auto)]
 
 mod back;
