@@ -138,8 +138,9 @@ HoldsWithin-attracted {game} {subgame} {player} {target} {set} {table} {rank} ha
   ];
 }
 
--- a player holds a whole subgame if the player holds the part outside its attractor to certain vertices, the tops. The
--- priority of each top has the player's parity, and is greater than all priorities of the other parity in the subgame
+-- a player holds a whole subgame by a table if the player holds by it the part outside the player's attractor to
+-- certain vertices, the tops. The table's moves at the player's tops stay in the subgame. The priority of each top has
+-- the player's parity, and is greater than all priorities of the other parity in the subgame
 pub HoldsWithin-all : {game : ParityGame} {subgame : ℕ → Bool} {player : ℕ} {tops set rest nested : ℕ → Bool}
     {table : ℕ → Option ℕ} {rank : ℕ → ℕ} → ((v w : ℕ) → IsTrue (tops v) → IsTrue (subgame w) →
     priority_of game w % 2 ≢ player → priority_of game w < priority_of game v) →

@@ -115,9 +115,9 @@ impl<W: Width> Board<W> {
         true
     }
 
-    /// Whether the player keeps a vertex: a vertex of the player has a successor above `level` that the player won, and
-    /// a vertex of the opponent has none that the opponent won. Writes the move at a vertex that the player owns and
-    /// keeps.
+    /// Whether the player keeps a vertex. A vertex of the player must have a successor of a higher level than `level`
+    /// that the player won; a vertex of the opponent must have no such successor that the opponent won. Writes the move
+    /// at a vertex that the player owns and keeps.
     fn keeps<A: Arena>(
         &mut self,
         edges: &Adjacency<'_, A, W>,

@@ -166,16 +166,16 @@ pub record IsWonStep (game : ParityGame) (tables : TablesData) (winner : List �
   pub above : level < level_of tables w
   pub won : slice_index winner w ≡ player
 
--- the player keeps v: if the player owns v, its move leads to a vertex above `level` that the player won; otherwise no
--- edge leads to one that the opponent won
+-- The player keeps v. If the player owns v, the move at v leads to a vertex of a higher level than `level` that the
+-- player won. Otherwise no edge leads to such a vertex that the opponent won
 pub record IsKeptAt (game : ParityGame) (tables : TablesData) (winner : List ℕ) (level player other v : ℕ) : Type 0
   where
     pub own : owner_of game v ≡ player → IsWonStep game tables winner level player v (slice_index tables.moves v)
     pub foreign : owner_of game v ≢ player → (w : ℕ) → HasEdge game v w → level < level_of tables w →
         slice_index winner w ≢ other
 
--- the player loses v: if the player owns v, no edge leads to a vertex above `level` that the player won; otherwise an
--- edge leads to one that the opponent won
+-- The player cannot keep v. If the player owns v, no edge leads to a vertex of a higher level than `level` that the
+-- player won. Otherwise an edge leads to such a vertex that the opponent won
 pub record IsLostAt (game : ParityGame) (tables : TablesData) (winner : List ℕ) (level player other v : ℕ) : Type 0
   where
     pub own : owner_of game v ≡ player → (w : ℕ) → HasEdge game v w → level < level_of tables w →
