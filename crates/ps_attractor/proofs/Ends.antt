@@ -32,7 +32,8 @@ was_there w posed inside = elim (posed.split w inside) [
   | inr there ↦ inr (posed.target_stands w there)
 ]
 
--- a vertex that occurs in the worklist before some index has a rank less than that index
+-- if a vertex occurs in the worklist before index `end`, the sum of `aim.begin` and the vertex's rank is less than
+-- `end`
 rank_before : (aim : Aim) (new : TablesData) (end w : ℕ) → end ≤ length new.trail → IsInTrailBefore aim new end w →
     aim.begin + rank_of aim new w < end
 rank_before aim new end w within stands =

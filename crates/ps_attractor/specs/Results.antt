@@ -28,7 +28,7 @@ pub record AreLaidOut (subgame target : List Bool) (n : ℕ) (tables : TablesDat
   pub only : (j : ℕ) → j < length tables.trail → IsTrue (has target (slice_index tables.trail j))
   pub before : (j : ℕ) → j < length tables.trail → slice_index tables.trail j < n
 
--- the parameters of an attractor computation for the player, whose target begins at the front of the worklist
+-- the parameters of an attractor computation for the player; the target's vertices begin at the front of the worklist
 abbrev pub aim_of : ℕ → Aim
 aim_of player = record { player = player; begin = 0; level = PLACED; free = FREE }
 

@@ -97,7 +97,8 @@ impl<W: Width> Tables<W> {
         self.place(source, aim.level)
     }
 
-    /// Whether a vertex has an unattracted successor. The search starts where the previous search at this vertex ended.
+    /// Whether a vertex has an unattracted successor. The search for an unattracted successor starts where the previous
+    /// search at the same vertex ended.
     fn has_free<A: Arena>(
         &mut self,
         edges: &Adjacency<'_, A, W>,
