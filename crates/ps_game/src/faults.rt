@@ -14,8 +14,8 @@ pub enum GameFault {
         vertex: usize,
     },
 
-    /// The fault that some edge leads to a number that is not a vertex. Reported are the smallest vertex with such an
-    /// edge, and the target of the first such edge of this vertex.
+    /// The fault that some edge leads to a number that is not a vertex. The fault reports the smallest vertex with an
+    /// edge to a number that is not a vertex, and the target of this vertex's first edge of this kind.
     #[error("vertex {vertex} has the unknown successor {successor}")]
     UnknownSuccessor {
         /// The number of the vertex at fault, from 0.

@@ -14,8 +14,8 @@ use std::alloc::{AllocError, Global};
 use std::marker::Model;
 
 /// A parity game in four arrays: the owners, the priorities, the successors of all vertices in one list, and the offset
-/// of each vertex's successors. If `W` is `u32`, each vertex takes 13 bytes and each edge takes 4. The game then takes
-/// less memory than a `Game`, and is faster to read.
+/// of each vertex's successors. If `W` is `u32`, each vertex takes 13 bytes and each edge takes 4. With `u32`, the game
+/// takes less memory than a `Game`, and is faster to read.
 #[derive(Drop)]
 pub struct FlatGame<W: Width> {
     pub(crate) offsets: Numbers<W>,
