@@ -14,8 +14,8 @@
 //! |---|---|
 //! | `attempt(arena, fuel)` | an `Attempted`: a region and the moves of both players, or the reason why there is none |
 //!
-//! The fuel limits the time: it counts the cells of rows that are read or written. The memory is limited to a fixed
-//! number of cells, plus a fixed number of cells for each vertex and edge.
+//! The fuel limits the time: it counts the cells of rows that are read or written. The memory for rows is limited to a
+//! fixed number of cells, plus a fixed number of cells for each vertex and edge.
 #![tactic(auto)]
 
 mod attempting;

@@ -62,7 +62,8 @@ fn order_of_rows(row: &[Cell], other: &[Cell], fuel: &mut Fuel) -> Ordering {
     }
 }
 
-/// Compares two cells. The cell with the greater priority decides; if the priorities are equal, the counts decide.
+/// Compares two cells. The cell with the greater priority decides which row is worth more to player 0; if the
+/// priorities are equal, the counts decide.
 fn order_of_cells(cell: Cell, beside: Cell) -> Ordering {
     match cell.priority.cmp(&beside.priority) {
         Ordering::Greater => worth_of(cell.priority),
@@ -81,8 +82,8 @@ fn worth_of(priority: u64) -> Ordering {
     }
 }
 
-/// A row with one more occurrence of a priority, as three lists: the cells of greater priorities, the cell of that
-/// priority, and the cells of smaller priorities.
+/// The row of a play that meets one priority once more than a play with a given row. It has three parts: the cells of
+/// greater priorities, the cell of that priority, and the cells of smaller priorities.
 #[derive(Drop)]
 pub struct Raised<'a> {
     front: &'a [Cell],
@@ -91,7 +92,7 @@ pub struct Raised<'a> {
 }
 
 impl<'a> Raised<'a> {
-    /// The row with one more occurrence of a priority.
+    /// The row of a play that meets the priority once more than a play with the given row.
     pub fn of(row: &'a [Cell], priority: u64) -> Raised<'a> {
         let (front, back) = row.split_at(row.partition_point(|cell| cell.priority > priority));
         let (count, rest) = match back.split_first() {
@@ -108,7 +109,7 @@ impl<'a> Raised<'a> {
         }
     }
 
-    /// Whether the row with one more occurrence of its priority is worth less to player 0 than a value.
+    /// Whether this row is worth less to player 0 than a value.
     pub fn is_below(&self, value: Value<'_>, fuel: &mut Fuel) -> bool {
         match value {
             Value::Endless => true,
@@ -116,7 +117,7 @@ impl<'a> Raised<'a> {
         }
     }
 
-    /// Compares the row with one more occurrence of its priority with another row.
+    /// Compares this row with another row.
     fn order(&self, other: &[Cell], fuel: &mut Fuel) -> Ordering {
         let (begin, back) = other.split_at(self.front.len().min(other.len()));
         let fronts = order_of_rows(self.front, begin, fuel);

@@ -39,8 +39,8 @@ impl<'a, A: Arena> Settling<'a, A> {
         })
     }
 
-    /// Improves the players' choices in one component after another, until nothing improves. Each component follows
-    /// those to which its edges lead. Returns whether the fuel sufficed. Fails if out of memory.
+    /// Improves the players' choices in one component after another, until nothing improves. Each component is solved
+    /// after the components to which its edges lead. Returns whether the fuel sufficed. Fails if out of memory.
     pub fn settle_all(&mut self, fuel: &mut Fuel) -> Result<bool, AllocError>
         ensures { self.new.ground ≡ self.old.ground }
     {
