@@ -54,7 +54,8 @@ module _ {g : Digraph} {weight : ℕ → ℕ} {c : ComponentsData} {values : Lis
     bounded = search (rules, written, number_within);
   }
 
-  -- raising the value of a root's component to 1 keeps the values of all components correct
+  -- if v is a root (a vertex of weight 1 to which some link leads), raising the value of its component to 1 keeps the
+  -- values of all components correct
   pub root_column : {w : ℕ} → Link g w v → weight v ≡ 1 → IsColumn g weight c (slice_set values m 1)
   root_column {w} link heavy = set_column 1 (λ d counts. omega (arith, counts w v link))
       (omega (arith, weights_from-least weight components v to))

@@ -62,8 +62,8 @@ total_of rows count width = sum_below (λ k. sum_below (λ v. count_of rows v k)
 abbrev pub raised_of : List (List ℕ) → ℕ → ℕ → ℕ
 raised_of rows count width = sum_below (λ k. count_below (λ v. nat_lt 0 (count_of rows v k)) count) width
 
--- an upper bound on the number of raises: the sum, over the priorities, of the size of the set times the number of its
--- vertices with that priority
+-- an upper bound on how often counts are raised: the sum, over the priorities, of the size of the set times the number
+-- of its vertices with that priority
 abbrev pub most_raises : ParityGame → (ℕ → Bool) → List ℕ → ℕ
 most_raises game set priorities =
     sum_below (λ k. count_below set (vertex_count game) * count_with game set (slice_index priorities k))

@@ -14,7 +14,8 @@ abbrev pub count_here : Option CountCell → ℕ → ℕ
 count_here None k = 0
 count_here (Some cell) k = if cell.place == k then cell.count else 0
 
--- the greatest count at index k among the first `fuel` cells of the chain that begins with the cell of the given number
+-- the greatest count for index k in the first `fuel` cells of the chain that begins with the cell of the number
+-- `number`
 unfoldable pub count_from : List CountCell → ℕ → ℕ → ℕ → ℕ
 count_from cells zero number k = 0
 count_from cells (suc fuel) zero k = 0

@@ -65,8 +65,8 @@ pub record IsReverse (g r : Digraph) : Type 0 where
   pub there : (v w : ℕ) → Link g v w → Link r w v
   pub back : (v w : ℕ) → Link r w v → Link g v w
 
--- what the counts for one priority are computed from: a stored graph, a region, the level of each vertex, which is its
--- priority, and the priority
+-- what the counts for one priority are computed from: a stored graph, a region, the level (priority) of each vertex,
+-- and the one priority
 pub record LowData : Type 0 where
   pub star : StarData
   pub region : List Bool
@@ -78,7 +78,7 @@ pub record IsLow (low : LowData) : Type 0 where
   pub region_fits : length low.region ≡ low.star.count
   pub levels_fit : length low.levels ≡ low.star.count
 
--- the stored graph without the links at whose source or target the level is greater than the priority
+-- the stored graph without the links at whose source or target the level is greater than `low.priority`
 abbrev pub low_graph : LowData → Digraph
 low_graph low = record {
   count = low.star.count;
@@ -87,6 +87,6 @@ low_graph low = record {
       if nat_le (slice_index low.levels w) low.priority then Some w else None;
 }
 
--- the weight of a vertex: 1 if it is in the region and its level equals the priority, and otherwise 0
+-- the weight of a vertex: 1 if it is in the region and its level equals `low.priority`, and otherwise 0
 abbrev pub low_weight : LowData → ℕ → ℕ
 low_weight low v = counted ((slice_index low.levels v == low.priority) && has low.region v)
