@@ -1,4 +1,4 @@
--- The set of vertices that a certificate states one player wins, and the player's moves there.
+-- The set of the vertices that one player wins according to a certificate, and the player's moves there.
 use Rattle.std.proofs.Common.{◌≡◌, ◌≢◌, ◌∙◌, ℕ, zero, suc, ◌+◌, ◌<◌, List, [], ◌∷◌, get_or, Option, Some, None, Bool}
 use Rattle.std.proofs.Common.{subst, arith, rules, length, sym}
 use Rattle.std.specs.Prelude.{IsTrue, IsSomeAnd}
