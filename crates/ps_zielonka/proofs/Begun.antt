@@ -1,4 +1,4 @@
--- An iteration (turn) of a call that begins: its premises, the undecided vertices of the call, and the tops (the
+-- The beginning of an iteration (turn) of a call: its premises, the undecided vertices of the call, and the tops (the
 -- attractor's target) among them.
 use Rattle.std.proofs.Common.{◌≡◌, ◌≢◌, ℕ, ◌+◌, ◌*◌, ◌%◌, ◌<◌, ◌≤◌, ◌⊎◌, inl, inr, List, length, get_or, Bool, true}
 use Rattle.std.proofs.Common.{not, ◌&&◌, ◌==◌, refl, sym, ap, ◌∙◌, arith, rules}

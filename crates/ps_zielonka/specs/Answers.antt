@@ -25,7 +25,7 @@ pub record IsAnswer (game : ParityGame) (region : List Bool) (first second : Lis
   pub first_moves : MovesWithin game 0 (has region) first
   pub second_moves : MovesWithin game 1 (others region) second
 
--- the region has exactly those vertices less than n that player 0 wins
+-- the set `region` has exactly those vertices less than n that player 0 wins
 pub record IsWonRegionTo (winner : List ℕ) (n : ℕ) (region : List Bool) : Type 0 where
   pub won : (v : ℕ) → v < n → IsTrue (has region v) → slice_index winner v ≡ 0
   pub all : (v : ℕ) → v < n → slice_index winner v ≡ 0 → IsTrue (has region v)

@@ -102,10 +102,10 @@ impl<W: Width> Nest<W> {
     }
 
     /// Begins an iteration of the current call. The vertex at index `cursor` of `order` is undecided and has the
-    /// greatest priority of all undecided vertices. Computes the attractor of the player who wins by this priority to
-    /// all undecided vertices of this priority. In every call except the first, the target of the attractor also has
-    /// undecided vertices of lower priorities, down to, but not including, the first priority of the other parity.
-    /// Fails if out of memory.
+    /// greatest priority of all undecided vertices. Computes the attractor to all undecided vertices of the greatest
+    /// priority, for the player who wins by that priority. In every call except the first, the target of the attractor
+    /// also has undecided vertices of lower priorities, down to, but not including, the first priority of the other
+    /// parity. Fails if out of memory.
     fn begin_turn<A: Arena>(
         &mut self,
         edges: &Adjacency<'_, A, W>,
@@ -170,7 +170,8 @@ impl<W: Width> Nest<W> {
     }
 
     /// Decides the vertices that the opponent won in the recursive call, and those that the opponent attracts to them.
-    /// The call then continues with the vertices that are still undecided. Fails if out of memory.
+    /// The call that waited for the recursive call then continues with the vertices that are still undecided. Fails if
+    /// out of memory.
     fn go_on<A: Arena>(
         &mut self,
         edges: &Adjacency<'_, A, W>,
