@@ -7,7 +7,7 @@
 //! not including, the first priority of the other parity. The undecided vertices outside the attractor are solved next,
 //! by a recursive call. The player keeps a top of its own if it can move from there to a vertex that it won. The player
 //! keeps a top of the opponent if no edge leads from there to a vertex that the opponent won. If the player keeps each
-//! top, the player wins all vertices that the opponent did not win in the recursive call. If the player cannot keep
+//! top, the player wins all vertices that the opponent did not win in the recursive call. If the player can't keep
 //! some top, the opponent attracts vertices to those that it won in the recursive call, and the call continues with the
 //! vertices that are still undecided.
 //!

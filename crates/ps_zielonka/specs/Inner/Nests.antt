@@ -174,7 +174,7 @@ pub record IsKeptAt (game : ParityGame) (tables : TablesData) (winner : List ℕ
     pub foreign : owner_of game v ≢ player → (w : ℕ) → HasEdge game v w → level < level_of tables w →
         slice_index winner w ≢ other
 
--- The player cannot keep v. If the player owns v, no edge leads to a vertex of a higher level than `level` that the
+-- The player can't keep v. If the player owns v, no edge leads to a vertex of a higher level than `level` that the
 -- player won. Otherwise an edge leads to such a vertex that the opponent won
 pub record IsLostAt (game : ParityGame) (tables : TablesData) (winner : List ℕ) (level player other v : ℕ) : Type 0
   where
