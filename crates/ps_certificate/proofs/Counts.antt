@@ -19,7 +19,7 @@ use Rattle.ps_certificate.proofs.Edges.{place_of, IsSomeAnd-at, Remains-own}
 use Rattle.ps_certificate.proofs.FirstFlaws.{first_of_stage, closed_has_no_flaw, stage_cases, IsClosed-from_sound}
 use Rattle.ps_certificate.proofs.Lists.{rising_far}
 
--- a certificate that fits its game lists the priorities that oppose a player in ascending order
+-- in a certificate that fits its game, the list of the priorities that oppose a player is ascending
 pub opposing_rises : {game : ParityGame} {certificate : CertificateData} (player : ℕ) → Fits game certificate →
     IsStrictlyIncreasing (opposing certificate player)
 unfolding opposing
@@ -33,8 +33,9 @@ pub opposing_complete : {game : ParityGame} {certificate : CertificateData} (pla
 unfolding opposing
 opposing_complete player h k v m n = search rules
 
--- what is known when the counts of an edge's two ends are compared: in the ascending list `priorities`, the items from
--- index `start` on are at least the priorities of both ends
+-- the counts of an edge's two ends, `before` and `after`, for the ascending list `priorities` of those that oppose the
+-- winner. The items of this list before index `start` are less than `top`, and all others are at least `top`, the
+-- greater of the two ends' priorities.
 pub record Compared (game : ParityGame) (certificate : CertificateData) (v w : ℕ) (priorities before after : List ℕ)
     (top start : ℕ) : Type 0 where
   pub priorities_are : priorities ≡ opposing certificate (winner_of certificate v)
@@ -50,7 +51,7 @@ abbrev pub FallsAtStart : ParityGame → ℕ → List ℕ → List ℕ → List 
 FallsAtStart game v priorities before after start = start < length priorities →
     slice_index priorities start ≡ priority_of game v → slice_index after start < slice_index before start
 
--- for a listed priority less than that of one of the edge's ends, the rule of counts requires nothing
+-- for a listed priority less than that of one of the edge's ends, the certificate's rule of counts requires nothing
 KeepsCount-lower : {game : ParityGame} {certificate : CertificateData} {v w : ℕ} {priorities before after : List ℕ}
     {top start : ℕ} (k : ℕ) → Compared game certificate v w priorities before after top start → k < start →
     KeepsCount game certificate v w k
@@ -84,8 +85,8 @@ KeepsCount-compared {game} {certificate} {v} {w} {priorities} {before} {after} {
           }
     ]
 
--- if the edge obeys the rule of counts at index `start`, the first count from there on that rises along the edge is the
--- first that breaks the rule
+-- if an edge obeys the certificate's rule of counts for the priority at index `start`, the first count from there on
+-- that rises along the edge is the first that breaks the rule
 pub IsFirstBroken-behind : {game : ParityGame} {certificate : CertificateData} {v w : ℕ}
     {priorities before after : List ℕ} {top start : ℕ} (place : ℕ) → Compared game certificate v w priorities before
     after top start → FallsAtStart game v priorities before after start → start ≤ place → place < length priorities →
@@ -106,7 +107,8 @@ IsFirstBroken-behind {game} {certificate} {v} {w} {priorities} {before} {after} 
       earlier = λ k early. KeepsCount-compared k compared strict (omega arith) (λ from_start. grind arith);
     }
 
--- an edge may break the rule of counts for several priorities; the first in the list is the smallest of them
+-- an edge may break the certificate's rule of counts for several priorities; the first of them in the certificate's
+-- list is the smallest
 same_edge : {game : ParityGame} {certificate : CertificateData} {v w p p' : ℕ} → Fits game certificate →
     IsFirstBroken game certificate v w p → BreaksCount game certificate v w p' →
     (Rank v w p ≡ Rank v w p') ⊎ Precedes game (Rank v w p) (Rank v w p')
@@ -120,8 +122,8 @@ same_edge {certificate} {v} {w} fits first other = elim (cases_order other.place
       inr (inr (refl, refl, omega (arith, less, first.priority, other.priority)))
 ]
 
--- the first flaw in the counts of a vertex is its first edge that breaks the rule of counts, with the first priority
--- for which this edge breaks the rule
+-- the first flaw in the counts of a vertex is its first edge that breaks the certificate's rule of counts, with the
+-- first priority for which this edge breaks the rule
 pub IsFirstFlawAt-rank : {game : ParityGame} {certificate : CertificateData} {v w p : ℕ} →
     Fits game certificate → Remains game certificate v w → winner_of certificate w ≡ winner_of certificate v →
     IsFirstBroken game certificate v w p → ((w' : ℕ) → Remains game certificate v w' → (w' ≡ w) ⊎ (KeepsCounts
@@ -152,8 +154,8 @@ pub own_edges : (game : ParityGame) (certificate : CertificateData) (v : ℕ) {w
     v ≡ winner_of certificate v → choice_of certificate v ≡ Some w → {w' : ℕ} → Remains game certificate v w' → w' ≡ w
 own_edges game certificate v own is {w'} remains = search rules
 
--- if all edges of a vertex before the edge to `w` obey the rule of counts, each edge other than this one obeys the rule
--- or comes later
+-- if all edges of a vertex before the edge to `w` obey the certificate's rule of counts, each edge other than this one
+-- obeys the rule or comes later
 pub other_edges : (game : ParityGame) (certificate : CertificateData) (v w number : ℕ) →
     number < length (successors_of game v) → w ≡ slice_index (successors_of game v) number →
     ((k : ℕ) → k < number → KeepsCounts game certificate v (get_or (successors_of game v) k 0)) → (w' : ℕ) → Remains
@@ -169,7 +171,7 @@ KeepsCountsAt-from_all game certificate v each w remains =
     let (j, j_within, j_is) = place_of (successors_of game v) remains.edge.1 in
     grind arith
 
--- a vertex whose edges obey the rule of counts has no flaw in its counts
+-- a vertex whose edges obey the certificate's rule of counts has no flaw in its counts
 kept_has_no_flaw : (game : ParityGame) (certificate : CertificateData) (flaw : Flaw) →
     KeepsCountsAt game certificate (vertex_of flaw) → IsFlaw game certificate flaw → stage_of flaw ≡ 1 → ⊥
 kept_has_no_flaw game certificate flaw h k m = search rules

@@ -68,7 +68,7 @@ module _ (ids : List ℕ) (old : Stream Seen) where
   choice_reads h {new = new} m e = subst (λ v. Reads (choice ids) old v new) (sym e)
       (reads_as (no_dash h) (reads_mapped (vertex_of ids) m))
 
--- the first index at which a list has an id is the same, whichever of the two ids comes first in the comparison
+-- testing `id == other` or `other == id` for each item of a list of ids finds the same first index
 first_same : (id : ℕ) (ids : List ℕ) → prefix_len (λ other. not (eqb id other)) ids ≡ prefix_len
     (λ other. not (eqb other id)) ids
 first_same id ids = search (rules, nat_tests)
@@ -82,7 +82,7 @@ module _ (compact : Bool) (odd even ids : List ℕ) (id : ℕ) where
   abbrev line : Field EntryData
   line = entry compact odd even ids id
 
-  -- the part of the line's grammar that is still to be parsed, after the fields that were already read
+  -- the part of the grammar of a vertex's line that is still to be parsed after the fields that were read
   module _ {old s1 : Stream Seen} {n : ℕ} (m1 : Reads (number (λ n. n ≡ id → ⊥)) old n s1) where
     pub past_id : Left line old (behind_id compact odd even ids) s1
     past_id = past (chain_id compact odd even ids id) unread m1

@@ -1,7 +1,8 @@
--- A player who follows the moves of a valid certificate wins every loop of the resulting path. Suppose that the player
--- whom a valid certificate names as the winner loses a loop. Along the edges of a lost loop, the count for the loop's
--- greatest priority never rises, and it falls at a vertex that has this priority. But the count must be the same at
--- both ends of a loop, which ends at the vertex at which it begins.
+-- If a player follows the moves of a valid certificate, from a vertex that this certificate gives to the player, the
+-- greatest priority of every loop of the path has the player's parity. Suppose that the greatest priority of a loop has
+-- the other parity. Then the count for this priority never rises along the edges of the loop, and it falls at a vertex
+-- that has this priority. But the count must be the same at both ends of a loop, which ends at the vertex at which it
+-- begins.
 use Rattle.std.proofs.Common.{◌≡◌, ◌≢◌, ℕ, ◌+◌, ◌-◌, ◌%◌, ◌<◌, ◌≤◌, ◌∙◌, List, length, inl, inr, sym, ap, arith, zero}
 use Rattle.std.proofs.Common.{suc, rules}
 use Rattle.std.specs.Prelude.{slice_index}
@@ -34,8 +35,8 @@ falls_in_the_end f i j m after below step falls =
     never_rises_along f (m + 1) (j - (m + 1)) (λ k k_after k_below. step k (omega arith) (omega arith)) in
     grind arith
 
--- an assumed loop that the player loses by following a valid certificate; `place` is the index of the loop's greatest
--- priority among those that oppose the player
+-- assumed for a contradiction: a path that follows the player's moves of a valid certificate has a loop whose greatest
+-- priority opposes the player; `place` is the index of this priority among those that oppose the player
 record LostLoop (game : ParityGame) (certificate : CertificateData) (player : ℕ) (path : List ℕ)
     (i j place : ℕ) : Type 0 where
   pub fits : Fits game certificate
@@ -47,7 +48,8 @@ record LostLoop (game : ParityGame) (certificate : CertificateData) (player : �
   pub within : place < length (opposing certificate player)
   pub is : slice_index (opposing certificate player) place ≡ loop_priority game path i j
 
--- no vertex of the loop, including its end, has a priority greater than the loop's priority
+-- no vertex of the loop, not even its end, has a priority greater than `loop_priority`, the greatest priority of the
+-- loop
 bounded : (game : ParityGame) (certificate : CertificateData) (player : ℕ) (path : List ℕ) (i j place : ℕ) →
     LostLoop game certificate player path i j place → (k : ℕ) → i ≤ k → k ≤ j →
     priority_of game (slice_index path k) ≤ loop_priority game path i j
@@ -61,13 +63,14 @@ winner_along : {game : ParityGame} {certificate : CertificateData} {player : ℕ
     winner_of certificate (slice_index path k) ≡ player
 winner_along {game} {certificate} {player} {path} lost k before = search (rules, path_stays)
 
--- at each vertex of the lost loop, the priority at index `place` of those that oppose the winner is the loop's priority
+-- at each vertex of the lost loop, the priority at index `place` of those that oppose the winner is the loop's greatest
+-- priority
 at_place : {game : ParityGame} {certificate : CertificateData} {player : ℕ} {path : List ℕ} {i j place : ℕ} →
     LostLoop game certificate player path i j place → (k : ℕ) → k ≤ j →
     opposing_at certificate (slice_index path k) place ≡ loop_priority game path i j
 at_place {certificate} {place} lost k before = grind (arith, winner_along lost k before)
 
--- each step of the lost loop obeys the certificate's rule of counts for the loop's priority
+-- each step of the lost loop obeys the certificate's rule of counts for the loop's greatest priority
 step_keeps : {game : ParityGame} {certificate : CertificateData} {player : ℕ} {path : List ℕ} {i j place : ℕ} →
     LostLoop game certificate player path i j place → (k : ℕ) → i ≤ k → k < j →
     KeepsCount game certificate (slice_index path k) (slice_index path (k + 1)) place
@@ -85,7 +88,8 @@ step_at_most {game} {certificate} {player} {path} {i} {j} {place} lost k after b
   step_keeps lost k after below,
 )
 
--- a player who follows the moves of a valid certificate, from a vertex that it gives to the player, loses no loop
+-- a path that follows the player's moves of a valid certificate, from a vertex that it gives to the player, has no loop
+-- whose greatest priority opposes the player
 no_lost_loop : {game : ParityGame} {certificate : CertificateData} {player : ℕ} {path : List ℕ} {i j place : ℕ} →
     LostLoop game certificate player path i j place → ⊥
 no_lost_loop {game} {certificate} {player} {path} {i} {j} {place} lost =

@@ -1,5 +1,5 @@
 -- Invariants of the loops of the certificate parser: what a loop has read, and what remains to be read.
--- - `fails`: at a `?`, the parsing function returns the first error of the grammar's part
+-- - `fails`: if a parsing function returns at a `?`, it returns the first error of its part of the grammar
 -- - `priorities_fail`, `priorities_end`: lemmas for a line of priorities that has an error, or ends
 -- - `Listing`: the invariant of a loop that parses a list: the list `front` was read, and the rest is still to be read
 use Rattle.std.proofs.Common.{◌≡◌, ℕ, suc, ◌+◌, ◌-◌, ◌<◌, ◌≤◌, Bool, true, false, not, eqb, List, [], ◌∷◌, ◌++◌, length}

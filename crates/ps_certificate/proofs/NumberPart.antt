@@ -272,7 +272,7 @@ judged_wrong settled f r wrong first is =
 
 -- the parser has read a number; `Wrong` states which numbers don't belong to the game
 module _ (Wrong : ℕ → Type 0) {old new : Stream Seen} {n : ℕ} (r : IsNumberRead old new n) where
-  -- the parser accepts a number unless it fills a whole field and doesn't belong to the game
+  -- the parser accepts the number unless a space, a newline or a colon follows it and it doesn't belong to the game
   pub number_reads : (EndsField r.rest → Wrong n → ⊥) → Reads (number Wrong) old n new
   number_reads right = judged_reads (OfOtherGame Wrong) (settled_other Wrong) r (λ f w. right w.1 w.2)
 

@@ -46,7 +46,8 @@ set_is_put f m (q ∷ ps) (suc k) r lt = grind (arith, set_is_put f m ps k r.1 (
 
 -- ## The loop
 
--- the loop's invariant: the pairs `priority:count` that were read so far give the stored counts
+-- the loop's invariant: the list `counts` has the counts of the pairs `priority:count` that were read so far, and 0 for
+-- every other priority
 pub record PairsSoFar (ps : List ℕ) (start : Stream Seen) (now : Stream Seen) (last : Option ℕ)
     (counts : List ℕ) : Type 0 where
   pub pairs : Pairs
@@ -63,7 +64,8 @@ no_pairs_yet {ps} {start} {n} e = record {
   carries = carries_start causes (many (pair ps) no_pairs) start;
 }
 
--- one more pair, of priority `p` and count `m`, was read, whatever pairs ending with the priority `last` came before
+-- the bytes from `old` to `new` are parsed as a pair of the priority `p` and the count `m`, whichever pairs were read
+-- before, if the last of them had the priority `last`
 abbrev pub ReadsPair : List ℕ → Option ℕ → Stream Seen → ℕ → ℕ → Stream Seen → Type 0
 ReadsPair ps last old p m new = (pairs : Pairs) → pairs.last ≡ last
     → Reads (pair ps pairs) old (with_pair pairs p m) new

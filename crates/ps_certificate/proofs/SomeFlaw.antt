@@ -1,10 +1,10 @@
 -- A certificate is closed or has a first flaw, and a certificate that fits its game is valid or has a first flaw. The
 -- first flaw is found by searching the vertices in order, at each vertex the successors, and for each edge the
 -- priorities.
--- - `IsFirstPlace`, `first_place`: the first number below n for which Q holds, if P or Q holds for each of these
---   numbers
--- - `decide_move`, `decide_rule`: it is decidable whether a vertex's move is right, and whether an edge obeys the rule
---   of counts
+-- - `IsFirstPlace`, `first_place`: if P or Q holds for each number below n, P holds for all of them, or Q holds for
+--   some k and P for each number less than k
+-- - `decide_move`, `decide_rule`: it is decidable whether a vertex's move is right, and whether an edge obeys the
+--   certificate's rule of counts
 -- - `sound_or_flawed`, `kept_or_flawed`: for each stage of the check, a vertex has no flaw, or it has a first one
 -- - `closed_or_flawed`, `valid_or_flawed`: the two lemmas that prove the law `first_flaw_is_there`
 use Rattle.std.proofs.Common.{◌≡◌, ◌≢◌, ℕ, zero, suc, ◌<◌, ◌≤◌, ◌⊎◌, inl, inr, length, get_or, Option, None, Some, refl}
@@ -155,7 +155,8 @@ decide_rule p from to before after = elim (cases_lt p from) [
     decide_counts low less (inr kept) (inr stays) (inr other) =
         inl (record { never_rises = λ l m. kept; falls = λ e m. absurd (other e) })
 
--- an edge obeys the rule of counts for every priority, or there is a first priority for which the edge breaks the rule
+-- an edge obeys the certificate's rule of counts for every priority, or there is a first priority for which the edge
+-- breaks the rule
 keeps_or_breaks : (game : ParityGame) (certificate : CertificateData) (v w : ℕ) →
     KeepsCounts game certificate v w ⊎ ((p : ℕ) × IsFirstBroken game certificate v w p)
 keeps_or_breaks game certificate v w = elim (first_place (λ k. KeepsCount game certificate v w k)
@@ -209,7 +210,7 @@ module _ (game : ParityGame) (certificate : CertificateData) (fits : Fits game c
             )
       ]
 
-  -- either all edges of the vertex obey the rule of counts, or one of them is the first to break the rule
+  -- either all edges of the vertex obey the certificate's rule of counts, or one of them is the first to break the rule
   kept_or_flawed : KeptOrFlawed
   kept_or_flawed = elim (cases_eq (owner_of game v) (winner_of certificate v)) [
     | inl own ↦ kept_by_owner own

@@ -1,4 +1,4 @@
--- Lemmas about rows of counts of which only the nonzero counts are stored.
+-- Lemmas about the counts of a certificate's entries, of which only the nonzero ones are stored.
 
 pub mod Sparse
 pub mod Lines

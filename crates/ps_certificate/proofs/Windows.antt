@@ -23,22 +23,24 @@ pub same_place : (list : List ℕ) → IsStrictlyIncreasing list → {i j : ℕ}
     slice_index list i ≡ slice_index list j → i ≡ j
 same_place list rising {i} {j} i_within j_within same = search (rules, cases_order, rising_far)
 
--- each marked number of the list `window` is a priority of the game, and its numbers that are priorities of vertices
--- before `vertex` are marked
+-- the marks for the vertices before `vertex`: each marked number of the list `window` is a priority of the game, and
+-- each number of the list that is the priority of one of these vertices is marked
 pub record AreMarks (game : ParityGame) (window : List ℕ) (seen : List Bool) (vertex : ℕ) : Type 0 where
   pub room : length window ≤ length seen
   pub marked : (k : ℕ) → k < length window → get_or seen k false ≡ true → HasPriority game (get_or window k 0)
   pub passed : (k v : ℕ) → k < length window → v < vertex → priority_of game v ≡ get_or window k 0 →
       get_or seen k false ≡ true
 
--- the marks are still right after one more vertex, if its priority is in the list `window` and is marked
+-- if the list `window` contains the priority of `vertex`, marking it gives the marks for the vertices up to and
+-- including `vertex`
 pub AreMarks-found : {game : ParityGame} {window : List ℕ} {seen : List Bool} {vertex place priority : ℕ} →
     IsStrictlyIncreasing window → vertex < vertex_count game → priority ≡ priority_of game vertex → IsAt
     window priority place → AreMarks game window seen vertex → AreMarks game window (set seen place true) (vertex + 1)
 AreMarks-found {game} {window} {seen} {vertex} {place} rising in_range is at marks =
     search (rules, cases_eq, same_place)
 
--- the marks are still right after one more vertex, if its priority is not in the list `window`
+-- if the list `window` does not contain the priority of `vertex`, the marks are also those for the vertices up to and
+-- including `vertex`
 pub AreMarks-missing : {game : ParityGame} {window : List ℕ} {seen : List Bool} {vertex priority : ℕ} →
     priority ≡ priority_of game vertex → ¬ Contains window priority → AreMarks game window seen vertex →
     AreMarks game window seen (vertex + 1)
@@ -59,8 +61,8 @@ pub part-at : (list : List ℕ) (start end k : ℕ) → k < end - start →
     get_or (take (end - start) (drop start list)) k 0 ≡ get_or list (start + k) 0
 part-at list start end k below = get_or-take (end - start) (drop start list) k 0 below ∙ get_or-drop start list k 0
 
--- if a list has only priorities of the game up to `start`, and from there to `end`, it has only priorities of the game
--- up to `end`
+-- if the items of a list before index `start`, and those from there to index `end`, are priorities of the game, all
+-- items before index `end` are
 pub present_more : (game : ParityGame) (list : List ℕ) (start end : ℕ) →
     end ≤ length list → ((k : ℕ) → k < start → HasPriority game (get_or list k 0)) → All
     (HasPriority game) (take (end - start) (drop start list)) → (k : ℕ) → k < end → HasPriority game (get_or list k 0)
@@ -76,13 +78,14 @@ present_more game list start end within before part k below = elim (cases_lt k s
       subst P is (part (k - start) 0 (omega (arith, long)))
 ]
 
--- the marks are right, and the list contains the priority of each vertex before `vertex` whose priority has the given
--- parity
+-- the marks are those for the vertices before `vertex`, and the list contains the priority of each of these vertices
+-- whose priority has the given parity
 pub record AreJust (game : ParityGame) (parity : ℕ) (list : List ℕ) (seen : List Bool) (vertex : ℕ) : Type 0 where
   pub marks : AreMarks game list seen vertex
   pub complete : (v : ℕ) → v < vertex → priority_of game v % 2 ≡ parity → Contains list (priority_of game v)
 
--- the marks are still right after one more vertex, if its priority is in the list and is marked
+-- if the list contains the priority of `vertex`, marking it makes `AreJust` true of the vertices up to and including
+-- `vertex`
 pub AreJust-found : {game : ParityGame} {parity : ℕ} {list : List ℕ} {seen : List Bool} {vertex place priority : ℕ} →
     IsStrictlyIncreasing list → vertex < vertex_count game → priority ≡ priority_of game vertex → IsAt list
     priority place → AreJust game parity list seen vertex → AreJust game parity list (set seen place true) (vertex + 1)

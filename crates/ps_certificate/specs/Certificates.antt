@@ -31,8 +31,8 @@ choice_of certificate v = (slice_index_or certificate.entries v no_entry).choice
 unfoldable pub counts_of : CertificateData → ℕ → List ℕ
 counts_of certificate v = (slice_index_or certificate.entries v no_entry).counts
 
--- the priorities that oppose a player, who loses a loop if its greatest priority is one of them: the odd ones for
--- player 0, the even ones for player 1
+-- the priorities that oppose a player: the odd ones for player 0, the even ones for player 1. The player loses a play
+-- that repeats a loop whose greatest priority is one of them.
 unfoldable pub opposing : CertificateData → ℕ → List ℕ
 opposing certificate player = if player == 0 then certificate.odd else certificate.even
 
@@ -66,7 +66,8 @@ pub record IsClosed (game : ParityGame) (certificate : CertificateData) : Type 0
 abbrev pub opposing_at : CertificateData → ℕ → ℕ → ℕ
 opposing_at certificate v k = slice_index (opposing certificate (winner_of certificate v)) k
 
--- an edge obeys the rule of counts for the priority at index `k` of those that oppose the winner
+-- an edge obeys the certificate's rule of counts for the priority at index `k` of those that oppose the winner of the
+-- vertex that the edge leaves
 abbrev pub KeepsCount : ParityGame → CertificateData → ℕ → ℕ → ℕ → Type 0
 KeepsCount game certificate v w k =
     KeepsRule (opposing_at certificate v k) (priority_of game v) (priority_of game w)
@@ -86,8 +87,8 @@ HasWrongMove game certificate v =
     ((owner_of game v ≡ winner_of certificate v) × ¬ IsSomeAnd (choice_of certificate v) (HasEdge game v))
     ⊎ ((owner_of game v ≢ winner_of certificate v) × IsSome (choice_of certificate v))
 
--- an edge that the winner's moves allow, between two vertices with the same winner, breaks the rule of counts for
--- priority `p`
+-- an edge that the winner's moves allow, between two vertices with the same winner, breaks the certificate's rule of
+-- counts for priority `p`
 pub record BreaksCount (game : ParityGame) (certificate : CertificateData) (v w p : ℕ) : Type 0 where
   pub remains : Remains game certificate v w
   pub same_winner : winner_of certificate w ≡ winner_of certificate v

@@ -1,19 +1,19 @@
--- Lists of counts of which only the nonzero counts are stored, each with its index. (For private fields.)
+-- A vertex's counts, of which only the nonzero ones are stored, each with its index. (For private fields.)
 use Rattle.std.specs.Prelude.{ℕ, zero, suc, ◌<◌, ◌≤◌, ◌==◌, List, [], ◌∷◌, length, if◌then◌else◌, slice_index}
 use Rattle.std.specs.Prelude.{slice_index_or}
 use Rattle.ps_certificate.specs.declared.row.PlacedCount.{PlacedCount}
 
--- the count at an index: the first stored count with this index, or else 0
+-- a vertex's count at an index: the first stored count with this index, or else 0
 abbrev pub count_at : List PlacedCount → ℕ → ℕ
 count_at [] place = 0
 count_at (p ∷ ps) place = if p.place == place then p.count else count_at ps place
 
--- the list of `n` counts from index `place` on, including the counts that are not stored because they are 0
+-- the list of a vertex's `n` counts from index `place` on, including the counts that are not stored because they are 0
 abbrev pub counts_from : List PlacedCount → ℕ → ℕ → List ℕ
 counts_from placed zero place = []
 counts_from placed (suc n) place = count_at placed place ∷ counts_from placed n (suc place)
 
--- the full list of `width` counts, including those that are not stored because they are 0
+-- the full list of a vertex's `width` counts, including those that are not stored because they are 0
 abbrev pub dense_row : ℕ → List PlacedCount → List ℕ
 dense_row width placed = counts_from placed width 0
 
@@ -25,7 +25,7 @@ Rises from width (p ∷ ps) = (from ≤ p.place) × (p.place < width) × Rises (
 abbrev pub IsRow : ℕ → List PlacedCount → Type 0
 IsRow width placed = Rises 0 width placed
 
--- the nonzero counts of a list, each with its index, if the first count of the list has the index `place`
+-- the nonzero counts of a list, each with its index; the first count of the list has the index `place`
 abbrev pub gathered : ℕ → List ℕ → List PlacedCount
 gathered place [] = []
 gathered place (c ∷ cs) =

@@ -10,9 +10,11 @@ use std::marker::Model;
 /// Who wins each vertex of a game, by which moves, and the counts that prove it.
 #[derive(Debug, Drop)]
 pub struct Certificate {
-    /// The odd priorities of the game, ascending. Player 0 loses a loop whose greatest priority is odd.
+    /// The odd priorities of the game, ascending. Player 0 loses a play that repeats a loop whose greatest priority is
+    /// odd.
     pub odd: Vec<u64>,
-    /// The even priorities of the game, ascending. Player 1 loses a loop whose greatest priority is even.
+    /// The even priorities of the game, ascending. Player 1 loses a play that repeats a loop whose greatest priority is
+    /// even.
     pub even: Vec<u64>,
     /// One entry for each vertex of the game.
     pub entries: Entries,

@@ -16,9 +16,9 @@ use crate::flaw::Flaw;
 use crate::rising::Rising;
 use ps_game::Arena;
 
-/// The first of the priorities that oppose the winner for which an edge breaks the rule of counts. A binary search
-/// finds the first listed priority that is not less than that of either end of the edge; from there on, only nonzero
-/// counts are compared.
+/// The first priority for which an edge breaks the certificate's rule of counts, of those that oppose the winner of the
+/// vertex that the edge leaves. A binary search finds the first listed priority that is not less than that of either
+/// end of the edge; from there on, only nonzero counts are compared.
 fn broken_priority<A: Arena>(
     arena: &A,
     certificate: &Certificate,
@@ -50,8 +50,8 @@ fn broken_priority<A: Arena>(
     }
 }
 
-/// The first edge of a vertex that breaks the rule of counts, as a flaw; only edges that the winner's moves allow are
-/// considered.
+/// The first edge of a vertex that breaks the certificate's rule of counts, as a flaw; only edges that the winner's
+/// moves allow are considered.
 fn unranked_at<A: Arena>(arena: &A, certificate: &Certificate, vertex: usize) -> Option<Flaw>
     requires { IsRankable (A.game arena.now) certificate.now vertex }
     ensures none { IfNone result (KeepsCountsAt (A.game arena.now) certificate.now vertex) }

@@ -1,4 +1,4 @@
-//! Laws about certificates. Laws about certificates: each law is the contract of a function with an empty body.
+//! Laws about certificates: each law is the contract of a function with an empty body.
 
 ghost use Rattle.std.specs.Prelude.{◌≡◌, ◌<◌, ◌⊎◌, ℕ, List, Ok, length};
 ghost use Rattle.ps_game.specs.Games.{NamedGameData, ParityGame, IsGame, owner_of, vertex_count};

@@ -34,21 +34,21 @@ impl<'a> Model for Row<'a> {
 }
 
 impl<'a> Row<'a> {
-    /// The number of counts in the row, including those that are 0.
+    /// The number of the entry's counts, including those that are 0.
     pub fn len(&self) -> usize
         ensures { result ≡ length self.now }
     {
         self.width
     }
 
-    /// Whether the row has no counts.
+    /// Whether the entry has no counts.
     pub fn is_empty(&self) -> bool
         ensures { result ≡ (length self.now == 0) }
     {
         self.width == 0
     }
 
-    /// The count at an index of the row.
+    /// The entry's count at an index.
     pub fn at(&self, place: usize) -> u64
         requires { place < length self.now }
         ensures { result ≡ slice_index self.now place }
@@ -57,7 +57,7 @@ impl<'a> Row<'a> {
         count_in(self.placed, place, number)
     }
 
-    /// Replaces the contents of a list by the counts of the row. Fails if out of memory.
+    /// Replaces the contents of a list by the entry's counts. Fails if out of memory.
     pub fn copy_into(&self, list: &mut Vec<u64>) -> Result<(), AllocError>
         ensures { OnOk result (list.new.items ≡ self.now) }
     {
@@ -71,7 +71,7 @@ impl<'a> Row<'a> {
         Ok(())
     }
 
-    /// The first index, at `from` or later, at which this row's count is greater than the other row's.
+    /// The first index, at `from` or later, at which this entry's count is greater than the other entry's.
     pub(crate) fn first_above(&self, other: &Row<'_>, from: usize) -> Option<usize>
         requires { length other.now ≡ length self.now }
         ensures none { IfNone result (AreAtMost self.now other.now from (length self.now)) }

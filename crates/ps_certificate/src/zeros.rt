@@ -17,7 +17,7 @@ pub(crate) fn leading_zeros(numbers: &[u64], most: usize) -> usize
     zeros
 }
 
-/// The number of leading zeros in whole blocks of eight numbers, before index `end` of a list.
+/// The number of zeros in the leading blocks of eight zeros, among the first `end` numbers of a list.
 fn zero_blocks(numbers: &[u64], end: usize) -> usize
     requires { end ≤ length numbers.now }
     ensures within { result ≤ end }

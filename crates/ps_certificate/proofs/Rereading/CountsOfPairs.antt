@@ -2,7 +2,8 @@
 -- again.
 -- - `after ps cs so_far`: the counts that are known after the pairs of the priorities `ps` and the counts `cs` were
 --   read
--- - `after_counts`: after all pairs of a line were read, the count that is known for each priority is its count
+-- - `after_counts`: after all pairs of a line were read, the count that is known for each priority is the count that
+--   was written for it
 use Rattle.std.proofs.Common.{◌≡◌, ℕ, ◌<◌, Bool, cond, eqb, List, [], ◌∷◌, length, map, refl, arith, rules}
 use Rattle.std.specs.List.{All}
 use Rattle.std.proofs.lemmas.Bool.{eq-eqb, ne_eqb, eqb-true}

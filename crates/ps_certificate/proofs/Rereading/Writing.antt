@@ -4,7 +4,7 @@
 --   left
 -- - `then`, `with_value`: lemmas for two parts of the grammar that follow one another, and for a part with a function
 --   applied to its value
--- - `read_byte`, .., `read_text`: each part of the written text, and the whole text, is parsed with the value that was
+-- - `read_byte`, .., `read_text`: parsing each part of the written text, or the whole text, gives the value that was
 --   written
 -- - `reads_again`: parsing the whole text that was written for a certificate gives this certificate
 use Rattle.std.proofs.Common.{◌≡◌, ◌≢◌, ℕ, zero, suc, ◌+◌, ◌^◌, ◌<◌, ◌⊎◌, Bool, true, false, cond, eqb, List, [], ◌∷◌}
@@ -217,7 +217,8 @@ read_pair ps so_far p c above there small some fits end = then (chain_pair ps so
     right : (f : CertCause) → ((f ≡ Syntax) × DoesNotRise so_far p) ⊎ ((f ≡ OtherGame) × ¬ Contains ps p) → ⊥
     right f h = grind arith
 
--- the priorities still to be written are greater than the last one that was read, and are among the listed priorities
+-- the priorities `ps` of the pairs that are still to be parsed are greater than the priority of the last parsed pair
+-- (`AllAbove`), and are among the listed priorities `all` (`AllIn`)
 abbrev AllAbove : Pairs → List ℕ → Type 0
 AllAbove so_far ps = All (λ p. DoesNotRise so_far p → ⊥) ps
 

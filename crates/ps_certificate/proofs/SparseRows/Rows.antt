@@ -1,4 +1,4 @@
--- Lemmas about two operations on a vertex's row of counts: comparing it with another row, and copying it.
+-- Lemmas about two operations on the counts of a vertex: comparing them with those of another vertex, and copying them.
 use Rattle.std.proofs.Common.{◌≡◌, ℕ, ◌+◌, ◌-◌, ◌<◌, ◌≤◌, List, [], ◌∷◌, ◌++◌, length, replicate, ap, arith}
 use Rattle.std.proofs.Common.{take, inl, inr, rules}
 use Rattle.std.proofs.lemmas.Bool.{cases_order, cases_lt}
@@ -11,8 +11,8 @@ use Rattle.ps_certificate.proofs.SparseRows.Sparse.{place_within, rising, length
 
 -- ## Comparing
 
--- of the first `number` stored counts, those with an index of at least `from` are at most the other list's counts; all
--- later stored counts have such indices
+-- the comparison so far: each of the first `number` stored counts whose index is at least `from` is at most the other
+-- list's count at this index. The indices of all later stored counts are at least `from`.
 pub record AreNotAbove (own other : List PlacedCount) (from number : ℕ) : Type 0 where
   pub within : number ≤ length own
   pub late : (j : ℕ) → number ≤ j → j < length own → from ≤ place_at own j
@@ -39,7 +39,8 @@ module _ (own other : List PlacedCount) (from number : ℕ) where
 
 -- ## Copying
 
--- the list is the beginning of the full list of counts, up to and including the first `number` stored counts
+-- the list is the beginning of a vertex's full list of counts, and has the first `number` stored counts, but no later
+-- ones
 pub record IsFilled (width : ℕ) (placed : List PlacedCount) (list : List ℕ) (number : ℕ) : Type 0 where
   pub list_is : list ≡ dense_row (length list) placed
   pub long : length list ≤ width

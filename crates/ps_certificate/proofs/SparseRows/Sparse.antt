@@ -1,4 +1,4 @@
--- Lists of counts of which only the nonzero counts are stored.
+-- Lemmas about a vertex's counts, of which only the nonzero ones are stored.
 use Rattle.std.proofs.Common.{◌≡◌, ◌≢◌, ℕ, zero, suc, ◌+◌, ◌<◌, ◌≤◌, ◌∙◌, List, [], ◌∷◌, ◌++◌, length, get_or, refl}
 use Rattle.std.proofs.Common.{sym, ap, arith, drop, replicate, cond, inl, inr, ◌-◌, take, rules}
 use Rattle.std.proofs.Math.Seq.{drop-cons}
@@ -11,7 +11,7 @@ use Rattle.ps_certificate.specs.declared.row.PlacedCount.{PlacedCount}
 
 -- ## The counts of a row
 
--- the full list of counts that is made for a length n has n counts
+-- the full list of a vertex's counts that is made for a length n has n counts
 pub length-counts_from : (ps : List PlacedCount) (n k : ℕ) → length (counts_from ps n k) ≡ n
 length-counts_from ps zero k = refl
 length-counts_from ps (suc n) k = ap suc (length-counts_from ps n (suc k))
@@ -59,13 +59,13 @@ same_place p ps {k} h = ap (λ b. cond b p.count (count_at ps k)) (eq-eqb p.plac
 other_place : (p : PlacedCount) (ps : List PlacedCount) (k : ℕ) → p.place ≢ k → count_at (p ∷ ps) k ≡ count_at ps k
 other_place p ps k h = ap (λ b. cond b p.count (count_at ps k)) (ne_eqb p.place k h)
 
--- the count at an index that no stored count has is 0
+-- a vertex's count at an index that no stored count has is 0
 pub count_missing : (ps : List PlacedCount) (k : ℕ) → ((i : ℕ) → i < length ps → place_at ps i ≢ k) → count_at ps k ≡ 0
 count_missing [] k h = refl
 count_missing (p ∷ ps) k h =
     other_place p ps k (h 0 (omega arith)) ∙ count_missing ps k (λ i within. h (suc i) (omega (arith, within)))
 
--- the count at the index of a stored count is that stored count
+-- a vertex's count at the index of a stored count is that stored count
 pub count_here : (ps : List PlacedCount) (i : ℕ) → AreRising ps → i < length ps →
     count_at ps (place_at ps i) ≡ number_at ps i
 count_here [] i h within = absurd (omega (arith, within))

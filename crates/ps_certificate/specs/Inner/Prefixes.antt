@@ -79,27 +79,30 @@ pub record IsAt (list : List ℕ) (number place : ℕ) : Type 0 where
   pub within : place < length list
   pub is : slice_index list place ≡ number
 
--- an edge obeys the rule of counts for each priority that opposes the winner
+-- an edge obeys the certificate's rule of counts for each priority that opposes the winner of the vertex that the edge
+-- leaves
 abbrev pub KeepsCounts : ParityGame → CertificateData → ℕ → ℕ → Type 0
 KeepsCounts game certificate v w =
     (k : ℕ) → k < length (opposing certificate (winner_of certificate v)) → KeepsCount game certificate v w k
 
--- each edge of a vertex that the winner's moves allow obeys the rule of counts for each priority that opposes the
--- winner
+-- each edge of a vertex that its winner's moves allow obeys the certificate's rule of counts for each priority that
+-- opposes this winner
 abbrev pub KeepsCountsAt : ParityGame → CertificateData → ℕ → Type 0
 KeepsCountsAt game certificate v = (w : ℕ) → Remains game certificate v w → KeepsCounts game certificate v w
 
--- the edges of each vertex before vertex `n` obey the rule of counts, as far as the winner's moves allow these edges
+-- the edges of each vertex before vertex `n` obey the certificate's rule of counts, as far as the winner's moves allow
+-- these edges
 abbrev pub KeepCountsBefore : ParityGame → CertificateData → ℕ → Type 0
 KeepCountsBefore game certificate n = (v : ℕ) → v < n → KeepsCountsAt game certificate v
 
--- the first edge that breaks the rule of counts, as a flaw: no earlier vertex has such an edge
+-- the first edge that breaks the certificate's rule of counts, as a flaw: no earlier vertex has such an edge
 pub record IsFirstUnranked (game : ParityGame) (certificate : CertificateData) (flaw : Flaw) : Type 0 where
   pub vertex : ℕ
   pub at_vertex : IsFirstFlawAt game certificate 1 vertex flaw
   pub before : KeepCountsBefore game certificate vertex
 
--- the first of the priorities that oppose the winner for which an edge breaks the rule of counts
+-- the first priority for which an edge breaks the certificate's rule of counts, of those that oppose the winner of the
+-- vertex that the edge leaves
 pub record IsFirstBroken (game : ParityGame) (certificate : CertificateData) (v w p : ℕ) : Type 0 where
   pub place : ℕ
   pub within : place < length (opposing certificate (winner_of certificate v))
