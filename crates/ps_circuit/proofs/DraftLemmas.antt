@@ -1,11 +1,11 @@
 -- Lemmas about the defining literals and the used literals that an AIGER text's lines add, and about the circuit that
 -- these lines form.
--- - `Lined kind most before read d`: the lines d have the given defining and used literals, and then those of lines of
---   one kind
+-- - `Lined kind most before read d`: in the lines d of one kind, the defining literals are `before`, followed by those
+--   of the lines' items; the used literals are `read`, followed by those of the items
 -- - `gates_placed`: for each gate of a parsed text, the offset of its line is recorded
 -- - `sound_draft`: a parsed text whose used literals are all defined is a circuit, except that a gate may depend on
 --   itself
--- - `each_named`: the list of names has one optional name for each item
+-- - `each_named`: the list of names has one optional name for each input, latch or output
 use Rattle.std.proofs.Common.{◌≡◌, ℕ, zero, suc, ◌+◌, ◌*◌, ◌^◌, ◌<◌, List, [], ◌∷◌, ◌++◌, length, map, Option, All}
 use Rattle.std.proofs.Common.{refl, sym, ap, subst, append-nil, append_assoc, arith, length-append, rules}
 use Rattle.std.specs.Prelude.{vec_len, Vec}
@@ -81,7 +81,8 @@ module _ (most : ℕ) where
 
 -- ## The offsets of the gates' lines
 
--- each further line adds k recorded offsets of lines; k is 1 for gate lines, and 0 for all other lines
+-- each further line adds k offsets to the recorded offsets of gates' lines; k is 1 for a gate's line, and 0 for every
+-- other line
 abbrev Keeps : {A : Type 0} → ℕ → (Lines A → Field (Lines A)) → Type 0
 Keeps {A} k item = (c d : Lines A) (text : List Seen) → (item c).IsText text d →
     length d.starts + k * length c.items ≡ length c.starts + k * length d.items
@@ -144,7 +145,7 @@ sound_draft most {i} {l} {o} {a} names limit placed gi gl go ga n1 n2 n3 a1 a2 a
       starts = placed;
     }
 
--- the list of names has one optional name for each item
+-- the list of names has one optional name for each item, which is an input, a latch or an output
 pub each_named : {A : Type 0} (names : Vec (Option (Vec ℕ Global)) Global) (items : Vec A Global) {k n : ℕ} →
     vec_len names ≡ k → k ≡ n → n ≡ vec_len items → length (map name_bytes names.items) ≡ length items.items
 each_named names items e f g = omega (arith, length-map names.items name_bytes, names.ok.0, items.ok.0, e, f, g)

@@ -76,7 +76,7 @@ reads_on : {A : Type 0} {P : Field A} {Q : A → Field DraftData} {First More : 
     {next : Stream Seen} → ReadsPart P now a next → Reached start next (Q a)
 reads_on j {now = now} r a {next} m = grind (arith, past j r.left m, length-append m.0.taken next.pieces)
 
--- the numbers of the first line, with the greatest variable as the parser's code stores it
+-- the numbers of the first line, with `most` as the greatest variable, which is how the parser's code stores it
 abbrev pub numbers : ℕ → HeaderData → HeaderData
 numbers most d = record { most = most; inputs = d.inputs; latches = d.latches; outputs = d.outputs; gates = d.gates }
 
@@ -94,7 +94,8 @@ unfolding body
 past_header {start} {next} {most} {d} e short m is = subst (λ x. Reached start next (body_inputs (numbers most d) x))
     (sym is) (reads_on chain_text (record { left = text_unread; short = short }) (numbers most d) (grind arith))
 
--- the text continues with as many lines of one kind as the header's number states, which the code stores in 64 bits
+-- the text continues with n lines of one kind, as the header states; the parser's code stores n as `count`, which is
+-- the greatest number of 64 bits if n does not fit
 pub record Ahead {A : Type 0} (item : Lines A → Field (Lines A)) (Q : Lines A → Field DraftData)
     (start now : Stream Seen) (count : ℕ) (noted : Lines A) : Type 0 where
   pub n : ℕ

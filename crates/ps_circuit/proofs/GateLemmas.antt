@@ -63,11 +63,12 @@ variable-negated l = search (rules, of_literal, negated_even, negated_odd)
 pub held-negated : (d : Drafted) (l : ℕ) → IsHeld d l → IsHeld d (negated l)
 held-negated d l h = subst (λ n. n ≤ variables_of d) (sym (variable-negated l)) h
 
--- a list of gates extends itself
+-- each gate of a builder is also in this builder, with the same variable, so `Extends` is reflexive
 pub extends-refl : (d : Drafted) → Extends d d
 extends-refl d = record { given = refl; more = omega arith; same = λ k s e. e }
 
--- if the gates c extend b, and b extends a, then c extends a
+-- if each gate of `a` is also in `b`, and each gate of `b` in `c`, each gate of `a` is also in `c`, so `Extends` is
+-- transitive
 pub extends-trans : (a b c : Drafted) → Extends a b → Extends b c → Extends a c
 extends-trans a b c x y = search rules
 
@@ -109,7 +110,8 @@ sound-more {d} {s} is room sides none = record {
 pub drafted_are : (a b : Drafted) → a.given ≡ b.given → a.gates ≡ b.gates → a ≡ b
 drafted_are a b e f = ap₂ (λ n g. record { given = n; gates = g }) e f
 
--- the builder's new gates are well formed, extend the old gates, and have the gate `s` at the index `place`
+-- the builder's new gates are well formed, include the old gates with the same variables, and have the gate `s` at the
+-- index `place`
 pub record Placed (old new : Drafted) (s : Sides) (place : ℕ) : Type 0 where
   pub sound : IsSoundDraft new
   pub extends : Extends old new

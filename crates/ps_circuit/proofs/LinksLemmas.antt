@@ -1,4 +1,5 @@
--- The links that are stored for a gate lead to exactly the gates whose literals it reads.
+-- The indices that are stored for a gate (a value of type `Links`) are exactly those of the gates whose literals it
+-- reads.
 use Rattle.std.proofs.Common.{◌≡◌, ◌≢◌, ℕ, ◌+◌, ◌<◌, IfSome, List, [], ◌∷◌, ◌++◌, map, length, get_or, refl, sym, ap}
 use Rattle.std.proofs.Common.{ap₂, subst, ◌∙◌, arith, nat_eq, Some, None, Option, slice_get, suc, rules, AllPairs}
 use Rattle.std.proofs.Common.{Contains, take, length-append}
@@ -69,7 +70,8 @@ length-links_by : (place_of : ℕ → Option ℕ) (gates : List Gate) → length
 length-links_by place_of [] = refl
 length-links_by place_of (g ∷ gates) = ap suc (length-links_by place_of gates)
 
--- links that are computed from the index of each gate's variable lead to exactly the gates that are read
+-- if `place_of` gives the index of each gate's variable, the `Links` that are computed with it for a gate have exactly
+-- the indices of the gates that it reads
 links-by_places : {gates : List Gate} {place_of : ℕ → Option ℕ} {links : List Links} → ArePlaces gates place_of →
     links ≡ links_by place_of gates → AreLinksOf gates links
 links-by_places {gates} {place_of} a e = search (rules, length-links_by, slice_get-map, slice_get_within)
@@ -77,7 +79,7 @@ links-by_places {gates} {place_of} a e = search (rules, length-links_by, slice_g
 abbrev sides : Option ℕ → Option ℕ → Links
 sides first second = record { first = first; second = second }
 
--- appending the links of one more gate gives the links of the gates with this one
+-- appending the `Links` of gate k to those of the first k gates gives the `Links` of the first k + 1 gates
 pub links_by-more : (variables : List ℕ) (gates : List Gate) (k : ℕ) (g : Gate) {links more : List Links}
     {first second : Option ℕ} → k < length gates →
     links ≡ links_by (place_in variables) (take k gates) → more ≡ links ++
@@ -91,7 +93,8 @@ links_by-more variables gates k g l before e at_first at_second =
     ∙ map-append (λ h. sides (place_in variables (variable h.first)) (place_in variables (variable h.second)))
     (take k gates) (get_or gates k g ∷ []))
 
--- links that are computed from the list of the gates' variables lead to exactly the gates that are read
+-- the `Links` that are computed for a gate from the list of all gates' variables have exactly the indices of the gates
+-- that it reads
 pub links-by_variables : {gates : List Gate} {variables : List ℕ} {links : List Links} →
     AllPairs (λ g h. variable g.literal ≢ variable h.literal) gates →
     variables ≡ gate_variables gates → links ≡ links_by (place_in variables) gates → AreLinksOf gates links
@@ -125,7 +128,8 @@ gates_once c once i j d lt within e = grind (arith, length-append, many, length-
         (length (c.inputs ++ map (λ l. l.literal) c.latches) + i) 0 ≡ (get_or c.gates i d).literal
     at_gate i d lt = search (rules, get_or-append-add, get_or-map, c.inputs, c.latches, c.gates)
 
--- the link of a gate's first or second literal leads to the index of a gate, if the literal's variable belongs to one
+-- the index that a gate's `Links` have for its first or second literal, if there is one, is less than the number of
+-- gates
 pub side_within : (links : List Links) (item place : ℕ) {sides : Links} → LinksStayWithin (graph_of links) →
     slice_get links item ≡ Some sides → place < 2 → IfSome (side_of sides place) (λ to. to < length links)
 side_within links item place {sides} within at lt = which (side_of sides place) refl

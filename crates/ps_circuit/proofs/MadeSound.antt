@@ -43,7 +43,8 @@ made-later m p e x sound made = record {
   is = λ v meets. made.is v (meets-extends m.draft e x v meets);
 }
 
--- the gates and the literal that were made are right, if the literals of all variables fit into 32 bits
+-- if the literals of all variables fit into 32 bits, the gates are well formed, and the returned literal has the
+-- requested value
 pub record Makes (m : Made) (wanted : (ℕ → Bool) → Bool) : Type 0 where
   pub made : HasRoom m.draft → IsMade m wanted
 

@@ -94,7 +94,8 @@ safe_then {P = P} {Q} l r = record {
       (quiet_right P Q h.left h.right h.value h.is_left quiet);
 }
 
--- a part of the grammar that may begin only with a space, a tab or a newline begins with one of these
+-- if a part of the grammar accepts no empty text, and may begin only with a space, a tab or a newline, each text that
+-- it accepts begins with one of these bytes
 begins : {B : Type 0} (part : Field B) {More : Seen → Type 0} → Lawful part Separates More ⊥ →
     (text rest : List Seen) (b : B) → part.IsText text b → Parts (text ++ rest)
 begins part l [] rest b h t e = absurd (l.laws.null b h)

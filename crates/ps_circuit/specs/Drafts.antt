@@ -1,4 +1,4 @@
--- Functions by which contracts refer to the parts of a circuit, and to the links between its gates.
+-- Functions by which contracts refer to the parts of a circuit, and to the gates that each gate reads.
 use Rattle.std.specs.Prelude.{ℕ, ◌==◌, List, map, position, Option, Vec}
 use Rattle.std.specs.Option.{option_map}
 use Rattle.std.specs.Global.{Global}

@@ -59,8 +59,9 @@ mux_of d s high low =
     else if low == 1 then or_of d (negated s) high
     else chosen_of d s high low
 
--- The result of a builder's call that is to make the gates `all`. The literal that the call returns is the literal of
--- `all`, and has the value `value v` if the variables' values v satisfy the equations of the gates.
+-- The result of a builder's call, where `all` has the gates that the builder should have after the call, and the
+-- literal that the call should return. If the call succeeds, it makes these gates and returns this literal. The literal
+-- has the value `value v` if the variables' values v satisfy the equations of the gates.
 pub record MakesGates (old new : Drafted) (result : Result ℕ EncodeFault) (all : Made) (value : (ℕ → Bool) → Bool)
     (Needs : Type 0) : Type 0 where
   -- the existing gates remain, even if the call fails
@@ -68,8 +69,8 @@ pub record MakesGates (old new : Drafted) (result : Result ℕ EncodeFault) (all
   pub held : IfOk result (IsHeld new)
   pub bit : IfOk result (λ literal. (v : ℕ → Bool) → MeetsEquations new v → bit v literal ≡ value v)
   pub made : IfOk result (λ literal. all ≡ record { draft = new; literal = literal })
-  -- if the call fails because no variable is left: 2147483647 variables exist, a new gate is needed, and the gates
-  -- `all` have more variables than that
+  -- if the call fails because no variable is left, 2147483647 variables exist, a new gate is needed, and with all gates
+  -- of `all` there would be more variables than that
   pub too_large : result ≡ Err CircuitTooLarge → IsFull new
   pub needed : result ≡ Err CircuitTooLarge → Needs
   pub above : result ≡ Err CircuitTooLarge → HasTooMany all.draft

@@ -58,7 +58,7 @@ pub trait Line {
     /// The grammar of the next line, given what was read before it.
     ghost part: { ℕ → Lines Self.Item → Field (Lines Self.Item) };
 
-    /// The relation between what was read before the next line and what was read after it.
+    /// The relation between what was read before a line of this kind and what was read up to the end of this line.
     ghost adds: { ℕ → Lines Self.Item → Lines Self.Item → Type 0 };
 
     /// Reads a line.

@@ -1,8 +1,9 @@
--- Lemmas about parsing the text of a written circuit, all lines of inputs, latches, outputs or gates at a time.
+-- Lemmas about parsing the sections of a written circuit's text. A section has all lines of one kind: the inputs, the
+-- latches, the outputs or the gates.
 -- - `IsSection kind all before read d`: the lines of one kind were parsed, and gave the items `all`
--- - `reread_section`: the lines of any one kind are parsed with the items that were written
--- - `reread_inputs`, `reread_latches`, `reread_outputs`, `reread_gates`: the lines of each kind are parsed with the
---   items that were written
+-- - `reread_section`: parsing the lines of any one kind gives the items that were written
+-- - `reread_inputs`, `reread_latches`, `reread_outputs`, `reread_gates`: parsing the lines of each kind gives the items
+--   that were written
 use Rattle.std.proofs.Common.{◌≡◌, ℕ, ◌+◌, ◌*◌, ◌<◌, ◌≤◌, ◌⊎◌, List, [], ◌∷◌, ◌++◌, length, get_or, map, rules}
 use Rattle.std.proofs.Common.{flat_map, All, Contains, refl, sym, ap, subst, inl, inr, ◌∙◌, arith, append_assoc}
 use Rattle.std.proofs.Common.{append-nil, length-append}
@@ -86,8 +87,8 @@ module _ {c : CircuitData} (draft : IsDraft c) {X : Type 0} (kind : LineKind X) 
     (none : texts [] ≡ []) (some : (x : X) (xs : List X) → texts (x ∷ xs) ≡ text x ++ texts xs)
     (reread : (rest : List ℕ) (Good : Lines X → Type 0) (d : Lines X) (x : X) → IsNew kind c.most d x →
     ((e : Lines X) → AddsItem kind d e x → Good e) → Rereads (line d) Good (text x ++ rest) rest) where
-  -- a list that consists of the literals of earlier lines, of all items, and of later lines, divided around one of the
-  -- items
+  -- a list of the literals of earlier lines, of all items, and of later lines, divided around an item `x`: the literals
+  -- before those of `x`, those of `x`, and those after them
   middle : (of : List X → List ℕ) → ((xs ys : List X) → of (xs ++ ys) ≡ of xs ++ of ys) →
       (front back whole : List ℕ) → whole ≡ front ++ (of all ++ back) → (a xs : List X) (x : X) → a ++ x ∷ xs ≡ all →
       whole ≡ (front ++ of a) ++ (of (x ∷ []) ++ (of xs ++ back))

@@ -1,11 +1,11 @@
 -- Lemmas about parsing the first line, and the line of each input, latch, output or gate, in the text of a written
 -- circuit.
 -- - `IsWritable`: a circuit whose numbers of inputs, latches, outputs and gates fit into 64 bits
--- - `reread_header`: the first line is parsed with the numbers that were written
+-- - `reread_header`: parsing the first line gives the numbers that were written
 -- - `IsNew kind most d x`: after the lines d, the item x may define its variable, and the literals that it uses are not
 --   too large
--- - `reread_input`, `reread_latch`, `reread_output`, `reread_gate`: a line of each kind is parsed with the item that
---   was written
+-- - `reread_input`, `reread_latch`, `reread_output`, `reread_gate`: parsing a line of each kind gives the item that was
+--   written
 use Rattle.std.proofs.Common.{◌≡◌, ℕ, ◌^◌, ◌<◌, ◌≤◌, Bool, true, false, if◌then◌else◌, List, [], ◌∷◌, ◌++◌, rules}
 use Rattle.std.proofs.Common.{length, refl, sym, subst, arith, append_assoc}
 use Rattle.std.specs.Prelude.{codes, decimal, All}

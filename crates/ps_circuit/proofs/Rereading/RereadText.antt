@@ -1,5 +1,5 @@
 -- Lemmas about parsing the text that is written for a circuit, which gives the same circuit.
--- - `reread_text`: the whole written text is parsed with the circuit's parts, and nothing remains
+-- - `reread_text`: parsing the whole written text gives the circuit's parts, and nothing remains
 -- - `text_ends`: the last byte of the written text is a newline
 -- - `reads_again`: the answer to the written text is the circuit for which it was written
 use Rattle.std.proofs.Common.{◌≡◌, ℕ, ◌+◌, ◌^◌, ◌<◌, ◌⊎◌, Bool, true, if◌then◌else◌, List, [], ◌∷◌, ◌++◌, length}
