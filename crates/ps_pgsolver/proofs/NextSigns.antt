@@ -29,7 +29,7 @@ next_sign text {before} at {start} begins front back = let none : prefix_len is_
     rw (begins, ← drop-drop (prefix_len is_blank (drop at text)) at text) (prefix_len-behind is_blank (drop at text)) in
     search (rules, stream_from-blanks, first_of_lex)
 
--- ## What the first byte determines about the symbol
+-- ## What the first byte determines about the token
 
 sign_digit : (before : List ℕ) (b : ℕ) (bs : List ℕ) → is_digit b ≡ true →
     first_sign before (b ∷ bs) ≡ number_sign before (b ∷ bs)

@@ -97,7 +97,7 @@ comma_fits : (t : Sign) (at : ℕ) → Fits cause_number causes.Syntax comma_in 
 comma_fits Comma at = taken tt refl (λ f b. b) refl
 comma_fits _ at = refused refl (λ f b. b) refl
 
--- ## What each parser's function for one symbol establishes
+-- ## What each parsing function for one token establishes
 
 pub reads_number : (old : Stream Sign) {new : Stream Sign} {r : Result ℕ PgFault} → new ≡ tail old →
     r ≡ number_answer (next_of old) (offset_of old.pieces old.end) → ReadsAs (λ n. n) number old r new

@@ -33,7 +33,7 @@ use Rattle.ps_pgsolver.proofs.Sound.{same_nodes}
 abbrev Judges : (Sign → PgCause → Type 0) → Type 0
 Judges Bad = (t : Sign) → Judged cause_number (Bad t)
 
--- ## Whether a symbol is an error, and which
+-- ## Whether a token is an error, and which
 
 no_bad : Judges NoBad
 no_bad t = good (λ f b. b)

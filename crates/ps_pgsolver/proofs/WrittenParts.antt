@@ -31,7 +31,7 @@ use Rattle.ps_pgsolver.proofs.WrittenSigns.{comma_signs, list_signs, name_signs,
 abbrev pub IsKnown : Option (List ℕ) → ℕ → Type 0
 IsKnown known n = (n < too_large) × (IsUnknown known n → ⊥)
 
--- ## Single symbols
+-- ## Single tokens
 
 read_number : {n : ℕ} {rest : List Sign} → n < too_large → IsRead number (Number n ∷ rest) n rest
 unfolding number

@@ -21,7 +21,7 @@ use Rattle.ps_pgsolver.specs.declared.fault.PgCause.TheVariants as causes
 abbrev pub pg_causes : Causes Sign PgCause
 pg_causes = record { number = cause_number; own = λ _. None; syntax = causes.Syntax }
 
--- ## Single symbols
+-- ## Single tokens
 
 abbrev pub number_in : Sign → Option ℕ
 number_in (Number n) = Some n

@@ -1,4 +1,4 @@
--- The tokens of a game text as the grammar sees them, here called symbols.
+-- The tokens of a game text as the grammar sees them: values of type `Sign`.
 use Rattle.std.specs.Prelude.{ℕ, List}
 
 pub data Sign : Type 0 where

@@ -36,7 +36,7 @@ fn greatest_id(game: &NamedGame) -> u64
     most
 }
 
-/// Writes the first line, `parity K;` with the greatest id, which precedes those of the vertices.
+/// Writes the first line, `parity K;`, where K is the greatest id.
 fn write_head(out: &mut Vec<u8>, id: u64) -> Result<(), AllocError>
     ensures bytes { OnOk result (out.new.items ≡ out.old.items ++ head_text id) }
     ensures word { IsWord id }
