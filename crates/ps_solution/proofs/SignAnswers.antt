@@ -96,7 +96,7 @@ value_small {n} at small = rw (lt-ltb n too_large small) refl
 pub value_large : (n at : ℕ) → too_large ≤ n → Err (Text Syntax at) ≡ value_answer any_of_number (Some (Number n)) at
 value_large n at large = rw (le-ltb n too_large large) refl
 
--- ## What each parser's function for one symbol establishes
+-- ## What each parsing function for one token establishes
 
 module _ (old : Stream Sign) {new : Stream Sign} (rest : new ≡ tail old) where
   pub reads_number : {r : Result ℕ CertFault} →

@@ -27,7 +27,7 @@ solution_causes = record { number = cause_number; own = λ _. None; syntax = Syn
 abbrev pub Field : Type 0 → Type 1
 Field V = Part Sign V CertCause
 
--- ## Single symbols
+-- ## Single tokens
 
 -- a number token, whose value is computed from the number by the function `value`
 abbrev pub value_in : {V : Type 0} → (ℕ → V) → Sign → Option V
