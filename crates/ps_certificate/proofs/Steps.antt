@@ -6,7 +6,7 @@
 --   number
 -- - `end_reads`, `end_missing`, `end_fails`: lemmas for the end of a line of priorities: it is read, some priorities
 --   are missing, or another byte comes
--- - `ends_true`, `ends_false`: the function's test tells correctly whether a field ends here
+-- - `ends_true`, `ends_false`: the test of the function `ends` tells correctly whether a field ends here
 use Rattle.std.proofs.Common.{◌≡◌, ℕ, ◌+◌, ◌^◌, ◌<◌, ◌≤◌, ◌⊎◌, Bool, true, false, List, [], ◌∷◌, ◌++◌, length, take}
 use Rattle.std.proofs.Common.{Some, refl, sym, ap, inl, inr, ◌∙◌, arith, rules}
 use Rattle.std.proofs.Math.Seq.{take-append_seam}

@@ -4,12 +4,14 @@ ghost use Rattle.ps_certificate.specs.Faults.{cause_number, cause_name};
 
 use ps_text::faults::{Cause, Fault};
 
-/// What is wrong with the text of a certificate.
+/// What is wrong with the text of a certificate. The crate `ps_solution` uses the same errors for the texts of
+/// solutions.
 #[derive(Clone, Copy, Debug, PartialEq, Eq)]
 pub enum CertCause {
-    /// The text does not have the form of a certificate, or a number in it does not fit in 64 bits.
+    /// The text does not have the form of a certificate, or a number in it does not fit in 64 bits. In a compact text,
+    /// no count may be 0, and the priorities in a line must ascend.
     Syntax,
-    /// The text has the form of a certificate, but disagrees with the given game.
+    /// The text disagrees with the given game; up to that position, its form is right.
     OtherGame,
 }
 

@@ -20,7 +20,7 @@ use std::alloc::{AllocError, Global};
 const ZEROS: &[u8; 80] =
     b" 0 0 0 0 0 0 0 0 0 0 0 0 0 0 0 0 0 0 0 0 0 0 0 0 0 0 0 0 0 0 0 0 0 0 0 0 0 0 0 0";
 
-/// How many bytes a vertex's line has apart from its counts, if ids have six digits.
+/// How many bytes a vertex's line has apart from its counts, if its id and its move have seven digits each.
 const LINE: usize = 18;
 
 /// Writes a certificate of a game: the first line, the number of vertices, the odd and the even priorities, and a line

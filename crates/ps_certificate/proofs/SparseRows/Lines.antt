@@ -49,7 +49,7 @@ begins xs ys h = (drop (length xs) ys, grind (arith, common_steps))
 
 module _ (ws : List ℕ) (ls : List Line) (cs new : List PlacedCount) (are : AreLines ws ls cs)
     (kept : take (length cs) new ≡ cs) where
-  -- appending counts to the shared list changes no entry
+  -- appending counts to the shared list of nonzero counts changes no entry
   pub entries_same : entries_in ws ls new ≡ entries_in ws ls cs
   entries_same = search (rules, begins, entries_kept)
 
