@@ -1,10 +1,10 @@
 -- Lemmas about the defining literals and the used literals that the lines of one kind (inputs, latches, outputs or
 -- gates) add to those of the earlier lines.
--- - `LineKind X`: what a kind of lines with items of type X adds: the literals that items define, and the literals that
---   items use
--- - `AddsItem kind c d x`: the lines d are the lines c and one more, which has the item x
--- - `Added kind before read d`: the lines d have the defining literals `before` and the used literals `read`, and then
---   those of their items
+-- - `LineKind X`: a kind of lines, each of which has an input, latch, output or gate (an item, of type X): the literals
+--   that the items define, and those that they use
+-- - `AddsItem kind c d x`: the lines d are the lines c and one more, which has the input, latch, output or gate x
+-- - `Added kind before read d`: the lines d of one kind come after lines with the defining literals `before` and the
+--   used literals `read`, and add their own literals
 -- - `input_kind`, `latch_kind`, `output_kind`, `gate_kind`: the four kinds of lines: inputs, latches, outputs and gates
 use Rattle.std.proofs.Common.{arith, ◌≡◌, ℕ, List, [], ◌∷◌, ◌++◌, map, flat_map, refl, rules, append_assoc}
 use Rattle.std.proofs.lemmas.List.{map-append}
@@ -35,12 +35,12 @@ pub record Added {X : Type 0} (kind : LineKind X) (before read : List ℕ) (d : 
   pub defined : d.defined ≡ map variable (before ++ kind.defines d.items)
   pub readings : values d.readings ≡ read ++ kind.reads d.items
 
--- before the first line of a kind, no literals are added to those of the earlier lines
+-- before its first line is read, a kind of lines adds no literals to those of the earlier lines
 pub none_more : {X : Type 0} (of : List X → List ℕ) → of [] ≡ [] → (front : List ℕ) {items : List X} → items ≡ [] →
     front ≡ front ++ of items
 none_more of none front e = search rules
 
--- after one more line of a kind, the literals of its item are added at the end
+-- one more line of a kind adds its literals after those of the earlier lines
 pub one_more : {X : Type 0} (of : List X → List ℕ) → ((xs ys : List X) → of (xs ++ ys) ≡ of xs ++ of ys) →
     (front : List ℕ) (old : List X) {new : List X} (x : X) → new ≡ old ++ x ∷ [] →
     (front ++ of old) ++ of (x ∷ []) ≡ front ++ of new

@@ -1,7 +1,7 @@
 -- Lemmas about the defining literals and the used literals that an AIGER text's lines add, and about the circuit that
 -- these lines form.
--- - `Lined kind most before read d`: in the lines d of one kind, the defining literals are `before`, followed by those
---   of the lines' items; the used literals are `read`, followed by those of the items
+-- - `Lined kind most before read d`: the lines d of one kind come after lines with the defining literals `before` and
+--   the used literals `read`, and add their own; no variable is defined twice or is above `most`
 -- - `gates_placed`: for each gate of a parsed text, the offset of its line is recorded
 -- - `sound_draft`: a parsed text whose used literals are all defined is a circuit, except that a gate may depend on
 --   itself

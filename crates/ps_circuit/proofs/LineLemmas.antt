@@ -1,7 +1,7 @@
 -- Lemmas for the functions that parse the lines of inputs, latches, outputs and gates, including the cases in which
 -- they fail.
 -- - `past_..`: what is still to be parsed of a line after one of its fields
--- - `Lining`: the invariant of a loop over the lines of one kind
+-- - `Lining`: the invariant of the loop that parses the lines of one kind: of the inputs, latches, outputs or gates
 use Rattle.std.proofs.Common.{◌≡◌, ℕ, ◌+◌, ◌-◌, ◌*◌, ◌^◌, ◌<◌, ◌≤◌, Bool, true, false, List, [], ◌∷◌, ◌++◌, length}
 use Rattle.std.proofs.Common.{Option, Result, Ok, Err, Contains, refl, subst, inl, inr, arith, rules}
 use Rattle.ps_text.specs.Answers.{Stream, Found}

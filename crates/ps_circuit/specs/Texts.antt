@@ -14,8 +14,8 @@
 -- at the end of the text may be missing. The text has as many lines of inputs, latches, outputs and gates as the
 -- header's numbers I, L, O and A state, however large these numbers are. In the symbol table, a name comes after one
 -- space, ends with the line, and has at least one byte.
--- - 61 (`Syntax`): a byte that is not allowed at its position, an early end, or a symbol whose number is too large or
---   already has a name
+-- - 61 (`Syntax`): a byte that is not allowed at its position, an early end, or a symbol for an input, latch or output
+--   that does not exist or already has a name
 -- - 62 (`Literal`): a literal above 2M + 1, an M of 2^31 or more, or a wrong input, latch, left side or reset
 -- - 63 (`DefinedTwice`): an input, latch or left side whose variable was defined before
 -- - 66 (`UnsetLatch`): a reset of a latch that is the latch's own literal
@@ -98,8 +98,8 @@ header =
 
 -- ## Number lines
 
--- what was read up to some line: the items of the line's kind, the variables defined so far, the literals used so far,
--- and the offset of each gate's line
+-- what was read up to some line: the inputs, latches, outputs or gates (those of this line's kind), the variables
+-- defined so far, the literals used so far, and the offset of each gate's line
 pub record Lines (A : Type 0) : Type 0 where
   pub items : List A
   pub defined : List ℕ
@@ -107,6 +107,7 @@ pub record Lines (A : Type 0) : Type 0 where
   pub starts : List ℕ
 
 -- what was read before the first input line; `next_lines` is what was read before the first line of the next kind
+-- (latches, outputs or gates)
 abbrev pub no_lines : {A : Type 0} → Lines A
 no_lines = record { items = []; defined = []; readings = []; starts = [] }
 

@@ -159,7 +159,7 @@ impl Builder {
         self.chosen(s, high, low)
     }
 
-    /// The literal that `mux` returns, if neither `high` nor `low` is constant.
+    /// The literal that `mux` returns, if `high` and `low` differ and neither of them is constant.
     #[tactic(auto, unfolding(crate::specs::Gates::chosen_of))]
     fn chosen(&mut self, s: Literal, high: Literal, low: Literal) -> Result<Literal, EncodeFault>
         requires chooses { IsHeld self.old s }

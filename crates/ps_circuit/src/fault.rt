@@ -5,15 +5,15 @@ ghost use Rattle.ps_circuit.specs.Causes.{cause_number};
 
 use ps_text::faults::{Cause, Fault};
 
-/// What is wrong with the AIGER text of a circuit. The description of each error names in brackets the section of the
-/// AIGER 1.9 format description that the text violates.
+/// What is wrong with the AIGER text of a circuit. Most descriptions name in brackets a section of the AIGER 1.9 format
+/// description. The last two errors, `UnsetLatch` and `Sections`, are limits of psyn: AIGER allows such texts.
 #[derive(Clone, Copy, Debug, PartialEq, Eq)]
 pub enum AigCause {
-    /// A byte is not allowed at its position, or the text ends too early (AIGER 1.9: ASCII format, symbol table,
-    /// comments).
+    /// A byte is not allowed at its position, the text ends too early, or a symbol is for an input, latch or output
+    /// that does not exist or already has a name (AIGER 1.9: ASCII format, symbol table, comments).
     Syntax,
-    /// A literal is not allowed at its position: it is too large, or it is negated or constant although it should
-    /// define a variable (AIGER 1.9: literals).
+    /// A number is not allowed at its position: a literal that is too large, or that is negated or constant although it
+    /// should define a variable; a reset above 1; or a greatest variable of 2^31 or more (AIGER 1.9: literals).
     Literal,
     /// A variable is defined a second time (AIGER 1.9: literals).
     DefinedTwice,

@@ -74,7 +74,7 @@ pub trait Line {
             (lines_of items.new.items noted.new)) };
 }
 
-/// Reads the lines of one kind.
+/// Reads the lines of one kind: of the inputs, latches, outputs or gates.
 ///
 /// # Errors
 ///

@@ -63,8 +63,9 @@ fn no_names(alloc: Global, count: usize) -> Result<Vec<Option<Vec<u8>>>, AllocEr
 ///
 /// # Errors
 ///
-/// [`AigCause::Syntax`] at the first byte that does not belong to a symbol, or at the letter of a symbol whose number
-/// does not exist or already has a name. Fails if out of memory.
+/// [`AigCause::Syntax`] at the first byte that is not allowed in a line of the symbol table, or at the letter of a
+/// symbol. A symbol's letter is rejected if the input, latch or output does not exist or already has a name. Fails if
+/// out of memory.
 pub fn symbols(alloc: Global, cursor: &mut Cursor, names: &mut Names) -> Result<(), AigFault>
     requires { AreNames names.old (vec_len names.old.inputs) (vec_len names.old.latches) (vec_len names.old.outputs) }
     ensures exact { Tells (λ _. names_data names.new) (many parts.symbol_line (names_data names.old)) cursor.old

@@ -1,9 +1,10 @@
 -- Lemmas about parsing the sections of a written circuit's text. A section has all lines of one kind: the inputs, the
 -- latches, the outputs or the gates.
--- - `IsSection kind all before read d`: the lines of one kind were parsed, and gave the items `all`
--- - `reread_section`: parsing the lines of any one kind gives the items that were written
--- - `reread_inputs`, `reread_latches`, `reread_outputs`, `reread_gates`: parsing the lines of each kind gives the items
---   that were written
+-- - `IsSection kind all before read d`: the lines of one kind were parsed, and gave the inputs, latches, outputs or
+--   gates `all`
+-- - `reread_section`: parsing a section gives the inputs, latches, outputs or gates that were written
+-- - `reread_inputs`, `reread_latches`, `reread_outputs`, `reread_gates`: parsing each of the four sections gives what
+--   was written
 use Rattle.std.proofs.Common.{◌≡◌, ℕ, ◌+◌, ◌*◌, ◌<◌, ◌≤◌, ◌⊎◌, List, [], ◌∷◌, ◌++◌, length, get_or, map, rules}
 use Rattle.std.proofs.Common.{flat_map, All, Contains, refl, sym, ap, subst, inl, inr, ◌∙◌, arith, append_assoc}
 use Rattle.std.proofs.Common.{append-nil, length-append}
@@ -73,8 +74,8 @@ module _ {c : CircuitData} (draft : IsDraft c) where
 
 -- ## The lines of one kind
 
--- the parsed items are `all`; their defining literals come after those in `before`, and their used literals after those
--- in `read`
+-- the parsed lines of one kind gave the inputs, latches, outputs or gates `all`; their defining literals come after
+-- those in `before`, and their used literals after those in `read`
 pub record IsSection {X : Type 0} (kind : LineKind X) (all : List X) (before read : List ℕ) (d : Lines X) : Type 0 where
   pub items : d.items ≡ all
   pub defined : d.defined ≡ map variable (before ++ kind.defines all)
@@ -87,8 +88,8 @@ module _ {c : CircuitData} (draft : IsDraft c) {X : Type 0} (kind : LineKind X) 
     (none : texts [] ≡ []) (some : (x : X) (xs : List X) → texts (x ∷ xs) ≡ text x ++ texts xs)
     (reread : (rest : List ℕ) (Good : Lines X → Type 0) (d : Lines X) (x : X) → IsNew kind c.most d x →
     ((e : Lines X) → AddsItem kind d e x → Good e) → Rereads (line d) Good (text x ++ rest) rest) where
-  -- a list of the literals of earlier lines, of all items, and of later lines, divided around an item `x`: the literals
-  -- before those of `x`, those of `x`, and those after them
+  -- a list of the literals of earlier lines, of all lines of one kind, and of later lines, divided at one line of this
+  -- kind: the literals before this line, those of this line, and those after it
   middle : (of : List X → List ℕ) → ((xs ys : List X) → of (xs ++ ys) ≡ of xs ++ of ys) →
       (front back whole : List ℕ) → whole ≡ front ++ (of all ++ back) → (a xs : List X) (x : X) → a ++ x ∷ xs ≡ all →
       whole ≡ (front ++ of a) ++ (of (x ∷ []) ++ (of xs ++ back))

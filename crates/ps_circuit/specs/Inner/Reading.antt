@@ -1,10 +1,11 @@
 -- The contracts of the AIGER parser's private functions, in terms of what these functions have read.
--- - `lines_of items noted`: what was read of the lines of one kind: their items and the parser's records
+-- - `lines_of items noted`: what was read up to some line: the inputs, latches, outputs or gates (those of this line's
+--   kind), and the parser's records
 -- - `TellsField`, `TellsCount`, `TellsHeader`, `TellsDraft`: the function for a field, for a number of lines, for the
 --   header or for the whole text parsed its part, or located the first error
 -- - `AddsInput`, `AddsLatch`, `AddsOutput`, `AddsGate`: one more line was read, of an input, a latch, an output or a
 --   gate
--- - `IsRow`: lines of one kind are read one after another
+-- - `IsRow`: lines of one kind (of inputs, latches, outputs or gates) are read one after another
 -- - `Grown Adds c d`: c is what was read up to some line, and d is what was read after any number of further lines
 use Rattle.std.specs.Prelude.{◌≡◌, ◌≢◌, ℕ, ◌-◌, ◌<◌, ◌⊎◌, Bool, List, [], ◌∷◌, ◌++◌, slice_index_or, slice_get, length}
 use Rattle.std.specs.Prelude.{map, All, AllPairs, Contains, Option, None, Some, Result, Ok, Err}
