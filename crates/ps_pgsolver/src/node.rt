@@ -110,8 +110,8 @@ impl Nodes {
     }
 }
 
-/// Reserves memory for the name of the next node, if it has a name; earlier nodes that have no item in the list get an
-/// empty one.
+/// Reserves memory for the name of the next node, if it has a name; earlier nodes that have no item in the list of
+/// names get an empty one.
 fn make_room(
     names: &mut Vec<Option<Vec<u8>>>,
     count: usize,

@@ -36,7 +36,8 @@ const TEXT_LIMIT: usize = 16_777_216;
 ///
 /// # Errors
 ///
-/// [`PgFault::Text`] with the first error of the text and the offset of the wrong token, or out of memory.
+/// [`PgFault::Text`] with the first error of the text and its offset, or out of memory. If the text is too long, only
+/// this is reported. A successor that is not the id of a node is reported only if the text has no other error.
 pub fn read(alloc: Global, text: &[u8]) -> Result<NamedGame, PgFault>
     ensures answer { IsGameAnswer text.now result }
     ensures within { IfErr result (StandsWithin (length text.now)) }
