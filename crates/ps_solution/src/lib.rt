@@ -7,8 +7,8 @@
 //! | `read(text, game)` | who wins each vertex of a game, and by which moves; or the first `CertFault` in the text |
 //! | `one_answer`, `some_answer` | laws: a text has exactly one answer for a game |
 //!
-//! The crate `ps_referee` judges whether a solution is right. Parsing takes time proportional to the length of the
-//! text, except that ids much greater than their index are looked up in a B-tree.
+//! The crate `ps_referee` judges whether a solution is right. Parsing takes time proportional to the length of the text
+//! and the number of the game's vertices, except that ids much greater than their index are looked up in a B-tree.
 #![tactic(auto)]
 
 mod laws;
