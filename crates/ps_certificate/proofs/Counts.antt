@@ -144,7 +144,7 @@ IsFirstFlawAt-rank {game} {certificate} {v} {w} {p} fits remains same_winner bro
         (Rank v w p ≡ other) ⊎ Precedes game (Rank v w p) other
     others other is_flaw early same = grind (arith, here)
 
--- if the winner's move at a vertex is right, its edge is one of those that the winner's moves allow
+-- if the winner's move at a vertex is right, and leads to `w`, the winner's moves allow the edge to `w`
 pub own_edge : {game : ParityGame} {certificate : CertificateData} {v w : ℕ} → HasRightMove game certificate v →
     owner_of game v ≡ winner_of certificate v → choice_of certificate v ≡ Some w → Remains game certificate v w
 own_edge {game} {certificate} {v} {w} right own is = search (rules, Remains-own, IsSomeAnd-at)

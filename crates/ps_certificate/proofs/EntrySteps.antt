@@ -182,7 +182,7 @@ module _ (odd even ids : List ℕ) where
   head_fails old new e r s i = search (rules, err_from_is_err_and)
 
   -- if the lines before those of the vertices have been parsed, an error in the vertices' lines is an error of the
-  -- whole text, and parsing them parses the whole text
+  -- whole text. If the vertices' lines have no error, parsing them completes the whole text.
   module _ (compact : Bool) (all : List ℕ) (same : all ≡ ids) (start now : Stream Seen)
       (k : Carries causes whole start (all_entries compact odd even ids) now) where
     abbrev with_lists : List EntryData → CertificateData

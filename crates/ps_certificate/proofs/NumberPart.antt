@@ -29,7 +29,7 @@ use Rattle.ps_text.proofs.Decimals.{value_grows}
 use Rattle.ps_certificate.proofs.Numerals.{numeral_split, numeral_plain, numeral_longest, plain_front, numeral_ended}
 use Rattle.ps_certificate.proofs.Numerals.{numeral_zero}
 
--- ## Symbols
+-- ## The bytes after the first ones
 
 dropped : (n at : ℕ) (bytes : List ℕ) → drop n (signs (pieces_at at bytes)) ≡ signs (pieces_at (at + n) (drop n bytes))
 dropped zero at bytes = let e : at ≡ at + 0 = omega arith in ap (λ a. signs (pieces_at a bytes)) e

@@ -29,7 +29,7 @@ use Rattle.ps_certificate.proofs.NumberPart.{AtDigit, settled_zero, settled_prio
 use Rattle.ps_certificate.proofs.NumberOutcomes.{judged_by, number_by, decide_next, judge_priority, judge_zero}
 use Rattle.ps_certificate.proofs.NumberOutcomes.{judge_missing}
 
--- ## Sets of symbols
+-- ## Sets of bytes
 
 abbrev pub Separates : Seen → Type 0
 Separates s = (s.byte ≡ 32) ⊎ (s.byte ≡ 10)

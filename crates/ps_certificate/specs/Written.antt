@@ -2,7 +2,8 @@
 -- - `fields xs`: the text of the numbers in `xs`, each after one space
 -- - `pairs ps cs`: the text of the nonzero counts in `cs`, each after a space, its priority and a colon
 -- - `entry_line compact odd even ids id entry`: the line of the vertex with the given id
--- - `IsWritable count odd even entry`: the condition under which the line of an entry can be written
+-- - `IsWritable count odd even entry`: the winner, the move and the number of counts of an entry fit the game, so its
+--   line can be written
 -- - `IsWord n`, `HasWords ids c`: a number, or all numbers of a certificate, fit in 64 bits
 -- - `text_in compact game c`: the text of certificate c: the first line, the number of vertices, the priorities, and a
 --   line for each vertex

@@ -20,7 +20,8 @@ pub enum Flaw {
         /// The successor to which the edge leads, and which the other player wins.
         successor: usize,
     },
-    /// An edge that the winner's moves allow breaks the rule of counts for a priority that opposes the winner.
+    /// An edge that the winner's moves allow breaks the certificate's rule of counts for a priority that opposes the
+    /// winner.
     Rank {
         /// The vertex that the faulty edge leaves.
         vertex: usize,

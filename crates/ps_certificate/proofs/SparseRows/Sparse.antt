@@ -9,7 +9,7 @@ use Rattle.ps_certificate.specs.Sparse.{count_at, counts_from, dense_row, Rises,
 use Rattle.ps_certificate.specs.Sparse.{IsFirstFrom}
 use Rattle.ps_certificate.specs.declared.row.PlacedCount.{PlacedCount}
 
--- ## The counts of a row
+-- ## The counts of a vertex
 
 -- the full list of a vertex's counts that is made for a length n has n counts
 pub length-counts_from : (ps : List PlacedCount) (n k : ℕ) → length (counts_from ps n k) ≡ n

@@ -72,8 +72,8 @@ abbrev pub rises : Option ℕ → ℕ → Bool
 rises None n = true
 rises (Some last) n = nat_lt last n
 
--- the function read a count's priority, and returned its index in the list; or it located the first error, which is in
--- the priority or is a missing colon
+-- the function read a count's priority, and returned its index in the list of priorities; or it located the first
+-- error, which is in the priority or is a missing colon
 abbrev pub TellsPriority : List ℕ → Pairs → Stream Seen → Result ℕ CertFault → Stream Seen → Type 0
 TellsPriority ps pairs old (Ok place) new = ReadsPart (judged (WrongPriority ps pairs)) old
     (slice_index ps place) new
