@@ -114,7 +114,7 @@ module _ {all : NamesData} {kind : Kind} {names : List (Option (Vec ℕ Global))
         pub past_name : Left (symbol_line all) old (symbol_end all kind k name) s4
         past_name = past (chain_name all kind k) past_space r
 
-        -- one more name is parsed, and set at its index in the list of names of its kind
+        -- one more name is parsed, and set at its index in the list of names of the inputs, latches or outputs
         pub symbol_reads : {s5 : Stream Seen} {after : List (Option (Vec ℕ Global))} (v : Vec ℕ Global) →
             Reads newline s4 tt s5 → after ≡ set names n.value (Some v) → v.items ≡ name →
             Reads (symbol_line all) old (put_names all kind (map name_bytes after)) s5

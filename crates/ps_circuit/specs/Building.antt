@@ -4,7 +4,8 @@
 -- - `MeetsEquations d v`: variable 0 is false, and the variable of each gate is the conjunction of the gate's two
 --   literals
 -- - `Extends old new`: all gates of `old` are also in `new`, with the same variables
--- - `IsSoundDraft d`: the invariant of the gates of a circuit builder
+-- - `IsSoundDraft d`: the invariant of a circuit builder: its gates are well formed and different from each other, and
+--   the literals of all variables fit into 32 bits
 use Rattle.std.specs.Prelude.{◌≡◌, ◌≢◌, ℕ, ◌+◌, ◌^◌, ◌<◌, ◌≤◌, ◌&&◌, ◌||◌, Bool, false, not, if◌then◌else◌, List}
 use Rattle.std.specs.Prelude.{length}
 use Rattle.std.specs.Prelude.{slice_get, Some}

@@ -133,7 +133,7 @@ fn name_line(
     Ok(())
 }
 
-/// Whether the list has an item with this number, and the item has no name yet.
+/// Whether there is an input, latch or output with this number, and it has no name yet.
 fn is_free(names: &Vec<Option<Vec<u8>>>, number: u64) -> bool
     ensures free { IsTrue result → slice_get (map name_bytes names.now.items) number ≡ Some None }
     ensures taken { result ≡ false → slice_get (map name_bytes names.now.items) number ≢ Some None }
