@@ -9,7 +9,7 @@ use Rattle.ps_game.specs.Drafts.{NoneBare, NoneUnknown}
 use Rattle.ps_pgsolver.specs.GamesOf.{place_of, vertex_of_node, draft_of, game_of, named_game_of}
 use Rattle.ps_pgsolver.specs.Nodes.{NodeData, IsReadNode, KnowsAll, ids_of, names_of}
 
--- ## Why the draft is a game
+-- ## Why the parsed nodes make a game
 
 all_head : {X : Type 0} (P : X → Type 0) (x : X) (xs : List X) → All P (x ∷ xs) → P x
 all_head P x xs h = h 0 x (omega arith)

@@ -174,7 +174,7 @@ module _ (text : List ℕ) (short : length text ≤ text_limit) where
   has_tokens : HasTokens text stream
   has_tokens = record { short = short; tokens = tokens_found text }
 
-  -- an answer exists if the text is parsed a second time, now knowing the ids of its nodes
+  -- parsing a game text a second time, now knowing the ids of its nodes, gives an answer to the text
   again : (nodes : List NodeData) → PartAnswers pg_causes (game None) stream (Ok nodes) →
       (second : Result (List NodeData) (Found PgCause)) →
       PartAnswers pg_causes (game (Some (ids_of nodes))) stream second →

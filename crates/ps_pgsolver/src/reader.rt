@@ -103,7 +103,7 @@ fn setting(tokens: &mut Tokens, word: &[u8]) -> Result<(), PgFault>
     Ok(())
 }
 
-/// Parses the number in a line such as `parity 7;`, which has no meaning, and the semicolon.
+/// Parses the number, which has no meaning, and the semicolon of a line such as `parity 7;`.
 fn value_line(tokens: &mut Tokens) -> Result<(), PgFault>
     ensures { ReadsAs (λ u. u) parts.value_line tokens.old result tokens.new }
 {
