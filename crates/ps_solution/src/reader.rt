@@ -77,7 +77,7 @@ fn heading(tokens: &mut Tokens) -> Result<(), CertFault>
     Ok(())
 }
 
-/// Parses the number in the line `paritysol 7;`, which has no meaning, and the semicolon.
+/// Parses the number, which has no meaning, and the semicolon of a line such as `paritysol 7;`.
 fn value_line(tokens: &mut Tokens) -> Result<(), CertFault>
     ensures { ReadsAs (λ u. u) parts.value_line tokens.old result tokens.new }
 {
