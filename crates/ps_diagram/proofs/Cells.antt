@@ -165,7 +165,8 @@ pub leaves_kept : {old new : List View} {cell : View} (places : List ℕ) → Ad
     ArePlacesOfLeaves old places → ArePlacesOfLeaves new places
 leaves_kept places adds are leaf place at less = kept_at place (Leaf leaf) adds (are leaf place at less)
 
--- the table that gives the index of the cell for each small leaf stays right when it is extended by unknown entries
+-- the table that gives the index of the cell for each small leaf stays right when it is extended by entries that mean
+-- `UNKNOWN`
 pub leaves_roomy : (cells : List View) (old new : List ℕ) (n : ℕ) → length new ≡ n →
     ((k d : ℕ) → k < n → k < length old → get_or new k d ≡ get_or old k d) →
     ((k d : ℕ) → length old ≤ k → k < n → get_or new k d ≡ 2 ^ 32 - 1) →

@@ -1,5 +1,5 @@
--- The classes of letters, derived from a diagram whose leaves are the nodes of what remains after the mask's
--- propositions have been read.
+-- The classes of the letters over a mask, derived from a diagram whose leaves are numbers of nodes. At each letter,
+-- this node is what remains of the divided node after the mask's propositions have been read.
 use Rattle.std.proofs.Common.{◌≡◌, ◌↔◌, ℕ, ◌<◌, ◌^◌, Bool, true, false, List, length, Option, Some, rules}
 use Rattle.std.proofs.Common.{sym, ◌∙◌, arith, inl, inr}
 use Rattle.std.proofs.lemmas.Bool.{cases_lt, false_from_ne_true}
@@ -64,8 +64,8 @@ leaves_kept k {node} h all = record {
   rising = all.rising;
 }
 
--- the diagrams made from a node of the table s: the one whose leaves are the nodes that remain, its leaves, and the one
--- of class indices
+-- The diagrams that are made from a node of the table s. `divided` leads each letter to the node that remains after it;
+-- each of these leaves gives a class of the list. `at` leads each letter to the index of its class.
 record Made (s u : Table) : Type 0 where
   pub mask : ℕ
   pub node : ℕ
@@ -83,7 +83,7 @@ record Made (s u : Table) : Type 0 where
   pub placed : IsPlaced places list
   pub mapped : (f : ℕ → Bool) → leaf_at (tree_of u at) f ≡ option_and_then places (leaf_at (tree_of u divided) f)
 
--- k is the index of the class of the letter f, and the diagram of this class is the node that remains after f
+-- k is the index of the class of the letter f, and the class's diagram is what remains of the divided node after f
 record IsPlaceOf (s u : Table) (m : Made s u) (f : ℕ → Bool) (k : ℕ) : Type 0 where
   within : k < length m.list
   is : leaf_at (tree_of u m.at) f ≡ Some k
@@ -91,7 +91,7 @@ record IsPlaceOf (s u : Table) (m : Made s u) (f : ℕ → Bool) (k : ℕ) : Typ
   held : IsNode u (class_at m.list k).rest
   leaf : (g : ℕ → Bool) → leaf_at (tree_of u (class_at m.list k).rest) g ≡ leaf_at (tree_of s m.node) (mixed m.mask f g)
 
--- letters that are mixed of two letters by a mask, and agree at every proposition
+-- lemmas on `mixed`, the letter that has the bits of one letter on the mask, and the bits of another letter elsewhere
 
 mixed_first : (mask x v q : ℕ) → AgreeOn mask x v → mixed mask (assignment x) (assignment v) q ≡ is_in q v
 mixed_first mask x v q on = elim (bool_cases (is_in q mask)) [ inl is ↦ rw is (on q is) | inr isnt ↦ rw isnt ]
@@ -104,7 +104,7 @@ mixed_alike : (mask : ℕ) (f g w : ℕ → Bool) (q : ℕ) → ((p : ℕ) → i
     mixed mask f w q ≡ mixed mask g w q
 mixed_alike mask f g w q on = elim (bool_cases (is_in q mask)) [ inl is ↦ rw is (on q is) | inr isnt ↦ rw isnt ]
 
--- letters that are mixed of two letters by a mask, as numbers
+-- the numbers of the letters that `mixed` makes
 
 joined_letter : (n mask x : ℕ) (w : ℕ → Bool) → x < 2 ^ n → AgreeOn mask x (letter_of n (mixed mask (assignment x) w))
 joined_letter n mask x w h p is = search (rules, cases_lt, letter_is, no_bit, letter_lt)
@@ -125,7 +125,7 @@ module _ {s u : Table} (m : Made s u) where
   same_letters : (f g : ℕ → Bool) → ((q : ℕ) → f q ≡ g q) → leaf_at (tree_of s m.node) f ≡ leaf_at (tree_of s m.node) g
   same_letters f g e = search (rules, blind-from)
 
-  -- the diagram of the nodes that remain depends only on propositions of the mask
+  -- `divided`, which leads each letter to the node that remains after it, depends only on propositions of the mask
   heeds_mask : (f g : ℕ → Bool) → ((q : ℕ) → is_in q m.mask ≡ true → f q ≡ g q) →
       leaf_at (tree_of u m.divided) f ≡ leaf_at (tree_of u m.divided) g
   heeds_mask f g on = search (rules, divided_alike, same_letters, mixed_alike)
@@ -189,8 +189,8 @@ module _ {s u : Table} (m : Made s u) where
         (m.listed.rising i j lt below));
   }
 
--- The node is in the table s, the diagram of the nodes that remain is in v, and the diagram of class indices is in u,
--- which keeps the nodes of v.
+-- The node that is divided is in the table s. The diagram that leads each letter to the node that remains after it is
+-- in v. The diagram of class indices is in u, which keeps the nodes of v.
 pub classes_of : {s v u : Table} → Keeps v u → IsSoundTable s → IsSoundTable u → u.propositions ≡ s.propositions →
     (mask : ℕ) {node divided at : ℕ} {places : ℕ → Option ℕ} {leaves : List (ℕ × ℕ)} {list : List Class} →
     IsNode s node → IsNode v divided → IsNode u at → IsDivided v mask (tree_of s node) (tree_of v divided) →

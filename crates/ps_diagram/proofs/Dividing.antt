@@ -1,4 +1,4 @@
--- Diagrams whose leaves are nodes.
+-- Diagrams whose leaves are numbers of nodes.
 use Rattle.std.proofs.Common.{◌≡◌, ℕ, ◌+◌, Bool, true, false, cond, Option, Some, ap, sym, ◌∙◌, rules}
 use Rattle.std.specs.Prelude.{IsSome}
 use Rattle.std.proofs.lemmas.Bool.{eqb-true}
@@ -34,8 +34,8 @@ pub tested_kept : {t u : Table} → Keeps t u → {test : (ℕ → Bool) → Boo
 tested_kept k h = are_tested h.low_is h.high_is h.made_is (k.held h.low h.low_held) (k.held h.high h.high_held)
     (search rules) (λ g. rw (k.same h.made h.held, k.same h.high h.high_held, k.same h.low h.low_held) (h.leaf g))
 
--- Nodes with the same leaves are equal. So a diagram of nodes has the same node at letters after which the same
--- remains.
+-- Nodes with the same leaves are equal. So if the same remains of a diagram after two letters, the diagram whose leaves
+-- are the nodes that remain has the same leaf at both letters.
 
 pub divided_alike : {t : Table} → IsSoundTable t → (mask : ℕ) (a d : Tree) → IsDivided t mask a d → (f g : ℕ → Bool) →
     ((w : ℕ → Bool) → leaf_at a (mixed mask f w) ≡ leaf_at a (mixed mask g w)) → leaf_at d f ≡ leaf_at d g
@@ -67,7 +67,7 @@ pub tested_blind : {t : Table} → IsSoundTable t → (p level : ℕ) (a b d : T
     IsBlind level b → IsBlind level d
 tested_blind {t} s p level a b d h ba bb f g e = tested_alike s p a b d h f g (ba f g e) (bb f g e)
 
--- how diagrams whose leaves are nodes are made, side by side
+-- how a diagram whose leaves are numbers of nodes is made from those of a node's low side and high side
 
 -- what remains of a diagram that tests no proposition has the diagram's leaf
 pub divided_here : {t u : Table} → Keeps t u → (mask : ℕ) {node place : ℕ} (a : Tree) {d : Tree} (leaf : Option ℕ) →
@@ -119,7 +119,7 @@ pub tests_more : {t : Table} (known new : ℕ × ℕ × ℕ → Option ℕ) (n :
     MayBePut test_eq known new (n, x, y) value → KnowsTests t known → IsNode t x → IsNode t y → IsNode t value → IsTested t n (tree_of t x) (tree_of t y) (tree_of t value) → KnowsTests t new
 tests_more {t} known new n put h hx hy hv r p a b = search (rules, one_more, test_same)
 
--- leaves that are nodes
+-- diagrams each of whose leaves is the number of a node
 
 pub names_of : (t : Table) (level : ℕ) (d : Tree) → LeadsToNodes t level d → (f : ℕ → Bool) → IsSome (leaf_at d f)
 names_of t level d h f = let r = h f in rw r.1
@@ -156,7 +156,8 @@ sides_tested {t} {u} {v} {w} k m n p {a} {b} {q} {al} {ah} {bl} {bh} {low} high 
     (tree_of v low) (tree_of v high) sa.leaf sb.leaf test (rw (m.same low held) (λ f. search (rules, tested_kept)))
     (rw (← k.same ah sa.high_held, ← k.same bh sb.high_held) (λ f. tested_kept n (h f)))
 
--- a diagram of the nodes that remain stays right when the table grows; those of both sides give that of the whole node
+-- The diagram that leads each letter to the node that remains after it stays right when the table grows. The diagrams
+-- that are made for a node's two sides give the diagram for the node.
 pub divided_side : {t u : Table} → Keeps t u → (mask : ℕ) (a : Tree) {node : ℕ} → IsNode t node →
     IsDivided t mask a (tree_of t node) → IsDivided u mask a (tree_of u node)
 divided_side {t} k mask a {node} held h = rw (k.same node held) (divided_kept k mask a (tree_of t node) h)

@@ -12,7 +12,7 @@ use Rattle.ps_diagram.proofs.Keys.{and_both}
 pub keeps_trans : {t u v : Table} → Keeps t u → Keeps u v → Keeps t v
 keeps_trans a b = search rules
 
--- the table from which nodes are read keeps its nodes, be it another table or the one that grows
+-- the table from which nodes are read (`other`, or t if `other` is None) keeps its nodes when t grows to u
 pub read_keeps : (other : Option Table) {t u : Table} → Keeps t u → Keeps (unwrap_or other t) (unwrap_or other u)
 read_keeps other h = search (rules, keeps_refl)
 

@@ -181,7 +181,8 @@ pub side_blind : (t : Table) {value n level : ℕ} {product : Product} (b : Bool
 side_blind t true none node side e empty h = rw e (λ f g same. empty f ∙ sym (empty g))
 side_blind t false none node side e empty h = rw e (product_blind h)
 
--- choosing between two leaves that exist under conditions gives a leaf that exists under the chosen condition
+-- `leaf_where value c` is the leaf `value` if c is true: choosing between two such leaves is choosing between their
+-- conditions
 tested : (value : ℕ) (b x y rest : Bool) → cond b (leaf_where value (x && rest)) (leaf_where value (y && rest)) ≡ leaf_where value (cond b x y && rest)
 tested value true x y rest = refl
 tested value false x y rest = refl

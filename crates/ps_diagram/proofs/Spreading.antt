@@ -49,7 +49,7 @@ cofactor_sides {t} {u} v mask letter p a al ah {low} high made isnt ta k held l 
 
 -- ## All letters
 
--- the same remains of a diagram after all letters that agree with `letter` on the mask
+-- what remains of a diagram after `letter` also remains after each letter that agrees with `letter` on the mask
 pub spread_here : (t : Table) (n mask letter : ℕ) (a : Tree) {d : Tree} {rest : ℕ} → IsFrom 0 n a → IsNode t rest →
     IsCofactor mask letter a (tree_of t rest) → d ≡ final rest → IsSpread t mask n letter a d
 spread_here t n mask letter a {d} {rest} o held h is f agree = (

@@ -26,7 +26,8 @@ const FEW: u32 = 4;
 pub struct Class {
     /// The least letter of the class.
     pub letter: u64,
-    /// The diagram of what remains after each letter of the class: it tests only the other propositions.
+    /// What remains after a letter of the class, the same for each of its letters: a diagram that tests only the other
+    /// propositions.
     pub rest: Node,
 }
 
@@ -198,8 +199,8 @@ impl Store {
         self.tested(proposition, low, high, tests)
     }
 
-    /// The diagram whose leaf at a letter is a node that tests the proposition, and whose sides are the nodes to which
-    /// `low` and `high` lead the letter.
+    /// The diagram whose leaf at a letter is the number of a node: the node that the proposition chooses between those
+    /// to which `low` and `high` lead the letter.
     fn tested(
         &mut self,
         proposition: u32,

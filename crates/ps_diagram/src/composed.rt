@@ -14,8 +14,9 @@ use std::alloc::AllocError;
 
 impl Store {
     /// The diagram of a node of another store, in which the function at the index p of `truths` replaces the
-    /// proposition p. Such a function is true at the letters at which its node has a leaf. At each letter, the values
-    /// of these functions form a second letter, and the result has the leaf of the given node at the second letter.
+    /// proposition p. A function is true at the letters at which its node in `truths` has a leaf. At each letter, the
+    /// values of these functions form a second letter, and the result has the leaf of the given node at the second
+    /// letter.
     pub fn composed_from(
         &mut self,
         other: &Store,

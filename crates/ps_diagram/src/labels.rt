@@ -87,7 +87,7 @@ impl Store {
         }
     }
 
-    /// The diagram of a label; the nodes of its aliases may represent any truth values.
+    /// The diagram of a label in which each alias has the truth values that its node in `aliases` has.
     fn truth_by(&mut self, aliases: &[Node], label: &Label) -> Result<Node, AllocError>
         requires aliases { (known : ℕ → List Bool) × HaveTruths self.old aliases.now known }
         requires within { IsOver (length aliases.now) self.old.propositions (expression label.now) }

@@ -1,5 +1,5 @@
--- What remains of a diagram (the rest) after the propositions of a mask have been read: diagrams whose leaves are
--- nodes.
+-- What remains of a diagram (the rest) after the propositions of a mask have been read. A second diagram leads each
+-- letter to the rest after this letter: its leaves are numbers of nodes.
 use Rattle.std.specs.Prelude.{◌≡◌, ℕ, ◌<◌, Bool, true, ◌&&◌, nat_eq, cond, Option, Some}
 use Rattle.ps_label.specs.Truth.{is_in}
 use Rattle.ps_diagram.specs.Letters.{assignment}
@@ -54,20 +54,19 @@ pub record AreTested (t : Table) (test : (ℕ → Bool) → Bool) (x y z : Optio
   pub leaf : (g : ℕ → Bool) → leaf_at (tree_of t made) g ≡ cond (test g) (leaf_at (tree_of t high) g)
       (leaf_at (tree_of t low) g)
 
--- at each letter, the leaf of the third tree is a node that tests p, and whose sides are the leaves of the first and
--- second tree
+-- At each letter, the leaves of the three trees are numbers of nodes. The third node has the leaf of the second at
+-- letters in which p is true, and the leaf of the first at other letters.
 abbrev pub IsTested : Table → ℕ → Tree → Tree → Tree → Type 0
 IsTested t p a b d = (f : ℕ → Bool) → AreTested t (λ g. g p) (leaf_at a f) (leaf_at b f) (leaf_at d f)
 
--- as in `IsTested` if p is not in the mask; if p is in the mask, the node at f has the leaves of the one of the two
--- nodes that p's value in f selects
+-- As in `IsTested` if p is not in the mask. If p is in the mask, the third node at the letter f has the leaves of the
+-- second node if p is true in f, and otherwise those of the first.
 abbrev pub IsDividedTest : Table → ℕ → ℕ → Tree → Tree → Tree → Type 0
 IsDividedTest t mask p a b d =
     (f : ℕ → Bool) → AreTested t (λ g. mixed mask f g p) (leaf_at a f) (leaf_at b f) (leaf_at d f)
 
--- For each key of the memo table, the two nodes of the key and the node made from them are in the table of nodes. At
--- each letter, the made node's leaf is the number of a node that tests the key's proposition, and whose sides are the
--- leaves of the key's two nodes.
+-- For each key of the memo table, the two nodes of the key and the node made from them are in the table of nodes. Their
+-- trees are as in `IsTested` for the key's proposition.
 abbrev pub KnowsTests : Table → (ℕ × ℕ × ℕ → Option ℕ) → Type 0
 KnowsTests t known =
     (p low high made : ℕ) → known (p, low, high) ≡ Some made →
