@@ -1,8 +1,9 @@
--- The stored form of a player's finite machine: a decision diagram for each memory state, whose leaves name rows.
+-- The stored form of a player's finite machine: a decision diagram for each memory state, whose leaves are indices of
+-- rows. A row has a letter to output and a next memory state.
 -- - `MachineData`: a machine's propositions, its player, whether that player moves first, its diagrams and its rows
 -- - `machine_row m memory x`: the row for a memory state, if x is the other player's letter
 -- - `behaviour m`: the behaviour of the machine, without its diagrams
--- - `IsWholeMachine m`: m is a machine whose diagrams name a row for each memory state and letter
+-- - `IsWholeMachine m`: m is a machine whose diagrams lead to a row for each memory state and letter
 use Rattle.std.specs.Prelude.{◌≡◌, ℕ, ◌<◌, Bool, List, length, slice_index, slice_index_or, IsSomeAnd}
 use Rattle.std.specs.Option.{unwrap_or}
 use Rattle.ps_diagram.specs.Table.{Table, IsNode, leaf_of}

@@ -2,7 +2,7 @@
 -- - `IsCertified game c`: the certificate fits the game and is valid
 -- - `winner_at_start c`: the winner of vertex 0
 -- - `AnswersSurely game r`: what a sure solver answers: a valid certificate that fits the game, or out of memory
--- - `AnswersLeast game r`: what psyn's own solver answers: as a sure solver, with the least counts
+-- - `AnswersLeast game r`: what psyn's own solver answers: like a sure solver, with the least counts for its moves
 -- - `NamesVertices game r`: if the answer is a cycle, it consists of vertices of the game
 -- - `Replays game fed r`: the answer is the result of parsing the text that was fed
 -- - `own_solver`: what is known about psyn's own solver

@@ -69,9 +69,9 @@ impl Budget {
     }
 }
 
-/// psyn's own solver. The solver computes the regions and the moves of both players, and then the least counts for
-/// these moves. It is sure (each of its certificates is valid, and it fails only if memory runs out), and ignores every
-/// text that it is fed.
+/// psyn's own solver. The solver computes the regions and the moves of both players, and then the certificate's counts:
+/// the least ones that are valid for these moves. It is sure (each of its certificates is valid, and it fails only if
+/// memory runs out), and ignores every text that it is fed.
 #[derive(Drop)]
 pub struct BuiltIn {
     alloc: Global,

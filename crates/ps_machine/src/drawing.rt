@@ -1,5 +1,5 @@
 //! Makes the diagrams of a machine. Each memory state has a diagram that leads each letter of the other player to a
-//! row.
+//! row: a letter to output, and a next memory state.
 
 ghost use Rattle.std.specs.Prelude.{◌≡◌, ◌≢◌, ℕ, ◌<◌, true, false, Any, IfOk, OnOk, Some, length, slice_get};
 ghost use Rattle.std.specs.List.{All, Contains};
@@ -51,8 +51,8 @@ pub(crate) struct Drawing {
     pub store: Store,
     /// The rows. Each leaf of the diagrams is the index of its row.
     pub rows: IndexSet<Row>,
-    /// For each leaf of the automaton, the index of its row. Only entries that the last call of `place_rows` has set
-    /// are valid.
+    /// For each leaf of the automaton's diagrams, the index of the row for the step that the leaf names. Only entries
+    /// that the last call of `place_rows` has set are valid.
     pub places: Vec<u64>,
 }
 
@@ -139,8 +139,8 @@ impl Drawing {
             .relabel_from(&plan.divided.store, rest, &self.places)
     }
 
-    /// Adds a row, in which the machine outputs `letter`, for each of the given leaves of the automaton, and records
-    /// the row's index.
+    /// Adds a row, in which the machine outputs `letter`, for each of the given leaves of the automaton's diagrams, and
+    /// records the row's index.
     fn place_rows(
         &mut self,
         plan: &Plan<'_>,

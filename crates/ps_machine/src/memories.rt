@@ -53,7 +53,8 @@ pub(crate) fn anchor(moves_first: bool, vertex: usize, state: u32) -> usize
 }
 
 impl Memories {
-    /// Adds a memory state for a vertex, unless one with the same anchor exists: what the machine remembers there.
+    /// Adds a memory state for a vertex, unless one exists with the same anchor (what the machine remembers at the
+    /// vertex).
     fn keep(&mut self, vertex: usize, anchor: usize) -> Result<(), AllocError>
         ensures { OnOk result (KeepsAt self.old.kept.items self.old.anchors.keys vertex anchor self.new.kept.items
             self.new.anchors.keys) }

@@ -1,5 +1,5 @@
 -- Lemmas for the diagrams of either player's machine: the vertices of its memory states, the vertices that it can
--- reach, their successors, and rows.
+-- reach, their successors, and its rows. (A row has a letter to output and a next memory state.)
 use Rattle.std.proofs.Common.{if◌then◌else◌, ◌≡◌, ◌≢◌, ℕ, ◌+◌, ◌<◌, Bool, true, List, length, get_or, map, Some, ap}
 use Rattle.std.proofs.Common.{sym, ◌∙◌, arith, rules, eqb}
 use Rattle.std.specs.Prelude.{slice_get}
@@ -57,7 +57,8 @@ has_anchor anchors memory {anchor} at =
     list_any_at (eqb anchor) anchors memory anchor (slice_get_within anchors memory anchor at)
     (eq-eqb anchor (get_or anchors memory anchor) (sym (get_or_from_slice_get anchors memory anchor anchor at)))
 
--- a memory state whose anchor is the anchor of a vertex is the memory state of this vertex
+-- a memory state whose anchor (what it remembers, `anchor_of`) is the anchor of a vertex is the memory state of this
+-- vertex
 pub stands_for : {is_first : Bool} {keys : List Key} {used kept anchors : List ℕ} {memory : ℕ} (v : ℕ) {q : ℕ} (p : ℕ) →
     AllPairs (λ x y. x ≢ y) keys → AreMemories is_first keys used kept anchors → StandsAt keys v (First q p) →
     slice_get anchors memory ≡ Some (anchor_of is_first v q) → {w : ℕ} → StandsAt keys w (First q p) →
@@ -73,7 +74,8 @@ stands_for {is_first} {keys} {kept} {anchors} {memory} v {q} p differ m at is {w
 
 -- ## Used vertices
 
--- a successor of a reachable vertex is reachable, too, unless the winner owns the first vertex and moves elsewhere
+-- if v is reachable and has an edge to w, then w is reachable, too, unless the winner of vertex 0 owns v and moves
+-- elsewhere
 pub used_more : {game : ParityGame} {certificate : CertificateData} {v : ℕ} {w : ℕ} → IsUsed game certificate v →
     HasEdge game v w → w < vertex_count game →
     (owner_of game v ≡ winner_at_start certificate → choice_of certificate v ≡ Some w)
@@ -227,7 +229,7 @@ module _ {order : Order} {a : AutomatonData} {keys : List Key} {certificate : Ce
 by_case : (P : List Row → Type 0) (b : Bool) (old more : List Row) → P old → P more → P (if b then old else more)
 by_case P b old more h k = search rules
 
--- inserting a row into the list of rows does not change the index of any old row
+-- inserting a row into the machine's list of rows does not change the index of any old row
 pub keeps_rows : (eq : Row → Row → Bool) {old : List Row} (row : Row) {new : List Row} → new ≡ insert_key eq old row →
     KeepsRows old new
 keeps_rows eq {old} row e = search (rules, by_case, slice_get-left)

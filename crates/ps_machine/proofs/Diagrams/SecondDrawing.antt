@@ -140,7 +140,8 @@ module _ {order : Order} {a : AutomatonData} {mask : ℕ} {t : Table} {keys : Li
         same_pair reply.state reply.priority,
       )
 
-  -- the row with the least letter that makes the step of the winner's move is right
+  -- after the letter x at the state q, a row is right if it outputs the least letter that makes the step of the
+  -- winner's move, and enters the memory state of that step
   answer_by : {kept : List ℕ} (letter memory : ℕ) → IsClassLetter (board_of order a) q x →
       IsMove (board_of order a) q x letter → step_of a q (x + letter) ≡ step →
       ((v : ℕ) → StandsAt keys v (First step.state step.priority) → StandsFor false keys kept memory v step.state) →
@@ -228,7 +229,8 @@ module _ {board : Board} {keys : List Key} {kept : List ℕ} {certificate : Cert
       let here = rw is at answer in
       rw (e, take_more classes i d within) (grind (arith, AllZip-push, still_named))
 
-  -- a row that is right for a letter of the first player is right for each letter that leads to the same steps
+  -- if a row has the right output and next memory state for a letter of the first player, so it has for each letter
+  -- that leads to the same steps
   alike_row : {v x c : ℕ} {row : Row} → SameSteps board q x c → IsRowAt false board keys kept certificate v q c row →
       IsRowAt false board keys kept certificate v q x row
   alike_row {v} {x} {c} {row} same r =
@@ -255,7 +257,8 @@ module _ {board : Board} {keys : List Key} {kept : List ℕ} {certificate : Cert
 
 -- ## The diagram
 
--- a fact about the pairs of two lists also holds for equal lists
+-- if N relates each entry of one list to the entry of another at the same index, it also does so for lists equal to
+-- these
 pub named_as : {X : Type 0} (N : X → ℕ → Type 0) {xs ys : List X} {values same : List ℕ} → ys ≡ xs → same ≡ values →
     AllZip N ys values → AllZip N xs same
 named_as N {ys} {same} is are zip = subst (λ l. AllZip N l same) is (subst (λ v. AllZip N ys v) (sym are) zip)

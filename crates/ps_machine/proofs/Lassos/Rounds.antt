@@ -112,7 +112,8 @@ module _ {board : Board} {mover : ℕ} {keys : List Key} {game : ParityGame} {ce
       let same : pair z ≡ pair y = ap₂ (λ a b. First a b) least.here.1.state least.here.1.priority in
       none (rw leads.2 (rw same at (map_contains pair leads.0 c.0 c.1 c.2)))) y itself)
 
-  -- the player who moves first owns the vertices of that player's keys
+  -- the player who moves first owns each vertex with a key `First`, and the other player each vertex with a key
+  -- `Second`
   pub first_owner : (v : ℕ) {q p : ℕ} → StandsAt keys v (First q p) → owner_of game v ≡ mover
   first_owner v {q} {p} at = owner_at v at
 

@@ -28,7 +28,7 @@ anchor_shares is_first v q w r h = search rules
 module _ {is_first : Bool} {keys : List Key} {used kept anchors : List ℕ}
     (m : AreMemories is_first keys used kept anchors)
   where
-    -- two memory states with the same anchor are equal
+    -- two memory states with the same anchor (that remember the same) are equal
     one_memory : {i j x : ℕ} → slice_get anchors i ≡ Some x → slice_get anchors j ≡ Some x → i ≡ j
     one_memory {i} {j} at there = one_place anchors m.different i j at there
 

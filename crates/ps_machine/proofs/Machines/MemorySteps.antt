@@ -63,7 +63,7 @@ module _ (is_first : Bool) (keys : List Key) (used : List ℕ) where
       AreMemoriesBelow kept anchors n → AreMemoriesBelow kept anchors (n + 1)
   below_skip {kept} {n} none m = search (rules, all_less, less_or_last)
 
-  -- each anchor in the list belongs to a memory state
+  -- each anchor in the list `anchors` belongs to a memory state (an anchor is what a memory state remembers)
   came_has : {kept anchors : List ℕ} {n anchor : ℕ} → AreMemoriesBelow kept anchors n → Contains anchors anchor →
       HasMemory kept anchors n anchor
   came_has {kept} {anchors} {anchor} m came = search (rules, slice_get-get_or)
@@ -85,7 +85,8 @@ module _ (is_first : Bool) (keys : List Key) (used : List ℕ) where
     kept_last : get_or new_kept (length kept) 0 ≡ n
     kept_last = get_or_push kept n 0 (length kept) refl
 
-    -- the reachable vertices up to n have memory states, if those before n have them and the anchor of n has one
+    -- the reachable first-player vertices up to n have memory states if those before n have them, and if some memory
+    -- state remembers what belongs to n (its anchor)
     found_more : (kept' anchors' : List ℕ) → ((v x : ℕ) → HasMemory kept anchors v x → HasMemory kept' anchors' v x) →
         HasMemory kept' anchors' n new_anchor → (v r l : ℕ) → v < n + 1 → Contains used v →
         StandsAt keys v (First r l) →

@@ -1,7 +1,9 @@
--- The diagrams, rows and propositions from which a machine is assembled. (For private functions.)
--- - `AreDrawn .. t rows nodes n`: the first n memory states have their diagrams, and the rows are right
+-- The diagrams, rows and propositions from which a machine is assembled. A row has a letter to output and a next memory
+-- state. (For private functions.)
+-- - `AreDrawn .. t rows nodes n`: the first n memory states have their diagrams, and each row has a letter of the
+--   player and a memory state
 -- - `AreListedBelow n is list`: the list has the numbers less than n that pass the test `is`, ascending
--- - `IsAssembled .. m`: the machine's propositions, diagrams and rows are right
+-- - `IsAssembled .. m`: the machine reads and outputs the right propositions, and has the diagrams of all memory states
 -- - `machine_of player is_first propositions diagrams`: the player's machine with these propositions and diagrams
 -- - `HasRoles is_first board inputs outputs`: which propositions the machine reads and which it outputs
 use Rattle.std.specs.Prelude.{◌≡◌, ℕ, ◌<◌, ◌≤◌, Bool, not, List, length, map, slice_index, IsTrue}
@@ -20,7 +22,8 @@ use Rattle.ps_machine.specs.declared.machine.Diagrams.{Diagrams}
 use Rattle.ps_machine.specs.declared.machine.Propositions.{Propositions}
 use Rattle.ps_machine.specs.declared.machine.Row.{Row}
 
--- each of the first n memory states has a diagram that leads to the right rows
+-- each of the first n memory states has a diagram that leads each letter to a row with the right output and next memory
+-- state
 pub record AreDrawn (is_first : Bool) (board : Board) (keys : List Key) (kept : List ℕ) (certificate : CertificateData)
     (t : Table) (rows : List Row) (nodes : List ℕ) (n : ℕ) : Type 0 where
   pub rows_are : All (IsRow is_first board kept) rows
@@ -51,7 +54,7 @@ machine_of player is_first propositions diagrams =
       rows = diagrams.rows.keys;
     }
 
--- a machine whose propositions, diagrams and rows are right
+-- a machine that reads and outputs the right propositions, and that has a right diagram for each memory state
 pub record IsAssembled (board : Board) (keys : List Key) (kept : List ℕ) (certificate : CertificateData)
     (m : MachineData) : Type 0 where
   pub few_names : length m.names ≤ 64

@@ -1,9 +1,11 @@
 -- What is known while the machine of a certificate is built. A plan has the data from which the machine is made:
 -- automaton, keys, certificate, memory states. The diagrams are made one after another; each memory state has a diagram
--- that leads each letter of the other player to a row. (For private functions.)
+-- that leads each letter of the other player to a row: a letter to output, and a next memory state. (For private
+-- functions.)
 -- - `AreUsed game certificate found`: `found` are the reachable vertices
 -- - `GoesOn game certificate v w`: a path by the moves of the winner of vertex 0 can continue from v to w
--- - `AreMemories is_first keys used kept anchors`: the vertex and the anchor of each memory state are right
+-- - `AreMemories is_first keys used kept anchors`: the vertex and the anchor (what is remembered) of each memory state
+--   are right
 -- - `IsPlan ..`: the data from which the machine is made are right
 -- - `IsDrawn .. v node`: the diagram leads each letter to the right row for the memory state of v
 -- - `IsReply .. q x r p, IsReplyRow .. q x row`: the second player's step after the letter x, and the row for it
@@ -50,8 +52,8 @@ abbrev pub anchor_of : Bool → ℕ → ℕ → ℕ
 anchor_of true v q = v
 anchor_of false v q = q
 
--- what adding a memory state does: a new anchor gets one, whose vertex is v; nothing changes if the anchor has one
--- already
+-- what adding a memory state for the vertex v does: a new anchor gets a memory state, whose vertex is v; for an anchor
+-- that has a memory state already, nothing changes
 pub data KeepsAt (old_kept old_anchors : List ℕ) (v anchor : ℕ) (kept anchors : List ℕ) : Type 0 where
   Stays : Contains old_anchors anchor → kept ≡ old_kept → anchors ≡ old_anchors →
       KeepsAt old_kept old_anchors v anchor kept anchors
@@ -72,8 +74,8 @@ pub record HasMemory (kept anchors : List ℕ) (v anchor : ℕ) : Type 0 where
   pub is_anchored : slice_get anchors memory ≡ Some anchor
   pub behind : slice_index kept memory ≤ v
 
--- each anchor of a reachable vertex has one memory state, whose vertex is the smallest reachable vertex with that
--- anchor
+-- each anchor of a reachable first-player vertex has one memory state, whose vertex is the smallest such vertex with
+-- that anchor
 pub record AreMemories (is_first : Bool) (keys : List Key) (used kept anchors : List ℕ) : Type 0 where
   pub many : length anchors ≡ length kept
   pub rising : AllPairs (λ v w. v < w) kept

@@ -32,8 +32,8 @@ pub record IsEntered (order : Order) (a : AutomatonData) (keys : List Key) (cert
   pub within : leaf < length a.steps
   pub enters : CanEnter order a keys certificate is_first kept anchors (pair_of a leaf).state (pair_of a leaf).priority
 
--- In the row whose index `places` has for the leaf, the machine outputs `letter`. In this row, the machine enters the
--- memory state of the vertex that stands for the leaf's step.
+-- `places[leaf]` is the index of a row. In this row, the machine outputs `letter` and enters the memory state of the
+-- vertex that stands for the leaf's step.
 pub record IsPlaced (a : AutomatonData) (keys : List Key) (is_first : Bool) (kept : List ℕ) (rows : List Row)
     (places : List ℕ) (letter leaf : ℕ) : Type 0 where
   pub place : ℕ
