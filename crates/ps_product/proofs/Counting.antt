@@ -1,4 +1,5 @@
--- How many variables of a circuit have not been evaluated yet, and the rank of a variable's place.
+-- How many variables of a circuit have not been evaluated yet, and the rank of a variable in the order of evaluation. A
+-- variable is given by its place (index).
 use Rattle.std.proofs.Common.{◌≡◌, ℕ, zero, suc, ◌+◌, ◌-◌, ◌<◌, ◌≤◌, inl, inr, List, [], ◌∷◌, length, get_or, set}
 use Rattle.std.proofs.Common.{Option, None, Some, refl, ap, ◌∙◌, arith, nat_eq, not}
 use Rattle.std.specs.Prelude.{nat_lt, if◌then◌else◌, slice_get}
@@ -24,12 +25,13 @@ unknown-set (Some other ∷ xs) zero truth lt e = cc
 unknown-set (None ∷ xs) (suc p) truth lt e = ap suc (unknown-set xs p truth (omega arith) e)
 unknown-set (Some other ∷ xs) (suc p) truth lt e = unknown-set xs p truth (omega arith) e
 
--- the rank of a gate's place is one more than the gate's index in the order; the rank of every other place is 0
+-- the rank of a place is 0 if its variable is no gate, and otherwise one more than the gate's index in the order of
+-- evaluation
 abbrev pub rank : CircuitData → List ℕ → ℕ → ℕ
 rank c order place =
     if nat_lt place (front_of c) then 0 else suc (position_or_len (λ i. nat_eq i (place - front_of c)) order)
 
--- searching an order of numbers for its k-th entry gives the index k
+-- if an order has the entry i at the index k, searching the order for i gives k, since i occurs only once
 position_at : {R : ℕ → ℕ → Type 0} {n : ℕ} {order : List ℕ} → IsOrder R n order → (k i : ℕ) →
     slice_get order k ≡ Some i → position_or_len (λ j. nat_eq j i) order ≡ k
 position_at {order = order} is k i at =
@@ -40,7 +42,7 @@ position_at {order = order} is k i at =
     ∙ ap (λ x. Some x) e in
     omega (arith, less, is.once j k i there at))) (λ _. eq-eqb _ _ here)
 
--- a gate reads only places whose rank is lower than the rank of the gate's own place
+-- each variable that a gate reads has a lower rank than the gate
 pub rank_falls : {c : CircuitData} {order : List ℕ} → IsOrder (ReadsGate c.gates) (length c.gates) order →
     (place lower : ℕ) → IsBelow c place lower → rank c order lower < rank c order place
 rank_falls {c} {order} is place lower b = elim b.below [

@@ -21,7 +21,7 @@ use Rattle.ps_simulate.proofs.RowLemmas.{length-variables, no_latch}
 use Rattle.ps_simulate.proofs.ValueLemmas.{bit_of-definition}
 
 module _ {c : CircuitData} (is : IsCircuit c) where
-  -- the bit that a literal given by a variable's place reads is the bit of the original literal
+  -- a literal that refers to its variable by the place has the same bit as the original literal
   pub read_is : (values : List Bool) (literal : ℕ) → IsKnown (definitions c) literal →
       read_at c values (wire_of c literal) ≡ bit_of values literal
   read_is values literal known = rw (place_known is literal known).1 refl

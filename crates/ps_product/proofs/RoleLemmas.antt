@@ -65,7 +65,8 @@ module _ (names : List (List ℕ)) (controllable : List ℕ) (wanted : Bool) (sy
         differ = λ i j lt less is. differ i (omega (arith, lt, size)) j (omega (arith, less, size)) is;
       }
 
-  -- if a symbol names the same proposition as an earlier symbol, the symbols are not the names that are needed
+  -- if a symbol names the same proposition as an earlier symbol, the symbols do not name each needed proposition
+  -- exactly once
   pub twice : {k : ℕ} (p : ℕ) {name : List ℕ} {list : List ℕ} → IsListing names controllable wanted symbols k list →
       get_or symbols k None ≡ Some name → p < length names → get_or names p [] ≡ name → is_among p list ≡ true →
       ¬ AreNamesOnce names controllable wanted symbols

@@ -57,7 +57,7 @@ impl<'a> Model for Net<'a> {
 }
 
 impl<'a> Net<'a> {
-    /// Makes the form of a circuit in which literals refer to places of variables.
+    /// The circuit, with literals that refer to variables by their places.
     pub fn new(alloc: Global, circuit: &'a Circuit) -> Result<Self, AllocError>
         ensures { IfOk result (λ net. net ≡ circuit.now) }
     {
@@ -65,7 +65,7 @@ impl<'a> Net<'a> {
         Net::by_places(alloc, &places)
     }
 
-    /// Makes the form of a circuit in which literals refer to places, given the place of each variable.
+    /// The circuit, with literals that refer to variables by the given places.
     fn by_places(alloc: Global, places: &Places<'a>) -> Result<Self, AllocError>
         ensures { IfOk result (λ net. net ≡ places.now) }
     {
