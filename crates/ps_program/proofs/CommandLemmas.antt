@@ -64,7 +64,8 @@ abbrev behind_first : {X : Type 0} → List X → List X
 behind_first [] = []
 behind_first (x ∷ xs) = xs
 
--- a command is read correctly with each choice of flags if clap returns the right lines for all choices
+-- a command is read correctly with each choice of flags if clap reports no error and returns the command's `Line`, for
+-- every choice
 choices_read : (name : Text) (line : (Text → Bool) → Line) (choices : List (List Text)) →
     map (heard name) choices ≡ map (λ flags. ([], line (is_among flags))) choices
     → AllByRecursion (λ flags. AreRead (words_with name flags) (line (is_among flags))) choices

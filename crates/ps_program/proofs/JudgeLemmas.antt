@@ -139,7 +139,7 @@ module _ (flaws : OneFlaw) (certificates : OneJudged) (apart : NoFlawAndCycle) (
   not_refused is_game s (inr (player, cycle, lost, e)) =
       no_cycle named.game given.won given.moves given.moves player cycle s lost
 
-  -- only one line can report a refused solution, unless a player loses a cycle
+  -- only one line can report a refused solution, unless some cycle makes a player lose (`LosesCycle`)
   refused_one : {line other : List ℕ} → IsGame named.game → IsRefusalLine named given line →
       IsRefusalLine named given other →
       (line ≡ other) ⊎ LosesCycle named given

@@ -37,7 +37,7 @@ module _ (role : Role) (texts first second third : List ℕ) (cuts : CutsInThree
   lasso_run file is_file (Err refusal.OutOfMemory) h = tt
 
 module _ (role : Role) (file : FileData) (text letters : List ℕ) where
-  -- after a correct circuit
+  -- the circuit's text is correct, and `width` is the number of the circuit's inputs
   module _ (c : CircuitData) (is_circuit : ReadsCircuitText text (Ok c)) (width : ℕ)
       (is_width : width ≡ length c.inputs) where
     -- if the circuit's text is correct, a fault in the stimulus is the fault that is reported

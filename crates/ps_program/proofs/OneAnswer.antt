@@ -240,7 +240,8 @@ module _ (games : OneGame) (certificates : OneCertificate) (flaws : OneFlaw) (ci
             (λ a b agree. (parts.0, (parts.1, cuts), agree)) alike,
       )
 
-  -- each command line has only one result, or its result is not determined and any two results are alike
+  -- each command line has only one result, or its result is not determined; then any two results agree, or one is a
+  -- fault
   line_one : (solvers : Solvers) (l : Line) (texts : List ℕ) (x y : Result Reply (List ℕ)) →
       AnswersLine solvers l texts x → AnswersLine solvers l texts y →
       (x ≡ y) ⊎ (IsUndetermined l texts × Alike (Agree l texts) x y)

@@ -1,5 +1,6 @@
--- A game has a certificate, and a text has a report, if a solver may answer the certificate.
--- - `certifies_surely`, `certifies_fed`: the result for a solver that may certify, and for one that was fed a text
+-- The commands `solve`, `cert` and `synth` have results, if their solver may return a certificate.
+-- - `certifies_surely`, `certifies_fed`: a solver has a result if it may certify, or may replay the text that it was
+-- fed
 -- - `solve_some`, `cert_some`: the commands `solve` and `cert`
 -- - `synthesises_some`: a report, or the line of a fault
 -- - `synth_some`: the command `synth`

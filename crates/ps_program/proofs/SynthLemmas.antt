@@ -1,4 +1,5 @@
--- The result of synthesis: which faults come from the solver, and that the result depends only on its possible answers.
+-- The result of synthesis: which faults come from the solver, and that the result depends only on the solver's possible
+-- answers.
 use Rattle.std.proofs.Common.{rules, arith, ◌≡◌, ℕ, Bool, true, false, List, Result, Ok, Err, inl, inr, subst}
 use Rattle.std.specs.Prelude.{Option}
 use Rattle.ps_hoa.specs.Files.{FileData}

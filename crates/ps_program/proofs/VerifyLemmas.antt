@@ -21,7 +21,7 @@ use Rattle.ps_program.specs.declared.answer.Refusal.{Refusal}
 use Rattle.ps_program.specs.declared.answer.Refusal.TheVariants as refusal
 
 module _ (order : Order) (role : Role) (texts first second : List ℕ) (cuts : CutsInTwo texts (Ok (first, second))) where
-  -- a fault of the automaton
+  -- a fault in the automaton's text is the fault that `verify` reports
   pub verify_automaton_fault : (fault : Refusal) → GivesAutomaton first (Err fault) →
       Gives {X = Answer} reply_of (AnswersVerify order role texts) (Err fault)
   verify_automaton_fault (refusal.Fault fault) h = inr ((first, second), cuts, inl (fault_text fault, h, refl))

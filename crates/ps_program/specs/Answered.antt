@@ -6,7 +6,7 @@
 -- - `MayCertify solver`: the solver may answer a valid certificate of each game
 -- - `MayReplay solver`: the solver may answer the result of parsing each text that it is fed, and is not sure
 -- - `HasSomeSolved solvers`: if the first solver may certify, each input with `solve` or `cert` has an answer
--- - `IsPrintable compact game certificate circuit`: a report can hold the three texts, and they are parsed again
+-- - `IsPrintable compact game certificate circuit`: a report can hold the texts that psyn writes for these three
 -- - `HasSomeSynthesis solvers`: if the solver may certify or replay, and what it answers is printable, each input with
 --   `synth` has an answer
 use Rattle.std.specs.Prelude.{◌≡◌, ◌↔◌, ⊤, ℕ, Bool, true, false, IsTrue, List, Some, Result, Ok}
@@ -83,7 +83,7 @@ IsPrintable compact game certificate circuit =
     × PrintsCertificate compact report.certificate_text.items game certificate
     × PrintsCircuit report.circuit_text.items circuit × (IsTrue report.realizable ↔ (winner_at_start certificate ≡ 0))
 
--- each report is printable that a certificate from this solver leads to
+-- each report that follows from a certificate of this solver is printable (`IsPrintable`)
 abbrev pub IsPrintedBy : SolverData → SynthLine → List ℕ → Type 0
 IsPrintedBy solver asked text = (file : FileData) (game : NamedGameData) (is_game : IsGameOfFile asked.order file game)
     (certificate : CertificateData) (circuit : CircuitData) → IsAcceptedText text file →

@@ -1,13 +1,13 @@
--- The program's answer is determined, with three exceptions: the lost cycle that `judge` reports, the stimulus that
--- `verify` reports, and the certificate that a solver chooses. Even in the exceptional cases, any two answers have
--- something in common.
+-- The program's answer is determined, with three exceptions: which cycle `judge` reports if a player loses, which
+-- stimulus `verify` reports, and which certificate a solver chooses. Even in the exceptional cases, any two answers
+-- have something in common.
 -- - `IsUndetermined line texts`: the command in the line may have more than one correct answer
 -- - `IsReplaying solver`: the solver may only answer the result of parsing the text that it was fed
 -- - `AgreeAsReports order full text a b`: two reports for a text have the same winner and the automaton's game
 -- - `AgreeInWinners compact game a b`: the answers a and b print certificates of the game with the same winners
 -- - `AgreeAsLosing order role file c a b`: both answers show a stimulus on which the circuit loses
--- - `HasOneAnswer solvers`: any two answers are equal, or one of the above holds, or one of them reports a fault
--- - `HasOneCertified solvers`: with a given certificate, `synth` has one answer if the solver replays it
+-- - `HasOneAnswer solvers`: any two answers are equal, or they agree as stated by `Agree`, or one reports a fault
+-- - `HasOneCertified solvers`: with a given certificate, `synth` has one answer if its solver only parses it
 -- - `NeedsItsTexts solvers`: a command with fewer texts than it needs has one answer: a text is missing
 use Rattle.std.specs.Prelude.{◌≡◌, ◌<◌, ◌⊎◌, ◌+◌, ◌-◌, ℕ, Bool, true, false, List, Option, Result, Ok, Err, filter}
 use Rattle.std.specs.Prelude.{length}
@@ -53,8 +53,8 @@ AsksFor false texts text = texts ≡ text
 AsksFor true texts text = (certificate : List ℕ) × CutsInTwo texts (Ok (text, certificate))
 
 -- The answer to a command is not determined in three cases. If a solver is called for a game or an automaton, any
--- winning moves may be printed. If a judged solution loses a cycle, any such cycle may be reported; if a verified
--- circuit loses, any losing stimulus.
+-- winning moves may be printed. If a judged solution allows a cycle that makes a player lose, any such cycle may be
+-- reported. If a verified circuit loses, any stimulus on which it loses may be reported.
 abbrev pub IsUndetermined : Line → List ℕ → Type 0
 IsUndetermined (Judge compact) texts =
     (named : NamedGameData) × (given : SolutionData) × ReadsSolved texts (Ok (named, given)) × LosesCycle named given

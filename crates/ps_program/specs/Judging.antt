@@ -31,22 +31,23 @@ ReadsSolved texts =
     Then (CutsInTwo texts) (λ parts. Then (ReadsGameText parts.0) (λ named.
     Then (ReadsSolutionText named parts.1) (λ given outcome. outcome ≡ Ok (named, given))))
 
--- the solution as a certificate without counts, in which the solution's list has the moves of both players
+-- the solution's winners and moves as a certificate without counts; the solution has one list of moves for both players
 abbrev pub claim : NamedGameData → SolutionData → CertificateData
 claim named given = claimed named.game given.won given.moves given.moves
 
--- the line that reports a lost cycle; the vertices are named by their ids
+-- the line that reports a cycle that makes a player lose; its vertices are named by their ids
 abbrev pub cycle_text : NamedGameData → List ℕ → List ℕ
 cycle_text named cycle = line_text 40 (codes "BadCycle") (ids_text (map (id_of named) cycle))
 
--- no move or edge of the solution is wrong, but the player loses this cycle
+-- no move or edge of the solution is wrong, but its moves allow this cycle, and the player loses if a play repeats the
+-- cycle for ever
 abbrev pub Loses : NamedGameData → SolutionData → ℕ → List ℕ → Type 0
 Loses named given player cycle = IsCycleOf named.game given.won given.moves given.moves player cycle
 
 abbrev pub LosesCycle : NamedGameData → SolutionData → Type 0
 LosesCycle named given = (player : ℕ) × (cycle : List ℕ) × Loses named given player cycle
 
--- the line that reports why a solution is refused: its first flaw, or a cycle that a player loses
+-- the line that reports why a solution is refused: its first flaw, or a cycle that makes a player lose
 abbrev pub IsRefusalLine : NamedGameData → SolutionData → List ℕ → Type 0
 IsRefusalLine named given line =
     ((flaw : Flaw) × IsFirstFlaw named.game (claim named given) flaw × (line ≡ flaw_text named flaw))

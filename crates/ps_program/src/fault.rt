@@ -23,9 +23,9 @@ pub enum Place {
     Edges {
         /// The number that the state has in the text.
         state: usize,
-        /// The index of the earlier edge in the state's row, counted from 0.
+        /// The index of the earlier edge in the text's list of the state's edges, counted from 0.
         first: usize,
-        /// The index of the later edge in the state's row, counted from 0.
+        /// The index of the later edge in the text's list of the state's edges, counted from 0.
         second: usize,
     },
     /// A cycle of vertices.

@@ -11,7 +11,7 @@ use ps_machine::Solver;
 
 /// Whatever the solvers, an input has at most one answer: each program that meets the definitions writes the same bytes
 /// and ends with the same exit status, unless it runs out of memory. There are exceptions for five commands. If `judge`
-/// finds that a player loses a cycle, the law does not say which lost cycle the answer names. If `verify` finds that
+/// finds cycles that make a player lose, the law does not say which of them the answer names. If `verify` finds that
 /// the circuit loses, the law does not say which losing stimulus the answer shows. If `solve`, `cert` or `synth`
 /// accepts its text, any two answers that do not report a fault agree on the winners. Two such answers to `synth` have
 /// the same status, first line and game; two such answers to `solve` or `cert` have the same regions. With `synth
@@ -48,14 +48,14 @@ pub fn missing_text_is_told<S: Solver, T: Solver>(built_in: &S, replay: &T)
 /// `verify`. Without this law, a definition of an answer that no reply meets would go unnoticed. The law is about what
 /// is a right answer, not about calls, so a lack of memory is not one of the answers.
 ///
-/// Whatever the solvers, an input has an answer if its line is refused, or asks for `help`, `closed`, `check`, `judge`,
-/// `sim`, `lasso` or `game`. An input with `solve` or `cert` has an answer if the first solver may answer a valid
-/// certificate of each game. An input with `synth` has an answer under two conditions. First, the first solver may
-/// answer a valid certificate of each game or, with `--cert`, the second solver may answer the result of parsing the
-/// text that it was fed. Second, the three texts of each report are short enough to be stored and to be parsed again.
-/// psyn's own solvers meet the conditions on solvers (`own_solvers_may_answer`). The command `verify` is left out,
-/// because a proof for it would have to decide, as the code does, whether an automaton accepts all lasso traces of a
-/// circuit.
+/// Whatever the solvers, an input has an answer if its first line is refused, or asks for `help`, `closed`, `check`,
+/// `judge`, `sim`, `lasso` or `game`. An input with `solve` or `cert` has an answer if the first solver may answer a
+/// valid certificate of each game. An input with `synth` has an answer under two conditions. First, the first solver
+/// may answer a valid certificate of each game or, with `--cert`, the second solver may answer the result of parsing
+/// the text that it was fed. Second, each report's texts of the game, the certificate and the circuit can be stored,
+/// and parsing the last two gives the certificate and the circuit again. psyn's own solvers meet the conditions on
+/// solvers (`own_solvers_may_answer`). The command `verify` is left out, because a proof for it would have to decide,
+/// as the code does, whether an automaton accepts all lasso traces of a circuit.
 pub fn some_answer<S: Solver, T: Solver>(built_in: &S, replay: &T)
     ensures line { HasSomeLine }
     ensures answer { HasSomeAnswer (solvers_of (S.known built_in.now) (T.known replay.now)) }

@@ -23,7 +23,8 @@ use std::alloc::Global;
 /// # Errors
 ///
 /// Fails with the first of these faults: a missing text, an error in the game's or the solution's text, a wrong move or
-/// edge, a cycle that a player loses by the solution's moves. Fails at any time if memory runs out.
+/// edge, a cycle that makes a player lose although the player follows the solution. Fails at any time if memory runs
+/// out.
 pub fn judge(alloc: Global, compact: bool, texts: &[u8]) -> Result<Answer, Refusal>
     ensures { Gives reply_of (AnswersJudge compact texts.now) result }
 {
@@ -87,7 +88,7 @@ fn refused(alloc: Global, game: &NamedGame, fault: JudgeFault) -> Refusal
     }
 }
 
-/// The line that reports a cycle that a player loses by the solution's moves.
+/// The line that reports a cycle: a player who follows the solution loses if a play repeats this cycle for ever.
 fn cycle_refusal(alloc: Global, game: &NamedGame, cycle: &[usize]) -> Refusal
     requires { All (λ v. v < vertex_count game.now.game) cycle.now }
     ensures { IsCycleTold game.now cycle.now result }
