@@ -1,5 +1,5 @@
--- The texts of a report. Each text is what psyn writes for a value, and parsing the text, unless it is too long, gives
--- the value again.
+-- The texts of a report. Each text is what psyn writes for a value, and parsing the text gives the value again. For a
+-- game, this holds only if the text is not longer than the parser accepts.
 -- - `PrintsGame text game`: the text of a game
 -- - `PrintsCertificate compact text game certificate`: the plain or the compact text of a certificate
 -- - `PrintsCircuit text circuit`: the text of a circuit

@@ -1,7 +1,7 @@
 -- Why a text gets no report. For each fault that synthesis returns, these definitions state the reason.
 -- - `HasNoAutomaton text fault`: the text describes a file that has no automaton
 -- - `OfGame order text P`: an accepted text has a game for which P holds
--- - `IsLost May game ids`: the solver returned a cycle in the game whose vertices have these ids
+-- - `IsLost May game ids`: the solver reported a cycle of vertices of the game, which have these ids
 -- - `IsNotCertified May game`: the solver returned a certificate that does not fit or is not valid
 -- - `IsTooLarge May order file game`: the circuit of a valid certificate's machine needs too many variables
 -- - `IsSynthFault May order text fault`: the reason for a fault

@@ -25,8 +25,8 @@ pub enum SynthFault {
     /// The HOA text has no error, but psyn does not accept the automaton that it describes.
     #[error("{0}")]
     Automaton(AutomatonFault),
-    /// The solver reported a cycle that a player loses by the moves of a strategy. The cycle's vertices are named by
-    /// their ids.
+    /// The solver reported a cycle that its moves for a player allow; this player loses if a play repeats the cycle for
+    /// ever. The cycle's vertices are named by their ids.
     #[error("a cycle that its player loses")]
     BadCycle(Vec<u64>),
     /// The text that the solver was fed is not the text of a certificate of the game.

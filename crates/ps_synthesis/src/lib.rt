@@ -9,8 +9,8 @@
 //! play from it. At a vertex that is assigned to the other player, a player wins neither by a finite-memory strategy
 //! nor by a table of moves for histories. If player 0 wins the start vertex, the printed circuit is a controller, and
 //! the automaton accepts each of the controller's ultimately periodic traces. If player 1 wins the start vertex, the
-//! printed circuit is an environment. The automaton accepts none of the ultimately periodic traces of such an
-//! environment, and rejects every trace of a finite-state controller against it.
+//! printed circuit is an environment. The automaton then accepts none of the environment's ultimately periodic traces,
+//! and rejects every trace of a finite-state controller that plays against the environment.
 //!
 //! [`synthesise_by`] does the whole synthesis with a given solver. [`Problem`] takes the same steps one by one, for
 //! callers who solve the game in another way. A problem is made from a text, gives its game, and makes a report from a
