@@ -215,7 +215,7 @@ classes_of {s} {v} {u} m node_sound sound letters mask {node} {divided} {at} {pl
       mapped = rw (m.same divided hd) mapped;
     }) ha
 
--- a class stays right when the table of its diagram grows
+-- a class is still a class of the same node (`IsClass`) when the table with the class's diagram grows
 class_kept : {s t u : Table} → Keeps t u → {node mask places k : ℕ} {c : Class} → IsNode t places →
     IsClass s t node mask places k c → IsClass s u node mask places k c
 class_kept keeps {places} {c} held is = record {

@@ -21,7 +21,7 @@ are_tested : {t : Table} {test : (ℕ → Bool) → Bool} {x y z : Option ℕ} {
     (leaf_at (tree_of t low) g)) → AreTested t test x y z
 are_tested {low} {high} {made} low_is high_is made_is low_held high_held held leaf = search rules
 
--- diagrams whose leaves are nodes stay right when the table grows
+-- the relations between a diagram and the nodes whose numbers are its leaves still hold when the table grows
 
 pub divided_kept : {t u : Table} → Keeps t u → (mask : ℕ) (a d : Tree) → IsDivided t mask a d → IsDivided u mask a d
 divided_kept k mask a d h f = let r = h f in (r.0, r.1, k.held r.0 r.2, λ g. rw (k.same r.0 r.2) (r.3 g))
@@ -101,7 +101,8 @@ tested_test : (t : Table) (p q : ℕ) (a al ah b bl bh d dl dh : Tree) → IsTes
     IsTestOf q dl dh d → IsTested t p al bl dl → IsTested t p ah bh dh → IsTested t p a b d
 tested_test t p q a al ah b bl bh d dl dh ta tb td l h f = search (rules, bool_cases)
 
--- the memo tables of diagrams whose leaves are nodes stay right when the table grows and when an entry is added
+-- the entries of memo tables for diagrams whose leaves are numbers of nodes still hold when the table grows, and when
+-- an entry is added
 
 pub known_divided_kept : (s : Table) {t u : Table} (mask : ℕ) (known : ℕ → Option ℕ) → Keeps t u →
     Knows (IsDivided t mask) s t known → Knows (IsDivided u mask) s u known

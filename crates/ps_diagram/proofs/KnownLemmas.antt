@@ -1,4 +1,5 @@
--- The entries of a memo table stay right when the table of nodes grows, and when an entry is added.
+-- In a memo table, each entry still relates the tree of its key to the tree of its result when the table of nodes
+-- grows, and when an entry is added.
 use Rattle.std.proofs.Common.{◌≡◌, ℕ, Bool, true, eqb, Option, Some, rules, sym, subst, ◌∙◌, ◌⊎◌, inl, inr}
 use Rattle.std.specs.Option.{unwrap_or}
 use Rattle.std.proofs.lemmas.Bool.{eqb-true}
@@ -49,7 +50,8 @@ one_more F eq same known new {key} {value} put h f q made e = elim (put q) [
   | inr is ↦ subst (λ k. F k made) (same key q is.0) (subst (F key) (some_nat value made (sym is.1 ∙ e)) f)
 ]
 
--- a memo table stays right when it maps one more node to a node whose tree is related to its tree by R
+-- R still relates the trees of all entries if the memo table maps one more node to a node, and R relates the trees of
+-- these two
 pub knows_more : (R : Tree → Tree → Type 0) (s t : Table) (known new : ℕ → Option ℕ) {key value : ℕ} →
     MayBePut eqb known new key value → Knows R s t known → IsNode s key → IsNode t value →
     R (tree_of s key) (tree_of t value) → Knows R s t new

@@ -71,7 +71,8 @@ drop_is items k {x} lt is = rw (add-one, drop-cons items k x, ← is)
 
 -- ## The nodes of aliases
 
--- the list of the aliases' diagrams stays right when the diagram of one more alias is appended
+-- if the diagram of the next alias is appended to the diagrams of the first aliases, the list has the diagrams of one
+-- more alias
 pub truths_push : {t u : Table} {nodes : List ℕ} {node : ℕ} {known : ℕ → List Bool} → Keeps t u →
     HaveTruths t nodes known → IsNode u node →
     ((letter : ℕ) → leaf_of u node letter ≡ one_where (get_or (known letter) (length nodes) false)) →

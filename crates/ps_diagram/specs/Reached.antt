@@ -26,9 +26,9 @@ pub record AreLeaves (t : Table) (node : ℕ) (found : List (ℕ × ℕ)) : Type
 abbrev pub IsFound : List (ℕ × ℕ) → ℕ → Type 0
 IsFound found leaf = (letter : ℕ) × (lookup (nat_eq leaf) found ≡ Some letter)
 
--- The letter `place` leads to the leaf in a tree that the start of `letter` reaches: they agree before the tree's first
--- test. Every letter x before `place` that leads to the leaf is excluded by `letter`: the first proposition at which x
--- and `place` differ is true in `letter`.
+-- The letter `place` leads to the leaf in the tree t. It agrees with `letter` on the propositions before the one that t
+-- tests first. Every letter x before `place` that leads to the leaf is excluded by `letter`: the first proposition at
+-- which x and `place` differ is true in `letter`.
 pub record IsFirstLetterTo (n : ℕ) (t : Tree) (letter leaf place : ℕ) : Type 0 where
   pub within : place < 2 ^ n
   pub there : leaf_at t (assignment place) ≡ Some leaf
@@ -40,7 +40,7 @@ abbrev pub AreRising : List (ℕ × ℕ) → Type 0
 AreRising [] = Unit {0}
 AreRising (pair ∷ pairs) = AllByRecursion (λ later. IsBefore pair.1 later.1) pairs × AreRising pairs
 
--- the new list is the old list and then those leaves of the tree that were not in it
+-- the new list is the old list, followed by those leaves of the tree that the old list lacks
 pub record Gathers (n : ℕ) (t : Tree) (letter : ℕ) (old new : List (ℕ × ℕ)) : Type 0 where
   pub added : List (ℕ × ℕ)
   pub is : new ≡ old ++ added
