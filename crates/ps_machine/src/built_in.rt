@@ -78,7 +78,7 @@ pub struct BuiltIn {
 }
 
 impl BuiltIn {
-    /// Creates the solver, which is sure.
+    /// Creates the solver, which is sure: each of its certificates is valid, and it fails only if memory runs out.
     pub fn new(alloc: Global) -> Self
         ensures sure { (⟦<BuiltIn as Solver>⟧.known result).is_sure ≡ true }
         ensures fed { (⟦<BuiltIn as Solver>⟧.known result).fed ≡ None }

@@ -142,7 +142,8 @@ fn machine_by(alloc: Global, plan: &Plan<'_>) -> Result<Machine, AllocError>
     Ok(Machine::new(player, plan.moves_first, propositions, diagrams))
 }
 
-/// Makes the diagrams of all memory states, and the rows to which these diagrams lead.
+/// Makes the diagrams of all memory states, and the rows (output letter and next memory state) to which these diagrams
+/// lead.
 fn draw(alloc: Global, plan: &Plan<'_>) -> Result<Diagrams, AllocError>
     requires plan { IsPlanned plan.now }
     requires divided { AreDividedBy plan.now }

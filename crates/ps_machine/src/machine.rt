@@ -169,7 +169,8 @@ impl Machine {
         &self.store
     }
 
-    /// The diagram of a memory state. The diagram's leaf at an input letter names a row, which `row` returns.
+    /// The diagram of a memory state. The diagram's leaf at an input letter is the index of a row: the letter to
+    /// output, and the next memory state.
     pub fn node(&self, memory: usize) -> Node
         requires { memory < (behaviour self.now).memories }
         ensures node { result ≡ slice_index self.now.nodes memory }
@@ -178,7 +179,7 @@ impl Machine {
         self.nodes[memory]
     }
 
-    /// The row whose index a leaf of the diagrams is.
+    /// The row (next memory state and output letter) whose index is the given leaf of a diagram.
     pub fn row(&self, leaf: u64) -> Row
         requires { leaf < length self.now.rows }
         ensures row { result ≡ row_at_leaf self.now leaf }

@@ -24,7 +24,8 @@ use Rattle.ps_machine.specs.declared.key.Order.{Order}
 use Rattle.ps_machine.proofs.BoardSteps.{class_different, class_leads, class_some, known_first, still_known}
 use Rattle.ps_machine.proofs.Diagrams.Remembering.{fit_kept}
 
--- what is known about stored classes stays true when the table of diagrams grows
+-- stored classes are still the classes of their states, and the successors of their keys can still be computed, when
+-- the table of diagrams grows
 module _ {order : Order} {a : AutomatonData} {mask : ℕ} {t u : Table} {rests now : ℕ × ℕ → Option ℕ}
     (keeps : Keeps t u) (before : (k : Key) → IsKnown order a mask t rests k → IsKnown order a mask u now k) where
   remembered_kept : (q : ℕ) (c : Classes) → AreRemembered order a mask t rests q c →

@@ -241,7 +241,7 @@ all_rows P eq old row e all here = grind (arith, All-push P old row all here)
 pub keeps_rows_trans : {one two three : List Row} → KeepsRows one two → KeepsRows two three → KeepsRows one three
 keeps_rows_trans k l = record { same = λ leaf r is. l.same leaf r (k.same leaf r is) }
 
--- the diagram of a memory state stays right while the diagrams of others are made
+-- a memory state's diagram still leads to the same rows when diagrams and rows are added for other memory states
 pub drawn_kept : {is_first : Bool} {board : Board} {keys : List Key} {kept : List ℕ} {certificate : CertificateData}
     {t u : Table} {old new : List Row} {v node : ℕ} → Keeps t u → KeepsRows old new →
     IsDrawn is_first board keys kept certificate t old v node →

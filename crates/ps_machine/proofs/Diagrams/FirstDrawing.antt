@@ -45,7 +45,7 @@ pub record AreNoted (a : AutomatonData) (keys : List Key) (is_first : Bool) (boa
 
 module _ {a : AutomatonData} {keys : List Key} {is_first : Bool} {board : Board} {kept : List ℕ} {letter : ℕ}
     {found : List (ℕ × ℕ)} {old : List Row} where
-  -- adding one more row keeps all recorded indices right
+  -- each recorded index still leads to the row of its leaf when one more row is added
   pub add_row : (eq : Row → Row → Bool) {rows : List Row} {places : List ℕ} {n : ℕ} {row : Row} {new : List Row} →
       AreNoted a keys is_first board kept letter found old rows places n → new ≡ insert_key eq rows row →
       IsRow is_first board kept row → AreNoted a keys is_first board kept letter found old new places n

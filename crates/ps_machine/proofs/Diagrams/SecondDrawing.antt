@@ -215,7 +215,8 @@ module _ (board : Board) (keys : List Key) (kept : List ℕ) (certificate : Cert
   still_named {old} {new} k (class ∷ classes) (value ∷ values) zip = grind (arith, still_named k classes values zip.1)
 
 module _ {board : Board} {keys : List Key} {kept : List ℕ} {certificate : CertificateData} {q : ℕ} where
-  -- the list of rows stays right when the row of one more class is stored
+  -- a list has the index of the row for each of the first classes, and for one more class when this class's row is
+  -- stored
   pub named_next : (old new : List Row) (classes : List Class) (i : ℕ) (d : Class) (values more : List ℕ) (value : ℕ)
       {row : Row} → new ≡ insert_key (row_eq.eq-value).it old row →
       AllZip (Names board keys kept certificate q old) (take i classes) values →

@@ -1,5 +1,5 @@
--- An assembled machine whose diagrams, rows and propositions are right is a finite machine, and is the machine of the
--- certificate.
+-- A machine that is assembled from its diagrams, rows and propositions (`IsAssembled`) is a finite machine, and is the
+-- machine of the certificate.
 use Rattle.std.proofs.Common.{◌≡◌, ℕ, ◌^◌, ◌<◌, ◌⊎◌, Bool, true, false, not, List, length, Some, ap, arith, rules}
 use Rattle.std.specs.Prelude.{slice_get, slice_index}
 use Rattle.std.proofs.lemmas.Bool.{cases_Bool, cases_lt}

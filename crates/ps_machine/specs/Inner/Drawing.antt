@@ -6,8 +6,8 @@
 -- - `GoesOn game certificate v w`: a path by the moves of the winner of vertex 0 can continue from v to w
 -- - `AreMemories is_first keys used kept anchors`: the vertex and the anchor (what is remembered) of each memory state
 --   are right
--- - `IsPlan ..`: the data from which the machine is made are right
--- - `IsDrawn .. v node`: the diagram leads each letter to the right row for the memory state of v
+-- - `IsPlan ..`: the data are those of a game, a valid certificate, and the memory states of its machine
+-- - `IsDrawn .. v node`: at each letter, the diagram leads to the row for the memory state of v
 -- - `IsReply .. q x r p, IsReplyRow .. q x row`: the second player's step after the letter x, and the row for it
 use Rattle.std.specs.Prelude.{◌≡◌, ◌≢◌, ℕ, ◌+◌, ◌<◌, ◌≤◌, ◌↔◌, ◌==◌, Bool, true, false, List, [], ◌∷◌, length, Some}
 use Rattle.std.specs.Prelude.{◌++◌, slice_get, slice_index}
@@ -164,11 +164,12 @@ pub record IsReply (board : Board) (keys : List Key) (certificate : CertificateD
   pub state : board.auto.next q (x + letter) ≡ r
   pub priority : board.auto.priority q (x + letter) ≡ p
 
--- the row is right at each vertex whose state is q, if the first player's letter is x
+-- the row has the right output and next memory state at each vertex whose state is q, if the first player's letter is x
 abbrev pub IsReplyRow : Board → List Key → List ℕ → CertificateData → ℕ → ℕ → Row → Type 0
 IsReplyRow board keys kept certificate q x row = (v : ℕ) → IsRowAt false board keys kept certificate v q x row
 
--- `value` is the index of a row that is right at the state q if the first player's letter is x
+-- `value` is the index of a row with the right output and next memory state at the state q, if the first player's
+-- letter is x
 pub record NamesAnswer (board : Board) (keys : List Key) (kept : List ℕ) (certificate : CertificateData)
     (rows : List Row) (q x value : ℕ) : Type 0 where
   pub row : Row
