@@ -52,7 +52,7 @@ chosen_leaf (Some k) y z hy hz = hy
 pub negated_leaf : (x : Option ℕ) → IsOneOrNone x → IsOneOrNone (opposite x)
 negated_leaf x h = (cond h.0 false true, ap opposite h.1 ∙ opposite_of h.0)
 
--- a computed function is right for a variable if it has the variable's value at each letter
+-- a computed function is the function of a variable (`IsTruthAt`) if it has the variable's value at each letter
 pub placed : (s : Site) {t u : Table} (f : ℕ → Bool) (place : ℕ) (truth : Truth) → Keeps t u → IsTruth u truth →
     ((letter : ℕ) → letter < 2 ^ t.propositions → truth_at u truth letter ≡ f letter) →
     ((letter : ℕ) (values : List Bool) → letter < 2 ^ t.propositions →
@@ -65,7 +65,7 @@ placed s {t} {u} f place truth k is truths values = record {
       truths letter low ∙ sym (values letter vs low are);
 }
 
--- the functions that were computed stay right when the table of diagrams grows
+-- each computed function still has the value of its variable at each letter when the table of diagrams grows
 pub known_kept : (s : Site) {t u : Table} (known : List (Option Truth)) → Keeps t u → Knows s t known → Knows s u known
 known_kept s {t} {u} known k h = record {
   size = h.size;
@@ -79,7 +79,7 @@ known_kept s {t} {u} known k h = record {
 pub learnt : {s : Site} {t u : Table} {known : List (Option Truth)} → Keeps t u → Knows s u known → Learns s t u known
 learnt keeps knows = record { keeps = keeps; knows = knows }
 
--- what an evaluation established stays true when the table of diagrams grows further
+-- after an evaluation, `Learns` still holds when the table of diagrams grows further
 pub learns_on : (s : Site) {t u v : Table} (known : List (Option Truth)) → Learns s t u known → Keeps u v →
     Learns s t v known
 learns_on s known h k = record { keeps = keeps_trans h.keeps k; knows = known_kept s known k h.knows }
@@ -98,7 +98,7 @@ pub ready_on : {s : Site} {t u : Table} {known more : List (Option Truth)} → I
     IsReady s u more
 ready_on r h = record { site = site_kept h.keeps r.site; knows = h.knows }
 
--- recording the function of one more variable keeps the table of functions right
+-- if the function of one more variable is recorded, each recorded function still has the value of its variable
 pub known_more : (s : Site) {t : Table} (known : List (Option Truth)) {more : List (Option Truth)} (place : ℕ)
     (truth : Truth) → Knows s t known → place < length known → IsTruthAt s t place truth →
     more ≡ set known place (Some truth) → Knows s t more

@@ -10,8 +10,8 @@ use thiserror::Error;
 /// Why there is no product.
 #[derive(Clone, Copy, Debug, PartialEq, Eq, Error)]
 pub enum ProductFault {
-    /// The circuit's input and output symbols are not exactly the propositions that a circuit of its role must read and
-    /// set, each once.
+    /// The circuit's input and output symbols are not exactly the propositions that a circuit of its role (controller
+    /// or environment) must read and set, each once.
     #[error("the symbols are not the names of the propositions")]
     Symbols,
     /// The circuit's player moves first, but at some latches that a trace reaches, the outputs depend on the inputs.

@@ -22,8 +22,8 @@ pub(crate) struct Roles {
     pub outputs: Vec<u32>,
 }
 
-/// Finds the propositions of a circuit's inputs and outputs; `None` if the circuit's symbols are not those that its
-/// role needs. Fails if memory runs out.
+/// Finds the propositions of a circuit's inputs and outputs; `None` if the circuit's symbols are not those that a
+/// controller or an environment, as `role` states, must have. Fails if memory runs out.
 pub(crate) fn roles_of(
     alloc: Global,
     circuit: &Circuit,
