@@ -1,4 +1,5 @@
--- What two reports on the same text have in common, and what two certificates of the same game have in common.
+-- Two reports on the same text have the same winner and print the same game. Two valid certificates of the same game
+-- assign the same winner to each vertex.
 use Rattle.std.proofs.Common.{◌≡◌, ◌∙◌, ◌<◌, ◌↔◌, ℕ, Bool, List, Result, Ok, sym, ap, subst, arith, IsTrue}
 use Rattle.std.proofs.lemmas.Option.{slice_get_within}
 use Rattle.ps_text.specs.Answers.{Found}
@@ -64,7 +65,7 @@ first_there order file game is = grind (arith, slice_get_within)
 pub tests_agree : (a b : Bool) (n m : ℕ) → IsTrue a ↔ (n ≡ 0) → IsTrue b ↔ (m ≡ 0) → n ≡ m → a ≡ b
 tests_agree a b n m h k e = grind arith
 
--- the facts about a report by which two reports are compared
+-- facts about one report: it prints the game of the text's automaton, and its winner is that of a valid certificate
 pub record Facts (May : MayAnswer) (order : Order) (compact : Bool) (text : List ℕ) (report : Report) : Type 0 where
   pub file : FileData
   pub reads : ReadsFile text (Ok file)

@@ -22,7 +22,7 @@ use Rattle.ps_program.specs.StageFaults.{IsOfSolver, IsTold}
 use Rattle.ps_program.specs.Synthesis.{AnswersReport, Synthesises}
 use Rattle.ps_program.proofs.SolverLemmas.{unsure}
 
--- if a fault of synthesis comes from the solver, the solver is not sure
+-- if a fault of synthesis comes from the solver, the solver is not sure (may return a certificate that is not valid)
 pub unsure_of : (May : MayAnswer) (order : Order) (compact : Bool) (text : List ℕ) (sure : Bool) (fault : SynthFault) →
     IsSynthFault May order text fault
     → (sure ≡ true → (file : FileData) → IsAcceptedText text file →

@@ -4,7 +4,7 @@
 -- - `HasSomeLine`: each first line has a meaning as a `Line`
 -- - `HasSomeAnswer solvers`: each input has an answer, if its first line is plain (`IsPlainLine`)
 -- - `MayCertify solver`: the solver may answer a valid certificate of each game
--- - `MayReplay solver`: the solver may answer the result of parsing each text that it is fed, and is not sure
+-- - `MayReplay solver`: the solver may answer the result of parsing any text that it is fed, even a wrong certificate
 -- - `HasSomeSolved solvers`: if the first solver may certify, each input with `solve` or `cert` has an answer
 -- - `IsPrintable compact game certificate circuit`: a report can hold the texts that psyn writes for these three
 -- - `HasSomeSynthesis solvers`: if the solver may certify or replay, and what it answers is printable, each input with

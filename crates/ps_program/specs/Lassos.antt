@@ -22,12 +22,12 @@ verdict_text v =
     (if v.accepted then codes "accepted" else codes "rejected") ++ codes " stem" ++ spaced v.stem ++
     codes " lap" ++ spaced v.lap
 
--- the line that reports an empty lap, or circuit symbols that the role does not allow
+-- the line that reports an empty lap, or symbols that the circuit's role (controller or environment) does not allow
 abbrev pub lasso_line : LassoFault → List ℕ
 lasso_line fault = line_text (fault_number fault) (fault_name fault) []
 
--- The verdict on a lasso, if the lap is not empty and the circuit has the symbols of the role; otherwise the line of
--- the fault. An empty lap is reported before wrong symbols.
+-- The verdict on a lasso, if the lap is not empty and the circuit has the symbols of a controller or an environment, as
+-- `role` states; otherwise the line of the fault. An empty lap is reported before wrong symbols.
 abbrev pub TellsVerdict : Role → FileData → CircuitData → StimulusData → Result Reply (List ℕ) → Type 0
 TellsVerdict role file c s (Ok reply) =
     IsCircuit c × (0 < length s.lap) × HasSymbols role file.names file.controllable c
@@ -35,13 +35,15 @@ TellsVerdict role file c s (Ok reply) =
 TellsVerdict role file c s (Err line) = ((s.lap ≡ []) × (line ≡ lasso_line EmptyLap))
     ⊎ ((0 < length s.lap) × ¬ HasSymbols role file.names file.controllable c × (line ≡ lasso_line Symbols))
 
--- parses a circuit with this role, and a stimulus whose stem and lap are divided by a line `-`, and states the verdict
+-- parses a circuit (a controller or an environment), and a stimulus whose stem and lap are divided by a line `-`, and
+-- states the verdict
 abbrev pub RunsCircuit : Role → FileData → List ℕ → List ℕ → Result Reply (List ℕ) → Type 0
 RunsCircuit role file text letters =
     Then (ReadsCircuitText text) (λ c. Then (ReadsStimulusText (length c.inputs) true letters)
     (TellsVerdict role file c))
 
--- what the program answers to `lasso`, given the texts of an automaton, a circuit with this role and a stimulus
+-- what the program answers to `lasso`, given the texts of an automaton, a circuit (a controller or an environment) and
+-- a stimulus
 abbrev pub AnswersLasso : Role → List ℕ → Result Reply (List ℕ) → Type 0
 AnswersLasso role texts =
     Then (CutsInThree texts) (λ parts. Then (ReadsAutomaton parts.0) (λ file. RunsCircuit role file parts.1 parts.2))

@@ -13,7 +13,7 @@ use Rattle.ps_program.specs.StageFaults.{stage_line}
 use Rattle.ps_program.specs.Texts.{ReadsGameText}
 
 -- The result of solving a game: a valid certificate that fits the game and that the solver may return, or the line of
--- the solver's fault. A sure solver gives no such fault.
+-- the solver's fault. A sure solver, all of whose certificates are valid and fit, gives no such fault.
 abbrev pub Certifies : SolverData → NamedGameData → Result CertificateData (List ℕ) → Type 0
 Certifies solver named (Ok certificate) = IsCertified named certificate × answers_now solver named (Ok certificate)
 Certifies solver named (Err line) = (fault : SynthFault) × IsSolverFault (answers_now solver) named fault

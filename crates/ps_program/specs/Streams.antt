@@ -17,7 +17,8 @@ abbrev pub Breaks : (has_failed has_stalled : Bool) → Type 0
 Breaks has_failed has_stalled =
     ((has_failed ≡ true) × (has_stalled ≡ false)) ⊎ ((has_failed ≡ false) × (has_stalled ≡ true))
 
--- the state that a sink reports
+-- what a sink reports: its contents, if known, whether a call failed, whether a write accepted no bytes, and whether
+-- the last call was a flush that succeeded
 pub record SinkState : Type 0 where
   pub contents : Option (List ℕ)
   pub has_failed : Bool

@@ -37,7 +37,8 @@ loses_reply s = text_reply (losing_text s)
 abbrev pub product_line : ProductFault → List ℕ
 product_line fault = line_text (fault_number fault) (fault_name fault) []
 
--- the line for a circuit that can't be judged: wrong symbols are reported before a wrong order of moves
+-- the line for a circuit that can't be judged: wrong symbols are reported before outputs that depend on inputs too
+-- early
 abbrev pub IsProductLine : Order → Role → FileData → CircuitData → List ℕ → Type 0
 IsProductLine order role file c line =
     (¬ HasSymbols role file.names file.controllable c × (line ≡ product_line Symbols))
@@ -54,7 +55,8 @@ TellsJudgement order role file c (Err line) = IsProductLine order role file c li
 abbrev pub VerifiesText : Order → Role → FileData → List ℕ → Result Reply (List ℕ) → Type 0
 VerifiesText order role file text = Then (ReadsCircuitText text) (TellsJudgement order role file)
 
--- what the program answers to `verify`, given the texts of an automaton and of a circuit with this role
+-- what the program answers to `verify`, given the texts of an automaton and of a circuit (a controller or an
+-- environment)
 abbrev pub AnswersVerify : Order → Role → List ℕ → Result Reply (List ℕ) → Type 0
 AnswersVerify order role texts =
     Then (CutsInTwo texts) (λ parts. Then (ReadsAutomaton parts.0) (λ file. VerifiesText order role file parts.1))

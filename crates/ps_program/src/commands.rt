@@ -46,7 +46,8 @@ pub enum Line {
     },
     /// Asks for the trace of a circuit at given letters.
     Sim,
-    /// Asks whether an automaton accepts the word that a circuit with this role produces on a stem and a lap.
+    /// Asks whether an automaton accepts the word that a circuit (a controller or an environment) produces on a stem
+    /// and a repeated lap.
     Lasso(Role),
     /// Asks whether an automaton accepts each lasso trace of a circuit (a controller), or none (an environment).
     Verify {

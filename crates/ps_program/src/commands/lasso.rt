@@ -19,12 +19,13 @@ use ps_circuit::Circuit;
 use ps_simulate::{LassoFault, Role, Stimulus, Verdict};
 use std::alloc::{AllocError, Global};
 
-/// Whether an automaton accepts the word that a circuit with the given role produces on a stem and a repeated lap.
+/// Whether an automaton accepts the word that a circuit (a controller or an environment) produces on a stem and a
+/// repeated lap.
 ///
 /// # Errors
 ///
 /// Fails with the first of these faults: a missing text, a fault of the automaton, of the circuit's text, or of the
-/// stimulus, an empty lap, symbols that the role does not allow. Fails at any time if memory runs out.
+/// stimulus, an empty lap, symbols that the circuit's role does not allow. Fails at any time if memory runs out.
 pub fn lasso(alloc: Global, role: Role, texts: &[u8]) -> Result<Answer, Refusal>
     ensures { Gives reply_of (AnswersLasso role texts.now) result }
 {
