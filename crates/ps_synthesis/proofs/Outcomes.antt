@@ -1,5 +1,6 @@
--- What is proved about a result of synthesis for one solver also holds for a solver with more possible answers. The
--- three cases of `IsReportOrFault` determine what is known of the report or of the fault.
+-- What is proved about a result of synthesis for one solver also holds for a solver with more possible answers. In each
+-- of the three cases of `IsReportOrFault`, a report guarantees what it states, and a fault has the reason that
+-- `IsSynthFault` states.
 use Rattle.std.proofs.Common.{rules, arith, ℕ, Bool, List, Result, Ok, Err, refl, subst, sym}
 use Rattle.std.specs.Prelude.{IfErr, IfOk}
 use Rattle.ps_certificate.specs.Certificates.{CertificateData}
@@ -73,7 +74,7 @@ module _ (May Other : MayAnswer) (more : AnswersMore May Other) (order : Order) 
 
 -- ## Outcomes
 
--- the faults that synthesis can return for an accepted text if the solver is sure
+-- the faults that synthesis can return for an accepted text if the solver is sure (all its certificates are valid)
 abbrev pub IsSureFault : SynthFault → Type 0
 IsSureFault CircuitTooLarge = Unit {0}
 IsSureFault OutOfMemory = Unit {0}

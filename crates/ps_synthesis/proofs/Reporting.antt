@@ -1,4 +1,5 @@
--- If the stages of synthesis succeed, the report is right; if one fails, the reason for the fault is known.
+-- If the stages of synthesis succeed, the report guarantees what it states (`IsReport`); if one fails, the fault has
+-- the reason that `IsSynthFault` states.
 use Rattle.std.proofs.Common.{rules, arith, ◌≡◌, ◌↔◌, ℕ, Bool, List, Result, Ok, Err, subst}
 use Rattle.std.specs.Prelude.{IfErr, IfOk, IsTrue}
 use Rattle.std.specs.Result.{IsErrAnd}
@@ -134,7 +135,8 @@ module _ (order : Order) (text : List ℕ) (a : AutomatonData) (keys : List Key)
 
 -- ## A problem
 
--- what is known about the result of making a report from a problem and a certificate
+-- the result of making a report from a problem and a certificate: the texts of the game, the certificate and the
+-- winner's circuit, or the reason why there is no circuit
 pub record IsMade (p : ProblemData) (certificate : CertificateData) (compact : Bool)
     (result : Result Report SynthFault) : Type 0 where
   pub realizable : IfOk result (λ report. IsTrue report.realizable ↔ (winner_at_start certificate ≡ 0))

@@ -1,6 +1,6 @@
 -- What a report guarantees about the text from which it is made.
 -- - `IsAcceptedText text file`: the text describes a file that has an automaton
--- - `KeepsPromise May order compact text report`: the printed game, certificate and circuit are right
+-- - `KeepsPromise May order compact text report`: the report prints the game, winning moves and the circuit
 use Rattle.std.specs.Prelude.{◌≡◌, ◌↔◌, ℕ, Bool, IsTrue, List, Ok}
 use Rattle.ps_automaton.specs.Answers.{IsAdmitted}
 use Rattle.ps_certificate.specs.Certificates.{CertificateData}

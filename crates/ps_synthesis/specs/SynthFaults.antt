@@ -82,7 +82,8 @@ IsSynthFault May order text NotCertified = OfGame order text (λ file game. IsNo
 IsSynthFault May order text CircuitTooLarge = OfGame order text (IsTooLarge May order)
 IsSynthFault May order text OutOfMemory = Unit {0}
 
--- the result for an accepted text if the solver is sure: a report, or the fault `CircuitTooLarge` or `OutOfMemory`
+-- the result for an accepted text if all certificates of the solver are valid: a report, or the fault `CircuitTooLarge`
+-- or `OutOfMemory`
 pub data IsReportOrFault (May : MayAnswer) (order : Order) (compact : Bool) (text : List ℕ)
     (answer : Result Report SynthFault) : Type 0 where
   Reported : (report : Report) → answer ≡ Ok report → IsReport May order compact text report →
