@@ -84,8 +84,8 @@ pair_blind xs once level a b c h ba bb f g e =
     paired_alike xs once (leaf_at a g) (leaf_at b g) (leaf_at c f) (leaf_at c g) (rw (ba f g e, bb f g e) at (h f))
     (h g)
 
--- if two nodes test the same proposition, the test whose sides are the diagrams of pairs of their sides is the two
--- nodes' diagram of pairs
+-- Two nodes test the same proposition. If a third node tests it, and its low and high sides are the diagrams of pairs
+-- of the two nodes' low and high sides, it is their diagram of pairs.
 pair_test : (xs : List (ℕ × ℕ)) (p : ℕ) (a al ah b bl bh c cl ch : Tree) → IsTestOf p al ah a → IsTestOf p bl bh b →
     IsTestOf p cl ch c → IsPairOf xs al bl cl → IsPairOf xs ah bh ch → IsPairOf xs a b c
 pair_test xs p a al ah b bl bh c cl ch ta tb tc l h f = rw (ta f, tb f, tc f) (elim (bool_cases (f p)) [

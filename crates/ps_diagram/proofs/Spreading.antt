@@ -116,6 +116,6 @@ spread_sides {t} {u} {v} mask level letter next a {low} high made small is k m h
     (rw (k.same low held) (spread_kept k mask (level + 1) letter a (tree_of t low) l)))
     (spread_kept m mask (level + 1) (letter + 2 ^ level) a (tree_of u high) (rw is at h)) test
 
--- a diagram of cofactors that is right from level 0 on is right for all letters
+-- a diagram that leads to cofactors as `IsSpread` states for level 0 leads every letter to its cofactor (`IsDivided`)
 pub spread_divides : (t : Table) (mask : ℕ) (a d : Tree) → IsSpread t mask 0 0 a d → IsDivided t mask a d
 spread_divides t mask a d h f = h f (λ q lt is. absurd (omega arith))
