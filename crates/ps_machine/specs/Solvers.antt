@@ -3,8 +3,8 @@
 -- - `SolverData`: what is known about a solver
 -- - `once_fed text solver`: the solver after it was fed `text`
 -- - `answers_now solver`: what the solver may answer, with the text that it was fed last
--- - `Answered old new`: what the solver was allowed to answer, and did answer
--- - `IsKept old new`: what a call keeps: all but the record of the last answer
+-- - `Answered old new`: the answers that the solver was allowed to give before a call, and gave in it
+-- - `IsKept old new`: after a call, the solver is as sure as before, has the same text, and has no new possible answers
 use Rattle.std.specs.Prelude.{◌≡◌, ℕ, Bool, List, Option, None, Some, Result}
 use Rattle.ps_certificate.specs.Certificates.{CertificateData}
 use Rattle.ps_game.specs.Games.{NamedGameData}

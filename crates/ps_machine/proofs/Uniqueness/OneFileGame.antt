@@ -1,4 +1,5 @@
--- A file has at most one game: its automata have the same steps wherever a game can go.
+-- A file has at most one game, because all automata of the file have the same steps at the states and letters that a
+-- play can reach.
 -- - `alike`: the automata have the same steps at each state, at the sink, and for each letter
 -- - `listed_fine`: each key of a game has a state of the file or the sink, and a first-player letter
 -- - `leads_too`: each key of a game leads to the same keys in both automata
