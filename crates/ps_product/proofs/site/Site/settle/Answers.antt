@@ -33,7 +33,7 @@ loop-top-preserved c = record {
       (split c) (order c) (rw c.in-Some-2.is at c.in_ok-lower.ensures.step) c.in_ok-push-2.ensures.items;
 }
 
--- the stack before `pop` is the rest after it, and the place that was popped
+-- the stack before `pop` is the stack after it, followed by the place that was popped
 rest : (c : After-pop) → c.loop-top.stack.items ≡ c.pop.new.self.items ++ c.in-Some.field-0.now ∷ []
 rest c =
     let xs = c.loop-top.stack.items in
