@@ -143,7 +143,7 @@ with_one_more : (app : App) (usages : List Usage) (usage : Usage) →
 with_one_more app [] usage = refl
 with_one_more app (first ∷ usages) usage = with_one_more (more app first.name first.flags) usages usage
 
--- adding the next row's command to the table of the rows before it
+-- a command of the next row is added to the commands of the rows before it, in the code's table of commands
 pub row_added : (old new app : App) (rows : List Row) (i : ℕ) (default : Row) → i < length rows →
     new ≡ more old (get_or rows i default).name.now (map (λ flag. flag.now) (get_or rows i default).flags.now) →
     old ≡ with_commands app (map usage_of (take i rows)) → new ≡ with_commands app (map usage_of (take (i + 1) rows))
@@ -156,7 +156,7 @@ row_added old new app rows i default within added were =
       take-suc rows i default within,
     )
 
--- the command that the code builds from all rows is the table of all commands
+-- the clap command that the code builds from all rows of its table is that of all commands in the definitions
 pub made_table : {E : Type 0} (made : Result Command E) (rows : List Row) → map usage_of rows ≡ commands →
     IfOk made (λ command. app_of command ≡ with_commands program (map usage_of rows)) →
     IfOk made (λ command. app_of command ≡ table)
@@ -168,7 +168,7 @@ pub all_rows : (app : App) (rows : List Row) (i : ℕ) → i ≡ length rows →
     app ≡ with_commands program (map usage_of (take i rows)) → app ≡ with_commands program (map usage_of rows)
 all_rows app rows i behind is = grind (arith, take-length)
 
--- finding a row by a command's name gives the `Line` that the definitions give for this name
+-- finding a row of the code's table by a command's name gives the `Line` that the definitions give for this name
 found_among : (rows : List Row) (name : Text) (given : Text → Bool) →
     option_map_or (λ row. with_flags row.line given) (find (λ row. bytes_eq row.name.now name) rows) Refused
     ≡ option_map_or (λ usage. usage.line given) (find (λ usage. bytes_eq usage.name name) (map usage_of rows)) Refused

@@ -27,7 +27,8 @@ module _ (order : Order) (role : Role) (file : FileData) (c : CircuitData) where
   early : IsInTimeWhereReached order role c → IsTooEarly order role c → ⊥
   early in_time too_early = too_early.sees (in_time too_early.first)
 
-  -- a circuit with the right symbols, whose outputs depend on inputs only where they may, has no fault to report
+  -- no fault is reported for a circuit that has the symbols of its role, and whose outputs do not depend on inputs too
+  -- early
   no_fault : HasSymbols role file.names file.controllable c → IsInTimeWhereReached order role c → (line : List ℕ) →
       IsProductLine order role file c line → ⊥
   no_fault symbols in_time line (inl (none, e)) = none symbols

@@ -117,7 +117,7 @@ pub struct Usage<'a> {
     pub added: &'a [(&'a str, TextKind)],
     /// The `Line` that the command means if no flag is given.
     pub line: Line,
-    /// What `help` says about the command, after the kinds of its texts.
+    /// What `help` says about the command, after the kinds of the command's input texts.
     pub says: &'a str,
 }
 
@@ -136,52 +136,52 @@ pub const FULL_FLAG: &str = "full";
 /// The flag which states that a certificate follows the automaton and is used instead of the solver.
 pub const CERT_FLAG: &str = "cert";
 
-/// What `help` says about `closed`, after the kinds of its texts.
+/// What `help` says about `closed`, after the kinds of the command's input texts.
 pub const ON_CLOSED: &str = "\
 : `closed` where each path that follows the moves
          stays with its winner, else the first flaw";
 
-/// What `help` says about `check`, after the kinds of its texts.
+/// What `help` says about `check`, after the kinds of the command's input texts.
 pub const ON_CHECK: &str = "\
 : `valid` where, besides, the counts show that
          the winner wins each loop, else the first flaw";
 
-/// What `help` says about `judge`, after the kinds of its texts.
+/// What `help` says about `judge`, after the kinds of the command's input texts.
 pub const ON_JUDGE: &str = " of it, as a solver found it: the certificate with
          these winners and moves, if they hold, else a wrong move or edge, or
          a cycle that its player loses; --compact";
 
-/// What `help` says about `sim`, after the kinds of its texts.
+/// What `help` says about `sim`, after the kinds of the command's input texts.
 pub const ON_SIM: &str = "\
 : a line for each letter, with the latches before
          it, the inputs and the outputs";
 
-/// What `help` says about `lasso`, after the kinds of its texts.
+/// What `help` says about `lasso`, after the kinds of the command's input texts.
 pub const ON_LASSO: &str = " with a line - between a stem and
          a lap: whether the automaton accepts what the circuit does on the stem
          and then on the lap again and again; the circuit is a controller, or
          with the flag --env an environment";
 
-/// What `help` says about `verify`, after the kinds of its texts.
+/// What `help` says about `verify`, after the kinds of the command's input texts.
 pub const ON_VERIFY: &str = "\
 : `wins` where the automaton accepts each lasso
          trace of the circuit, or with --env none; else `loses`, and a stimulus
          on which that is not so; --moore";
 
-/// What `help` says about `solve`, after the kinds of its texts.
+/// What `help` says about `solve`, after the kinds of the command's input texts.
 pub const ON_SOLVE: &str = "\
 : a certificate that says who wins each vertex, by which moves;
          --compact: only the counts that are not 0, each as priority:count";
 
-/// What `help` says about `game`, after the kinds of its texts.
+/// What `help` says about `game`, after the kinds of the command's input texts.
 pub const ON_GAME: &str = "\
 : the game in which its inputs move before its outputs, or
          with the flag --moore after them";
 
-/// What `help` says about `cert`, after the kinds of its texts.
+/// What `help` says about `cert`, after the kinds of the command's input texts.
 pub const ON_CERT: &str = ": a certificate of that game; --moore, --compact";
 
-/// What `help` says about `synth`, after the kinds of its texts.
+/// What `help` says about `synth`, after the kinds of the command's input texts.
 pub const ON_SYNTH: &str = "\
 : REALIZABLE and the circuit of a controller whose traces
          the automaton accepts, or UNREALIZABLE and that of an environment
@@ -190,7 +190,7 @@ pub const ON_SYNTH: &str = "\
          --compact as a compact text;
          --cert: by the certificate of that game that is its second text";
 
-/// What `help` says about `help`, after the kinds of its texts.
+/// What `help` says about `help`, after the kinds of the command's input texts.
 pub const ON_HELP: &str = "this text";
 
 /// The commands, in the order in which `help` lists them.

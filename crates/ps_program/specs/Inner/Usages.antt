@@ -17,7 +17,7 @@ with_flags (Cert order compact) given = Cert (order_given given) (given compact_
 with_flags (Synth asked) given = Synth (synth_given given)
 with_flags line given = line
 
--- the command that a row of the code's table describes
+-- the command that a row of the code's table of commands describes
 abbrev pub usage_of : Row → Usage
 usage_of row = record {
   name = row.name.now;

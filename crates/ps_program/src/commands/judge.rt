@@ -18,7 +18,8 @@ use ps_solution::Solution;
 use ps_synthesis::{certificate_text, ids_of};
 use std::alloc::Global;
 
-/// The certificate, with the least counts, of the winners and moves that a solution of a game states.
+/// The certificate for the winners and moves that a solution of a game states, with the least counts that are valid for
+/// them.
 ///
 /// # Errors
 ///
