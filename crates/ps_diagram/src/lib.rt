@@ -37,10 +37,10 @@
 //! table indexed by the leaf. `negated`, `guard`, `fill`, `relabel` and `relabel_from` visit each node of the given
 //! diagram once. `overlay` and `both` visit each reachable pair of nodes once, and `choose` visits each reachable
 //! triple once. `composed_from` visits each node once, and chooses between its sides by the function that replaces its
-//! proposition; if this function is constant, only one side is visited. The first few nodes may be visited more often,
-//! because they are not kept in a memo table: most calls need none. `of_letter` makes one node for each proposition.
-//! `of_label` makes a node for each literal of a product; it joins the diagrams of other operands in halves. `classes`
-//! first copies the store.
+//! proposition. If this function is constant, only one side is visited, and the node may be visited again from other
+//! nodes. The first few nodes may be visited more often, because they are not kept in a memo table: most calls need
+//! none. `of_letter` makes one node for each proposition. `of_label` makes a node for each literal of a product; it
+//! joins the diagrams of other operands in halves. `classes` first copies the store.
 #![tactic(auto)]
 
 mod both;
