@@ -118,8 +118,9 @@ fn certificate_in<W: Width>(alloc: Global, game: &Game) -> Result<Certificate, S
 
 /// The certificate of a game. In each round, the number of times that the recursion may assign a vertex to a player is
 /// limited; practical games stay within the first limit. When the recursion reaches its limit, an attempt at strategy
-/// improvement follows. Nothing guarantees that an attempt's result is right, so it is checked. Both limits grow from
-/// round to round, and the last round has no limit.
+/// improvement follows, unless an earlier attempt failed for a reason that a higher limit would not remove. Nothing
+/// guarantees that an attempt's result is right, so it is checked. Both limits grow from round to round, and the last
+/// round has no limit.
 fn certificate_of<A: Arena>(alloc: Global, arena: &A) -> Result<Certificate, SolveFault>
     ensures certificate { IfOk result (IsLeastCertificate (A.game arena.now)) }
     ensures memory { IfErr result (λ fault. fault ≡ faults.OutOfMemory) }
@@ -168,8 +169,9 @@ fn solved_within<A: Arena>(
     Ok(Some(certificate))
 }
 
-/// The certificate that an attempt at strategy improvement finds, or None if the limit on array cells does not suffice
-/// or the result is wrong. If a higher limit would not help, the limit is 0 afterwards.
+/// The certificate that an attempt at strategy improvement finds, or None if the limit on array cells does not suffice,
+/// the game is too large for an attempt, or the result is wrong. If a higher limit would not help, the limit is 0
+/// afterwards.
 fn attempted<A: Arena>(
     alloc: Global,
     arena: &A,
