@@ -32,7 +32,8 @@ pub const READ_FAULT: &[u8] = b"fault 25 ReadFault\n";
 /// The answer if memory runs out.
 pub const OUT_OF_MEMORY: &[u8] = b"fault 24 OutOfMemory\n";
 
-/// What the program writes, and its exit status. The functions that make an answer of one line fail if memory runs out.
+/// What the program writes, and its exit status. Except for `text`, the functions that make an answer fail if memory
+/// runs out.
 #[derive(Drop)]
 pub struct Answer {
     /// The bytes that are written.
