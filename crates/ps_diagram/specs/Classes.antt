@@ -12,9 +12,9 @@ abbrev pub LeadAlike : Table → ℕ → ℕ → ℕ → ℕ → Type 0
 LeadAlike t node mask x y =
     (u v : ℕ) → AgreeOn mask x u → AgreeOn mask y v → AgreeOff mask u v → leaf_of t node u ≡ leaf_of t node v
 
--- c is the class of letters with the index k. Its letter is the least letter in it, in which only propositions of the
--- mask are true. Its diagram depends only on the other propositions, and has, at each letter of the class, the leaf of
--- the node that was divided.
+-- c is the class of letters with the index k. The class's letter is the least letter in the class; only propositions of
+-- the mask are true in it. The class's diagram depends only on propositions outside the mask. At each letter of the
+-- class, it has the leaf of the node that was divided.
 pub record IsClass (s t : Table) (node mask places k : ℕ) (c : Class) : Type 0 where
   pub least : IsLeastLetter (LeadsToLeaf t places k) c.letter
   pub masked : (p : ℕ) → is_in p mask ≡ false → is_in p c.letter ≡ false

@@ -16,8 +16,8 @@ use indexmap::IndexSet;
 use std::alloc::AllocError;
 
 impl Store {
-    /// The diagram whose leaf at a letter is the index, in `pairs`, of the pair of the two nodes' leaves. This diagram
-    /// has no leaf at letters at which one of the two nodes has none. New pairs are appended to `pairs`.
+    /// The diagram whose leaf at a letter is the index, in `pairs`, of the pair of the two nodes' leaves. The resulting
+    /// diagram has no leaf at letters at which one of the two nodes has none. New pairs are appended to `pairs`.
     pub fn both(
         &mut self,
         first: Node,
