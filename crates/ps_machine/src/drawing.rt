@@ -116,8 +116,8 @@ impl Drawing {
         }
     }
 
-    /// Makes the diagram of a memory state for a player who moves first. It is the diagram of the steps after the class
-    /// to which the player's move leads, with the index of a row in place of each step.
+    /// Makes the diagram of a memory state for a player who moves first. The result is the diagram of the steps after
+    /// the class of letters to which the player's move leads, with the index of a row in place of each step.
     fn first_node(&mut self, plan: &Plan<'_>, vertex: usize, state: u32) -> Result<Node, AllocError>
         requires plan { IsPlanned plan.now }
         requires kept { Contains plan.now.memories.now.kept.items vertex }

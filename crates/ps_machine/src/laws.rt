@@ -76,7 +76,8 @@ pub fn machine_is_there()
 {}
 
 /// A certificate has at most one machine. Any two machines of one certificate of an automaton's game have the same
-/// propositions and player. Two such machines take the same step from each memory state at every letter that they read.
+/// propositions and player. From each memory state, at every letter that they read, the two machines take the same
+/// step.
 pub fn one_machine()
     ensures { (names : List (List ℕ)) (board : Board) (mover : ℕ) (keys : List Key) (game : ParityGame)
         (certificate : CertificateData) → IsGameOf board mover keys game → (m o : Behaviour) →

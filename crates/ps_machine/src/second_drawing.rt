@@ -57,8 +57,8 @@ impl Plan<'_> {
 }
 
 impl Drawing {
-    /// Makes the diagram of a memory state for a player who moves second. It is the diagram that divides the first
-    /// player's letters into classes, with the index of a row in place of each class. Fails if out of memory.
+    /// Makes the diagram of a memory state for a player who moves second. The result is the diagram that divides the
+    /// first player's letters into classes, with the index of a row in place of each class. Fails if out of memory.
     pub fn second_node(
         &mut self,
         alloc: Global,

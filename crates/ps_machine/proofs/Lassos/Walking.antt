@@ -1,5 +1,5 @@
--- A machine that reads letters for ever walks through the game by the winner's moves. The automaton reads the machine's
--- letters at the same time.
+-- A machine that reads letters for ever walks through the game by the winner's moves. In each step, the automaton reads
+-- the sum of the letter that the machine reads and the letter that it outputs.
 use Rattle.std.proofs.Common.{◌≡◌, ℕ, zero, suc, ◌+◌, ◌-◌, ◌%◌, ◌<◌, ◌≤◌, Bool, true, false, List, length, get_or}
 use Rattle.std.proofs.Common.{Option, Some, refl, ap, ap₂, sym, ◌∙◌, arith, rules, add-one, add-zero, ◌==◌}
 use Rattle.std.specs.Prelude.{IsTrue, slice_index}

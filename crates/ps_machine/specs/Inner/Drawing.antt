@@ -5,7 +5,6 @@
 -- - `AreUsed game certificate found`: `found` are the reachable vertices
 -- - `GoesOn game certificate v w`: a path by the moves of the winner of vertex 0 can continue from v to w
 -- - `AreMemories is_first keys used kept anchors`: the vertex and the anchor (what is remembered) of each memory state
---   are right
 -- - `IsPlan ..`: the data are those of a game, a valid certificate, and the memory states of its machine
 -- - `IsDrawn .. v node`: at each letter, the diagram leads to the row for the memory state of v
 -- - `IsReply .. q x r p, IsReplyRow .. q x row`: the second player's step after the letter x, and the row for it
