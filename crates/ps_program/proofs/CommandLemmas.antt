@@ -79,7 +79,7 @@ usages_read : (commands : List Usage) → map (λ usage. map (heard usage.name) 
 usages_read [] same = tt
 usages_read (usage ∷ more) same = search (rules, choices_read, usages_read more (ap behind_first same))
 
--- each command of the table is read correctly
+-- from a command's name with any choice of its flags, clap returns the command's `Line`
 pub lines_read : LinesAreRead
 unfolding table clap_on_literals
 lines_read = usages_read commands refl

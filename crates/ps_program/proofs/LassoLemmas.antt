@@ -49,7 +49,8 @@ module _ (role : Role) (file : FileData) (text letters : List ℕ) where
         inr (c, is_circuit, inl (fault_text fault, same, refl))
     run_stimulus_fault refusal.OutOfMemory h = tt
 
-    -- the verdict
+    -- if the texts of the circuit and the stimulus are correct, the result is the verdict on the circuit's run, or a
+    -- fault instead of a verdict
     pub run_told : (s : StimulusData) → ReadsStimulusText width true letters (Ok s) →
         (outcome : Result Answer Refusal) → Gives reply_of (TellsVerdict role file c s) outcome →
         Gives reply_of (RunsCircuit role file text letters) outcome

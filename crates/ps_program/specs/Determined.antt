@@ -71,7 +71,7 @@ IsReplaying solver = (fed : Option (List ℕ)) (game : NamedGameData) (answer : 
     solver.may_answer fed game answer → Replays game fed answer
 
 -- Two reports that `synth` may print for one automaton have the same winner, and both print the automaton's game. So
--- these two answers have the same exit status and the same first line.
+-- two answers to `synth` for this automaton have the same exit status and the same first line.
 pub record AgreeAsReports (order : Order) (full : Bool) (text : List ℕ) (a b : Reply) : Type 0 where
   pub file : FileData
   pub accepted : IsAcceptedText text file
@@ -119,8 +119,8 @@ Agree line texts a b = a ≡ b
 abbrev pub IsFaultReply : Reply → Type 0
 IsFaultReply reply = (line : List ℕ) × (reply ≡ fault_reply line)
 
--- Any two answers to one input are equal, unless the answer to its command is not determined. If it is not determined,
--- two answers agree, or one of them is the line of a fault.
+-- Any two answers to one input are equal, unless the answer to its command is not determined. If the answer is not
+-- determined, two answers agree, or one of them is the line of a fault.
 abbrev pub HasOneAnswer : Solvers → Type 0
 HasOneAnswer solvers = (input : List ℕ) (a b : Reply) → AnswersWhole solvers input a → AnswersWhole solvers input b
     → (a ≡ b) ⊎ ((line : Line) × IsLine (first_line input) line × IsUndetermined line (behind_line input) ×

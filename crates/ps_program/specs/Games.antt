@@ -24,6 +24,7 @@ ReadsGameOf order text = Then (ReadsAutomaton text) (MakesGame order)
 abbrev pub AnswersGameText : Order → List ℕ → Result Reply (List ℕ) → Type 0
 AnswersGameText order text = Then (ReadsGameOf order text) (λ game outcome. outcome ≡ Ok (text_reply (game_text game)))
 
--- the answer to `cert`: the certificate of an automaton's game, printed with all counts or as a compact text
+-- the answer to `cert`: the certificate of an automaton's game, printed with all its counts, or as a compact text
+-- without the counts that are 0
 abbrev pub AnswersCert : SolverData → Order → Bool → List ℕ → Result Reply (List ℕ) → Type 0
 AnswersCert solver order compact text = Then (ReadsGameOf order text) (AnswersGame solver compact)

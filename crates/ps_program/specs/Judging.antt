@@ -53,7 +53,8 @@ IsRefusalLine named given line =
     ((flaw : Flaw) × IsFirstFlaw named.game (claim named given) flaw × (line ≡ flaw_text named flaw))
     ⊎ ((player : ℕ) × (cycle : List ℕ) × Loses named given player cycle × (line ≡ cycle_text named cycle))
 
--- what `judge` prints: the solution's certificate, with all counts or compact, or the line that refuses the solution
+-- what `judge` prints: the solution's certificate (with all its counts, or compact, without the counts that are 0), or
+-- the line that refuses the solution
 abbrev pub Judges : Bool → NamedGameData → SolutionData → Result Reply (List ℕ) → Type 0
 Judges compact named given (Ok reply) = IsSolution named.game given.won given.moves given.moves
     × ((certificate : CertificateData) × IsCertificateOf named.game given.won given.moves given.moves certificate ×

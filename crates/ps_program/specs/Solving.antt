@@ -13,13 +13,14 @@ use Rattle.ps_program.specs.StageFaults.{stage_line}
 use Rattle.ps_program.specs.Texts.{ReadsGameText}
 
 -- The result of solving a game: a valid certificate that fits the game and that the solver may return, or the line of
--- the solver's fault. A sure solver, all of whose certificates are valid and fit, gives no such fault.
+-- the solver's fault. If the solver is sure (all its certificates are valid and fit), the result is a certificate.
 abbrev pub Certifies : SolverData → NamedGameData → Result CertificateData (List ℕ) → Type 0
 Certifies solver named (Ok certificate) = IsCertified named certificate × answers_now solver named (Ok certificate)
 Certifies solver named (Err line) = (fault : SynthFault) × IsSolverFault (answers_now solver) named fault
     × (solver.is_sure ≡ false) × (stage_line fault ≡ Some line)
 
--- solves the game and prints the solver's certificate, either with all counts or compact
+-- solves the game and prints the solver's certificate, either with all its counts, or as a compact text without the
+-- counts that are 0
 abbrev pub AnswersGame : SolverData → Bool → NamedGameData → Result Reply (List ℕ) → Type 0
 AnswersGame solver compact named =
     Then (Certifies solver named) (λ certificate outcome. outcome ≡ Ok (text_reply (text_in compact named certificate)))
