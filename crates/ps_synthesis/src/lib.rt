@@ -2,7 +2,7 @@
 //! game.
 //!
 //! The contracts guarantee the following. A sure solver always returns a valid certificate, unless memory runs out.
-//! With such a solver, every accepted text gets a report, unless memory runs out or the circuit would need more
+//! With a sure solver, every accepted text gets a report, unless memory runs out or the circuit would need more
 //! variables than AIGER literals can number. Whatever the solver returns, each report is right, in the following sense.
 //! The printed game is the game of the text's automaton. The printed certificate assigns each vertex of the printed
 //! game to one of the players. By the printed moves, the player to whom a vertex is assigned wins every loop of every

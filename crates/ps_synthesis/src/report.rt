@@ -49,7 +49,8 @@ pub fn report_of(
     })
 }
 
-/// The text of a certificate: compact if the flag is set, and otherwise with all counts. Fails if out of memory.
+/// The text of a certificate: compact (without the counts that are 0) if the flag is set, and otherwise with all its
+/// counts. Fails if out of memory.
 pub fn certificate_text(
     alloc: Global,
     certificate: &Certificate,

@@ -31,7 +31,7 @@ pub fn synthesise_by<S: Solver>(
     solver: &mut S,
 ) -> Result<Report, SynthFault>
     // Whatever the solver returns, a report is right, and a fault occurs only for the reason that `IsSynthFault`
-    // states. These two clauses refer to the answer that the solver returned.
+    // states. The clauses `report` and `refused` refer to the answer that the solver returned.
     ensures report { IfOk result (IsReport (Answered (S.known solver.old) (S.known solver.new)) order compact
         text.now) }
     ensures refused { IfErr result (IsSynthFault (Answered (S.known solver.old) (S.known solver.new)) order
