@@ -1,5 +1,5 @@
--- The classes of the letters over a mask, derived from a diagram whose leaves are numbers of nodes. At each letter,
--- this node is what remains of the divided node after the mask's propositions have been read.
+-- The classes of the letters over a mask, derived from a diagram whose leaves are numbers of nodes. At each letter, the
+-- leaf's node is what remains of the divided node after the mask's propositions have been read.
 use Rattle.std.proofs.Common.{◌≡◌, ◌↔◌, ℕ, ◌<◌, ◌^◌, Bool, true, false, List, length, Option, Some, rules}
 use Rattle.std.proofs.Common.{sym, ◌∙◌, arith, inl, inr}
 use Rattle.std.proofs.lemmas.Bool.{cases_lt, false_from_ne_true}
