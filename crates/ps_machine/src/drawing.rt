@@ -49,7 +49,7 @@ pub(crate) struct Plan<'a> {
 pub(crate) struct Drawing {
     /// The store of the diagrams.
     pub store: Store,
-    /// The rows. Each leaf of the diagrams is the index of its row.
+    /// The rows. Each leaf of the machine's diagrams is the index of a row.
     pub rows: IndexSet<Row>,
     /// For each leaf of the automaton's diagrams, the index of the row for the step that the leaf names. Only entries
     /// that the last call of `place_rows` has set are valid.

@@ -37,7 +37,7 @@ pub(crate) struct Diagrams {
     pub store: Store,
     /// The diagram of each memory state.
     pub nodes: Vec<Node>,
-    /// The rows. Each leaf of the diagrams is the index of its row.
+    /// The rows. Each leaf of the machine's diagrams is the index of a row.
     pub rows: IndexSet<Row>,
 }
 
@@ -188,7 +188,7 @@ impl Machine {
         self.rows.as_slice()[leaf as usize]
     }
 
-    /// The rows. Each leaf of the diagrams is the index of its row.
+    /// The rows. Each leaf of the machine's diagrams is the index of a row.
     pub fn rows(&self) -> &[Row]
         ensures rows { result.now ≡ self.now.rows }
         ensures machine { IsWholeMachine self.now }

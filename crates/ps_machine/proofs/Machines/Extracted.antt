@@ -54,7 +54,7 @@ module _ {order : Order} {a : AutomatonData} {keys : List Key} {certificate : Ce
       let zero = used_first game certificate (some_vertices plan.is_game) in
       some_kept plan.memories 0 a.start plan.is_game.by_keys.begins ((plan.are_used 0).1 zero)
 
-  -- what must be proved about the machine that the code builds
+  -- the claim about the code: the machine that it builds is a finite machine, and is the machine of the certificate
   pub record IsMade (n : MachineData) : Type 0 where
     pub is_machine : IsWholeMachine n
     pub has : HasPropositions a.names (board_of order a) (behaviour n)

@@ -1,5 +1,5 @@
--- A certificate has at most one machine. The vertices that stand for its memory states ascend, and each step has only
--- one output letter and one next memory state.
+-- A certificate has at most one machine. The vertices that stand for a machine's memory states ascend, and each step
+-- has only one output letter and one next memory state.
 use Rattle.std.proofs.Common.{◌≡◌, ◌≢◌, ℕ, ◌+◌, ◌<◌, Bool, true, false, not, List, length, Some, refl, ap}
 use Rattle.std.proofs.Common.{sym, ◌∙◌, arith, rules}
 use Rattle.std.specs.Prelude.{slice_get}

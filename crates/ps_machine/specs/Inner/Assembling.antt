@@ -3,7 +3,7 @@
 -- - `AreDrawn .. t rows nodes n`: the first n memory states have their diagrams, and each row has a letter of the
 --   player and a memory state
 -- - `AreListedBelow n is list`: the list has the numbers less than n that pass the test `is`, ascending
--- - `IsAssembled .. m`: the machine reads and outputs the right propositions, and has the diagrams of all memory states
+-- - `IsAssembled .. m`: the machine has the propositions of `HasRoles` and the diagrams of `AreDrawn`
 -- - `machine_of player is_first propositions diagrams`: the player's machine with these propositions and diagrams
 -- - `HasRoles is_first board inputs outputs`: which propositions the machine reads and which it outputs
 use Rattle.std.specs.Prelude.{◌≡◌, ℕ, ◌<◌, ◌≤◌, Bool, not, List, length, map, slice_index, IsTrue}
@@ -54,7 +54,8 @@ machine_of player is_first propositions diagrams =
       rows = diagrams.rows.keys;
     }
 
--- a machine that reads and outputs the right propositions, and that has a right diagram for each memory state
+-- a machine that reads the other player's propositions, outputs those of its own player, and has a diagram for each
+-- memory state, as `AreDrawn` states
 pub record IsAssembled (board : Board) (keys : List Key) (kept : List ℕ) (certificate : CertificateData)
     (m : MachineData) : Type 0 where
   pub few_names : length m.names ≤ 64
