@@ -29,7 +29,8 @@ pub record IsTruthAt (s : Site) (t : Table) (place : ℕ) (truth : Truth) : Type
       AreValues s.net.now (bits_at s.propositions.now letter) s.latches.now values → truth_at t truth letter ≡ value_at
       s.net.now values place
 
--- the table has an entry for each variable of the circuit, and each function that it has is right
+-- the table has an entry for each variable of the circuit, and each function in it has its variable's value at each
+-- letter
 pub record Knows (s : Site) (t : Table) (known : List (Option Truth)) : Type 0 where
   pub size : length known ≡ length (variables s.net.now)
   pub each : (place : ℕ) (truth : Truth) → slice_index_or known place None ≡ Some truth → IsTruthAt s t place truth
