@@ -165,7 +165,7 @@ module _ (order : Order) (compact full : Bool) where
 
 -- ---- the answers
 
--- what a solver may answer that only parses the certificate that it was fed
+-- the possible answers of a solver that only parses the certificate that it was fed
 record Replayed (game : NamedGameData) (fed : Option (List ℕ))
     (answer : Result CertificateData (Found CertCause)) : Type 0 where
   certificate : List ℕ
