@@ -17,7 +17,7 @@ use ps_machine::{Order, Solver};
 use std::alloc::Global;
 
 /// Makes the report of an HOA text: the automaton's game for the given order of moves, the certificate that the given
-/// solver returns for it, and the circuit of the player who wins the start vertex.
+/// solver returns, and the circuit of the player who wins the start vertex.
 ///
 /// # Errors
 ///
