@@ -125,7 +125,7 @@ module _ (m : Behaviour) (machine : IsMachine m) (d : Drafted) (latches : ℕ) (
       steps = search (rules, played_are, behind_is);
     }
 
--- if the player moves first, the outputs are the same for all inputs
+-- if the machine's player moves first, the circuit's outputs for given latch values are the same for all inputs
 pub sees : (m : Behaviour) (c : CircuitData) → IsMachine m → Encodes m c → IsTrue m.is_first → SeesNoInput c
 sees m c machine encodes first states inputs others played other_played behind other_behind s t = (encodes.steps states
     inputs played behind s).outputs_are ∙ ap (λ y. bits_over m.outputs y) (machine.blind first (memory_of m states)

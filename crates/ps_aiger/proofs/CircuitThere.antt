@@ -1,4 +1,4 @@
--- If there are enough literals for its gates, a machine has a circuit, which is built from these gates.
+-- If AIGER has enough literals for the gates that are built for a machine, the machine has a circuit with these gates.
 use Rattle.std.proofs.Common.{rules, ◌≡◌, ◌∙◌, ℕ, zero, suc, ◌+◌, ◌*◌, ◌^◌, ◌<◌, ◌≤◌, ◌⊎◌, false, List, length, map}
 use Rattle.std.proofs.Common.{get_or, Some, None, sym, ap, subst, arith, inl, inr, replicate}
 use Rattle.std.specs.List.{range_with_len}
@@ -30,7 +30,7 @@ use Rattle.ps_aiger.proofs.WiredMade.{AreWires, IsBit, wires-made}
 
 -- ## What is built from the wires
 
--- the circuit that is built from the machine's gates
+-- c is the circuit that is built from the gates of the machine's step, and AIGER has enough literals for these gates
 pub record IsWhole (b : Behaviour) (latches : ℕ) (c : CircuitData) : Type 0 where
   pub room : HasRoom (output_wires b latches).draft
   pub built : IsBuilt b (output_wires b latches).draft (next_wires b latches).literals

@@ -58,7 +58,7 @@ halves (suc n) h = grind (arith, pow-suc)
 pub shl_is : (latch : ℕ) → latch < 64 → 1 * 2 ^ latch % 18446744073709551616 ≡ 2 ^ latch
 shl_is latch lt = one_shl latch 64 lt
 
--- there are at most 64 latches, because each code fits in 64 bits
+-- there are at most 64 latches, because the code of each memory state, which the latches hold, fits in 64 bits
 pub few_latches : (latches code : ℕ) → (latches ≡ 0 → ⊥) → code + 2 ^ latches ≤ 18446744073709551616 → latches - 1 < 64
 few_latches latches code some fits = elim (cases_lt (latches - 1) 64) [
   | inl lt ↦ lt

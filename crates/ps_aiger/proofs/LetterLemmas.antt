@@ -20,7 +20,7 @@ no_test a b ne = elim (bool_cases (nat_eq a b)) [ inl e ↦ absurd (ne (eqb-true
 
 -- ## Letters
 
--- the bit that a letter has at a proposition
+-- the bit for the proposition q in the letter that has the given bits at the propositions `ps`, and no other bit
 abbrev pub bit_for : List ℕ → List Bool → ℕ → Bool
 bit_for [] bits q = false
 bit_for (p ∷ ps) [] q = false
@@ -48,7 +48,7 @@ multiple_more : (m p : ℕ) (b : Bool) (ps : List ℕ) (bits : List Bool) → m 
 multiple_more m p b ps bits le rest =
     grind (arith, one_multiple b p m le, add-mul (cond b (2 ^ (p - m)) 0) rest.0 (2 ^ m))
 
--- a letter over propositions from m on is, as a number, a multiple of 2^m
+-- a letter in which only propositions from number m on are true is, as a number, a multiple of 2^m
 multiple : (m : ℕ) (ps : List ℕ) (bits : List Bool) → AreFrom m ps → (n : ℕ) × (letter_over ps bits ≡ n * 2 ^ m)
 multiple m [] bits a = (0, omega arith)
 multiple m (p ∷ ps) [] a = (0, omega arith)
@@ -58,7 +58,7 @@ multiple m (p ∷ ps) (b ∷ bits) a = multiple_more m p b ps bits (a.from 0 (om
 no_bits : (q : ℕ) → is_in q 0 ≡ false
 no_bits q = ap (λ n. nat_eq n 1) (bit_at_above 0 0 q (omega arith) (omega arith))
 
--- lemmas about the sum of one bit and a multiple of a greater power of 2
+-- lemmas about the sum of 2^p (or 0) and a multiple of a greater power of 2
 pub positive : (n : ℕ) → 0 < 2 ^ n
 positive zero = omega arith
 positive (suc n) = omega (arith, pow-suc 2 n, positive n)
@@ -143,7 +143,7 @@ bit_for-none (p ∷ ps) (b ∷ bits) q h = elim (cases_eq q p) [
       ∙ bit_for-none ps bits q (sym (ap (λ t. cond t true (is_among q ps)) (no_test q p ne)) ∙ h)
 ]
 
--- ascending numbers from m on that are less than n are at most n - m in number
+-- a strictly ascending list of numbers from m to n - 1 has at most n - m entries
 pub few_rise : (m n : ℕ) (ps : List ℕ) → AreFrom m ps → ((k : ℕ) → k < length ps → get_or ps k 0 < n) → m ≤ n →
     length ps + m ≤ n
 few_rise m n [] a below le = omega arith
@@ -172,7 +172,7 @@ number_is (b ∷ bits) n lt h =
     let rest : number_of_bits bits ≡ n / 2 = number_is bits (n / 2) small (λ j within. grind (arith, later_bit j n)) in
     omega arith
 
--- the number with a given list of bits is the letter with the same bits
+-- the number that a list of bits denotes, lowest bit first, is the letter with these bits
 pub number_of_letter : (bits : List Bool) (f : ℕ → Bool) → ((j : ℕ) → j < length bits → get_or bits j false ≡ f j) →
     number_of_bits bits ≡ letter_of (length bits) f
 number_of_letter bits f h = search (rules, number_is, letter_lt, letter_is)

@@ -1,8 +1,9 @@
 -- What a function that builds the gates of a literal returns, at each of its exits.
 -- - `fails`: an earlier call fails, and reports too many variables only if the literal needs too many
--- - `gives`: the literal exists already, and needs no gate
--- - `as-made`, `by-choice`: the last call builds the literal: as another literal, or as a choice between two
--- - `test-split`, `test-chosen`: the gates of a node that tests an input
+-- - `gives`: the wanted literal is a literal over existing gates, so no gate is added
+-- - `as-made`, `by-choice`: the function's last call builds the literal: as that of an equal function, or as the choice
+--   (a multiplexer) between two literals
+-- - `test-split`, `test-chosen`: the gates of a decision diagram's node that tests the proposition of an input
 use Rattle.std.proofs.Common.{◌≡◌, ◌∙◌, ℕ, ◌+◌, ◌*◌, Bool, Err, IsErrAnd, List, Ok, Result, Some, ap, slice_get, subst, sym}
 use Rattle.std.proofs.Common.{rules}
 use Rattle.std.proofs.lemmas.Result.{IfOk-weaker}
@@ -34,7 +35,7 @@ pub gives : {d : Drafted} {literal : ℕ} {all : Made} → IsHeld d literal → 
     MakesLiteral d d (Ok literal) all
 gives {d} held made = record { extends = extends-refl d; held = held; made = made; too_large = search rules }
 
--- the last call builds the literal
+-- the function's last call builds the literal
 pub as-made : {old mid new : Drafted} {result : Result ℕ EncodeFault} {whole all : Made} → whole ≡ all →
     Extends old mid → MakesLiteral mid new result all → MakesLiteral old new result whole
 as-made {old} {mid} {new} {result} {whole} {all} is x m = record {
@@ -48,7 +49,8 @@ pub by-choice : {old new : Drafted} {result : Result ℕ EncodeFault} {all : Mad
     {Needs : Type 0} → MakesGates old new result all value Needs → MakesLiteral old new result all
 by-choice m = record { extends = m.extends; held = m.held; made = m.made; too_large = m.above }
 
--- a node that tests an input is the choice between two others
+-- the literal of a node that tests an input is the choice, by this input, between the literals of the node's two
+-- children
 module _ (m : MachineData) (w : Wanted) (node p low high place : ℕ) (d : Drafted) (machine : IsMachine (behaviour m))
     {s : Table} (store : s ≡ m.store) (sees : SeesTest s node p low high) {list : List ℕ} (inputs : list ≡ m.inputs)
     (at : slice_get list place ≡ Some p) where

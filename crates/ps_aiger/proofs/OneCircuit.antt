@@ -120,7 +120,8 @@ module _ (b o : Behaviour) (c d : CircuitData) (some : 0 < b.memories) (same : B
   one_circuit = circuit_same c d most_same (grind (arith, fronts_same, inputs_many, given_same)) latches_alike
       (grind (arith, outputs_same)) same_gates input_names no_names_same (grind arith)
 
--- a circuit has a literal for each variable, so it cannot have too many gates
+-- if a machine has a circuit, the gates that are built for the machine do not need too many variables: the circuit has
+-- a literal for each variable
 pub not_out : (b o : Behaviour) (c : CircuitData) → BehavesAs b o → Encodes b c → IsTidy c → IsWired b c →
     0 < b.memories → IsOutOfLiterals o → ⊥
 not_out b o c same encodes tidy wired some out =

@@ -1,5 +1,5 @@
--- The literals of Boolean functions: building a literal a second time adds no gate, and a decision diagram has the
--- gates of its function.
+-- The literals of Boolean functions: building a literal a second time adds no gate, and the gates built from a decision
+-- diagram's nodes are those built for the function of the diagram.
 use Rattle.std.proofs.Common.{rules}
 use Rattle.std.proofs.Common.{◌≡◌, ◌∙◌, ℕ, zero, suc, ◌+◌, ◌*◌, ◌<◌, Bool, true, false, cond, if◌then◌else◌, List, []}
 use Rattle.std.proofs.Common.{◌∷◌, length, get_or, slice_get, Option, Some, None, refl, sym, ap, subst, arith, inl, inr}
@@ -33,7 +33,7 @@ onto b f bits = f (b ∷ bits)
 abbrev pub choose : ℕ → Made → Made → Made
 choose s high low = mux_of low.draft s high.literal low.literal
 
--- two functions agree on lists of length n
+-- the functions f and g have the same value at each list of n bits
 abbrev AreSame : ℕ → (List Bool → Bool) → (List Bool → Bool) → Type 0
 AreSame n f g = (bits : List Bool) → length bits ≡ n → f bits ≡ g bits
 
@@ -87,7 +87,7 @@ over-constant b [] f d h = ap (λ t. record { draft = d; literal = cond t 1 0 })
 over-constant b (v ∷ vs) f d h = over-skip v vs f d (λ bits e. grind arith)
     ∙ over-constant b vs (onto true f) d (λ bits e. h (true ∷ bits) (ap suc e))
 
--- a function of n bits depends only on the bits after index k
+-- the value of f at a list of n bits depends only on the bits after index k
 abbrev IsBehind : ℕ → ℕ → (List Bool → Bool) → Type 0
 IsBehind n k f = (a b : List Bool) → length a ≡ n → length b ≡ n →
     ((j : ℕ) → k < j → get_or a j false ≡ get_or b j false) → f a ≡ f b
@@ -149,7 +149,8 @@ pub inputs-again : (m : MachineData) (w : Wanted) (node : ℕ) (d e : Drafted) �
 unfolding node_made
 inputs-again m w node d e x = over-again (range_with_len 1 (length m.inputs)) _ d e x
 
--- the wanted bit of the machine's row to which a leaf of the diagram leads
+-- the bit w of the machine's row with the index in a leaf of the diagram; the bit of the default row if there is no
+-- leaf
 abbrev bit_at : MachineData → Wanted → Option ℕ → Bool
 bit_at m w leaf = wanted_bit w (row_at_leaf m (unwrap_or leaf (length m.rows)))
 
@@ -175,7 +176,8 @@ unfolding node_made
 made-low m w node p low high d machine sees none = over-same (range_with_len 1 (length m.inputs)) _ _ d
     (λ bits e. grind (arith, letter_bit 0 m.inputs bits p (rising m machine), bit_for-none m.inputs bits p none))
 
--- the letter that a list of bits gives depends, at the proposition q, only on the list's bit for q
+-- in the letter with given bits at the propositions `ps`, the bit of the proposition q depends only on the bit given
+-- for q
 settled : (ps : List ℕ) (a b : List Bool) (q : ℕ) → length a ≡ length ps → length b ≡ length ps →
     ((j : ℕ) → j < length ps → get_or ps j 0 ≡ q → get_or a j false ≡ get_or b j false) →
     bit_for ps a q ≡ bit_for ps b q
@@ -189,7 +191,8 @@ settled (p ∷ ps) (x ∷ a) (y ∷ b) q ea eb h = elim (cases_eq p q) [
       ∙ sym (ap (λ t. cond t y (bit_for ps b q)) (no_test p q ne))
 ]
 
--- a node that depends only on later propositions depends only on the bits at later indices
+-- if a diagram node depends only on propositions after p, which is the input with the index `place`, the row to which
+-- the node leads depends only on inputs after this index
 node_behind : (m : MachineData) (w : Wanted) (node p place : ℕ) → IsMachine (behaviour m) →
     slice_get m.inputs place ≡ Some p → HeedsBehind m.store node p → (n : ℕ) → n ≡ length m.inputs →
     IsBehind n place (λ bits. wanted_bit w (row_by m node (letter_over m.inputs bits)))

@@ -1,4 +1,4 @@
--- For machines with the same behaviour, the same gates and literals are built.
+-- The gates and literals that are built for a machine's circuit are the same for all machines with the same behaviour.
 use Rattle.std.proofs.Common.{rules, arith, ◌≡◌, ℕ, zero, suc, ◌+◌, ◌^◌, ◌<◌, Bool, List, [], ◌∷◌, map, refl}
 use Rattle.std.proofs.lemmas.Bool.{ltb-true}
 use Rattle.ps_machine.specs.Behaviours.{Behaviour}
@@ -9,7 +9,7 @@ use Rattle.ps_aiger.specs.Encoded.{letter_over, memory_of_code}
 use Rattle.ps_aiger.specs.Wires.{StepBit, code_made, next_wires, output_wires, wired}
 use Rattle.ps_aiger.proofs.OverLemmas.{over-same}
 
--- each code stands for a memory state
+-- each number in the latches is the code of a memory state, or stands for memory state 0
 pub memory_within : (b : Behaviour) (code : ℕ) → 0 < b.memories → memory_of_code b code < b.memories
 memory_within b code some = grind (arith, bool_cases, ltb-true)
 
@@ -32,7 +32,8 @@ module _ (b o : Behaviour) (some : 0 < b.memories) (same : BehavesAs b o) where
     code_same f g latch code (code_made o g latch (code + 2 ^ latch) d).draft agree,
   )
 
-  -- if the bits of two machines agree, the same gates and literals are built for them
+  -- if the given bits of the step are the same for two machines, in each memory state and at each input letter, the
+  -- same gates and literals are built for these bits
   wired_same : (f g : ℕ → StepBit) (latches : ℕ) (ns : List ℕ) (d : Drafted) → ((n : ℕ) → AgreeAt (f n) (g n)) →
       wired b latches (map f ns) d ≡ wired o latches (map g ns) d
   unfolding wired

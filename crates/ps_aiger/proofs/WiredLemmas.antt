@@ -1,4 +1,4 @@
--- The gates of a whole circuit, built for one function after another.
+-- The gates of a machine's whole circuit, built for one bit of the machine's step after another.
 use Rattle.std.proofs.Common.{rules, ◌≡◌, ◌∙◌, ℕ, suc, ◌+◌, ◌-◌, ◌*◌, ◌%◌, ◌^◌, ◌<◌, ◌≤◌, List, [], ◌∷◌, ◌++◌, map}
 use Rattle.std.proofs.Common.{length, drop}
 use Rattle.std.proofs.Common.{slice_get, Option, Some, refl, sym, ap, subst, arith, eqb, cond, inl, inr, append_assoc}
@@ -81,7 +81,8 @@ pub code-suc : (m : MachineData) (w : Wanted) (latches latch code upper s : ℕ)
 unfolding code_made
 code-suc m w latches latch code upper s d es eu e = grind arith
 
--- the gates of the choice by the highest latch
+-- if there is a latch, the literal of a bit is the choice, by the highest latch, between the literals for the two
+-- halves of the codes
 pub code-halves : (m : MachineData) (w : Wanted) (latches code : ℕ) (d : Drafted) → (latches ≡ 0 → ⊥) →
     code + 2 ^ latches ≤ 18446744073709551616 → code_wanted m w latches code d ≡ choose
     (2 * (length m.inputs + 1 + (latches - 1)))
@@ -94,7 +95,7 @@ code-halves m w latches code d some fits =
 
 -- ## One function after another
 
--- the given literals, followed by those that are built for the remaining bits
+-- the literals that were built already, followed by those of `rest`, which are built for the remaining bits of the step
 abbrev pub behind : List ℕ → Wired → Wired
 behind literals rest = record { draft = rest.draft; literals = literals ++ rest.literals }
 
@@ -139,7 +140,7 @@ pub first_wired : (m : MachineData) (latches : ℕ) (bits given_bits : List Want
     bits_wired m latches given_bits d ≡ next_wires (behaviour m) latches
 first_wired m latches bits given_bits d eb is given none = grind (arith, map-map, drafted_are)
 
--- the literals of the outputs are built after those of the next values
+-- the literals of the outputs are built after those of the latches' next values
 pub all_wired : (m : MachineData) (latches : ℕ) (bits : List Wanted) (d : Drafted) →
     d ≡ (next_wires (behaviour m) latches).draft → bits ≡ map Output m.outputs →
     output_wires (behaviour m) latches ≡ bits_wired m latches bits d

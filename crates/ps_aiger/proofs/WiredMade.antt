@@ -41,7 +41,7 @@ choose_made d high low s p q within xh xl h l room =
 by_head : (f : Bool → Bool) (b : Bool) → cond b (f true) (f false) ≡ f b
 by_head f b = grind arith
 
--- the literal of a function of the variables' bits has the value of the function
+-- the literal that is built for a Boolean function of variables has the value of the function at the variables' values
 over-made : (vs : List ℕ) (f : List Bool → Bool) (d : Drafted) → IsSoundDraft d → All (λ v. v ≤ d.given) vs →
     HasRoom (over_variables vs f d).draft → IsMade (over_variables vs f d) (λ v. f (map v vs))
 unfolding over_variables
@@ -77,7 +77,8 @@ code_read b latches v = letter_of latches (λ j. v (length b.inputs + 1 + j))
 abbrev bit_read : Behaviour → StepBit → ℕ → ℕ → (ℕ → Bool) → Bool
 bit_read b f latches code v = f (memory_of_code b (code + code_read b latches v)) (letter_read b v)
 
--- the literal has the value of a bit of the step, for the memory state whose code the latches hold
+-- `literal` has the value of the bit f of the machine's step, for the memory state whose code the latches hold and the
+-- letter on the inputs
 abbrev pub IsBit : Behaviour → ℕ → StepBit → Drafted → ℕ → Type 0
 IsBit b latches f d literal =
     IsMade (record { draft = d; literal = literal }) (λ v. f (memory_of_code b (0 + code_read b latches v))
@@ -117,7 +118,7 @@ code-made b f (suc latch) code d sound given room =
 
 -- ## One bit after another
 
--- literals for the given bits of the step
+-- the literals have the values of the listed bits of the machine's step
 pub record AreBits (b : Behaviour) (latches : ℕ) (g : ℕ → StepBit) (ns : List ℕ) (d : Drafted) (literals : List ℕ) :
     Type 0 where
   pub sound : IsSoundDraft d
@@ -158,7 +159,7 @@ wired-made b latches g (n ∷ ns) d sound given room =
 
 -- ## The whole
 
--- the literals of the next values of the latches, and those of the outputs
+-- the literals that are built for the latches' next values and for the outputs have the values of the step's bits
 pub record AreWires (b : Behaviour) (latches : ℕ) : Type 0 where
   pub next : AreBits b latches (next_bit b) (range_with_len 0 latches) (output_wires b latches).draft
       (next_wires b latches).literals

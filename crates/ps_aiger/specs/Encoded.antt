@@ -1,9 +1,12 @@
 -- The circuit of a machine.
--- - `number_of_bits bits`: the first bit counts 1, the next one 2, then 4, and so on
--- - `memory_of_code b code`: the memory state with a code; memory state 0 for a code that belongs to none
+-- - `number_of_bits bits`: the number with these binary digits, lowest digit first
+-- - `memory_of_code b code`: the memory state with a code, which is its number; memory state 0 for a code that belongs
+--   to no memory state
 -- - `memory_of b latches`: the memory state whose code the latches hold
--- - `Encodes b c`: the circuit begins in memory state 0, and each of its steps is a step of the machine
--- - `IsTidy c`: how the circuit's variables are numbered, and which gates it has
+-- - `Encodes b c`: the circuit c begins in memory state 0 of the machine b, and each of the circuit's steps is a step
+--   of the machine
+-- - `IsTidy c`: the circuit's variables are numbered in order, no gate has a constant or the same variable twice as its
+--   sides, and no two gates have the same sides
 use Rattle.std.specs.Prelude.{◌≡◌, ◌≢◌, ℕ, ◌+◌, ◌*◌, ◌^◌, ◌<◌, ◌≤◌, Bool, false, cond, List, [], ◌∷◌, length, map}
 use Rattle.std.specs.Prelude.{Option, Some, None, All, AllPairs, nat_lt, if◌then◌else◌, slice_index_or}
 use Rattle.std.specs.List.{range_with_len}
@@ -39,7 +42,8 @@ bits_over ps letter = map (λ p. is_in p letter) ps
 abbrev pub symbols_of : List (List ℕ) → List ℕ → List (Option (List ℕ))
 symbols_of names ps = map (λ p. Some (slice_index_or names p [])) ps
 
--- for given latches and inputs, the outputs and the next values of the latches agree with the machine's step
+-- A circuit's step is a step of the machine. In the memory state whose code `latches` hold, the machine reads the bits
+-- `inputs`, plays the bits `outputs`, and goes to the memory state whose number `next` holds.
 pub record StepsAs (b : Behaviour) (latches inputs outputs next : List Bool) : Type 0 where
   pub outputs_are : outputs ≡ bits_over b.outputs (b.plays (memory_of b latches) (letter_over b.inputs inputs))
   pub next_is : number_of_bits next ≡ b.next (memory_of b latches) (letter_over b.inputs inputs)
@@ -51,13 +55,13 @@ pub record Encodes (b : Behaviour) (c : CircuitData) : Type 0 where
   pub latch_names : All (λ name. name ≡ None) c.latch_names
   pub resets_are : All (λ bit. bit ≡ false) (resets c)
   pub room : b.memories ≤ 2 ^ length c.latches
-  -- there are no more latches than needed
+  -- no smaller number of latches has a code for each memory state
   pub needed : (n : ℕ) → b.memories ≤ 2 ^ n → length c.latches ≤ n
   pub steps : (latches inputs outputs next : List Bool) → Steps c latches inputs outputs next →
       StepsAs b latches inputs outputs next
 
--- a gate of two literals with different variables, neither of which is constant; the first literal is the greater one,
--- and is less than the gate's own literal
+-- The two literals that the gate reads have different variables, and neither is constant. The first literal is the
+-- greater one, and it is less than the gate's own literal.
 pub record IsTidyGate (g : Gate) : Type 0 where
   pub below : g.first < g.literal
   pub falls : g.second < g.first

@@ -1,9 +1,12 @@
 -- The gates of a machine's circuit in the order in which they are built, without a limit on their number.
 -- - `over_variables variables f d`: the literal of f, a Boolean function of the given variables
 -- - `next_bit b j, output_bit b p`: a bit of the machine's step, by memory state and input letter
--- - `code_made b f latches code d`: the literal of such a bit, for the codes `code` to `code` + 2^latches - 1
--- - `next_wires, output_wires b latches`: all literals: the next values of the latches, and then the outputs
--- - `IsWired b c`: the circuit has the literals and gates that are built for the machine, in order
+-- - `code_made b f latches code d`: the literal of the bit f of the machine's step, for memory states with the codes
+--   `code` to `code` + 2^latches - 1
+-- - `next_wires, output_wires b latches`: the literals of the latches' next values, and the literals of the outputs,
+--   whose gates are built after those
+-- - `IsWired b c`: the circuit c has the literals and gates that these definitions build for the machine b, in the same
+--   order
 -- - `IsOutOfLiterals b`: the gates need too many variables, so that there is no circuit
 use Rattle.std.specs.Prelude.{◌≡◌, ℕ, zero, suc, ◌+◌, ◌*◌, ◌^◌, ◌≤◌, Bool, true, false, if◌then◌else◌, List, []}
 use Rattle.std.specs.Prelude.{◌∷◌, length, map, slice_get, Some}
@@ -31,20 +34,21 @@ over_variables (v ∷ vs) f d =
 
 -- ## Bits of a step
 
--- a bit of a step, as a function of the memory state and the input letter
+-- a bit of a machine's step, as a function of the memory state and the input letter
 abbrev pub StepBit : Type 0
 StepBit = ℕ → ℕ → Bool
 
--- a bit of the number of the next memory state, and a bit of the letter that the machine outputs
+-- the bit j of the number of the next memory state, and the bit of the proposition p in the letter that the machine
+-- outputs
 abbrev pub next_bit : Behaviour → ℕ → StepBit
 next_bit b j memory x = is_in j (b.next memory x)
 
 abbrev pub output_bit : Behaviour → ℕ → StepBit
 output_bit b p memory x = is_in p (b.plays memory x)
 
--- The literal of a bit, for the memory states whose codes are `code` plus a number less than 2^latches. If `latches` is
--- 0, the bit is a function of the inputs; otherwise the highest of the given latches chooses between the literals for
--- two halves of the memory states.
+-- The literal of the bit f of the machine's step, for the memory states whose codes are `code` plus a number less than
+-- 2^latches. If `latches` is 0, the bit is a function of the inputs; otherwise the highest of the given latches chooses
+-- between the literals for two halves of the memory states.
 unfoldable pub code_made : Behaviour → StepBit → ℕ → ℕ → Drafted → Made
 code_made b f zero code d =
     over_variables (range_with_len 1 (length b.inputs)) (λ bits. f (memory_of_code b code) (letter_over b.inputs bits))
@@ -60,7 +64,7 @@ pub record Wired : Type 0 where
   pub draft : Drafted
   pub literals : List ℕ
 
--- the literals of the given bits, one after another
+-- the literals of the given bits of the machine's step, built one after another
 unfoldable pub wired : Behaviour → ℕ → List StepBit → Drafted → Wired
 wired b latches [] d = record { draft = d; literals = [] }
 wired b latches (f ∷ fs) d =
@@ -76,13 +80,14 @@ next_wires b latches =
 abbrev pub output_wires : Behaviour → ℕ → Wired
 output_wires b latches = wired b latches (map (output_bit b) b.outputs) (next_wires b latches).draft
 
--- the gates have the given sides, which are pairs of literals, and the variables from `from` on
+-- the gates' variables are numbered from `from` on, and gate k reads the pair of literals with the index k in `sides`
 pub record AreGates (from : ℕ) (sides : List Sides) (gates : List Gate) : Type 0 where
   pub many : length gates ≡ length sides
   pub each : (k : ℕ) (s : Sides) → slice_get sides k ≡ Some s →
       slice_get gates k ≡ Some (record { literal = 2 * (from + k); first = s.first; second = s.second })
 
--- the next values of the latches, the outputs and the gates are those that are built for a given number of latches
+-- the circuit's outputs, gates and next values of latches are those that are built for the machine with this number of
+-- latches
 pub record IsWiredBy (b : Behaviour) (c : CircuitData) (latches : ℕ) : Type 0 where
   pub next : map (λ l. l.next) c.latches ≡ (next_wires b latches).literals
   pub outputs : c.outputs ≡ (output_wires b latches).literals
@@ -91,8 +96,8 @@ pub record IsWiredBy (b : Behaviour) (c : CircuitData) (latches : ℕ) : Type 0 
 abbrev pub IsWired : Behaviour → CircuitData → Type 0
 IsWired b c = IsWiredBy b c (length c.latches)
 
--- The circuit has the fewest latches that suffice for the memory states, and yet needs more variables than there are
--- literals.
+-- With the fewest latches that suffice for the machine's memory states, the circuit would need more variables than
+-- AIGER has literals for.
 pub record IsOutOfLiterals (b : Behaviour) : Type 0 where
   pub latches : ℕ
   pub room : b.memories ≤ 2 ^ latches

@@ -41,7 +41,7 @@ pub fn encode(alloc: Global, machine: &Machine) -> Result<Circuit, EncodeFault>
     Ok(circuit)
 }
 
-/// The literals of the next values of the latches. The gates of these literals are built before those of the outputs.
+/// Builds the literals of the latches' next values. The gates of these literals are built before those of the outputs.
 fn next_literals(
     alloc: Global,
     builder: &mut Builder,
@@ -57,7 +57,7 @@ fn next_literals(
     literals_of(alloc, builder, machine, latches, &next_bits)
 }
 
-/// The literals of the outputs. The gates of these literals are built after those of the next values of the latches.
+/// Builds the literals of the outputs. The gates of these literals are built after those of the latches' next values.
 fn output_literals(
     alloc: Global,
     builder: &mut Builder,
@@ -107,7 +107,7 @@ fn latches_for(memories: usize) -> u32
     64
 }
 
-/// The bits of the number of the next memory state.
+/// The bits of the next memory state's number, of which each latch takes one as its next value.
 fn next_bits(alloc: Global, latches: u32) -> Result<Vec<Wanted>, AllocError>
     ensures many { IfOk result (λ bits. length bits.items ≡ latches) }
     ensures each { IfOk result (λ bits. (k : ℕ) → k < latches → slice_get bits.items k ≡ Some (Next k)) }
@@ -130,7 +130,7 @@ fn output_bits(alloc: Global, machine: &Machine) -> Result<Vec<Wanted>, AllocErr
         .collect(alloc)
 }
 
-/// The literals of the given bits.
+/// Builds the literals of the given bits of the machine's step, one after another.
 fn literals_of(
     alloc: Global,
     builder: &mut Builder,
@@ -241,7 +241,7 @@ fn symbols(
     Ok(names)
 }
 
-/// A list of `count` entries, none of which is a name.
+/// A list of `count` entries `None`: latches have no names.
 fn no_symbols(alloc: Global, count: usize) -> Result<Vec<Option<Vec<u8>>>, AllocError>
     ensures many { IfOk result (λ names. length names.items ≡ count) }
     ensures none { IfOk result (λ names. map name_bytes names.items ≡ replicate count None) }

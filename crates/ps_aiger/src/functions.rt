@@ -16,7 +16,7 @@ use ps_diagram::{Node, View};
 use ps_machine::{Machine, Row};
 use std::alloc::Global;
 
-/// A bit of a row of the machine, which has the next memory state and the output letter.
+/// A bit of a row of the machine's table; a row has a next memory state and an output letter.
 #[derive(Debug, Clone, Copy, PartialEq, Eq)]
 pub(crate) enum Wanted {
     /// The bit with this index in the number of the next memory state.
@@ -25,8 +25,9 @@ pub(crate) enum Wanted {
     Output(u32),
 }
 
-/// The literal of the bit `wanted` of the machine's row, at each memory state and each input letter. Input k is
-/// variable k + 1, and the variables of the latches follow those of the inputs.
+/// Builds the literal whose value is the bit `wanted` of the machine's step, for the memory state whose code the
+/// latches hold and for the letter on the inputs. Input k is variable k + 1, and the variables of the latches follow
+/// those of the inputs.
 pub(crate) fn literal_of(
     alloc: Global,
     builder: &mut Builder,
@@ -42,8 +43,9 @@ pub(crate) fn literal_of(
     over_latches(builder, machine, wanted, &mut known, latches, 0)
 }
 
-/// The literal of the bit `wanted`, for the memory states whose codes are `code` plus a number less than 2^`latches`.
-/// The lowest `latches` latches are free, and the others are fixed by `code`.
+/// The literal of the bit `wanted` of the machine's step, for the memory states whose codes are `code` plus a number
+/// less than 2^`latches`. The literal depends on the lowest `latches` latches; the bits of `code` stand for the values
+/// of the others.
 fn over_latches(
     builder: &mut Builder,
     machine: &Machine,
@@ -69,7 +71,8 @@ fn over_latches(
     builder.mux(Literal::positive(variable), where_true, where_false)
 }
 
-/// The diagram of the memory state with a given code; a code that belongs to no memory state stands for memory state 0.
+/// The decision diagram by which the machine steps from the memory state with a given code. A code that belongs to no
+/// memory state stands for memory state 0.
 fn node_at(machine: &Machine, code: usize) -> Node
     ensures node { result ≡ slice_index machine.now.nodes (memory_of_code (behaviour machine.now) code) }
     ensures held { IsNode machine.now.store result }
@@ -81,8 +84,8 @@ fn node_at(machine: &Machine, code: usize) -> Node
     }
 }
 
-/// The literal of the bit `wanted`, for one memory state, given its diagram. The table `known` has the literals that
-/// were already computed for nodes.
+/// The literal of the bit `wanted` of the machine's step from one memory state, given the memory state's decision
+/// diagram. The table `known` has the literals that were already built for diagram nodes.
 fn over_inputs(
     builder: &mut Builder,
     machine: &Machine,
@@ -120,7 +123,7 @@ fn over_inputs(
     }
 }
 
-/// The literal (0 or 1) of the bit `wanted` of the machine's row to which a leaf of the diagram refers.
+/// The constant literal (0 or 1) of the bit `wanted` in the machine's row with the index that a leaf of a diagram has.
 fn constant(machine: &Machine, wanted: Wanted, leaf: u64) -> Literal
     ensures { result ≡ (if wanted_bit wanted (row_at_leaf machine.now leaf) then 1 else 0) }
 {
@@ -147,7 +150,7 @@ fn has_bit(number: u64, place: u32) -> bool
     place < 64 && number >> place & 1 == 1
 }
 
-/// The index of a proposition in a list.
+/// The index of a proposition in a list, or `None` if the list does not have it.
 fn place_among(list: &[u32], proposition: u32) -> Option<usize>
     ensures found { IfSome result (λ place. slice_get list.now place ≡ Some proposition) }
     ensures none { IfNone result (is_among proposition list.now ≡ false) }

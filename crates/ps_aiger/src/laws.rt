@@ -7,8 +7,7 @@ ghost use Rattle.ps_circuit.specs.Circuits.{CircuitData};
 ghost use Rattle.ps_aiger.specs.Encoded.{Encodes, IsTidy};
 ghost use Rattle.ps_aiger.specs.Wires.{IsOutOfLiterals, IsWired};
 
-/// Machines with the same behaviour have at most one circuit: any two of their circuits are equal, in everything that
-/// is printed.
+/// Machines with the same behaviour have at most one circuit: any two of their circuits are equal, names included.
 pub fn one_circuit()
     ensures { (b o : Behaviour) (c d : CircuitData) → IsMachine b → BehavesAs b o → Encodes b c →
         IsTidy c → IsWired b c →

@@ -4,10 +4,10 @@
 //! |---|---|
 //! | `encode(machine)` | the circuit of a machine, with the names of the propositions as symbols |
 //!
-//! Whatever code the latches hold, the circuit's step is the machine's step in the memory state with this code; a code
-//! that belongs to no memory state stands for memory state 0. There are no more latches than the memory states need. If
-//! the machine moves first, the circuit's outputs do not depend on its inputs. `encode` fails only if out of memory, or
-//! if the circuit needs more variables than there are literals.
+//! Whatever code the latches hold, the circuit's step is the machine's step from the memory state with this code; a
+//! code that belongs to no memory state stands for memory state 0. There are no more latches than the memory states
+//! need. If the machine moves first, the circuit's outputs do not depend on its inputs. `encode` fails only if out of
+//! memory, or if the circuit needs more variables than there are literals.
 //!
 //! | Law | What it says |
 //! |---|---|

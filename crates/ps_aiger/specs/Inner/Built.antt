@@ -1,7 +1,9 @@
 -- The parts from which the circuit of a machine is built. (For private functions.)
--- - `AreLatches from next latches`: the latches have the given next literals, and the variables from `from` on
--- - `IsBuilt b d next outputs c`: the circuit has the given gates, next literals and outputs
--- - `IsCircuitOf b c`: the properties of the circuit of a machine
+-- - `AreLatches from next latches`: the latches' variables are numbered from `from` on, and the literals of the
+--   latches' next values are `next`
+-- - `IsBuilt b d next outputs c`: the circuit c has the gates of d, the literals `next` for the latches' next values,
+--   and the output literals `outputs`
+-- - `IsCircuitOf b c`: c is the circuit of the machine b, and has all properties that the crate promises of it
 use Rattle.std.specs.Prelude.{◌≡◌, ℕ, ◌+◌, ◌*◌, ◌<◌, false, IsTrue, List, length, map, slice_get, slice_index, Some}
 use Rattle.std.specs.Prelude.{None, replicate}
 use Rattle.std.specs.List.{range_with_len}

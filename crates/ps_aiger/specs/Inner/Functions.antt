@@ -1,12 +1,16 @@
 -- The bits of a machine's step as functions of latches and inputs, and how their literals are built. (For private
 -- functions.)
--- - `Wanted, wanted_bit w row`: one bit of a row: of the next memory state, or of the letter
--- - `node_made m w node d`: the literal of the bit w of the row to which a node leads, with its gates
--- - `IsLiteralOf m w d node literal, KnowsMade m w d known`: the literal of a node is built; each literal in `known` is
---   built
--- - `code_wanted m w latches code d`: the literal for memory states with the codes `code` to `code` + 2^latches - 1
--- - `bits_wired m latches ws d`: the literals of the wanted bits, one after another
--- - `MakesLiteral, MakesLiterals old new result all`: what a function that builds the gates of `all` returns
+-- - `Wanted, wanted_bit w row`: one bit of a row of the machine: of the number of the next memory state, or of the
+--   output letter
+-- - `node_made m w node d`: the gates of d and those for the bit w of the machine's row to which a diagram node leads,
+--   and the literal of this bit
+-- - `IsLiteralOf m w d node literal, KnowsMade m w d known`: d has the gates of a node's literal; d has the gates of
+--   each literal in the table `known`
+-- - `code_wanted m w latches code d`: the literal of the bit w of the machine's step, for memory states with the codes
+--   `code` to `code` + 2^latches - 1
+-- - `bits_wired m latches ws d`: the literals of the bits `ws` of the machine's step, built one after another
+-- - `MakesLiteral, MakesLiterals old new result all`: the contract of a function that builds the gates of `all` and
+--   returns its literal, or its literals
 use Rattle.std.specs.Prelude.{◌≡◌, ℕ, Bool, Err, IfOk, List, length, map, Option, Result, Some, Vec}
 use Rattle.std.specs.Global.{Global}
 use Rattle.std.specs.List.{range_with_len}
@@ -39,7 +43,8 @@ node_made m w node d =
     over_variables (range_with_len 1 (length m.inputs)) (λ bits.
     wanted_bit w (row_by m node (letter_over m.inputs bits))) d
 
--- a literal over existing gates; building it again would need no further gate
+-- `literal` is the literal of the bit w for the node, and all of its gates exist in d: building it again would add no
+-- gate
 pub record IsLiteralOf (m : MachineData) (w : Wanted) (d : Drafted) (node literal : ℕ) : Type 0 where
   pub held : IsHeld d literal
   pub made : node_made m w node d ≡ record { draft = d; literal = literal }
@@ -47,7 +52,7 @@ pub record IsLiteralOf (m : MachineData) (w : Wanted) (d : Drafted) (node litera
 abbrev pub KnowsMade : MachineData → Wanted → Drafted → (ℕ → Option ℕ) → Type 0
 KnowsMade m w d known = (node literal : ℕ) → known node ≡ Some literal → IsLiteralOf m w d node literal
 
--- the bit w of the machine's step
+-- the bit w of the machine's step, as a function of the memory state and the input letter
 abbrev pub bit_wanted : Behaviour → Wanted → StepBit
 bit_wanted b w memory x = wanted_bit w (record { memory = b.next memory x; letter = b.plays memory x })
 

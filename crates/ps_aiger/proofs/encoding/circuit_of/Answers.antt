@@ -15,7 +15,7 @@ parts_of-requires c =
     let b = behaviour c.args.machine.now in
     grind (arith, next_many b c.args.latches)
 
--- the gates and literals of the circuit are those that are built for the machine
+-- the gates and literals of the returned circuit are those that the definition `output_wires` builds for the machine
 all : (c : In_ok-parts) → IsWhole (behaviour c.args.machine.now) c.args.latches (data_of c.in_ok-parts.parts)
 all c = whole (behaviour c.args.machine.now) c.args.latches c.args.builder.now c.args.next.now c.args.outputs.items
     (data_of c.in_ok-parts.parts) c.parts_of.ensures.sound c.requires.next_wired c.requires.output_wired
