@@ -1,4 +1,4 @@
--- The index of an id: the id's distance from `first`, or the index recorded in the table or in the tree.
+-- The index of an id in the list of ids is the id's distance from `first`, or is recorded in the table or in the tree.
 use Rattle.std.proofs.Common.{◌≡◌, ◌≢◌, ℕ, ◌+◌, ◌<◌, ◌≤◌, Bool, false, eqb, List, [], ◌∷◌, ◌++◌, length, get_or}
 use Rattle.std.proofs.Common.{Option, None, Some, refl, sym, ap, subst, inl, inr, ⊎_elim, ◌∙◌, arith, rules}
 use Rattle.std.proofs.Common.{length-append}
@@ -46,20 +46,21 @@ position_nowhere ids id none = position_none (is_id id) ids
 abbrev pub IsAt : List ℕ → ℕ → ℕ → Type 0
 IsAt ids place id = (place < length ids) × (slice_index ids place ≡ id)
 
--- the index at which an id is found is the index of the id
+-- if the list has the id at `place`, the first index of the id in the list is `place`
 pub found_at : (ids : List ℕ) {shown : List ℕ} (id place : ℕ) → AreDistinct ids → ids ≡ shown → IsAt ids place id →
     Some place ≡ position (is_id id) shown
 found_at ids id place distinct same at =
     subst (λ xs. Some place ≡ position (is_id id) xs) same (sym (position_here ids id place distinct at.0 at.1))
 
--- the table records only the indices of ids
+-- if the table has the entry `place` + 1 at an id's distance from `first`, the list has the id at `place`
 pub near_at : (first : ℕ) (ids near : List ℕ) (far : ℕ → Option ℕ) (id place : ℕ) → IsIdTable first ids near far →
     first ≤ id → slice_index near (own_place first id) ≡ place + 1 → IsAt ids place id
 near_at first ids near far id place is above e =
     let at = is.near_sound (own_place first id) place e in
     (at.0, at.1 ∙ omega arith)
 
--- the tree has the index of an id, if neither the id's distance from `first` nor the entry of the table is the index
+-- if an id's index is not its distance from `first`, and the table does not record it, the tree has exactly this index;
+-- the tree has none if the number is not an id
 pub position_by_table : (first : ℕ) (ids near : List ℕ) (far : ℕ → Option ℕ) (id : ℕ) → IsIdTable first ids near far →
     ((first ≤ id) → slice_index near (own_place first id) ≡ 0) → (IsAt ids (own_place first id) id → ⊥) →
     far id ≡ position (is_id id) ids
@@ -87,7 +88,8 @@ some_position p ids = go (position p ids) refl
         ap is_some e ∙ sym (list_any-from_Any p ids (i, get_or ids i 0, at.0, get_or_default_zero ids i _ at.0, at.1))
     go None e = search (rules, some_none, position_at, cases_lt, list_any_none, fails_before_first)
 
--- the table and the tree are still correct after an id is added
+-- after a new id is added at the end of the list and its index is recorded, each id's index is still recorded, and no
+-- wrong index
 pub table_push : (first : ℕ) (ids ids' near near' : List ℕ) (old new : ℕ → Option ℕ) (id place : ℕ) →
     IsIdTable first ids near old → place ≡ length ids → KeepsPlace first near near' old new id place →
     (Contains ids id → ⊥) → ids' ≡ ids ++ id ∷ [] → IsIdTable first ids' near' new

@@ -1,4 +1,4 @@
--- Membership in a list of ids, as a lookup tests it.
+-- An id is in a list of ids if and only if the Boolean test that compares it with each entry succeeds.
 use Rattle.std.proofs.Common.{◌≡◌, ◌<◌, ℕ, true, false, eqb, List, length, take, get_or, sym, ◌∙◌, rules}
 use Rattle.std.proofs.lemmas.Bool.{eqb-true, eq-eqb}
 use Rattle.std.proofs.lemmas.Bool.Decides.{nat_tests}
@@ -12,11 +12,11 @@ use Rattle.ps_ids.specs.Ids.{AreDistinct}
 eqb-equivalence : IsEquivalence eqb
 eqb-equivalence = search (rules, eq-eqb, nat_tests, eqb-true)
 
--- the test of the list is true for each id in the list
+-- if an id is in the list, the test that compares the id with each entry is true
 pub any-from_Contains : (q : ℕ) (ids : List ℕ) → Contains ids q → list_any (eqb q) ids ≡ true
 any-from_Contains q ids h = list_any-from_Contains eqb-equivalence q ids h
 
--- an id for which the test of the list is true is in the list
+-- if the test that compares a number with each entry of the list is true, the number is in the list
 pub Contains-any : (q : ℕ) (ids : List ℕ) → list_any (eqb q) ids ≡ true → Contains ids q
 Contains-any q ids h = Contains-from_any eqb-true q ids h
 

@@ -22,7 +22,8 @@ abbrev pub IsRecordedAt : (first : ℕ) (near : List ℕ) (far : ℕ → Option 
 IsRecordedAt first near far id place = (own_place first id ≡ place) ⊎
     (((first ≤ id) × (slice_index near (own_place first id) ≡ place + 1)) ⊎ (far id ≡ Some place))
 
--- the index of each id is recorded, and the table and the tree record only the indices of ids
+-- the ids are distinct, the index of each id is recorded, and each entry of the table `near` and the tree `far` is the
+-- index of the id for which it is recorded
 pub record IsIdTable (first : ℕ) (ids near : List ℕ) (far : ℕ → Option ℕ) : Type 0 where
   pub distinct : AreDistinct ids
   pub sound : (id place : ℕ) → far id ≡ Some place → (place < length ids) × (slice_index ids place ≡ id)
@@ -30,7 +31,8 @@ pub record IsIdTable (first : ℕ) (ids near : List ℕ) (far : ℕ → Option �
       (slice_index ids place ≡ first + k)
   pub whole : (place : ℕ) → place < length ids → IsRecordedAt first near far (slice_index ids place) place
 
--- the new tables record the index of the id, and everything else is as in the old tables
+-- the new table and tree record the index `place` of the id, keep what was recorded for other ids, and have no other
+-- new entry
 pub record KeepsPlace (first : ℕ) (old_near new_near : List ℕ) (old new : ℕ → Option ℕ) (id place : ℕ) : Type 0 where
   pub kept : IsRecordedAt first new_near new id place
   pub others : (q p : ℕ) → q ≢ id → IsRecordedAt first old_near old q p → IsRecordedAt first new_near new q p

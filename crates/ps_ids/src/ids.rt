@@ -13,7 +13,7 @@ use std::alloc::{AllocError, Global};
 use std::collections::BTreeMap;
 use std::marker::Model;
 
-/// The greatest number of table entries for each id.
+/// The table `near` has at most this many entries for each id in the list.
 const MOST_PER_ID: usize = 4;
 
 /// Distinct ids in order. An id whose index is its distance from `first` needs no entry. The indices of the other ids
@@ -112,7 +112,7 @@ impl Ids {
     }
 }
 
-/// Whether the entry of a list at an index is the given id.
+/// Whether the list has the given id at the index `place`.
 fn stands_at(list: &[u64], id: u64, place: usize) -> bool
     ensures { IsTrue result ↔ ((place < length list.now) × (slice_index list.now place ≡ id)) }
 {
