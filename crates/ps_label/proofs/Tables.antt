@@ -1,4 +1,5 @@
--- The table of the aliases' truths is unique: it is the table that the definition `truths_behind` computes.
+-- At each letter, only one table gives each alias the truth of its own expression: the table that the definition
+-- `truths_behind` computes.
 use Rattle.std.proofs.Common.{◌≡◌, ℕ, suc, zero, append-nil, ◌+◌, ◌<◌, ◌≤◌, Bool, true, false, cond, List, []}
 use Rattle.std.proofs.Common.{◌∷◌, ◌++◌, length, get_or, refl, ap, sym, ◌∙◌, arith, append_assoc, take, drop, set}
 use Rattle.std.proofs.Common.{length-append, zero-add}
@@ -9,7 +10,8 @@ use Rattle.ps_label.specs.Expression.{more, IsOver, AreOver, AreOverFrom, AreOrd
 use Rattle.ps_label.specs.declared.label.Label.{Label}
 use Rattle.ps_label.specs.Truth.{expressions, truth, all_true, any_true, truths_behind, alias_truths, AreTruths}
 
--- the truth of an expression does not change if the table is extended
+-- the truth of an expression does not change if the table of the aliases' truths, which has all aliases of the
+-- expression, is extended
 mutual
   pub truth-front : (known more_known : List Bool) (letter : ℕ) (e : Expression) → IsOver (length known) 64 e →
       truth (known ++ more_known) letter e ≡ truth known letter e
@@ -44,7 +46,8 @@ truths_grow known letter (e ∷ es) =
     let r = truths_grow (known ++ b ∷ []) letter es in
     (b ∷ r.0, r.1 ∙ append_assoc known (b ∷ []) r.0, ap suc r.2)
 
--- each entry of the table is the truth of its alias's expression, computed with the same table
+-- in the table that `truths_behind` computes, each new entry is the truth of its alias's expression, computed with the
+-- same table
 table_from : (known : List Bool) (letter : ℕ) (es : List Expression) → AreOverFrom (length known) 64 es →
     (k : ℕ) → k < length es → get_or (truths_behind known letter es) (length known + k) false ≡ truth
     (truths_behind known letter es) letter (get_or es k (constant false))
@@ -98,7 +101,7 @@ pub only_table : (aliases : List Expression) (letter : ℕ) (known : List Bool) 
 unfolding alias_truths
 only_table aliases letter known o t = only_from [] known letter aliases o t.one_each (λ k h. rw zero-add (t.each k h))
 
--- once every alias is evaluated, the table is complete
+-- once all aliases are evaluated, the list `scratch` is the whole table of their truths
 pub whole_table : (scratch : List Bool) (k letter : ℕ) (items : List Label) (whole : List Bool) →
     length scratch ≡ length items → length items ≤ k →
     truths_behind (take k scratch) letter (expressions (drop k items)) ≡ whole → scratch ≡ whole

@@ -1,12 +1,12 @@
--- A code for expressions, by which proofs distinguish expressions. The code is the list of steps that build an
--- expression on a stack of expressions and a stack of operand lists.
+-- Each expression has a code, and different expressions have different codes. The code is the list of steps that build
+-- an expression on a stack of expressions and a stack of operand lists.
 use Rattle.std.specs.Prelude.{◌≡◌, ℕ, ◌⊎◌, Bool, true, false, List, [], ◌∷◌, refl}
 use Rattle.std.proofs.Common.{inl, inr, ◌∙◌}
 use Rattle.std.specs.Coded.{Coded, code_by, coded_list, coded⊎, coded_bool, coded_ℕ}
 use Rattle.ps_label.specs.Expression.{Expression, constant, proposition, alias, not_of, all_of, any_of, Operands, last}
 use Rattle.ps_label.specs.Expression.{more}
 
--- a step pushes a constant, a proposition or an alias, or combines the tops of the stacks
+-- a step of an expression's code pushes a constant, a proposition or an alias, or combines the tops of the two stacks
 abbrev pub Step : Type 0
 Step = (Bool ⊎ (ℕ ⊎ ℕ)) ⊎ (Bool ⊎ (Bool ⊎ Bool))
 
@@ -43,7 +43,7 @@ abbrev run : List Step → Stacks → Stacks
 run [] stacks = stacks
 run (step ∷ steps) stacks = run steps (after step stacks.0 stacks.1)
 
--- the steps of an expression, followed by the given steps
+-- the steps that build an expression on the stacks, followed by the given steps
 abbrev mutual
   steps_onto : Expression → List Step → List Step
   steps_onto (constant b) steps = inl (inl b) ∷ steps

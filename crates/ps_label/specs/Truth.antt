@@ -27,19 +27,20 @@ abbrev mutual
   any_true known letter last = false
   any_true known letter (more e es) = cond (truth known letter e) true (any_true known letter es)
 
--- the table `known` gives each alias the truth of the alias's expression, computed with the same table
+-- the table `known` of the aliases' truths gives each alias the truth of its expression, computed with the same table
 pub record AreTruths (aliases : List Expression) (letter : ℕ) (known : List Bool) : Type 0 where
   pub one_each : length known ≡ length aliases
   pub each : (k : ℕ) → k < length aliases → slice_index_or known k false ≡ truth known letter
       (slice_index_or aliases k (constant false))
 
--- the table `known`, extended by the truths of the given aliases, from the first to the last
+-- the table `known` of the truths of earlier aliases, extended by the truths of the given aliases, one after another
 abbrev pub truths_behind : List Bool → ℕ → List Expression → List Bool
 truths_behind known letter [] = known
 truths_behind known letter (e ∷ es) = truths_behind (known ++ truth known letter e ∷ []) letter es
 
 -- The truth of a label at a letter; alias k is the expression with the index k in `aliases`. If each alias uses only
--- earlier aliases, exactly one table has their truths, and the label's truth is computed with it.
+-- earlier aliases, exactly one table gives each alias the truth of its own expression, and the label's truth is
+-- computed with this table.
 unfoldable pub alias_truths : List Expression → ℕ → List Bool
 alias_truths aliases letter = truths_behind [] letter aliases
 

@@ -60,7 +60,8 @@ impl Labels {
         self.aliases.as_slice()
     }
 
-    /// The truth of a label at a letter. Each alias is evaluated once, and `scratch` has an entry for each alias.
+    /// The truth of a label at a letter. Each alias is evaluated once; its truth is then in `scratch`, which must have
+    /// one entry for each alias.
     pub fn eval(&self, label: &Label, letter: u64, scratch: &mut [bool]) -> bool
         requires room { length scratch.old ≡ length self.now }
         requires within { IsOver (length self.now) 64 (expression label.now) }
@@ -75,8 +76,8 @@ impl Labels {
 }
 
 /// If each alias uses only earlier aliases, there is exactly one table of their truths at a letter: each entry is the
-/// truth of the alias's expression, computed with the same table. The truth of a label is determined by the table of
-/// the aliases' truths.
+/// truth of the alias's expression, computed with the same table. The truth of each label is its truth computed with
+/// this table.
 pub fn one_table_of_truths()
     ensures table { (aliases : List Expression) (letter : ℕ) → AreOrdered aliases →
         AreTruths aliases letter (alias_truths aliases letter) }

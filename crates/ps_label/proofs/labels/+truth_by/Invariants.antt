@@ -6,7 +6,7 @@ use Rattle.ps_label.proofs.labels.+truth_by.Given as goal
 abbrev pub decreases-truth_by : goal.decreases-truth_by
 decreases-truth_by l = goal.size-truth_by l
 
--- the remaining operands determine the truth of the label
+-- the truth of the label is the conjunction (in the second loop, the disjunction) of the remaining operands' truths
 abbrev pub invariant-loop-operand : goal.invariant-loop-operand
 invariant-loop-operand l = record {
   decides : all_true l.known l.letter (operands_in (expressions (drop l.operand-index l.operand-items))) ≡ truth l.known

@@ -3,7 +3,8 @@ use Rattle.ps_label.specs.Expression.{AreOverFrom}
 use Rattle.ps_label.specs.Truth.{alias_truths, expressions, truths_behind}
 use Rattle.ps_label.proofs.labels.Labels.eval.Given as goal
 
--- evaluating the remaining aliases completes the table
+-- `scratch` begins with the truths of the first k aliases, so that evaluating the remaining aliases completes the table
+-- of truths
 abbrev pub invariant-loop-k : goal.invariant-loop-k
 invariant-loop-k l = record {
   room : length l.scratch ≡ length l.alias-items;
