@@ -41,7 +41,8 @@ fn each_row_of_the_table_of_choices(rt: HostRuntime) {
     assert!(rt; choices_are_right(rt.alloc()));
 }
 
-/// The number of the literal that the builder's `and` returns, or `None` if an argument's variable does not exist.
+/// What the builder's `and` returns, which is the number of a literal or a fault; `None` if an argument's variable does
+/// not exist.
 fn and(builder: &mut Builder, x: u32, y: u32) -> Option<Result<u32, EncodeFault>> {
     let (x, y) = (Literal::new(x), Literal::new(y));
     let most = builder.variables();
@@ -51,7 +52,8 @@ fn and(builder: &mut Builder, x: u32, y: u32) -> Option<Result<u32, EncodeFault>
     Some(builder.and(x, y).map(Literal::number))
 }
 
-/// The number of the literal that the builder's `or` returns, or `None` if an argument's variable does not exist.
+/// What the builder's `or` returns, which is the number of a literal or a fault; `None` if an argument's variable does
+/// not exist.
 fn or(builder: &mut Builder, x: u32, y: u32) -> Option<Result<u32, EncodeFault>> {
     let (x, y) = (Literal::new(x), Literal::new(y));
     let most = builder.variables();
@@ -61,8 +63,8 @@ fn or(builder: &mut Builder, x: u32, y: u32) -> Option<Result<u32, EncodeFault>>
     Some(builder.or(x, y).map(Literal::number))
 }
 
-/// Whether conjunctions and a disjunction of two variables have the expected literals, and the builder makes only one
-/// gate for all of them.
+/// Whether several conjunctions and a disjunction over two variables have the expected literals, and the builder makes
+/// only one gate for all of them.
 fn gates_are_right(builder: &mut Builder) -> bool {
     for (x, y, literal) in [(2, 4, 6), (4, 2, 6), (2, 3, 0), (2, 2, 2), (1, 4, 4)] {
         if and(builder, x, y) != Some(Ok(literal)) {
@@ -72,8 +74,8 @@ fn gates_are_right(builder: &mut Builder) -> bool {
     or(builder, 3, 5) == Some(Ok(7)) && builder.gates().len() == 1
 }
 
-/// Whether `gates_are_right` holds for a new builder. A failed check is repeated with the same builder, since an
-/// allocation may have failed, as in a run of `rt try --test --fail-alloc N`.
+/// Whether `gates_are_right` returns true for a new builder. If it returns false, it is called again with the same
+/// builder: an allocation may have failed, as in a run of `rt try --test --fail-alloc N`.
 fn new_gates_are_right(alloc: Global) -> bool {
     let mut builder = Builder::new(alloc, 2);
     gates_are_right(&mut builder) || gates_are_right(&mut builder)
