@@ -1,9 +1,10 @@
--- `barred P Bad` adds to the grammar P the errors that `Bad` states at the symbol after a text of P. No text of P
--- continues with a symbol at which `Bad` states an error.
--- - `laws_barred`: the laws of `barred P Bad`
--- - `read_barred`: P is parsed, and `Bad` states no error at the symbol after it
--- - `fault_barred`: the fault is P's own
--- - `fault_bar`: `Bad` states an error at the symbol after P
+-- `barred P Bad` adds to the grammar P the errors that `Bad` states at the symbol after a text of P. These lemmas,
+-- except `laws_barred`, assume that no text of P continues with a symbol at which `Bad` states an error.
+-- - `laws_barred`: `barred P Bad` satisfies the laws of grammars (`Laws`)
+-- - `read_barred`: if P is parsed, and `Bad` states no error at the symbol after the parsed text, `barred P Bad` is
+--   parsed
+-- - `fault_barred`: the first fault of P is also the first fault of `barred P Bad`
+-- - `fault_bar`: if P is parsed, and `Bad` states an error at the symbol after the parsed text, this is the first fault
 -- - `reads_barred`, `stops_barred`, `stops_bar`: the results of a parsing function in these three cases
 use Rattle.std.proofs.Common.{◌≡◌, ◌+◌, ◌≤◌, ◌⊎◌, List, [], ◌∷◌, ◌++◌, length, Option, Some, sym, ap, subst, inl}
 use Rattle.std.proofs.Common.{inr, ⊎_elim, ◌∙◌, append_assoc, arith, rules}
@@ -16,7 +17,7 @@ use Rattle.ps_text.proofs.InPlace.{stops_at, read_quiet, quiet_at, fault_begins,
 use Rattle.ps_text.proofs.Joined.{text_begins}
 use Rattle.ps_text.proofs.Exits.{stops_as}
 
--- a symbol for which `Bad` states an error, for some value
+-- a symbol for which `Bad` states an error, after a text of P with some value
 abbrev pub Bar : {T V F : Type 0} → (V → T → F → Type 0) → T → Type 0
 Bar {T} {V} {F} Bad t = (v : V) × (f : F) × Bad v t f
 
@@ -38,7 +39,7 @@ module _ {T V F : Type 0} {odd : T → Type 0} {P : Part T V F} (Bad : V → T �
   }
 
   module _ (apart : Apart More (Bar Bad)) where
-    -- inside a beginning of a text of P, `Bad` states no error at any symbol
+    -- `Bad` states no error at a symbol with which a text of P continues
     no_bar : (front m : List T) (t : T) (v : V) (f : F) → Begins P.IsText (front ++ t ∷ m) → P.IsText front v →
         Bad v t f → ⊥
     no_bar front m t v f b h c = apart t (grind (arith, append_assoc)) (v, f, c)
@@ -49,7 +50,7 @@ module _ {T V F : Type 0} {odd : T → Type 0} {P : Part T V F} (Bad : V → T �
     clean_barred rest e b clean fr r t f x n (inr c) =
         let i = inside_of rest fr r t e x n in no_bar fr i.0 t c.0 f (rw i.1 at b) c.1 c.2
 
-    -- an error that `Bad` states directly after a text of P is an error for the value of this text
+    -- a text of P has only one value, so each error that `Bad` states at the symbol after it is stated for this value
     bar_value : (text : List T) (t : T) (v w : V) (f : F) → P.IsText text v → P.IsText text w → Bad w t f → Bad v t f
     bar_value text t v w f h k c = subst (λ z. Bad z t f) (l.one_value text w v k h) c
 

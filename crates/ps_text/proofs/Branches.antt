@@ -1,16 +1,18 @@
--- The results of a parsing function at a choice and in a loop. The module Meeting restates each of these lemmas for
--- `Meets`, with the function that maps values written out.
+-- What a parsing function may return for a choice between two grammars, and for repeated items (a loop). The module
+-- Meeting restates each of these lemmas for the contract `Meets`, which maps the value that the function returns.
 -- - `Stands there P Q`: at the next symbol `there`, parsing P has the same result as parsing Q
--- - `left_entered`, `right_entered`: `Stands`: the next symbol begins one alternative of `either`, or is an error of
---   this alternative
--- - `left_otherwise`, `right_otherwise`: `Stands`: the next symbol does not begin the other alternative, which has no
---   empty text
--- - `item_entered`: `Stands`: the next symbol begins an item of `many`
--- - `reads_as, stops_as_well, meets_as w m`: a result for P is also a result for Q
+-- - `left_entered`, `right_entered`: `either` has the result of the alternative that the next symbol begins, or of
+--   which it is an error
+-- - `left_otherwise`, `right_otherwise`: `either` has the result of one alternative if the next symbol does not begin
+--   the other one, which has no empty text
+-- - `item_entered`: if the next symbol begins an item, `many` has the result of an item followed by `many`
+-- - `reads_as, stops_as_well, meets_as`: if `Stands` holds for P and Q, a result of parsing P is also a result of
+--   parsing Q
 -- - `many_ends`, `many_reads`, `many_fails`: `many` ends if no item begins, continues after an item, or fails in one
--- - `times_reads`, `times_fails`: `times` continues after an item; an item fails
--- - `carries_many`, `carries_times`: the invariant of a loop still holds after an item
--- - `reads_shrinks`: parsing a nonempty text leaves fewer pieces, which is the measure of a loop
+-- - `times_reads`, `times_fails`: `times` continues after an item, or fails in an item
+-- - `carries_many`, `carries_times`: the invariant `Carries` of a loop over items still holds after an item was parsed
+-- - `reads_shrinks`: parsing a nonempty text leaves fewer unread pieces; their number is the measure by which a loop
+--   ends
 use Rattle.std.proofs.Common.{◌≡◌, ℕ, zero, suc, ◌-◌, ◌<◌, List, [], ◌∷◌, ◌++◌, length, Option, Some, Result, Ok}
 use Rattle.std.proofs.Common.{Err, subst, arith, length-append, rules}
 use Rattle.std.proofs.lemmas.List.{length-map}
@@ -35,7 +37,7 @@ shrinks {T} P all rest v some p = go p.text p.split p.is_text
     go [] e h = absurd (some v h)
     go (t ∷ text) e h = grind (arith, length-append)
 
--- parsing a nonempty text leaves fewer symbols
+-- after a nonempty text was parsed, fewer pieces are unread
 pub reads_shrinks : {T V F : Type 0} {P : Part T V F} {old new : Stream T} {v : V} → ((w : V) → P.IsText [] w → ⊥) →
     Reads P old v new → length new.pieces < length old.pieces
 reads_shrinks {P = P} {old = old} {new = new} {v = v} some m = omega (

@@ -1,6 +1,6 @@
--- The laws of combined grammars, with sets of symbols that are no larger than necessary.
+-- Combined grammars satisfy the laws (`Laws`), with smaller sets of symbols than the general lemmas give.
 -- - `both_within`, `wider_first`, `wider_more`: two sets are within a third set; sets may be replaced by larger ones
--- - `laws_first`: the laws of one symbol, which is in a set if it is accepted, and also if it is an error
+-- - `laws_first`: the laws of a grammar of one symbol, if a given set has each symbol that is accepted or is an error
 -- - `laws_forms`: the laws of a choice between two grammars without an empty text
 -- - `laws_option`: the laws of an optional grammar whose texts no symbol continues
 -- - `laws_all`, `laws_times_all`: the laws of any number, or a given number, of items that no symbol continues

@@ -2,8 +2,9 @@
 -- this alternative (proofs/InPlace.antt). For example, `either P Q` has the result of P or the result of Q.
 -- - `Enters P there`: the next symbol begins a text of P, or is an error of P
 -- - `Avoids A there`: the next symbol is not in the set A
--- - `covers_left`, `covers_right`: `either` has the result of one form, if the other form does not begin
--- - `laws_either`: the laws of `either`
+-- - `covers_left`, `covers_right`: `either` has the texts and errors of one alternative, if the next symbol does not
+--   begin the other one
+-- - `laws_either`: `either P Q` satisfies the laws of grammars (`Laws`)
 use Rattle.std.proofs.Common.{arith, ◌≡◌, ◌⊎◌, List, [], ◌∷◌, ◌++◌, Option, None, Some, refl, subst, inl, inr, ◌∙◌}
 use Rattle.std.proofs.Common.{rules, ⊎_elim}
 use Rattle.ps_text.specs.Answers.{Begins, first_of}
@@ -65,8 +66,8 @@ some_sign : {T : Type 0} (front : List T) (t : T) → (u : T) × (first_of (fron
 some_sign [] t = (t, refl)
 some_sign (s ∷ front) t = (s, refl)
 
--- if W has all texts and errors of P, and each other one is one of Q, parsing W has the same result as parsing P, at
--- each symbol with which Q does not begin
+-- If W has all texts and errors of P, and its other ones are of Q, then W has only texts and errors of P at each symbol
+-- with which Q does not begin.
 covers_one : {T V F : Type 0} {odd : T → Type 0} {P Q : Part T V F} {First More : T → Type 0} {Null : Type 0}
     (W : Part T V F) (l : Laws odd Q First More Null) (there : Option T) → Avoids First there → ((text : List T)
     (v : V) → P.IsText text v → W.IsText text v) → ((front : List T) (t : T) (f : F) → P.IsCause front t f → W.IsCause
@@ -96,7 +97,8 @@ module _ {T V F : Type 0} {odd : T → Type 0} (P Q : Part T V F) {First More : 
   covers_right l there a = covers_one (either P Q) l there a (λ _ _ h. inr h) (λ _ _ _ c. inr c)
       (λ _ _ h. swapped h) (λ _ _ _ c. swapped c)
 
--- if Q can continue a text of P, this text is empty
+-- if a text of P can be continued to a text of Q, or is followed by an error of Q, then it is empty: P and Q begin with
+-- different symbols
 module _ {T V F : Type 0} {odd : T → Type 0} {P Q : Part T V F} {F1 M1 F2 M2 : T → Type 0} {N1 N2 : Type 0}
     (l : Laws odd P F1 M1 N1) (r : Laws odd Q F2 M2 N2) (apart : Apart F1 F2) where
   text_across : (text more : List T) (t : T) (v w : V) → P.IsText text v → Q.IsText (text ++ t ∷ more) w → When N1 F2 t
@@ -108,7 +110,7 @@ module _ {T V F : Type 0} {odd : T → Type 0} {P Q : Part T V F} {F1 M1 F2 M2 :
   cause_across (s ∷ text) t v f h k = search (rules, first_of_cause)
 
 module _ {T V F : Type 0} {odd : T → Type 0} {P Q : Part T V F} {F1 M1 F2 M2 : T → Type 0} {N1 N2 : Type 0} where
-  -- the two grammars begin with different symbols, and at most one of them has an empty text
+  -- `either P Q` satisfies the laws, if P and Q begin with different symbols, and at most one of them has an empty text
   pub laws_either : Laws odd P F1 M1 N1 → Laws odd Q F2 M2 N2 → Apart F1 F2 → (N1 → N2 → ⊥) →
       Laws odd (either P Q) (Or F1 F2) (Or (Or M1 M2) (Or (When N1 F2) (When N2 F1))) (N1 ⊎ N2)
   laws_either l r apart nulls = record {

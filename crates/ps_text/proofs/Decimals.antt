@@ -3,7 +3,7 @@
 -- - `value_pushed`, `value_more`: how one more digit changes the value
 -- - `value_grows`, `value_front`: more digits never denote a smaller number
 -- - `IsNumberText n digits`: `digits` have no leading zero and denote n
--- - `number_text`, `plain`: the written form of a number
+-- - `number_text`, `plain`: the digits that are written for a number less than 2^64 denote it, and have no leading zero
 use Rattle.std.proofs.Common.{◌≡◌, ℕ, ◌+◌, ◌-◌, ◌*◌, ◌/◌, ◌%◌, ◌^◌, ◌<◌, ◌≤◌, true, List, [], ◌∷◌, ◌++◌, length}
 use Rattle.std.proofs.Common.{get_or, take, drop, refl, ap, ◌∙◌, arith, length-append, rules, take-append-drop}
 use Rattle.std.specs.Prelude.{decimal}

@@ -1,10 +1,12 @@
 -- Decision procedures that find the error with the smallest number at a symbol, or show that there is no error.
--- - `Decided A`: A holds, or it does not
+-- - `Decided A`: a decision whether A holds: a proof of A, or a proof that A does not hold
 -- - `decide_not`, `decide_as`, `decide_both`, `decide_one`: combinations of decidable facts are decidable
 -- - `decide_true`, `decide_none`: the result of a test, and whether an option is None, are decidable
 -- - `decide_below`, `decide_in`: the order of two numbers, and whether a list has a number, are decidable
--- - `judge_none`, `judge_cause`, `judge_one`, `judge_as`: no error; one error; two sets of errors; equal sets of errors
--- - `judge_if`, `judge_also`: the errors of an optional value; errors that apply if a fact holds
+-- - `judge_none`, `judge_cause`, `judge_one`, `judge_as`: the error with the smallest number, if there is no error; at
+--   most one error; two sets of errors; or an equal set of errors
+-- - `judge_if`, `judge_also`: the error with the smallest number, if the errors are those of an optional value, or
+--   apply only if a fact holds
 use Rattle.std.proofs.Common.{◌≡◌, ℕ, suc, ◌≤◌, ◌⊎◌, Bool, true, List, [], ◌∷◌, length, get_or, refl, sym}
 use Rattle.std.proofs.Common.{inl, rules, inr, Option, None, Some, arith}
 use Rattle.std.specs.Prelude.{IfSome}

@@ -4,12 +4,14 @@
 -- - `reads_then j m n`: the first call parsed its grammar (m), and the other calls parsed the rest (n)
 -- - `stops_first causes j old o s`: the first call failed, so the function fails
 -- - `stops_behind causes j m o s`: the first call parsed its grammar, and a later call failed
--- - `reads_next`, `stops_bad`, `stops_refusal`: one symbol: it is accepted; it is an error; it is not allowed, or the
---   text ends
--- - `reads_give`, `reads_mapped`, `stops_mapped`: no symbol was taken; another function is applied to the value
+-- - `reads_next`, `stops_bad`, `stops_refusal`: the exits of a function that parses one symbol: the symbol is accepted;
+--   it is an error; it is not allowed, or the text ends
+-- - `reads_give`, `reads_mapped`, `stops_mapped`: the exits if no symbol was taken, and if a function is applied to the
+--   value of a parsed grammar
 -- - `exits found causes view part old new e r s c`: the exit of a `?`, which returns the error e as the result r
--- - `then_meets`: the result of the last call is returned unchanged
--- - `carries_start`, `carries_then`, `carries_reads`, `carries_stops`: the invariant of a loop, and its exits
+-- - `then_meets`: the exit at which the result of the last call is returned unchanged
+-- - `carries_start`, `carries_then`, `carries_reads`, `carries_stops`: the invariant `Carries` of a parsing loop holds
+--   at the start and after a grammar was parsed; the loop's exits
 --
 -- For successive calls, nest `reads_then`; j is the `Joint` of the two grammars that are parsed one after the other
 -- (proofs/Laws.antt). In `exits`, s states what the error reports (`Stops`), and c, which is

@@ -1,4 +1,4 @@
--- The laws of two grammars in a row, for smaller sets than in `laws_then`.
+-- Two grammars in a row satisfy the laws (`Laws`), with smaller sets of symbols than in `laws_then`.
 -- - `laws_next`: neither grammar has an empty text
 -- - `laws_tight`: the first grammar has no empty text, and no symbol continues its texts
 use Rattle.std.proofs.Common.{arith}

@@ -1,12 +1,16 @@
 -- A grammar that has the same result, or the same first fault, as another grammar.
--- - `stops_by`, `stops_at`, `quiet_by`, `quiet_at`: no text continues with the next symbol; the next symbol is no error
--- - `read_quiet`: the symbol after the parsed text is not an error of the grammar
+-- - `stops_by`, `stops_at`: `StopsAt` holds exactly if no text continues with the next symbol
+-- - `read_quiet`: after a grammar was parsed, the symbol after the parsed text is not an error of the grammar
 -- - `fault_begins`: the symbols before a first fault begin a text of the grammar
--- - `fault_from`: R has the first fault of P, if R has only texts and errors of P here
--- - `Covers there P Q`: at the next symbol `there`, Q has only texts and errors of P
--- - `read_as`, `fault_as`: a result of P is a result of Q, and a fault of P is a fault of Q
+-- - `fault_from`: the first fault of P is the first fault of R, if R has no error before it, and no text or error there
+--   that P does not have
+-- - `Covers there P Q`: Q has all texts and errors of P, and only those that begin with a symbol other than `there`
+--   besides
+-- - `read_as`, `fault_as`: if `Covers` holds for P and Q, a result of parsing P is one of parsing Q, and so is a first
+--   fault
 -- - `after P left`: the remainder of P after the symbols `left`
--- - `read_after`, `fault_after`: a result for the remainder is a result for P, if P has no error before it
+-- - `read_after`, `fault_after`: a result of parsing the remainder of P is a result of parsing P, if P has no error in
+--   the symbols before it
 use Rattle.std.proofs.Common.{◌≡◌, ℕ, ◌+◌, ◌⊎◌, List, [], ◌∷◌, ◌++◌, length, Option, Some, refl, ap, subst}
 use Rattle.std.proofs.Common.{inl, ◌∙◌, append_assoc, arith, length-append, rules}
 use Rattle.ps_text.specs.Answers.{Begins, first_of}
@@ -30,12 +34,12 @@ module _ {T V F : Type 0} (P : Part T V F) (front : List T) where
   pub quiet_at : {there : Option T} {t : T} {f : F} → there ≡ Some t → NoCauseAt P front there → P.IsCause front t f → ⊥
   quiet_at {f = f} e n = subst (NoCauseAt P front) e n f
 
--- the symbol after the parsed text is not an error of the grammar
+-- after a grammar was parsed, the symbol after the parsed text is not an error of the grammar
 pub read_quiet : {T V F : Type 0} {P : Part T V F} {all rest : List T} {v : V} → (p : IsRead P all v rest) →
     NoCauseAt P p.text (first_of rest)
 read_quiet {P = P} {rest = rest} p = search (rules, quiet_by, head_of)
 
--- the symbols before a first fault begin a text of the grammar, if this holds for the grammar's errors
+-- the symbols before the first fault begin a text of the grammar, if the symbols before each of the grammar's errors do
 pub fault_begins : {T V F : Type 0} {P : Part T V F} {causes : Causes T F} {all rest : List T} {f : F} →
     ((front : List T) (t : T) (f : F) → P.IsCause front t f → Begins P.IsText front) →
     (p : IsFault causes P all f rest) → Begins P.IsText p.front
@@ -62,7 +66,7 @@ pub record Covers {T V F : Type 0} (there : Option T) (P Q : Part T V F) : Type 
   pub cause_back : (front : List T) (t : T) (f : F) → there ≡ first_of (front ++ t ∷ []) → Q.IsCause front t f →
       P.IsCause front t f
 
--- `all` begins with the same symbol as `front` followed by t
+-- if `front` and then t are the first symbols of `all`, `all` begins with the same symbol as `front` followed by t
 sign_of : {T : Type 0} {all : List T} {t : T} (front rest : List T) → all ≡ front ++ rest → first_of rest ≡ Some t →
     first_of all ≡ first_of (front ++ t ∷ [])
 sign_of [] rest e x = ap first_of e ∙ x

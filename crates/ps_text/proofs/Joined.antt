@@ -1,11 +1,13 @@
 -- `then_by P Q` is parsed if P and then Q are parsed. The first fault of `then_by P Q` is the first fault of P, or the
 -- first fault of Q after P.
--- - `joint`: two grammars that satisfy the laws have a joint (`Joint`)
+-- - `joint`: two grammars in a row satisfy `Joint`, if they satisfy the laws and no symbol both continues the first and
+--   begins the second
 -- - `text_behind`, `cause_behind`: unless the text of P continues, a text or error of P and Q together after a text of
 --   P is one of Q
 -- - `begins_left`, `begins_right`: a beginning of a text of P begins a text of P and Q together; so does a text of P
 --   with a beginning of a text of Q
--- - `read_then`, `fault_left`, `fault_right`: the result of P and Q together, in terms of IsRead and IsFault
+-- - `read_then`, `fault_left`, `fault_right`: P and Q together are parsed if both are; they have the first fault of P,
+--   or of Q after a text of P
 use Rattle.std.proofs.Common.{◌≡◌, ◌⊎◌, List, [], ◌∷◌, ◌++◌, length, Option, Some, refl, ap, subst}
 use Rattle.std.proofs.Common.{inl, inr, append_assoc, append-nil, arith, rules}
 use Rattle.ps_text.specs.Answers.{Begins, first_of}
@@ -29,18 +31,20 @@ begins_on IsText front m t b =
 abbrev pub GoesOn : {T V F : Type 0} → Part T V F → List T → Option T → Type 0
 GoesOn {T} P front there = (t : T) × (there ≡ Some t) × Begins P.IsText (front ++ t ∷ [])
 
--- two grammars that satisfy the laws have a joint (`Joint`): no symbol both continues the first and begins the second
+-- two grammars P and Q in a row satisfy `Joint`, if they satisfy the laws and no symbol both continues a text of P and
+-- begins a text of Q
 pub joint : {T A B F : Type 0} {odd : T → Type 0} {P : Part T A F} {Q : A → Part T B F} {F1 M1 F2 M2 : T → Type 0}
     {N1 N2 : Type 0} → Laws odd P F1 M1 N1 → ((a : A) → Laws odd (Q a) F2 M2 N2) → Apart M1 F2 → Joint P Q
 joint {T} {A} {P = P} {M1 = M1} l r apart = grind (arith, append_assoc)
 
 module _ {T A B F : Type 0} {P : Part T A F} {Q : A → Part T B F} (j : Joint P Q) where
-  -- after a text of P, Q does not begin with a symbol with which this text of P could continue
+  -- no text of Q begins with a symbol with which a text of P could continue
   not_inside : {front left right z : List T} {t : T} {a : A} (m : List T) → P.IsText left a → Begins P.IsText front →
       front ≡ left ++ t ∷ m → Begins (Q a).IsText right → right ≡ t ∷ z → ⊥
   not_inside {left = left} {z = z} {t = t} {a = a} m h b e c f = j.text_apart left m z t a h (rw e at b) (rw f at c)
 
-  -- after a text of P, a text of P and Q together is a text of Q, unless the text of P continues
+  -- If a text of P and Q together begins with a text of P, its rest is a text of Q, unless the text of P can continue
+  -- with the next symbol.
   pub text_behind : (left y : List T) (a : A) (b : B) → P.IsText left a → (then_by P Q).IsText (left ++ y) b →
       (Q a).IsText y b ⊎ GoesOn P left (first_of y)
   text_behind left y a b h k = go (compared left y k.left k.right k.split)
@@ -50,8 +54,8 @@ module _ {T A B F : Type 0} {P : Part T A F} {Q : A → Part T B F} (j : Joint P
       go (shorter t m e f) = grind (arith, begins_on P.IsText left m t (rw e at (text_begins P.IsText k.is_left)))
       go (longer t m e f) = search (rules, not_inside, text_begins)
 
-  -- after a text of P, an error of P and Q together is an error of Q, unless the text of P continues or P has this
-  -- error itself
+  -- An error of P and Q together, after a text of P, is an error of Q, unless a text of P continues with the next
+  -- symbol or P has this error itself.
   pub cause_behind : (left y : List T) (t : T) (a : A) (f : F) → P.IsText left a → (then_by P Q).IsCause
       (left ++ y) t f → (Q a).IsCause y t f ⊎ (GoesOn P left (first_of (y ++ t ∷ [])) ⊎ ((y ≡ []) × P.IsCause left t f))
   cause_behind left [] t a f h (inl c) = inr (inr (refl, rw append-nil at c))
@@ -65,8 +69,8 @@ module _ {T A B F : Type 0} {P : Part T A F} {Q : A → Part T B F} (j : Joint P
       go (longer u m e g) = absurd
           (not_inside m k.is_left (text_begins P.IsText h) e (j.behind_right k.value k.right t f k.is_cause) g)
 
-  -- no text of P and Q together begins with `front`, if `front` begins a text of P but is none, and P does not continue
-  -- with the next symbol
+  -- No text of P and Q together begins with `front` and the next symbol, if `front` begins a text of P but is not one,
+  -- and no text of P continues with this symbol.
   no_text_on : (front y : List T) (b : B) → Begins P.IsText front → ((a : A) → P.IsText front a → ⊥) →
       StopsAt P front (first_of y) → (then_by P Q).IsText (front ++ y) b → ⊥
   no_text_on front y b begun none s k = go (compared front y k.left k.right k.split)
@@ -86,7 +90,7 @@ module _ {T A B F : Type 0} {P : Part T A F} {Q : A → Part T B F} (j : Joint P
       go [] e r = none k.value (rw (e, append-nil) k.is_left) r
       go (s ∷ right) e r = not_inside right k.is_left begun e (j.behind_right k.value (s ∷ right) t f r) refl
 
-  -- inside a beginning of a text of P, Q has no error
+  -- Q has no error at a symbol with which a text of P continues
   no_inner : (front m : List T) (t : T) (f : F) → IsBehind P.IsText (λ a. (Q a).IsCause) front t f →
       Begins P.IsText (front ++ t ∷ m) → ⊥
   no_inner front m t f k b = grind (arith, go, append_assoc)
@@ -107,14 +111,14 @@ module _ {T A B F : Type 0} {P : Part T A F} {Q : A → Part T B F} (j : Joint P
       Begins (then_by P Q).IsText (left ++ right)
   begins_right left right a h b = grind (arith, append_assoc)
 
-  -- if P has no error inside a beginning of one of its texts, P and Q together have no error there
+  -- if P has no error in `front`, which begins a text of P, then P and Q together have no error in `front`
   clean_left : {all front : List T} (rest : List T) → all ≡ front ++ rest → Begins P.IsText front →
       CleanUpTo P all (length front) → CleanUpTo (then_by P Q) all (length front)
   clean_left rest e b clean fr r t f x l (inl c) = clean fr r t f x l c
   clean_left rest e b clean fr r t f x l (inr k) =
       let i = inside_of rest fr r t e x l in no_inner fr i.0 t f k (rw i.1 at b)
 
-  -- after a text of P that ends without an error, parsing P and Q together has the result of parsing Q
+  -- after P was parsed, parsing P and Q together has the result of parsing Q
   module _ {all mid : List T} {a : A} (p : IsRead P all a mid) where
     clean_text : CleanUpTo (then_by P Q) all (length p.text)
     clean_text = clean_left mid p.split (text_begins P.IsText p.is_text) (λ front r t f e l. grind arith)

@@ -1,6 +1,8 @@
--- The laws of a grammar, as a record, and the laws of two grammars in a row.
--- - `Laws odd part First More Null`: the grammar's laws; symbols in First begin texts, those in More continue them
--- - `Joint P Q`: no symbol both continues P and begins Q; the lemma `joint` derives this from the laws
+-- The laws that each grammar should satisfy (`Laws`), and what two grammars in a row should satisfy (`Joint`).
+-- - `Laws odd part First More Null`: the grammar's laws; each symbol that begins a text is in First, and each symbol
+--   that continues one is in More
+-- - `Joint P Q`: no symbol both continues a text of P and begins a text of Q, so it is clear where Q begins; the lemma
+--   `joint` derives this from the laws
 --
 -- State the laws of each production of a grammar once, as in `laws_entry : Laws odd entry EntryFirst EntryMore ⊥`. The
 -- laws of a production are proved with the lemma of the production's outermost combinator (proofs/Combined.antt), and
@@ -29,7 +31,7 @@ pub record Laws {T V F : Type 0} (odd : T → Type 0) (part : Part T V F) (First
   pub plain_text : (front rest : List T) (t : T) (v : V) → part.IsText (front ++ t ∷ rest) v → odd t → ⊥
   pub plain_cause : (front : List T) (t : T) (f : F) → part.IsCause front t f → odd t → ⊥
 
--- sets of symbols: no symbol, the symbols of either set, and the symbols of a set if N holds
+-- sets of symbols: the empty set, the union of two sets, and a set that is empty unless N holds
 abbrev pub Nothing : {T : Type 0} → T → Type 0
 Nothing _ = ⊥
 
@@ -45,7 +47,7 @@ Within {T} A B = (t : T) → A t → B t
 abbrev pub Apart : {T : Type 0} → (T → Type 0) → (T → Type 0) → Type 0
 Apart {T} A B = (t : T) → A t → B t → ⊥
 
--- the laws still hold with larger sets of symbols
+-- a grammar that satisfies the laws also satisfies them with larger sets of symbols
 pub weaker : {T V F : Type 0} {odd : T → Type 0} {part : Part T V F} {First More First' More' : T → Type 0}
     {Null Null' : Type 0} →
     Laws odd part First More Null → Within First First' → Within More More' → (Null → Null') →

@@ -1,4 +1,4 @@
--- The digits at the start of a text, one after the other.
+-- The number that the digits at the start of a text denote, computed digit by digit.
 use Rattle.std.proofs.Common.{◌≡◌, ℕ, ◌+◌, ◌-◌, ◌*◌, ◌^◌, ◌<◌, ◌≤◌, true, false, List, ◌∷◌, length, map, drop, get_or}
 use Rattle.std.proofs.Common.{refl, sym, ap, ◌∙◌, arith, rules}
 use Rattle.std.proofs.lemmas.List.{drop_more}
@@ -10,7 +10,7 @@ use Rattle.std.specs.Int.Digits.{number_from_digits_after}
 use Rattle.std.specs.List.{prefix_len}
 use Rattle.ps_text.specs.Digits.{decimal_value}
 
--- the number that results when further digits follow the number n
+-- the number whose decimal digits are those of n, followed by `digits`
 abbrev pub value_after : ℕ → List ℕ → ℕ
 value_after n digits = number_from_digits_after 10 n (map (λ b. b - 48) digits)
 
@@ -37,7 +37,7 @@ pub read_one : (text : List ℕ) (value digits : ℕ) → digits < length text �
     ≡ true → IsReadTo text value digits → IsReadTo text (value * 10 + (get_or text digits 0 - 48)) (digits + 1)
 read_one text value digits lt digit is = search (rules, drop_more, next_value)
 
--- the number after one more digit is at most the number of all digits
+-- if the digits so far and one more denote a number of at least 2^64, then so do all digits
 pub read_too_much : (text : List ℕ) (value digits : ℕ) → digits < length text →
     is_ascii_digit (get_or text digits 0) ≡ true → IsReadTo text value digits →
     2 ^ 64 ≤ value * 10 + (get_or text digits 0 - 48) → 2 ^ 64 ≤ decimal_value (take_while is_ascii_digit text)

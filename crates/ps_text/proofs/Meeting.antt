@@ -33,18 +33,20 @@ module _ {T F E : Type 0} (found : E → Option (Found F)) (causes : Causes T F)
   then_fails j see view old mid new e m = stops_first causes j old (found e) m
 
   module _ {V X : Type 0} (take : T → Option V) (Bad : T → F → Type 0) (view : X → V) (old new : Stream T) where
-    -- the case in which the next symbol is accepted
+    -- a function that parses one symbol meets its contract if it returns the value of the next symbol, which is
+    -- accepted
     pub meets_next : (t : T) (x : X) → next_of old ≡ Some t → new ≡ tail old → take t ≡ Some (view x) →
         ((f : F) → Bad t f → ⊥) → Meets found causes view (one take Bad) old (Ok x) new
     meets_next t x n z k good = reads_next take Bad old new t (view x) n z k good
 
-    -- the case in which the next symbol is an error
+    -- a function that parses one symbol meets its contract if it returns the error of the next symbol
     pub meets_bad_next : (t : T) (f : F) (e : E) → next_of old ≡ Some t →
         Bad t f → ((g : F) → Bad t g → causes.number f ≤ causes.number g) → found e ≡ Some (record
         { cause = f; offset = offset_of old.pieces old.end }) → Meets found causes view (one take Bad) old (Err e) new
     meets_bad_next t f e n b least k = stops_bad causes take Bad old t f (found e) n b least k
 
-    -- the case in which the next symbol is not allowed, or the text ends
+    -- a function that parses one symbol meets its contract if it returns the error for a symbol that is not allowed, or
+    -- for the end of the text
     pub meets_refusal : (s : T) (w : V) → take s ≡ Some w → ((t : T) → next_of old ≡ Some t → take t ≡ None) →
         ((t : T) (f : F) → next_of old ≡ Some t → Bad t f → ⊥) →
         (e : E) → found e ≡ Some (refusal_at causes old) → Meets found causes view (one take Bad) old (Err e) new
@@ -54,7 +56,7 @@ module _ {T F E : Type 0} (found : E → Option (Found F)) (causes : Causes T F)
       Meets found causes view P old (Err e) new → IsErrAnd r (λ y. y ≡ e) → Meets found causes view P old r new
   exits view P old new e r m i = steps.exits found causes view P old new e r m i
 
-  -- parsing a nonempty text leaves fewer pieces
+  -- after a nonempty text was parsed, fewer pieces are unread
   pub meets_shrinks : {V X : Type 0} (view : X → V) (P : Part T V F) (old new : Stream T) (x : X) →
       ((v : V) → P.IsText [] v → ⊥) → Meets found causes view P old (Ok x) new → length new.pieces < length old.pieces
   meets_shrinks view P old new x some m = reads_shrinks some m

@@ -13,7 +13,7 @@ not_both : {T V F : Type 0} (IsText : List T → V → Type 0) (IsCause : List T
     (stream : Stream T) (f : Found F) → IsClean IsCause (signs stream.pieces) → IsFirstAt number IsCause stream f → ⊥
 not_both IsText IsCause number stream f c h = search (rules, signs_split)
 
--- two first errors are at the same position and have the same number
+-- two first errors of the same text are at the same position and have the same number: neither precedes the other
 tied : (m n i j : ℕ) (P Q : Type 0) → (m < n) ⊎ (P × (i ≤ j)) → (n < m) ⊎ (Q × (j ≤ i)) → (P → m ≡ n) → (Q → n ≡ m) →
     (m ≡ n) × (i ≡ j)
 tied m n i j P Q cases given p q = search rules
@@ -41,7 +41,7 @@ same_first {T} {F} number IsCause numbered stream f g h k =
     rests = (same_split h.front h.rest k.front k.rest
         (sym h.split ∙ k.split) (sym (lengths h.front) ∙ ties.0 ∙ lengths k.front)).1
 
--- if each text has one meaning and different errors have different numbers, each text has one answer
+-- if each text has at most one meaning and different errors have different numbers, each text has at most one answer
 pub has_one_answer : {T V F : Type 0} (IsText : List T → V → Type 0) (IsCause : List T → Option T → F → Type 0)
     (number : F → ℕ) → HasOneMeaning IsText → AreNumbered number → HasOneAnswer IsText IsCause number
 has_one_answer IsText IsCause number m n stream (Ok v) (Ok w) a b = ap Ok (m (signs stream.pieces) v w a.0 b.0)

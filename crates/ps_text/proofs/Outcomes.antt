@@ -1,10 +1,12 @@
 -- For each list of symbols, each grammar has an outcome: a text is parsed, or the first fault is found. The proof is by
 -- recursion on how the grammar is composed. Only at single symbols is there something to decide: which error has the
 -- smallest number (Judged).
--- - `has_give`, `..`, `has_barred`: a grammar made by this combinator has an outcome for each list of symbols
+-- - `has_give`, `..`, `has_barred`: a grammar made by the combinator `give`, .., `barred` has an outcome for each list
+--   of symbols
 -- - `entered_or_broken`: the next symbol begins a grammar without an empty text, or the grammar rejects the symbol
--- - `has_refusal`: the outcome if the next symbol does not begin the grammar
--- - `some_answer`: each text has an answer; some_answer_of is the law of ps_text
+-- - `has_refusal`: if the next symbol does not begin the grammar, which has no empty text, the outcome is a fault at
+--   this symbol
+-- - `some_answer`: each text has an answer; `some_answer_of` has the premises of the law `some_answer` of ps_text
 use Rattle.std.proofs.Common.{◌≡◌, ℕ, zero, suc, ◌<◌, ◌≤◌, ◌⊎◌, List, [], ◌∷◌, ◌++◌, length, Option, None, Some, Result}
 use Rattle.std.proofs.Common.{Ok, Err, refl, sym, ap, subst, inl, inr, ◌∙◌, arith, rules}
 use Rattle.ps_text.specs.Answers.{Begins, Piece, Stream, Found, HasOneMeaning, first_of, signs, offset_of}
@@ -23,12 +25,12 @@ use Rattle.ps_text.proofs.Branches.{Stands, left_entered, right_otherwise, item_
 use Rattle.ps_text.proofs.Barred.{Bar, read_barred, fault_barred, fault_bar}
 use Rattle.ps_text.proofs.Whole.{Own, answers_ok, answers_fault, answers_trailing}
 
--- a symbol has an error with the smallest number, or it has no error
+-- a decision about the errors that `Bad` states: there is one with the smallest number, or there is none
 pub data Judged {F : Type 0} (number : F → ℕ) (Bad : F → Type 0) : Type 0 where
   bad : (f : F) → Bad f → ((g : F) → Bad g → number f ≤ number g) → Judged number Bad
   good : ((f : F) → Bad f → ⊥) → Judged number Bad
 
--- a symbol has at most one error
+-- the decision for a symbol with exactly one error
 pub bad_only : {F : Type 0} (number : F → ℕ) (Bad : F → Type 0) (f : F) → Bad f → ((g : F) → Bad g → f ≡ g) →
     Judged number Bad
 bad_only number Bad f b only = bad f b (λ g c. subst (λ h. number f ≤ number h) (only g c) (omega arith))
@@ -69,7 +71,7 @@ module _ {T F : Type 0} (causes : Causes T F) where
       go all (was_read a rest r) = was_read (h a) rest (read_mapped h P r)
       go all (has_fault f rest r) = has_fault f rest (fault_mapped h P r)
 
-  -- the outcome of P followed by Q, from the outcomes of Q after the texts of P
+  -- P followed by Q has an outcome, if P has one, and Q has one after each text of P
   outcome_then : {A B : Type 0} {P : Part T A F} {Q : A → Part T B F} → Joint P Q → (all : List T) → ((mid : List T)
       (a : A) → IsRead P all a mid → Outcome causes (Q a) mid) → Outcome causes P all → Outcome causes (then_by P Q) all
   outcome_then {A} {B} {P} {Q} j all q (has_fault f rest r) = has_fault f rest (fault_left j r)
@@ -83,7 +85,7 @@ module _ {T F : Type 0} (causes : Causes T F) where
       ((a : A) → HasOutcomes causes (Q a)) → HasOutcomes causes (then_by P Q)
   has_then j p q = record { outcome = λ all. outcome_then j all (λ mid a r. (q a).outcome mid) (p.outcome all) }
 
-  -- the outcome if the next symbol does not begin P
+  -- if the next symbol does not begin P, which has no empty text, the outcome is a fault at this symbol
   pub has_refusal : {V : Type 0} {odd : T → Type 0} {P : Part T V F} {First More : T → Type 0} →
       Laws odd P First More ⊥ → (all : List T) → Avoids First (first_of all) → Outcome causes P all
   has_refusal l all avoided = has_fault _ all (refused l causes all avoided)
@@ -113,7 +115,8 @@ module _ {T F : Type 0} (causes : Causes T F) where
       Avoids (λ t. Enters P (Some t)) there
   avoids P there b t x e = enters_broken P there (subst (Enters P) (sym x) e) b
 
-  -- the first alternative of `either` has no empty text
+  -- `either P Q` has an outcome for each list of symbols, if P and Q have, P has no empty text, and both begin with
+  -- different symbols
   pub has_either : {V : Type 0} {odd : T → Type 0} {P Q : Part T V F} {F1 M1 F2 M2 : T → Type 0} {N2 : Type 0} →
       Laws odd P F1 M1 ⊥ → Laws odd Q F2 M2 N2 → Apart F1 F2 → HasOutcomes causes P → HasOutcomes causes Q →
       HasOutcomes causes (either P Q)
@@ -148,7 +151,7 @@ module _ {T F : Type 0} (causes : Causes T F) where
       pub read_no_item : IsRead (many item c) all c all
       read_no_item = read_nothing item c all none
 
-    -- the outcome of `many`, by recursion over the number of unread symbols
+    -- `many` has an outcome for each list of symbols; the proof is by recursion over the number of unread symbols
     many_from : (n : ℕ) (c : C) (all : List T) → length all < n → Outcome causes (many item c) all
     many_from zero c all less = absurd (omega (arith, less))
     many_from (suc n) c all less = go (λ mid d short. many_from n d mid short)

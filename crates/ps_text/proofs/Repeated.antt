@@ -1,12 +1,14 @@
 -- `times` and `many`. No item is empty, and no symbol both continues an item and begins an item.
--- - `laws_times`, `laws_many`: the laws of repeated items: they begin with First, and continue with More or First
--- - `covers_item`: if an item begins here, `many` is parsed as this item followed by `many`
--- - `read_nothing`, `read_none`: if no item begins here, `many` is parsed as the empty list
--- - `joint_many`, `joint_times`: the joint of an item and the items after it
--- - `read_item`: `many` is parsed if an item and then `many` are parsed
+-- - `laws_times`, `laws_many`: the grammars of repeated items satisfy the laws; their texts begin with symbols of the
+--   item's set First, and continue with those of More or First
+-- - `covers_item`: apart from the empty text, `many` has the texts and errors of an item followed by `many`
+-- - `read_nothing`, `read_none`: if the next symbol does not begin an item, `many` is parsed, with no item
+-- - `joint_many`, `joint_times`: an item and the items after it satisfy `Joint`: it is clear where the next item begins
+-- - `read_item`: if an item is parsed, and then `many` is parsed from its end, then `many` is parsed from the item's
+--   start
 --
--- `many` has the laws of `upto n`, the grammar of up to n items, because each text and each error of `many` is one of
--- `upto n` for some n.
+-- `many` satisfies the laws because `upto n`, the grammar of up to n items, does: each text and each error of `many` is
+-- one of `upto n` for some n.
 use Rattle.std.proofs.Common.{rules, ◌≡◌, ℕ, zero, suc, ◌+◌, ◌<◌, ◌≤◌, List, [], ◌∷◌, ◌++◌, length, Option, Some, refl}
 use Rattle.std.proofs.Common.{sym, ap, inl, inr, ⊎_elim, arith}
 use Rattle.ps_text.specs.Answers.{first_of}
@@ -84,7 +86,7 @@ module _ {T C F : Type 0} (item : C → Part T C F) where
 
 module _ {T C F : Type 0} {odd : T → Type 0} (item : C → Part T C F) {First More : T → Type 0}
     (l : (c : C) → Laws odd (item c) First More ⊥) (apart : Apart More First) where
-  -- an item, followed by a text that is empty or begins with an item
+  -- the laws of an item followed by R, where each text of R is empty or begins with an item
   laws_more : {R : C → Part T C F} → ((d : C) → Laws odd (R d) First (Or More First) (Unit {0})) → (c : C) →
       Laws odd (then_by (item c) R) First (Or More First) ⊥
   laws_more r c = weaker (laws_then (l c) r apart) (λ t. grind arith) (λ t. ⊎_elim (λ h. h) (λ h. inl h.1)) (λ h. h.0)

@@ -1,9 +1,11 @@
--- `give`, `one` and `mapped`: their laws, and when they are parsed and when they fail. Also the laws of `then_by`.
--- - `laws_give`, `laws_one`, `laws_mapped`, `laws_then`: the laws of each combinator
+-- The combinators `give`, `one` and `mapped`: they satisfy the laws (`Laws`), and when they are parsed and when they
+-- fail. Also the laws of `then_by`.
+-- - `laws_give`, `laws_one`, `laws_mapped`, `laws_then`: a grammar made by each of these combinators satisfies the laws
 -- - `refused`: the fault of a grammar without an empty text, if the next symbol does not begin the grammar
--- - `read_give`: no symbol is taken
+-- - `read_give`: the grammar `give v` is parsed without taking a symbol
 -- - `taken_byte`: the symbol that is taken for a byte is this byte
--- - `read_one`, `bad_one`, `refused_one`: one symbol: accepted; an error; not allowed, or the text ends
+-- - `read_one`, `bad_one`, `refused_one`: the result of parsing one symbol that is accepted; that is an error; that is
+--   not allowed, or missing because the text ends
 -- - `read_mapped`, `fault_mapped`: when `mapped` is parsed, and when it fails
 use Rattle.std.proofs.Common.{◌≡◌, ◌≤◌, List, [], ◌∷◌, ◌++◌, Option, None, Some, refl, sym, ap, subst, inl, inr}
 use Rattle.std.proofs.Common.{◌⊎◌, ◌∙◌, ℕ, append_assoc, arith, rules}
@@ -41,7 +43,7 @@ pub single_split : {T : Type 0} (front rest : List T) (t s : T) → front ++ t �
 single_split [] rest t s e = (refl, same_head t s rest [] e, same_tail t s rest [] e)
 single_split (u ∷ front) rest t s e = absurd (nil_is_cons t rest (sym (append_nil_right front (t ∷ rest) cc)))
 
--- the fault of P, if the next symbol does not begin P
+-- if the next symbol does not begin P, which has no empty text, P has a fault at this symbol: that it is not allowed
 pub refused : {T V F : Type 0} {odd : T → Type 0} {P : Part T V F} {First More : T → Type 0} →
     Laws odd P First More ⊥ → (causes : Causes T F) (all : List T) →
     ((t : T) → first_of all ≡ Some t → First t → ⊥) → IsFault causes P all (refusal_of causes (first_of all)) all
@@ -103,7 +105,7 @@ module _ {T V F : Type 0} (take : T → Option V) (Bad : T → F → Type 0) whe
     fault = is_cause t e (refl, b) (λ g c. least g c.1);
   }
 
-  -- the grammar has a text, because `take` accepts the symbol s
+  -- the grammar of one symbol has a text, because `take` accepts the symbol s
   pub refused_one : (causes : Causes T F) (s : T) (w : V) → take s ≡ Some w → (all : List T) →
       ((t : T) → first_of all ≡ Some t → take t ≡ None) → ((t : T) (f : F) → first_of all ≡ Some t → Bad t f → ⊥) →
       IsFault causes (one take Bad) all (refusal_of causes (first_of all)) all
@@ -160,7 +162,7 @@ module _ {T A B F : Type 0} {odd : T → Type 0} {P : Part T A F} {Q : A → Par
   first_cause_then : (t : T) (f : F) → (then_by P Q).IsCause [] t f → Or F1 (When N1 F2) t
   first_cause_then t f cases = search (rules, append_nil_left, append_nil_right)
 
-  -- if P can continue after a text of P and Q, the text of Q is empty
+  -- if a text of P, followed by a text of Q, can continue as a text of P, then the text of Q is empty
   goes_then : (left right more : List T) (t : T) (a : A) (x : B) → P.IsText left a → (Q a).IsText right x →
       GoesOn P left (first_of (right ++ t ∷ more)) → When N2 M1 t
   goes_then left [] more t a x h k g = ((r a).null x k, goes left t a h g)

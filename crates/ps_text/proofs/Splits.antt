@@ -1,8 +1,9 @@
 -- A list that is split in two ways: the two first halves are equal, or one of them continues where the other ends.
--- - `Compared`, `compared`: the three cases of two splits
--- - `Placed`, `placed`: the position of a symbol of the list: inside the front, or after it
--- - `inside_of`: a symbol before the end of the front is inside the front
--- - `all_taken_all`: a fact about all symbols of a front as long as the list is a fact about the list
+-- - `Compared`, `compared`: two splits of a list compared: the first is at an earlier position, at the same, or at a
+--   later one
+-- - `Placed`, `placed`: a symbol of a list that is split in two is in the first half, or after it
+-- - `inside_of`: a symbol at a smaller index than the first half's length is in the first half
+-- - `all_taken_all`: if a list has at most v entries, a fact about its first v entries holds for all of its entries
 use Rattle.std.proofs.Common.{◌≡◌, ℕ, suc, ◌+◌, ◌<◌, ◌≤◌, List, [], ◌∷◌, ◌++◌, length, take, drop, refl, sym, ap, subst}
 use Rattle.std.proofs.Common.{◌∙◌, arith, append-nil, length-append, Some, rules}
 use Rattle.std.specs.List.{All}
@@ -39,7 +40,7 @@ length_more a m t = length-append a (t ∷ m)
 pub same_split : {T : Type 0} (a b c d : List T) → a ++ b ≡ c ++ d → length a ≡ length c → (a ≡ c) × (b ≡ d)
 same_split {T} a b c d e l = search (rules, compared, length_more)
 
--- a symbol of a list is inside the first half, or after it
+-- a symbol of a list that is split in two is in the first half, or after it
 pub data Placed {T : Type 0} (left mid front rest : List T) (t : T) : Type 0 where
   inside : (m : List T) → left ≡ front ++ t ∷ m → Placed left mid front rest t
   behind : (y : List T) → front ≡ left ++ y → mid ≡ y ++ t ∷ rest → Placed left mid front rest t

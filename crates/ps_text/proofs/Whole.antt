@@ -1,11 +1,13 @@
--- From the result of a grammar to the answer to a whole text.
+-- From the result of parsing the grammar of a whole text to the answer to the text.
 -- - `no_fault`: the whole text was parsed, and its value is the answer
 -- - `first_fault`: the first fault of the grammar is the first error of the text
--- - `trailing`: a beginning of the text was parsed: the first error is that the next symbol is not allowed
--- - `answers_ok`, `answers_fault`, `answers_trailing`: as the three lemmas above, from the contract `Meets`
+-- - `trailing`: if the grammar was parsed before the end of the text, the first error is that the next symbol is not
+--   allowed
+-- - `answers_ok`, `answers_fault`, `answers_trailing`: the same three facts, derived from the contract `Meets` of the
+--   parsing function
 --
--- The lemmas require the laws of the grammar with `Own causes` for `odd`: the symbols that are errors wherever they
--- occur.
+-- The lemmas require that the grammar satisfies `Laws`, where the set `odd` is `Own causes`: the symbols that are
+-- errors wherever they occur.
 use Rattle.std.proofs.Common.{rules, ◌≡◌, ◌<◌, ◌≤◌, ◌⊎◌, List, [], ◌∷◌, ◌++◌, length, Option, None, Some, Ok, Err}
 use Rattle.std.proofs.Common.{refl, sym, ap, subst, inl, inr, ◌∙◌, append_assoc, append-nil, arith, length-append, drop}
 use Rattle.std.proofs.lemmas.List.{append_cancel_right}
@@ -117,7 +119,7 @@ module _ {T V F : Type 0} {causes : Causes T F} {part : Part T V F} {First More 
 
   -- ## With offsets
 
-  -- the first error in a stream of symbols with offsets
+  -- if f is the first error of the stream's symbols, then f with the offset of its symbol is the answer to the stream
   at_pieces : (old : Stream T) (found : Found F) {text : List T} (front rest : List (Piece T)) →
       old.pieces ≡ front ++ rest → signs old.pieces ≡ text ++ signs rest → IsFirst causes.number (IsWrong causes part)
       text (signs rest) found.cause → found.offset ≡ offset_of rest old.end → PartAnswers causes part old (Err found)

@@ -1,10 +1,13 @@
 -- The answer to a text, for every format: the meaning of the text, or its first error.
--- - `Piece`, `Stream`: a symbol of a text with its offset; the pieces of a text, and the offset of its end
+-- - `Piece`, `Stream`: a symbol of a text with its offset; a whole text as a list of such pieces, and the offset of its
+--   end
 -- - `Begins IsText front`: some text of the grammar begins with the symbols `front`
--- - `NoneGoesOn IsText front there`: no text begins with `front` and `there`; at the end, `front` is not a text
+-- - `NoneGoesOn IsText front there`: no text begins with `front` and the symbol `there`; if no symbol follows, `front`
+--   is not a text
 -- - `IsUnexpected IsText front there`: some text begins with `front`, but none continues with the symbol `there`
 -- - `IsClean IsCause all`: the text has no error
--- - `IsFirst number IsCause front rest f`: f is an error between `front` and `rest`, and no other error precedes it
+-- - `IsFirst number IsCause front rest f`: f is the first error of the text, after the symbols `front` and before
+--   `rest`
 -- - `IsFirstAt number IsCause stream found`: like `IsFirst`, for symbols with offsets
 -- - `Answers IsText IsCause number stream answer`: Ok with the meaning of the text, or Err with its first error
 --
@@ -30,7 +33,7 @@ pub record Found (F : Type 0) : Type 0 where
   pub cause : F
   pub offset : ℕ
 
--- the symbols without their offsets
+-- the symbols of the pieces, without their offsets
 abbrev pub signs : {T : Type 0} → List (Piece T) → List T
 signs ps = map (λ p. p.sign) ps
 
@@ -70,8 +73,8 @@ pub record IsUnexpected {T V : Type 0} (IsText : List T → V → Type 0) (front
 abbrev pub IsClean : {T F : Type 0} → (List T → Option T → F → Type 0) → List T → Type 0
 IsClean {T} {F} IsCause all = (front rest : List T) (f : F) → all ≡ front ++ rest → IsCause front (first_of rest) f → ⊥
 
--- f is an error between `front` and `rest`. Every other error of the text is later, or is at the same position and its
--- number is not smaller
+-- f is an error at the first symbol of `rest`, or at the end of the text. Every other error of the text is later, or is
+-- at the same position and its number is not smaller
 pub record IsFirst {T F : Type 0} (number : F → ℕ) (IsCause : List T → Option T → F → Type 0) (front rest : List T)
     (f : F) : Type 0 where
   pub stands : IsCause front (first_of rest) f
@@ -93,7 +96,7 @@ abbrev pub Answers : {T V F : Type 0} → (List T → V → Type 0) → (List T 
 Answers IsText IsCause number stream (Ok v) = IsText (signs stream.pieces) v × IsClean IsCause (signs stream.pieces)
 Answers IsText IsCause number stream (Err found) = IsFirstAt number IsCause stream found
 
--- each list of symbols has at most one meaning
+-- each list of symbols has at most one meaning as a text of the grammar
 abbrev pub HasOneMeaning : {T V : Type 0} → (List T → V → Type 0) → Type 0
 HasOneMeaning {T} {V} IsText = (text : List T) (v w : V) → IsText text v → IsText text w → v ≡ w
 

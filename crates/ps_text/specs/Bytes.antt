@@ -1,9 +1,9 @@
 -- Texts whose symbols are single bytes: their symbols, and the grammars of bytes and of runs of bytes.
--- - `stream_at at bytes`: the symbols of the bytes, of which the first is at the offset `at`
+-- - `stream_at at bytes`: a symbol for each byte, as a stream whose first symbol is at the offset `at`
 -- - `stream_of text`: the symbols of a text, with a newline added to its last line if that has none
--- - `byte_causes number syntax`: the causes of a format in which no byte is an error by itself
--- - `byte b, word bytes`: the byte b; the given bytes in order
--- - `run p see Bad`: the longest run of bytes that pass p, with at least one byte
+-- - `byte_causes number syntax`: the record `Causes` for a format in which no byte is an error wherever it occurs
+-- - `byte b, word bytes`: the grammars of the single byte b, and of the given bytes in order
+-- - `run p see Bad`: the grammar of the longest run of bytes that pass p, with at least one byte
 use Rattle.std.specs.Prelude.{◌≡◌, ℕ, ◌+◌, ◌<◌, Bool, false, List, [], ◌∷◌, ◌++◌, length, map, Option, None, Some, ◌==◌}
 use Rattle.std.specs.Prelude.{◌&&◌, ◌||◌, nat_le, not, if◌then◌else◌}
 use Rattle.ps_text.specs.Answers.{Piece, Stream}
@@ -61,7 +61,7 @@ word (b ∷ bytes) = then_by (byte b) (λ _. word bytes)
 
 -- ## Runs
 
--- the bytes begin with this run, and the byte after the run does not pass the test
+-- `bytes` begin with the nonempty `run`, whose bytes pass the test p, and the byte after the run does not pass
 pub record BeginsRun (p : ℕ → Bool) (run bytes : List ℕ) : Type 0 where
   pub rest : List ℕ
   pub split : bytes ≡ run ++ rest
@@ -69,7 +69,7 @@ pub record BeginsRun (p : ℕ → Bool) (run bytes : List ℕ) : Type 0 where
   pub all : AllOf p run
   pub longest : StopsBefore p rest
 
--- a run that begins at the symbol s has the error f
+-- the longest run that begins at the symbol s has the error f
 pub record IsBadRun {C : Type 0} (p : ℕ → Bool) (Bad : List ℕ → C → Type 0) (s : Seen) (f : C) : Type 0 where
   pub run : List ℕ
   pub begins : BeginsRun p run (s.byte ∷ s.behind)

@@ -1,6 +1,6 @@
 -- A cursor over bytes as clauses see it: the symbols that are still unread.
--- - `next_byte stream, stream_offset stream`: the next byte; its offset, or the offset of the end
--- - `IsAhead stream`: each symbol carries the bytes that follow it
+-- - `next_byte stream, stream_offset stream`: the next byte that is unread; its offset, or the offset of the text's end
+-- - `IsAhead stream`: each symbol of the stream has, besides its byte, the list of all bytes after it
 -- - `Passes p old new run`: the cursor moved past `run`, the longest run of bytes that pass p, which may be empty
 use Rattle.std.specs.Prelude.{◌≡◌, ℕ, ◌+◌, Bool, true, false, List, [], ◌∷◌, ◌++◌, length, Option, ◌==◌}
 use Rattle.std.specs.Option.{option_map}
@@ -11,7 +11,7 @@ use Rattle.ps_text.specs.declared.cursor.Class.{Class}
 use Rattle.ps_text.specs.declared.cursor.Class.TheVariants.{Digit, Letter, Blank, Space, Inner, Unquoted, Quote, Comma}
 use Rattle.ps_text.specs.declared.cursor.Class.TheVariants.{Semicolon}
 
--- the unread bytes, with a newline at the end if the last line has none
+-- the unread bytes `rest`, with a newline added at the end if the first argument says that the last line has none
 abbrev pub rest_with_newline : Bool → List ℕ → List ℕ
 rest_with_newline true rest = rest ++ 10 ∷ []
 rest_with_newline false rest = rest

@@ -1,5 +1,5 @@
--- What a fault says about a text: the cause and its offset, or, if the program ran out of memory, nothing. In psyn's
--- list of faults, a fault has the number and name of its cause, or of "out of memory".
+-- What a fault says about a text: why and at which offset the text is rejected, or, if the program ran out of memory,
+-- nothing. In psyn's list of faults, a fault has the number and name of its cause, or of "out of memory".
 use Rattle.std.specs.Prelude.{ℕ, List, Option, None, Some, Result, Ok, Err, codes}
 use Rattle.ps_text.specs.declared.faults.Fault.{Fault}
 use Rattle.ps_text.specs.declared.faults.Fault.TheVariants.{Text, OutOfMemory}
@@ -9,13 +9,13 @@ abbrev pub found_of : {C : Type 0} → Fault C → Option (Found C)
 found_of (Text cause offset) = Some (record { cause = cause; offset = offset })
 found_of OutOfMemory = None
 
--- a call returns the answer to the text, unless the program is out of memory
+-- the result of a call is the answer to the text, or the fault that the program is out of memory
 abbrev pub UnlessMemory : {V C : Type 0} → (Result V (Found C) → Type 0) → Result V (Fault C) → Type 0
 UnlessMemory IsAnswer (Ok value) = IsAnswer (Ok value)
 UnlessMemory IsAnswer (Err (Text cause offset)) = IsAnswer (Err (record { cause = cause; offset = offset }))
 UnlessMemory IsAnswer (Err OutOfMemory) = Unit {0}
 
--- the number of the fault "out of memory", the same for every call
+-- the number of the fault "out of memory", which is the same in every part of psyn
 abbrev pub memory_number : ℕ
 memory_number = 24
 

@@ -1,8 +1,9 @@
 -- The outcome of parsing a grammar at the start of a list of symbols, and the statement that each text has an answer.
--- - `Outcome causes part all`: the grammar is parsed at the start of `all`, or has a first fault in `all`
+-- - `Outcome causes part all`: the list `all` begins with a text of the grammar and no error, or the grammar has a
+--   first fault in `all`
 -- - `HasOutcomes causes part`: the grammar has an outcome for each list of symbols
--- - `IsOrderly causes part`: each error follows a beginning of a text, and is not at a symbol that is an error wherever
---   it occurs
+-- - `IsOrderly causes part`: each error of the grammar follows a beginning of a text, and a symbol that is an error
+--   wherever it occurs is in no text and has no other error
 -- - `HasSomeAnswer IsText IsCause number`: each text has an answer: its meaning or its first error
 --
 -- The outcome does not depend on memory: it is the result of a parser that does not run out of memory.
@@ -25,7 +26,7 @@ pub record IsOrderly {T V F : Type 0} (causes : Causes T F) (part : Part T V F) 
       causes.own t ≡ Some f → ⊥
   pub no_cause : (front : List T) (t : T) (f g : F) → part.IsCause front t f → causes.own t ≡ Some g → ⊥
 
--- each text has an answer
+-- each text has an answer: its meaning, if it has no error, or its first error
 abbrev pub HasSomeAnswer : {T V F : Type 0} → (List T → V → Type 0) → (List T → Option T → F → Type 0) → (F → ℕ) →
     Type 0
 HasSomeAnswer {T} {V} {F} IsText IsCause number = (stream : Stream T) →

@@ -1,18 +1,21 @@
 -- Grammars composed by combinators. A `Part` is a grammar together with the errors that its texts can have. Combinators
 -- make larger grammars of smaller ones, so that a format's grammar reads like the grammar in the format's standard.
--- - `Part`: which lists of symbols are a text with a given value, and which errors can follow which symbols
--- - `Causes`: the causes of a format, with their numbers
--- - `IsWrong causes part`: an error of a text with this grammar: the IsCause of `Answers`
+-- - `Part`: a grammar with its errors: which lists of symbols are texts, which value each has, and which errors a
+--   symbol can have after which symbols
+-- - `Causes`: the numbers of a format's errors, and the errors that come from no single grammar
+-- - `IsWrong causes part`: what is an error in a text of a format with this grammar; it is passed to `Answers` as
+--   IsCause
 -- - `IsRead part all v rest`: the grammar was parsed at the start of `all`, and `rest` is left
 -- - `IsFault causes part all f rest`: the grammar has its first fault in `all`, and `rest` begins there
 --
 -- The combinators:
--- - `give v`: no symbol, with the value v
+-- - `give v`: the grammar of the empty text, with the value v
 -- - `one take Bad`: one symbol, whose value `take` gives; Bad states which errors a symbol has here
 -- - `then_by P Q`: P and then Q a, for the value a of P; the value of Q a is the value of both
 -- - `either P Q`: a text of P or a text of Q
--- - `times n item c, many item c`: n items, or any number of items, in a row; c is the context of the first
--- - `mapped h P`: P with the value h v in place of v
+-- - `times n item c, many item c`: n items, or any number of items, in a row; each item depends on a context, which is
+--   c for the first item
+-- - `mapped h P`: the texts and errors of P, where a text has the value h v in place of v
 -- - `barred P Bad`: P with additional errors, which Bad states for the symbol after a text of P, given the value of the
 --   text
 --
@@ -28,26 +31,27 @@ use Rattle.std.specs.Prelude.{Result}
 use Rattle.std.specs.Option.{unwrap_or}
 use Rattle.ps_text.specs.Answers.{Begins, IsUnexpected, Stream, Found, Answers, first_of}
 
--- IsText: a list of symbols is a text of the grammar, with a value. IsCause: a symbol after a list of symbols is an
--- error, with a cause. A symbol that is only not allowed by the grammar is not an error in the sense of IsCause.
+-- `IsText text v`: the list of symbols is a text of the grammar with the value v. `IsCause front t f`: after the
+-- symbols `front`, the symbol t is the error f. A symbol that the grammar merely does not allow is not an error in the
+-- sense of IsCause.
 pub record Part (T V F : Type 0) : Type 1 where
   pub IsText : List T → V → Type 0
   pub IsCause : List T → T → F → Type 0
 
--- the number of each cause, the error that a symbol is wherever it occurs, and the error for a symbol (or the end) that
--- the grammar does not allow
+-- `number` numbers the errors. `own t` is the error that the symbol t is wherever it occurs, if it is one. `syntax` is
+-- the error for any other symbol, or for an end of the text, that the grammar does not allow.
 pub record Causes (T F : Type 0) : Type 0 where
   pub number : F → ℕ
   pub own : T → Option F
   pub syntax : F
 
--- the error for a symbol, or for the end of the text, that the grammar does not allow
+-- the error that is reported for a symbol, or for an end of the text, that the grammar does not allow
 abbrev pub refusal_of : {T F : Type 0} → Causes T F → Option T → F
 refusal_of causes None = causes.syntax
 refusal_of causes (Some t) = unwrap_or (causes.own t) causes.syntax
 
--- f is an error after `front`, at the next symbol or at the end: an error of the grammar's IsCause, the error that the
--- symbol always is, or the error that the symbol is not allowed
+-- After the symbols `front`, f is an error at the next symbol or at the end. It is stated by IsCause, or it is the
+-- error that the symbol is wherever it occurs, or that it is not allowed.
 pub data IsWrong {T V F : Type 0} (causes : Causes T F) (part : Part T V F) (front : List T) (there : Option T)
     (f : F) : Type 0 where
   by_part : (t : T) → there ≡ Some t → part.IsCause front t f → IsWrong causes part front there f
@@ -59,12 +63,12 @@ pub data IsWrong {T V F : Type 0} (causes : Causes T F) (part : Part T V F) (fro
 abbrev pub PartAnswers : {T V F : Type 0} → Causes T F → Part T V F → Stream T → Result V (Found F) → Type 0
 PartAnswers causes part = Answers part.IsText (IsWrong causes part) causes.number
 
--- the grammar has no error after fewer than n symbols
+-- none of the first n symbols of `all` is an error of the grammar (IsCause) where it stands
 abbrev pub CleanUpTo : {T V F : Type 0} → Part T V F → List T → ℕ → Type 0
 CleanUpTo {T} {V} {F} part all n =
     (front rest : List T) (t : T) (f : F) → all ≡ front ++ t ∷ rest → length front < n → part.IsCause front t f → ⊥
 
--- no text of the grammar begins with `front` and then the next symbol
+-- no text of the grammar begins with `front` and then the next symbol `there`, if there is a next symbol
 abbrev pub StopsAt : {T V F : Type 0} → Part T V F → List T → Option T → Type 0
 StopsAt part front None = Unit {0}
 StopsAt part front (Some t) = Begins part.IsText (front ++ t ∷ []) → ⊥
@@ -74,8 +78,8 @@ abbrev pub NoCauseAt : {T V F : Type 0} → Part T V F → List T → Option T �
 NoCauseAt part front None = Unit {0}
 NoCauseAt {T} {V} {F} part front (Some t) = (f : F) → part.IsCause front t f → ⊥
 
--- `all` begins with a text of the grammar with the value v, and `rest` follows this text. No text of the
--- grammar begins with this text and the next symbol, and there is no error inside the text or at the next symbol
+-- `all` consists of a text of the grammar with the value v, and `rest` after it. No text of the grammar begins with
+-- this text and the next symbol, and there is no error inside the text or at the next symbol
 pub record IsRead {T V F : Type 0} (part : Part T V F) (all : List T) (v : V) (rest : List T) : Type 0 where
   pub text : List T
   pub split : all ≡ text ++ rest
@@ -91,8 +95,8 @@ pub record IsBroken {T V F : Type 0} (part : Part T V F) (front : List T) (there
   pub stops : StopsAt part front there
   pub no_cause : NoCauseAt part front there
 
--- f is the fault at the next symbol: the grammar's error with the smallest number there, or the error that the symbol
--- is not allowed
+-- After the symbols `front`, f is the fault at the next symbol or at the end. It is the grammar's error with the
+-- smallest number there, or the error that this symbol or the end is not allowed.
 pub data IsFaultAt {T V F : Type 0} (causes : Causes T F) (part : Part T V F) (front : List T) (there : Option T)
     (f : F) : Type 0 where
   is_cause : (t : T) → there ≡ Some t → part.IsCause front t f →
@@ -100,7 +104,8 @@ pub data IsFaultAt {T V F : Type 0} (causes : Causes T F) (part : Part T V F) (f
       → IsFaultAt causes part front there f
   is_refusal : IsBroken part front there → f ≡ refusal_of causes there → IsFaultAt causes part front there f
 
--- the first fault of the grammar in `all`: the grammar has no error before it, and `rest` begins at the fault
+-- f is the first fault of the grammar in `all`: the grammar has no error before it, and `rest` begins with the symbol
+-- at which f is the fault
 pub record IsFault {T V F : Type 0} (causes : Causes T F) (part : Part T V F) (all : List T) (f : F)
     (rest : List T) : Type 0 where
   pub front : List T
@@ -113,14 +118,14 @@ pub record IsFault {T V F : Type 0} (causes : Causes T F) (part : Part T V F) (a
 abbrev pub give : {T V F : Type 0} → V → Part T V F
 give v = record { IsText = λ text x. (text ≡ []) × (x ≡ v); IsCause = λ _ _ _. ⊥ }
 
--- `Bad` can state an error for a symbol whether `take` accepts the symbol or not
+-- a symbol can have an error that `Bad` states whether `take` accepts the symbol or not
 abbrev pub one : {T V F : Type 0} → (T → Option V) → (T → F → Type 0) → Part T V F
 one {T} take Bad = record {
   IsText = λ text v. (t : T) × (text ≡ t ∷ []) × (take t ≡ Some v);
   IsCause = λ front t f. (front ≡ []) × Bad t f;
 }
 
--- no symbol has an error
+-- the argument of `one` by which no symbol has an error
 abbrev pub NoBad : {T F : Type 0} → T → F → Type 0
 NoBad _ _ = ⊥
 

@@ -1,11 +1,14 @@
--- What a parsing function states about the grammar that it parses: a text was parsed, or the first fault was found.
--- `old` and `new` are the unread pieces when the function begins and when it returns, as the Model of the code's tokens
--- shows them.
--- - `Meets found causes view part old result new`: the contract of a parsing function
--- - `Parses causes part old result new`: the contract of a function that returns the grammar's values and errors
--- - `Carries causes whole start rest now`: parsing `rest` from `now` gives what parsing `whole` from `start` gives
+-- What the contract of a parsing function states: a text of the function's grammar was parsed, or the grammar's first
+-- fault was found. `old` and `new` are the pieces of the text (symbols with their offsets) that are unread when the
+-- function begins and when it returns.
+-- - `Meets found causes view part old result new`: the contract of a parsing function with any types of value and error
+-- - `Parses causes part old result new`: the same contract for a function that returns the grammar's own values and
+--   errors
+-- - `Carries causes whole start rest now`: each result of parsing `rest` from the pieces `now` is a result of parsing
+--   `whole` from the pieces `start`
 -- - `tail stream`: the stream without its next piece
--- - `refusal_at causes stream`: the error, with its offset, for a symbol or an end that is not allowed
+-- - `refusal_at causes stream`: the error, with its offset, that the next symbol or the end of the stream is not
+--   allowed
 use Rattle.std.specs.Prelude.{◌≡◌, List, [], ◌∷◌, ◌++◌, Option, None, Some, Result, Ok, Err}
 use Rattle.ps_text.specs.Answers.{Piece, Stream, Found, signs, next_of, offset_of}
 use Rattle.ps_text.specs.Parts.{Part, Causes, IsRead, IsFault, refusal_of}
@@ -52,7 +55,8 @@ abbrev pub Meets : {T V F X E : Type 0} → (E → Option (Found F)) → Causes 
 Meets found causes view part old (Ok x) new = Reads part old (view x) new
 Meets found causes view part old (Err e) new = Stops causes part old (found e)
 
--- a text was parsed, or the first fault was found; the value is that of the grammar
+-- Ok with the value of the text that was parsed, or Err with the first fault of the grammar, or with None if the
+-- program is out of memory
 abbrev pub Parses : {T V F : Type 0} → Causes T F → Part T V F → Stream T → Result V (Option (Found F)) →
     Stream T → Type 0
 Parses causes part old (Ok v) new = Reads part old v new

@@ -1,7 +1,9 @@
--- The tokens of a text, as a relation between its bytes and its pieces. The blanks between tokens are single bytes.
+-- The tokens of a text, as a relation between its bytes and its pieces (tokens with their offsets). The blanks between
+-- tokens are single bytes.
 -- - `IsBlank b`: b is a byte that may occur between tokens
 -- - `IsToken before sign text rest`: between the bytes `before` and `rest`, `text` is the token `sign`
--- - `AreTokens IsBlank IsToken bytes stream`: the stream has the bytes' tokens, perhaps with blanks around them
+-- - `AreTokens IsBlank IsToken bytes stream`: the bytes consist of the stream's tokens, with any number of blanks
+--   before, between and after them
 -- - `TokensDiffer IsBlank IsToken`: at most one token begins at a position, and no token begins with a blank
 --
 -- By its `IsToken`, a format states that a token is the longest possible one, which tokens are never allowed, and how a
@@ -11,7 +13,7 @@ use Rattle.std.specs.Prelude.{◌≡◌, ℕ, List, [], ◌∷◌, ◌++◌, len
 use Rattle.std.specs.List.{AllByRecursion}
 use Rattle.ps_text.specs.Answers.{Piece, Stream}
 
--- the first token of the given bytes, with the blanks before it and the bytes after it
+-- `piece` is the first token of `bytes`, after some blanks; `before` are the bytes of the text before `bytes`
 pub record NextToken {T : Type 0} (IsBlank : ℕ → Type 0) (IsToken : List ℕ → T → List ℕ → List ℕ → Type 0)
     (before bytes : List ℕ) (piece : Piece T) : Type 0 where
   pub blanks : List ℕ

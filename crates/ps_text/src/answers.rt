@@ -1,4 +1,4 @@
-//! Two laws: a text has at most one answer, and it has at least one.
+//! Two laws about the answers of parsers: a text has at most one answer, and it has at least one.
 
 ghost use Rattle.std.specs.Prelude.{ℕ, List, Option};
 ghost use Rattle.ps_text.specs.Answers.{HasOneMeaning, AreNumbered, HasOneAnswer};
@@ -16,11 +16,11 @@ pub trait Format {
     /// The reasons why a text is rejected.
     type Cause;
 
-    /// A list of symbols is a text of the grammar with a given meaning.
+    /// States which lists of symbols are texts of the grammar, and with which meaning.
     ghost is_text: { List Self.Sign → Self.Value → Type 0 };
 
-    /// After a list of symbols there is an error: at the symbol that follows the list or, for `None`, at the end of the
-    /// text.
+    /// States which errors there are after a list of symbols: at the symbol that follows the list or, for `None`, at
+    /// the end of the text.
     ghost is_cause: { List Self.Sign → Option Self.Sign → Self.Cause → Type 0 };
 
     /// The number of a cause. If one symbol has two errors, the error with the smaller number is the answer.
@@ -34,7 +34,7 @@ pub fn one_answer<M: Format>()
 
 /// A format whose texts are defined by a `Part`, a grammar with its errors.
 pub trait Grammar {
-    /// The elements of a text.
+    /// The symbols of which texts consist.
     type Sign;
 
     /// The meanings of texts.
@@ -46,11 +46,13 @@ pub trait Grammar {
     /// The grammar of a whole text.
     ghost part: { Part Self.Sign Self.Value Self.Cause };
 
-    /// The causes of the format: their numbers, the causes of bad symbols, and the cause of a syntax error.
+    /// The numbers of the format's errors, the errors of symbols that are wrong wherever they occur, and the error for
+    /// a symbol that the grammar does not allow.
     ghost causes: { Causes Self.Sign Self.Cause };
 }
 
-/// A text has an answer, if each list of symbols begins with a text of the grammar or has a first fault.
+/// Each text has an answer if the grammar has an outcome (a parsed text or a first fault) for each list of symbols,
+/// gives each text only one meaning, and has only orderly errors (`IsOrderly`).
 pub fn some_answer<G: Grammar>()
     ensures { HasOneMeaning G.part.IsText → IsOrderly G.causes G.part → HasOutcomes G.causes G.part →
         HasSomeAnswer G.part.IsText (IsWrong G.causes G.part) G.causes.number }

@@ -59,7 +59,7 @@ impl Class {
     }
 }
 
-/// A run of digits and the number that it denotes.
+/// A run of digits, which may be empty, and the number that it denotes.
 #[derive(Clone, Copy)]
 pub struct Digits<'a> {
     /// The digits, including leading zeros.
@@ -68,7 +68,7 @@ pub struct Digits<'a> {
     pub value: Option<u64>,
 }
 
-/// The number of bytes of the class at the start of the text.
+/// The length of the longest run of bytes of the class at the start of the text.
 pub fn run_length(text: &[u8], class: Class) -> usize
     ensures length { result ≡ prefix_len (in_class class) text.now }
     ensures within { result ≤ length text.now }
@@ -98,7 +98,7 @@ fn is_ended(text: &[u8]) -> bool
     !text.is_empty() && text[text.len() - 1] == b'\n'
 }
 
-/// A position in a text, and the bytes that follow.
+/// A position in a text, and the bytes that are unread.
 #[derive(Drop)]
 pub struct Cursor<'a> {
     at: usize,
@@ -206,7 +206,7 @@ impl<'a> Cursor<'a> {
     ///
     /// # Errors
     ///
-    /// The given cause, if the next byte is different or the text ends.
+    /// Fails with the given cause, at the next byte or at the end, if the next byte is different or the text ends.
     pub fn byte<C: Cause>(&mut self, byte: u8, cause: C) -> Result<(), Fault<C>>
         ensures { Meets found_of (byte_causes C.number cause) (λ u. u) (parts.byte byte) self.old result self.new }
     {
@@ -221,7 +221,7 @@ impl<'a> Cursor<'a> {
     ///
     /// # Errors
     ///
-    /// The given cause, at the first byte that differs or at the end.
+    /// Fails with the given cause, at the first byte that differs from the given ones or at the end of the text.
     pub fn word<C: Cause>(&mut self, word: &[u8], cause: C) -> Result<(), Fault<C>>
         ensures { Meets found_of (byte_causes C.number cause) (λ u. u) (parts.word word.now) self.old result
             self.new }

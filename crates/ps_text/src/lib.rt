@@ -1,5 +1,5 @@
-//! What all parsers share, for every format: the answer to a text (its meaning or its first error), grammars composed
-//! by combinators, digits and blanks, and a cursor over bytes. The crate also writes numbers.
+//! What the parsers of all formats share: the answer to a text (its meaning or its first error), grammars composed by
+//! combinators, digits and blanks, and a cursor over bytes. The crate also writes numbers.
 //!
 //! | Call | What it gives |
 //! |---|---|

@@ -20,7 +20,7 @@ pub fn write_number(out: &mut Vec<u8>, number: u64) -> Result<(), AllocError>
     out.extend_from_slice(buffer.format(number).as_bytes())
 }
 
-/// The number at the start of a text.
+/// The number that the digits at the start of a text denote.
 #[derive(Clone, Copy)]
 pub struct LeadingNumber {
     /// The number; 0 if there are no digits.

@@ -5,13 +5,13 @@ ghost use Rattle.ps_text.specs.Tokens.{TokensDiffer, HasOneTokenisation};
 
 /// The tokens of a format: the bytes that may separate tokens, and the bytes that form a token.
 pub trait Lexicon {
-    /// A token as the grammar sees it.
+    /// A token, as a symbol of the format's grammar.
     type Sign;
 
     /// A byte that may occur between two tokens.
     ghost is_blank: { ℕ → Type 0 };
 
-    /// A list of bytes forms a token, given the bytes before it and the bytes after it.
+    /// States which token a list of bytes forms, if it forms one, between the bytes before it and the bytes after it.
     ghost is_token: { List ℕ → Self.Sign → List ℕ → List ℕ → Type 0 };
 }
 

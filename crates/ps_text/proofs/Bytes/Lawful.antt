@@ -1,11 +1,15 @@
--- Lawful grammars, and how they are combined into larger grammars.
--- - `Lawful number syntax part First More Null`: the grammar satisfies the laws with these sets, and has outcomes
--- - `Chain number syntax P Q First More Null`: P followed by Q: their joint, and that both together are lawful
--- - `larger`: the grammar is also lawful with larger sets
--- - `chained`, `next`, `tight`: a chain of any two grammars; neither has an empty text; no symbol continues the first
--- - `given`, `mapped_by`, `either_of`, `or_nothing`, `many_by`, `many_of`, `one_sign`, `run_by`: the laws of other
---   combinators
--- - `byte_of`, `word_of`, `chain_word`: the laws of bytes and words
+-- Grammars over bytes that satisfy the laws (`Laws`) and have an outcome for each list of symbols; how combinators keep
+-- both.
+-- - `Lawful number syntax part First More Null`: the grammar satisfies the laws with these sets, and has an outcome for
+--   each list of symbols
+-- - `Chain number syntax P Q First More Null`: the grammars P and Q in a row satisfy `Joint`, and `then_by P Q`
+--   satisfies `Lawful`
+-- - `larger`: `Lawful` still holds with larger sets of symbols
+-- - `chained`, `next`, `tight`: `Chain` for any two grammars; for two without an empty text; if no symbol continues a
+--   text of the first
+-- - `given`, `mapped_by`, `either_of`, `or_nothing`, `many_by`, `many_of`, `one_sign`, `run_by`: `Lawful` holds for
+--   grammars made by the other combinators
+-- - `byte_of`, `word_of`, `chain_word`: `Lawful` holds for the grammars of a byte and of a word
 use Rattle.std.proofs.Common.{◌≡◌, ◌⊎◌, ℕ, Bool, true, List, [], ◌∷◌, Option, Some, rules}
 use Rattle.ps_text.specs.Parts.{Part, give, one, then_by, either, many, mapped}
 use Rattle.ps_text.specs.Outcomes.{HasOutcomes}
@@ -75,7 +79,7 @@ module _ {C : Type 0} {number : C → ℕ} {syntax : C} where
       Lawful number syntax (mapped h P) F M N
   mapped_by h {P} p = record { laws = laws_mapped h P p.laws; has = has_mapped (byte_causes number syntax) h P p.has }
 
-  -- the first of the two alternatives has no empty text
+  -- `Lawful` holds for `either P Q`, if P has no empty text, and P and Q begin with different symbols
   pub either_of : {V : Type 0} {P Q : Part Seen V C} {F M G L First More : Seen → Type 0} {N : Type 0} →
       Lawful number syntax P F M ⊥ →
       Lawful number syntax Q G L N → Apart F G → Within F First → Within G First → Within M More → Within L More →
@@ -107,7 +111,7 @@ module _ {C : Type 0} {number : C → ℕ} {syntax : C} where
   many_of item l a =
       larger (many_by item l (λ t x y. x) a) (λ t h. h) (or_in (λ t h. absurd h) (λ t h. h)) (λ n. n)
 
-  -- the grammar has a text, because `take` accepts the symbol s
+  -- the grammar of one symbol has a text, because `take` accepts the symbol s
   pub one_sign : {V : Type 0} (take : Seen → Option V) (Bad : Seen → C → Type 0) {First : Seen → Type 0} (s : Seen)
       {v : V} → take s ≡ Some v → ((t : Seen) → Judged number (Bad t)) → Within (Taken take) First →
       Within (BadSign Bad) First → Lawful number syntax (one take Bad) First Nothing ⊥

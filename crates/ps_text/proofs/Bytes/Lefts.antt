@@ -1,10 +1,11 @@
 -- The exits of a parsing function, in terms of the remainder of the grammar that is still to be parsed.
--- - `Left number syntax whole start left now`: a result of `left` from `now` is a result of `whole` from `start`
--- - `unread`, `past`: at the start, the whole grammar is left; after the first of two grammars was parsed, the second
---   is left
+-- - `Left number syntax whole start left now`: each result of parsing the grammar `left` from `now` is a result of
+--   parsing `whole` from `start`
+-- - `unread`, `past`: at the start, the whole grammar is still to be parsed; after the first of two grammars was
+--   parsed, the second one
 -- - `stops_at`, `exits_at`: the next grammar fails, and its error is returned
--- - `stops_last`, `exits_last`, `reads_last`: the results at the last grammar, to whose value a function is applied
--- - `branch`: one of several alternatives follows
+-- - `stops_last`, `exits_last`, `reads_last`: the results if one grammar is left, to whose value a function is applied
+-- - `branch`: if the next symbol decides for one of several alternatives, only this alternative is left
 -- - `word_left`, `word_read`: a word is parsed byte by byte
 use Rattle.std.proofs.Common.{◌≡◌, ℕ, ◌+◌, ◌<◌, ◌≤◌, List, ◌∷◌, length, get_or, drop, Option, Result, Ok, Err, IsErrAnd}
 use Rattle.std.proofs.Common.{sym, subst, rules}

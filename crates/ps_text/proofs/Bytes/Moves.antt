@@ -34,7 +34,7 @@ place_is [] false = omega arith
 place_is (b ∷ rest) true = refl
 place_is (b ∷ rest) false = refl
 
--- as long as bytes remain, symbols remain
+-- if bytes are unread, symbols are unread
 pub left_some : (at : ℕ) (rest : List ℕ) (u : Bool) → eqb (length rest) 0 ≡ false →
     eqb (length (pieces_at at (rest_with_newline u rest))) 0 ≡ false
 left_some at [] u e = absurd cc

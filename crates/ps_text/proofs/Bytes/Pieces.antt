@@ -2,7 +2,8 @@
 -- - `bytes_append`, `bytes_at`, `length_pieces`: the bytes of symbols, and the number of pieces
 -- - `pieces_with at bytes rest`: the pieces of `bytes`, if `rest` follows these bytes
 -- - `pieces_split`: the pieces of two lists of bytes in a row
--- - `next_at`, `first_sees`: the next byte, and the bytes that the first symbol carries
+-- - `next_at`, `first_sees`: the first symbol of a text has the text's first byte, and its field `behind` has the other
+--   bytes
 use Rattle.std.proofs.Common.{◌≡◌, ℕ, suc, ◌+◌, ◌<◌, List, [], ◌∷◌, ◌++◌, length, refl, ap, ◌∙◌, arith, rules}
 use Rattle.std.specs.Option.{option_map}
 use Rattle.ps_text.specs.Answers.{Piece, Stream, signs, first_of}
@@ -45,7 +46,7 @@ pub length_with : (at : ℕ) (bytes rest : List ℕ) → 0 < length bytes → 0 
 length_with at [] rest h = absurd (omega arith)
 length_with at (b ∷ bytes) rest h = omega arith
 
--- the next byte of a stream is the first of its bytes
+-- the next byte of a stream of a text's pieces is the first byte of the text
 pub next_at : (s : Stream Seen) (at : ℕ) (bytes : List ℕ) → s.pieces ≡ pieces_at at bytes → next_byte s ≡ first_of bytes
 next_at s at bytes e = ap (λ ps. option_map (λ (t : Seen). t.byte) (first_of (signs ps))) e ∙ go bytes
   where
@@ -54,7 +55,7 @@ next_at s at bytes e = ap (λ ps. option_map (λ (t : Seen). t.byte) (first_of (
     go [] = refl
     go (b ∷ bytes) = refl
 
--- the first symbol carries the bytes that follow it
+-- the first symbol of a text has the first byte, and its field `behind` has the remaining bytes
 pub first_sees : (at : ℕ) (bytes : List ℕ) (t : Seen) (rest : List Seen) → signs (pieces_at at bytes) ≡ t ∷ rest →
     bytes ≡ t.byte ∷ t.behind
 first_sees at [] t rest e = absurd (nil_is_cons t rest e)

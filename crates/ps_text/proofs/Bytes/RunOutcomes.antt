@@ -1,6 +1,7 @@
--- A run of bytes has an outcome for each list of symbols. It is decided from the bytes that the first symbol carries.
--- - `has_run`: the outcome, if the errors of a run can be decided
--- - `run_of`: the longest run at the start of a list
+-- The grammar of a run of bytes has an outcome for each list of symbols. The outcome depends on the first symbol, whose
+-- field `behind` has all bytes after it.
+-- - `has_run`: the grammar of runs has an outcome for each list of symbols, if it can be decided which errors a run has
+-- - `run_of`: the longest run of passing items at the start of a list
 use Rattle.std.proofs.Common.{◌≡◌, ℕ, Bool, true, false, List, [], ◌∷◌, ◌++◌, Some, refl, rules, sym, ap, subst, arith}
 use Rattle.std.specs.List.{AllByRecursion}
 use Rattle.ps_text.specs.Answers.{first_of}
@@ -46,7 +47,7 @@ stops_bytes p bytes h = search rules
 
 module _ {V C : Type 0} (number : C → ℕ) (syntax : C) (p : ℕ → Bool) (see : ℕ → List ℕ → V)
     (Bad : List ℕ → C → Type 0) where
-  -- the outcome of a run, in the case that the first byte passes the test
+  -- the outcome of the grammar of runs, if the first byte passes the test
   module _ (t : Seen) (after : List Seen) (passes : p t.byte ≡ true) where
     abbrev seen : Spanned p t.behind
     seen = run_of t.behind

@@ -1,8 +1,9 @@
--- Grammars of runs of bytes: their laws, and how they are parsed and how they fail.
+-- Grammars of runs of bytes: they satisfy the laws (`Laws`), and when they are parsed and when they fail.
 -- - `laws_run`: a run begins and continues with bytes that pass
--- - `bad_is`: an error of the next run, found at its first symbol, is an error of the run that was parsed
--- - `run_read`: a list of symbols that is one run is parsed
--- - `run_reads`, `run_bad`, `run_stops`: the parser moved past a run without an error; it has an error; there is none
+-- - `bad_is`: an error that the grammar has at the first symbol of a run is an error of this whole run
+-- - `run_read`: a run without an error is parsed, if the byte after it does not pass the test
+-- - `run_reads`, `run_bad`, `run_stops`: the result after the parser moved past a run without an error, past a run with
+--   an error, or past no byte
 use Rattle.std.proofs.Common.{◌≡◌, ℕ, ◌<◌, ◌≤◌, Bool, true, false, List, [], ◌∷◌, ◌++◌, length, Option, None, Some}
 use Rattle.std.proofs.Common.{refl, sym, ap, ap₂, subst, ◌∙◌, arith, rules}
 use Rattle.ps_text.specs.Answers.{Begins, Stream, signs, first_of}
@@ -39,7 +40,7 @@ module _ {V C : Type 0} (p : ℕ → Bool) (see : ℕ → List ℕ → V) (Bad :
   pub laws_run : (b : ℕ) → p b ≡ true → Laws (Odd C) (run p see Bad) AtRun AtRun ⊥
   laws_run b e = search (rules, run_begins, head_passes, all_right, bytes_append, none_is_some)
 
-  -- an error found at the first symbol of a run is an error of that run
+  -- an error that the grammar has at the first symbol of a run is an error of this whole run
   pub bad_is : {t : Seen} {r : List ℕ} {f : C} → BeginsRun p r (t.byte ∷ t.behind) → IsBadRun p Bad t f → Bad r f
   bad_is {t} {r} {f} x b = search (rules, same_run)
 

@@ -1,9 +1,10 @@
--- Grammars of single bytes: their laws and outcomes, how they are parsed, and how they fail.
--- - `Odd`: the empty set: no symbol is an error by itself
+-- Grammars of single bytes: they satisfy the laws (`Laws`) and have outcomes, and when they are parsed and when they
+-- fail.
+-- - `Odd`: the empty set of symbols, as no byte is an error wherever it occurs
 -- - `At b, Any`: the symbols with the byte b; all symbols
 -- - `stops_here`: the next symbol does not begin the grammar
 -- - `byte_reads`, `byte_stops`: the next byte is the expected byte, or it is not
--- - `avoids`, `enters_byte`: a grammar that begins with the given byte
+-- - `avoids`, `enters_byte`: the grammar of a byte begins at the next symbol exactly if this has the byte
 -- - `refuted`: if a test fails, a statement that implies the test is false
 use Rattle.std.proofs.Common.{◌≡◌, ℕ, Bool, true, false, cond, [], Option, Some, None, refl, sym, ap, subst, ◌∙◌, rules}
 use Rattle.std.specs.Option.{option_map}
