@@ -1,4 +1,4 @@
--- The separate laws about the winner's circuit are combined into `IsWitness`.
+-- `IsWitness`, which has all promises about the winner's circuit, is proved from the separate laws about this circuit.
 use Rattle.std.proofs.Common.{◌≡◌, ◌≢◌, ℕ, Bool, if◌then◌else◌, ap, subst}
 use Rattle.std.proofs.lemmas.Bool.{ne_eqb}
 use Rattle.ps_hoa.specs.Files.{FileData}

@@ -59,7 +59,7 @@ are_apart x y each = record { apart = λ p. grind (arith, bit_at-lt x p, bit_at-
 
 -- ## Given bits at given propositions
 
--- the bit that is given for the proposition q, or false if no bit is given
+-- the bit in `bits` that stands for the proposition q of the list, or false if the list does not have q
 abbrev pub bit_with : ℕ → List ℕ → List Bool → Bool
 bit_with q [] bits = false
 bit_with q (p ∷ ps) [] = false

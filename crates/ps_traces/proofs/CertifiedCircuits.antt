@@ -1,4 +1,4 @@
--- Properties of the circuit that implements the machine of a certificate.
+-- Properties of the circuit of the machine by which a valid certificate's winner wins.
 use Rattle.std.proofs.Common.{rules, ◌≡◌, ℕ, ◌<◌, ◌==◌, arith}
 use Rattle.ps_hoa.specs.Files.{FileData}
 use Rattle.ps_automaton.specs.Automata.{AutomatonData, IsBuiltFrom}

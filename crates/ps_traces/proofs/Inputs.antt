@@ -24,7 +24,7 @@ module _ (c : CircuitData) (one : HasOneValues c) (stem lap : List (List Bool)) 
   lap_run : (h : Held) → Run c h.bits lap
   lap_run h = run c one h.bits lap h.held lap_wide
 
-  -- the latches after the stem and a given number of laps
+  -- the latch values after the circuit read the stem and a given number of laps
   abbrev behind : ℕ → Held
   behind zero = record { bits = stem_run.last; held = stem_run.wide }
   behind (suc laps) = record { bits = (lap_run (behind laps)).last; held = (lap_run (behind laps)).wide }

@@ -17,14 +17,15 @@ use Rattle.ps_traces.specs.Inputs.{HasLetters}
 
 module _ {role : Role} {names : List (List ℕ)} {controllable : List ℕ} {c : CircuitData} (are_names : AreNames names)
     (has : HasSymbols role names controllable c) where
-  -- each symbol names a proposition of the wanted kind: controllable, or not controllable
+  -- each of these input or output names is that of a proposition which is controllable, or not controllable, as
+  -- `wanted` says
   of_side : (wanted : Bool) (symbols : List (Option (List ℕ))) (k p : ℕ) →
       AreNamesOnce names controllable wanted symbols → IsSymbol names symbols k p → is_among p controllable ≡ wanted
   of_side wanted symbols k p once s =
       let found = once.some k (within symbols k (get_or names p []) s.is) in
       grind (arith, some_same, names_differ)
 
-  -- for each proposition there is a bit, which is the bit of the input or output that it names
+  -- for each proposition there is a bit, which is the step's bit of the input or output with the proposition's name
   bit_of : (m : Moment) (p : ℕ) → (bit : Bool) ×
       ((k : ℕ) → IsSymbol names c.input_names k p → bit ≡ get_or m.inputs k false) ×
       ((k : ℕ) → IsSymbol names c.output_names k p → bit ≡ get_or m.outputs k false)

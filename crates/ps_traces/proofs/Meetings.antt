@@ -61,7 +61,7 @@ joint_step Moore c k one in_time is latches memory reached held within =
 
 module _ (order : Order) (c : CircuitData) (k : FiniteController) (one : HasOneValues c)
     (in_time : IsInTimeWhereReached order Environment c) (is : IsController order c k) where
-  -- a point of the meeting: the circuit's latch values and the controller's memory state
+  -- a point of the joint run: the circuit's latch values, which some trace reaches, and the controller's memory state
   record Place : Type 0 where
     latches : List Bool
     memory : ℕ
@@ -89,7 +89,7 @@ module _ (order : Order) (c : CircuitData) (k : FiniteController) (one : HasOneV
         (step_at (place t)).outputs_wide;
   }
 
-  -- the steps of the circuit in its joint run with the controller
+  -- the circuit's steps in the joint run, from one pair of latch values and memory state to another
 
   abbrev At : Type 0
   At = List Bool × ℕ

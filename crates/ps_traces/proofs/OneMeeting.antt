@@ -17,7 +17,8 @@ module _ (c : CircuitData) (is_circuit : IsCircuit c) (one : HasOneValues c) whe
       length outputs ≡ length c.outputs
   outputs_wide s = ap length s.outputs_are ∙ length-map c.outputs (bit_of s.values)
 
-  -- two answers of the controller in the same memory state, at the same latch values of the circuit, are equal
+  -- two joint steps from the same latch values and the same memory state have the same inputs of the circuit, which are
+  -- the controller's answers
   same_inputs : (order : Order) (k : FiniteController) → IsInTimeWhereReached order Environment c →
       IsController order c k →
       (memory : ℕ) {latches inputs outputs next inputs' outputs' next' : List Bool} → IsReachedByTrace c latches →

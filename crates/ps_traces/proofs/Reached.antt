@@ -1,4 +1,5 @@
--- Outputs that are in time at all latch values are in time at the latch values that traces reach.
+-- If a circuit's outputs are in time (independent of the inputs, if its player moves first) at all latch values, they
+-- are in time at those that traces reach.
 use Rattle.ps_circuit.specs.Circuits.{CircuitData}
 use Rattle.ps_machine.specs.declared.key.Order.{Order}
 use Rattle.ps_simulate.specs.declared.role.Role.{Role}

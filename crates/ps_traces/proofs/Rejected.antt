@@ -1,5 +1,5 @@
--- If the automaton accepts no lasso trace of an environment's circuit, it rejects the circuit's joint run with every
--- finite-state controller.
+-- If the automaton accepts no lasso trace of an environment's circuit, it rejects the word of the circuit's joint run
+-- with every finite-state controller.
 use Rattle.std.proofs.Common.{rules}
 use Rattle.ps_hoa.specs.Files.{FileData}
 use Rattle.ps_hoa.specs.Sound.{AreNames}

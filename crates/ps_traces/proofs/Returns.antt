@@ -1,8 +1,9 @@
 -- In an infinite sequence of numbers below a bound some number recurs, and therefore some point of an infinite run
 -- recurs.
 -- - `comes_again`: among values below a bound, some value recurs
--- - `legs`, `legs_go`: the steps from one point to a later one
--- - `come_back`: if numbers below a bound identify the points, steps lead to some point and then back to it
+-- - `legs`, `legs_go`: the steps of an infinite run that lead from one point to a later point
+-- - `come_back`: if the points of an infinite run have codes below a bound, and points with the same code are equal,
+--   the run leads to some point and then back to it
 use Rattle.std.proofs.Common.{◌≡◌, ℕ, zero, suc, ◌+◌, ◌-◌, ◌<◌, List, [], ◌++◌, length, map, get_or, ap}
 use Rattle.std.proofs.Common.{subst, arith, add-zero, rules}
 use Rattle.std.specs.List.{range_with_len}

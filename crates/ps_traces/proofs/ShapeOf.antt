@@ -20,7 +20,7 @@ use Rattle.ps_traces.proofs.Bits.{is_there, stands_in}
 use Rattle.ps_simulate.proofs.Uniqueness.OneLetter.{side}
 use Rattle.ps_traces.proofs.Words.{memory_below}
 
--- an ascending list has each number only once
+-- a strictly ascending list has each number at only one index
 stands_once : (ps : List ℕ) (j k : ℕ) → AllPairs (λ p q. p < q) ps → j < length ps → k < length ps →
     get_or ps j 0 ≡ get_or ps k 0 → j ≡ k
 stands_once ps j k rising lj lk e = search (rules, cases_order)
@@ -42,7 +42,7 @@ module _ (names : List (List ℕ)) (controllable : List ℕ) (wanted : Bool) (ps
   is_symbol : (k : ℕ) → k < length ps → IsSymbol names symbols k (get_or ps k 0)
   is_symbol k lt = record { within = within (get_or ps k 0) (is_there ps k lt); is = symbol_at k lt }
 
-  -- the symbol at the index k names the proposition at the index k of the list
+  -- only the proposition with the index k in the list `ps` has the name that the circuit's symbol k has
   back : (k p : ℕ) → IsSymbol names symbols k p → (k < length ps) × (get_or ps k 0 ≡ p)
   back k p s =
       let lt : k < length ps = search (rules, cases_lt, size, get_or_past) in

@@ -1,6 +1,7 @@
--- For an automaton and a circuit with the inputs and outputs of its role, each stem and lap has a verdict. The circuit
--- reads laps until its latch values recur. When the letters between two occurrences of the same latch values are
--- repeated, the automaton's states recur.
+-- There is a verdict on each stimulus, which is a stem and a lap of input letters: whether an automaton accepts the
+-- circuit's trace on it. The circuit has the inputs and outputs of its role. The circuit reads laps until its latch
+-- values recur. When the letters between two occurrences of the same latch values are repeated, the automaton's states
+-- recur.
 use Rattle.std.proofs.Common.{◌≡◌, ◌∙◌, ℕ, zero, suc, ◌+◌, ◌-◌, ◌*◌, ◌^◌, ◌<◌, ◌≤◌, ◌⊎◌, ◌↔◌, inl, inr, Bool, List, []}
 use Rattle.std.proofs.Common.{◌∷◌, ◌++◌, length, get_or, take, drop, IsTrue, Some, refl, sym, ap, arith, length-drop}
 use Rattle.std.proofs.Common.{rules, ◌≢◌}
@@ -102,7 +103,8 @@ module _ (role : Role) (file : FileData) (c : CircuitData) (stem lap : List (Lis
     letters : List ℕ
     repeats_by : RepeatsBy file.names c stem lap i letters
 
-  -- the fuel is greater than the number of lists of latch values that are not in `seen`
+  -- the search for a repetition ends: `fuel`, which bounds its steps, is greater than the number of possible latch
+  -- values that were not yet seen
   search_on : (fuel : ℕ) (seen : List (List Bool)) (letters : List ℕ) (last : List Bool) →
       HasRead file.names c stem lap seen letters last → length last ≡ length c.latches
       → 2 ^ length c.latches - length seen < fuel → HasRepetition

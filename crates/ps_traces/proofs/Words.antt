@@ -26,7 +26,7 @@ first_along : (c : CircuitData) (from to : List Bool) (ms : List Moment) → Goe
 first_along c from to [] on = sym on
 first_along c from to (m ∷ ms) (next, at, step, on) = at
 
--- a property of each step and its letter holds along the whole trace
+-- a property that holds for each step of a circuit and the step's letter holds at each index of a trace
 at_each : (names : List (List ℕ)) (c : CircuitData) (P : List Bool → ℕ → List Bool → Type 0)
     → ((m : Moment) (letter : ℕ) (next : List Bool) → Steps c m.latches m.inputs m.outputs next →
     IsLetterOf names c m letter → P m.latches letter next)
@@ -97,13 +97,15 @@ module _ (m : Behaviour) (is : IsMachine m) where
       is_output : IsOutput m output
       is_output = is.plays_own memory input (memory_below s.latches)
 
-      -- for a proposition that the machine reads, the letter has the bit of the machine's input letter
+      -- at a proposition that the machine reads, the letter of the circuit's step has the same bit as the machine's
+      -- input letter
       read_bit : (p : ℕ) → p < length m.names → is_among p m.inputs ≡ true → is_in p letter ≡ is_in p input
       read_bit p lt among =
           let at = stands_in p m.inputs among in
           grind (arith, symbol_at, bit_with_at, in_input)
 
-      -- for a proposition that the machine outputs, the letter has the bit of the machine's output letter
+      -- at a proposition that the machine outputs, the letter of the circuit's step has the same bit as the machine's
+      -- output letter
       played_bit : (p : ℕ) → p < length m.names → is_among p m.outputs ≡ true → is_in p letter ≡ is_in p output
       played_bit p lt among =
           let at = stands_in p m.outputs among in

@@ -1,7 +1,8 @@
 -- The properties of the circuit of the player who wins an automaton's game. The winner's circuit is a controller if
 -- player 0 wins, and otherwise an environment.
 -- - `role_of player`: player 0 is the controller
--- - `IsWitness order file player c`: the circuit has its role's shape, and all of its words are accepted, or none
+-- - `IsWitness order file player c`: the circuit has the inputs, outputs and order of moves of its role; the automaton
+--   accepts all words of a controller's lasso traces, or none of an environment's
 use Rattle.std.specs.Prelude.{◌≡◌, ◌≢◌, ℕ, List, if◌then◌else◌, nat_eq}
 use Rattle.ps_hoa.specs.Files.{FileData}
 use Rattle.ps_circuit.specs.Circuits.{CircuitData, IsCircuit}
@@ -23,16 +24,16 @@ pub record LosesMeeting (file : FileData) (c : CircuitData) (k : FiniteControlle
   pub one : (count : ℕ) → IsOneMeeting c k count
   pub rejected : IsRejected file c k
 
--- The automaton accepts all lasso words of a controller's circuit, and none of an environment's circuit. Each periodic
--- input extends to a lasso trace of the circuit. The joint run of an environment's circuit and any finite-state
--- controller is a lasso trace, whose word the automaton rejects.
+-- The automaton accepts the words of all lasso traces of a controller's circuit, and of no lasso trace of an
+-- environment's circuit. Each periodic input extends to a lasso trace of the circuit. The joint run of an environment's
+-- circuit and any finite-state controller is a lasso trace, whose word the automaton rejects.
 pub record IsWitness (order : Order) (file : FileData) (player : ℕ) (c : CircuitData) : Type 0 where
   pub is_circuit : IsCircuit c
   pub shape : HasShape order (role_of player) file c
   pub accepted : player ≡ 0 → AllAccepted file c
   pub rejected : player ≢ 0 → NoneAccepted file c
-  -- each periodic input extends to a lasso trace, and each trace has letters, so there are words that are accepted or
-  -- rejected
+  -- Each periodic input extends to a lasso trace, and each trace has letters. So the two fields above speak of at least
+  -- one word.
   pub goes_on : EachInputGoesOn c
   pub letters : (moments : List Moment) → HasLetters file.names c moments
   pub meetings : player ≢ 0 → (k : FiniteController) → IsController order c k → LosesMeeting file c k

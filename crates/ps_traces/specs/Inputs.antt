@@ -1,7 +1,7 @@
--- Every periodic input extends to a lasso trace.
+-- Every periodic input of a circuit, which is a stem and then a lap for ever, extends to a lasso trace of the circuit.
 -- - `inputs_of moments`: the inputs of each step
 -- - `GoesOnInLasso c stem lap`: a lasso trace reads the stem and some laps, and then repeats some laps
--- - `EachInputGoesOn c`: each stem and non-empty lap of letters of the right width extends to a lasso trace
+-- - `EachInputGoesOn c`: each stem and non-empty lap of letters with one bit for each input extends to a lasso trace
 use Rattle.std.specs.Prelude.{◌≡◌, ℕ, ◌<◌, Bool, List, ◌++◌, length, map, All}
 use Rattle.ps_circuit.specs.Circuits.{CircuitData}
 use Rattle.ps_circuit.specs.Values.{Moment}

@@ -1,11 +1,15 @@
 -- Finite-state controllers, and their joint runs (meetings) with the circuit of an environment. Letters are lists of
 -- bits in the circuit's order: a controller reads one bit for each output of the circuit, and outputs one bit for each
 -- input of the circuit.
--- - `FiniteController`: a size, a first memory state, and tables for the next state and the output letter
--- - `IsController order c k`: the tables stay within their ranges, and the controller outputs its letters in time
--- - `GoesJointly c k latches memory moments to last`: the joint trace from these latches and this memory state
--- - `MeetsInLasso c k`: the joint trace extends to a lasso trace, which also returns to the same memory state
--- - `IsRejected file c k`: the automaton does not accept the word of the meeting's lasso trace
+-- - `FiniteController`: a number of memory states, the first of them, and functions that give the next memory state and
+--   the output letter
+-- - `IsController order c k`: k stays in its memory states and outputs a bit for each input of c; if it moves first,
+--   its output does not depend on the letter that it reads
+-- - `GoesJointly c k latches memory moments to last`: the joint run leads by the steps `moments` from these latches and
+--   this memory state to the latches `to` and the memory state `last`
+-- - `MeetsInLasso c k`: the joint run is a lasso trace: it returns to earlier latch values together with the same
+--   memory state
+-- - `IsRejected file c k`: the automaton does not accept the word of the lasso trace that is the joint run of c and k
 use Rattle.std.specs.Prelude.{◌≡◌, ℕ, ◌<◌, Bool, List, [], ◌∷◌, length}
 use Rattle.ps_hoa.specs.Files.{FileData}
 use Rattle.ps_automaton.specs.Acceptance.{IsAccepted}
@@ -55,7 +59,8 @@ pub record GoesJointly (c : CircuitData) (k : FiniteController) (latches : List 
   pub goes_on : GoesOn c latches moments to
   pub answers : AnswersMoments k memory moments last
 
--- the steps are a joint trace of the circuit and the controller from their first states
+-- the steps are a joint trace of the circuit and the controller, from the latches' reset values and the first memory
+-- state
 pub record IsMeeting (c : CircuitData) (k : FiniteController) (moments : List Moment) : Type 0 where
   pub latches : List Bool
   pub memory : ℕ
@@ -77,7 +82,7 @@ pub record MeetsInLasso (c : CircuitData) (k : FiniteController) : Type 0 where
   pub goes_there : GoesJointly c k (resets c) k.first stem latches memory
   pub comes_back : GoesJointly c k latches memory lap latches memory
 
--- the joint run of a circuit and a controller is a lasso trace of the circuit
+-- the joint run of a circuit and a controller, if it is a lasso, is a lasso trace of the circuit
 abbrev pub lasso_of : (c : CircuitData) (k : FiniteController) (m : MeetsInLasso c k) → IsLassoTrace c m.stem m.lap
 lasso_of c k m =
     record { some = m.some; back = m.latches; goes_there = m.goes_there.goes_on; comes_back = m.comes_back.goes_on }

@@ -1,5 +1,6 @@
--- Which machines are machines for a role.
--- - `IsMachineFor order role file m`: the machine has the file's names, and the role's inputs and order of moves
+-- Which machines may play a role: controller or environment.
+-- - `IsMachineFor order role file m`: the machine has the proposition names of the file, reads the propositions that
+--   its role reads, and moves first if its role does
 use Rattle.std.specs.Prelude.{◌≡◌, ℕ, ◌<◌, Bool, not, List, length}
 use Rattle.ps_hoa.specs.Files.{FileData, is_among}
 use Rattle.ps_machine.specs.Behaviours.{Behaviour}

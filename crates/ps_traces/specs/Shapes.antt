@@ -1,6 +1,8 @@
--- The inputs, the outputs and the order of moves that the circuit of a role must have.
--- - `HasShape order role file c`: the circuit has the role's inputs and outputs, by name, and outputs come in time
--- - `SeesNoInputWhereReached c`: at latches that some trace reaches, the outputs do not depend on the inputs
+-- The inputs, the outputs and the order of moves that a circuit must have in its role, as controller or as environment.
+-- - `HasShape order role file c`: the circuit has the inputs and outputs of its role, by name; if it moves first, its
+--   outputs do not depend on its inputs
+-- - `SeesNoInputWhereReached c`: at latch values that some trace reaches, the circuit's outputs do not depend on its
+--   inputs
 use Rattle.std.specs.Prelude.{◌≡◌, Bool, true, false, IsTrue, List}
 use Rattle.ps_hoa.specs.Files.{FileData}
 use Rattle.ps_circuit.specs.Circuits.{CircuitData}
@@ -19,7 +21,8 @@ moves_first Mealy Environment = true
 moves_first Moore Controller = true
 moves_first Moore Environment = false
 
--- the outputs of a player who moves first do not depend on the other player's letter in the same step
+-- if the circuit's player moves first, the circuit's outputs do not depend on its inputs, which are the other player's
+-- letter
 abbrev pub IsInTime : Order → Role → CircuitData → Type 0
 IsInTime order role c = IsTrue (moves_first order role) → SeesNoInput c
 
@@ -29,7 +32,7 @@ pub record HasShape (order : Order) (role : Role) (file : FileData) (c : Circuit
 
 -- ## Latches that traces reach
 
--- some trace reaches the given values of the latches
+-- some trace of the circuit leads from the reset values to these values of the latches
 abbrev pub IsReachedByTrace : CircuitData → List Bool → Type 0
 IsReachedByTrace c latches = (moments : List Moment) × GoesOn c (resets c) moments latches
 

@@ -1,6 +1,6 @@
 -- Lasso traces of a circuit, which return to earlier values of the latches, and their words.
 -- - `IsLassoTrace c stem lap`: a trace of the stem and then the lap, with the same latches before and after the lap
--- - `IsLassoWord names c stem lap`: the letters of a lasso trace of the circuit
+-- - `IsLassoWord names c stem lap`: the lists of letters `stem` and `lap` are the word of a lasso trace of the circuit
 -- - `AllAccepted file c, NoneAccepted file c`: the automaton accepts each lasso word of the circuit, or none
 use Rattle.std.specs.Prelude.{ℕ, ◌<◌, Bool, List, length}
 use Rattle.ps_hoa.specs.Files.{FileData}
@@ -15,7 +15,8 @@ pub record IsLassoTrace (c : CircuitData) (stem lap : List Moment) : Type 0 wher
   pub goes_there : GoesOn c (resets c) stem back
   pub comes_back : GoesOn c back lap back
 
--- the letters of a lasso trace; each letter joins the inputs and outputs of a step by name
+-- the letters of a lasso trace; each letter has the inputs and outputs of one step, as bits of the propositions with
+-- their names
 pub record IsLassoWord (names : List (List ℕ)) (c : CircuitData) (stem lap : List ℕ) : Type 0 where
   pub stem_moments : List Moment
   pub lap_moments : List Moment

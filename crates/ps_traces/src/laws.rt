@@ -37,22 +37,23 @@ use ps_automaton::automaton_is_there;
 use ps_machine::lassos_won;
 use ps_simulate::circuit_has_one_values;
 
-/// Every periodic input extends to a lasso trace of a circuit. For each stem and each non-empty lap of letters of the
-/// circuit's width, some lasso trace reads the stem and one or more laps, and then repeats one or more laps.
+/// Every periodic input extends to a lasso trace of a circuit. For each stem and each non-empty lap of letters with one
+/// bit for each input, some lasso trace reads the stem and one or more laps, and then repeats one or more laps.
 pub fn every_input_goes_on()
     ensures { (c : CircuitData) → IsCircuit c → EachInputGoesOn c }
 {
     circuit_has_one_values();
 }
 
-/// If the inputs and outputs of a circuit are named by propositions, each once, each step has exactly one letter.
+/// If the names of a circuit's inputs and outputs are those of the propositions, each once, exactly one letter belongs
+/// to each step of a trace.
 pub fn every_trace_has_letters()
     ensures { (role : Role) (file : FileData) (c : CircuitData) (moments : List Moment) → AreNames file.names →
         HasSymbols role file.names file.controllable c → HasLetters file.names c moments }
 {}
 
-/// For a sound, admitted file and a circuit with the inputs and outputs of a role, there is a verdict on each stem and
-/// each non-empty lap whose letters have the circuit's width.
+/// There is a verdict on each stem and non-empty lap whose letters have one bit for each input, for a file that was
+/// parsed and that psyn admits, and a circuit of a role.
 pub fn verdict_is_there()
     ensures { (role : Role) (file : FileData) (c : CircuitData) (stem lap : List (List Bool)) → IsSoundFile file →
         IsAdmitted file → IsCircuit c →
@@ -64,8 +65,8 @@ pub fn verdict_is_there()
 }
 
 /// The outputs of a circuit are called in time if its player moves second, or if they depend only on the latches.
-/// Outputs that are in time at all latch values are in time at the latch values that traces reach, which is all that
-/// the laws about meetings require.
+/// Outputs that are in time at all latch values are in time at the latch values that traces reach. The laws about joint
+/// traces require no more.
 pub fn in_time_where_reached()
     ensures { (order : Order) (role : Role) (c : CircuitData) → IsInTime order role c →
         IsInTimeWhereReached order role c }
@@ -88,8 +89,8 @@ pub fn every_meeting_goes_on()
     circuit_has_one_values();
 }
 
-/// If the automaton accepts no lasso trace of an environment's circuit, it rejects the circuit's joint trace with every
-/// finite-state controller.
+/// If the automaton accepts no lasso trace of an environment's circuit, it rejects the infinite joint trace of this
+/// circuit and any finite-state controller.
 pub fn every_meeting_is_rejected()
     ensures { (order : Order) (file : FileData) (c : CircuitData) (k : FiniteController) → AreNames file.names →
         IsCircuit c → HasSymbols Environment file.names file.controllable c → IsInTimeWhereReached order Environment c →
@@ -104,9 +105,8 @@ pub fn circuit_has_machine_words()
         IsLassoWord m.names c stem lap → IsLasso m stem lap }
 {}
 
-/// If a machine of player 0 wins all its lassos, the automaton accepts all words of the lasso traces of the machine's
-/// circuit. If a machine of player 1 wins all its lassos, the automaton accepts no word of a lasso trace of the
-/// machine's circuit.
+/// If the automaton accepts the words of all lassos of player 0's machine, it accepts the words of all lasso traces of
+/// the machine's circuit. The same holds for player 1's machine, with "rejects" for "accepts".
 pub fn circuit_is_won()
     ensures accepted { (file : FileData) (m : Behaviour) (c : CircuitData) → IsMachine m → m.names ≡ file.names →
         Encodes m c → LassosWon file m → m.player ≡ 0 → AllAccepted file c }
@@ -120,7 +120,8 @@ pub fn circuit_has_shape()
         IsMachineFor order role file m → Encodes m c → HasShape order role file c }
 {}
 
-/// The circuit of a machine that wins all its lassos has all properties of a winner's circuit.
+/// If all lassos of a machine are won by the machine's player, the machine's circuit has all properties of a winner's
+/// circuit (`IsWitness`).
 pub fn circuit_answers()
     ensures { (order : Order) (file : FileData) (m : Behaviour) (c : CircuitData) → IsMachine m →
         IsMachineFor order (role_of m.player) file m → Encodes m c → LassosWon file m →
@@ -129,9 +130,9 @@ pub fn circuit_answers()
     circuit_has_one_values();
 }
 
-/// If player 0 wins vertex 0, a valid certificate of an automaton's game gives a controller, and the automaton accepts
-/// all lasso traces of that controller. If player 1 wins vertex 0, the certificate gives an environment, and the
-/// automaton accepts none of the environment's lasso traces.
+/// If player 0 wins vertex 0, where plays begin, the circuit made from a valid certificate of an automaton's game is a
+/// controller, all of whose lasso traces the automaton accepts. If player 1 wins vertex 0, the circuit is an
+/// environment, none of whose lasso traces the automaton accepts.
 pub fn certified_circuit_answers()
     ensures { (file : FileData) (chain : Chain) (a : AutomatonData) (order : Order) (keys : List Key)
         (game : ParityGame) (certificate : CertificateData) (m : Behaviour) (c : CircuitData) →
@@ -145,8 +146,8 @@ pub fn certified_circuit_answers()
     circuit_has_one_values();
 }
 
-/// The law `certified_circuit_answers` also holds for a certificate of a file's game, whichever automaton of the file
-/// the game is made from.
+/// The same as `certified_circuit_answers`, but for the game of a file, whichever automaton of the file the game is
+/// made from.
 pub fn certified_circuit_of_file_answers()
     ensures { (order : Order) (file : FileData) (game : NamedGameData) (is_game : IsGameOfFile order file game)
         (certificate : CertificateData) (m : Behaviour) (c : CircuitData) → Fits game.game certificate →

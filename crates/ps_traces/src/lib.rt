@@ -1,9 +1,10 @@
 //! Laws about infinite runs of circuits. Periodic inputs, and joint traces with finite-state controllers, extend to
-//! lasso traces. If a machine wins all its lassos, the machine's circuit wins its lasso traces as well.
+//! lasso traces. If a machine's player wins all lassos of the machine, the player also wins all lasso traces of the
+//! machine's circuit.
 //!
 //! Each law is the contract of a function with an empty body. A lasso trace consists of a stem and a non-empty lap of
-//! steps, with the same latches after the stem and after the lap. The word of a lasso trace joins inputs and outputs by
-//! name.
+//! steps, with the same latches after the stem and after the lap. Each letter of a lasso trace's word has the inputs
+//! and outputs of one step, as bits of the propositions with their names.
 //!
 //! | Law | What it says |
 //! |---|---|

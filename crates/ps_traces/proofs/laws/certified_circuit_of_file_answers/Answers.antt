@@ -1,5 +1,5 @@
--- The machine of a valid certificate belongs to the winner and wins its lassos, whichever automaton of the file the
--- game is made from.
+-- The machine that follows a valid certificate belongs to the winner, and all words of its lassos are won, whichever
+-- automaton of the file the game is made from.
 use Rattle.std.proofs.Common.{◌≡◌, ℕ, ◌==◌, subst, rules}
 use Rattle.ps_machine.specs.Keys.{mover_of}
 use Rattle.ps_traces.specs.Answers.{IsWitness}
