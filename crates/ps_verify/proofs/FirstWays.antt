@@ -1,8 +1,9 @@
 -- Paths from vertex 0, found from a table that has, for each vertex, the first vertex with an edge to it.
--- - `lowered_none`, `lowered_here`, `lowered_kept`: the successors of a vertex are handled one by one
--- - `firsts_none`, `firsts_more`: the vertices are handled one by one
--- - `fall`: the entry of each vertex except 0 is an earlier vertex
--- - `way_is`: the vertices that the table's entries give are a path
+-- - `lowered_none`, `lowered_here`, `lowered_kept`: `HasLowered` holds before the first successor of a vertex, and
+--   still holds after the next one
+-- - `firsts_none`, `firsts_more`: `AreFirsts` holds before the first vertex, and still holds after the next one
+-- - `fall`: the entry of each vertex except 0 in the table is an earlier vertex
+-- - `way_is`: if each vertex of a list is the table's entry of the vertex after it, the list is a path
 use Rattle.std.proofs.Common.{◌≡◌, ℕ, ◌+◌, ◌-◌, ◌<◌, ◌≤◌, ◌⊎◌, inl, inr, List, length, get_or, set, refl, sym}
 use Rattle.std.proofs.Common.{ap, subst, ◌∙◌, arith, length-set, [], ◌∷◌, ◌++◌, reverse, take, drop, append-nil}
 use Rattle.std.specs.List.{range_with_len}
@@ -41,7 +42,8 @@ module _ {game : ParityGame} {v count : ℕ} {old now : List ℕ} (is_game : IsG
   edge : HasEdge game v next
   edge = (within, (count, less, get_or_default (successors_of game v) count next 0 less ∙ sym is))
 
-  -- each entry is the old one or v, none has become larger, and the entry of the next successor is at most v
+  -- `HasLowered` still holds after one more successor: each entry is the old one or v, none has become larger, and that
+  -- of the successor is at most v
   lowered_by : (new : List ℕ) → length new ≡ length now → ((w : ℕ) → get_or new w 0 ≤ get_or now w 0) →
       get_or new next 0 ≤ v → ((w : ℕ) → (get_or new w 0 ≡ get_or now w 0) ⊎ ((get_or new w 0 ≡ v) × (w ≡ next))) →
       HasLowered game v (count + 1) old new

@@ -1,5 +1,5 @@
--- The result computed for a product is a right judgement on the product's circuit.
--- - `winning`: the judgement if the player wins all loops
+-- The result computed for the product of a circuit and an automaton is a right judgement on the circuit.
+-- - `winning`: if the circuit's player wins all loops of the product, the circuit wins
 -- - `judgement`: the result computed for a product is a right judgement, in both cases
 use Rattle.std.proofs.Common.{◌≡◌, ◌≢◌, ℕ, ◌%◌, ◌<◌, ◌↔◌, true, List, length, refl, subst, arith}
 use Rattle.std.proofs.Common.{Some}
@@ -37,7 +37,8 @@ module _ (role : Role) {file : FileData} {chain : Chain} {auto : Auto} {c : Circ
     (is_chain : chain_of file.condition ≡ Some chain) (is_auto : IsAutoOf file chain auto)
     (product : IsProductOf (other_player (asked_of role)) file.names auto c p)
     (wins : WinsLoops p.game (asked_of role)) where
-  -- the greatest priority of the repeated laps, which is of the player's parity, decides whether the word is accepted
+  -- the greatest priority on the repeated laps has the parity by which the circuit's player wins, and decides whether
+  -- the word is accepted
   record IsDecided (stem lap : List ℕ) : Type 0 where
     top : ℕ
     won : top % 2 ≢ other_player (asked_of role)

@@ -1,7 +1,8 @@
--- From a stimulus with the wrong verdict, a lasso word of the circuit with the wrong verdict follows.
--- - `parted`: a trace and its letters, divided at an index
+-- A circuit either wins or loses, but not both: from a stimulus with the wrong verdict, a word of a lasso trace follows
+-- which the automaton wrongly accepts or rejects.
+-- - `parted`: a trace and its letters can be divided at an index
 -- - `apart`: a circuit does not both win and lose
--- - `wins`: a circuit that no stimulus refutes wins
+-- - `wins`: a circuit wins if no stimulus is a counterexample
 use Rattle.std.proofs.Common.{◌≡◌, ℕ, zero, suc, ◌≤◌, Bool, List, [], ◌∷◌, length, take, drop}
 use Rattle.std.proofs.Common.{get_or}
 use Rattle.std.proofs.Common.{refl, sym, subst, arith, length-drop}

@@ -1,6 +1,7 @@
 -- The inputs that are read along a path of the product belong to a trace of the circuit, whose letters the automaton
 -- reads.
--- - `Follows`: steps of the circuit (`moments`) from the latches of a vertex, and the letters along a path
+-- - `Follows`: along a path of the product, the steps of the circuit (`moments`) from the latches of the path's first
+--   vertex, and their letters
 -- - `follow`: if the edges of a path read the given inputs, such steps and letters exist
 use Rattle.std.proofs.Common.{rules, ◌≡◌, ℕ, suc, ◌+◌, ◌<◌, Bool, List, [], ◌∷◌, length, map, get_or, refl}
 use Rattle.std.proofs.Common.{arith, Some}
@@ -28,7 +29,8 @@ module _ {owner : ℕ} {names : List (List ℕ)} {auto : Auto} {c : CircuitData}
     at = slice_get-get_or p.vertices i _ (omega (arith, within, product.one_each));
   }
 
-  -- the steps of the circuit (`moments`) and the letters along a path from the vertex v
+  -- along a path of the product from the vertex v, the steps of the circuit (`moments`) that read `inputs`, and their
+  -- letters
   pub record Follows (v : ProductVertex) (path : List ℕ) (end : ℕ) (inputs : List (List Bool)) : Type 0 where
     pub w : ProductVertex
     pub at : slice_get p.vertices end ≡ Some w

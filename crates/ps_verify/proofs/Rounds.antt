@@ -1,7 +1,8 @@
--- If the region has all vertices, and the player owns none of them, counts for the region are counts for the game, and
--- a lost cycle of the region is a lost cycle of the game.
--- - `wins_loops`: there are counts for each priority that opposes the player
--- - `lost_round`: the cycle followed by its first vertex is a path
+-- A region with all vertices of the game, none of which the player owns: counts for the region are counts for the game,
+-- and a cycle that the player loses in it is one of the game.
+-- - `wins_loops`: for each priority of the opponent's parity, there are counts that satisfy the rules of a certificate
+-- - `lost_round`: a lost cycle of the region, followed by its first vertex, is a path of the game, and its greatest
+--   priority has the opponent's parity
 use Rattle.std.proofs.Common.{◌≡◌, ℕ, ◌+◌, ◌<◌, ◌⊎◌, inl, inr, List, [], ◌∷◌, length, get_or, Option}
 use Rattle.std.proofs.Common.{Bool, true, ◌∙◌, refl, arith, rules}
 use Rattle.std.proofs.lemmas.Bool.{cases_eq, cases_lt}

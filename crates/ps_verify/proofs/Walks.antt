@@ -1,6 +1,7 @@
--- The letters of a trace of the circuit lead from vertex to vertex of the product.
--- - `left`: a count that falls along each edge into the given priority
--- - `walk`: the vertex to which letters lead, and that the count does not rise on the way
+-- Step by step, a trace of the circuit and its letters lead from vertex to vertex of the product of circuit and
+-- automaton.
+-- - `left`: a number for each vertex, made from its count, that falls along each edge to a vertex of the priority `top`
+-- - `walk`: the vertex to which the letters of a trace lead; the number `left` does not rise on the way there
 use Rattle.std.proofs.Common.{◌≡◌, ℕ, ◌+◌, ◌<◌, ◌≤◌, ◌⊎◌, inl, inr, Bool, List, [], ◌∷◌, length, refl, ◌∙◌}
 use Rattle.std.proofs.Common.{arith, Some}
 use Rattle.std.specs.Prelude.{nat_eq, if◌then◌else◌, slice_get}
@@ -46,7 +47,7 @@ module _ {owner : ℕ} {names : List (List ℕ)} {auto : Auto} {c : CircuitData}
   some_along q [] more = absurd (omega arith)
   some_along q (x ∷ xs) more = omega arith
 
-  -- the vertex to which the letters lead from the vertex v
+  -- the vertex w, with the index j, to which the letters lead from the vertex v, with the index i
   pub record Walk (i : ℕ) (v : ProductVertex) (letters : List ℕ) (last : List Bool) : Type 0 where
     pub j : ℕ
     pub w : ProductVertex

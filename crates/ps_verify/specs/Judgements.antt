@@ -1,7 +1,10 @@
--- What it means that an automaton accepts each lasso trace of a circuit, or none, and what a counterexample is.
--- - `IsWinning order role file c`: all lasso traces of a controller are accepted, or none of an environment's
--- - `IsLosing order role file c s`: the lasso trace of the stimulus has the wrong verdict
--- - `IsJudgement order role file c judgement`: the circuit wins, or the stimulus is a counterexample
+-- What it means that a circuit wins for an automaton, as controller or as environment, and what a counterexample is.
+-- - `IsWinning order role file c`: the automaton accepts all lasso traces of the circuit of a controller, or none of an
+--   environment's circuit
+-- - `IsLosing order role file c s`: the automaton rejects the trace of a controller's circuit on the stimulus s, or
+--   accepts that of an environment's circuit
+-- - `IsJudgement order role file c judgement`: the judgement is right: the circuit wins, or the judgement's stimulus is
+--   a counterexample
 use Rattle.std.specs.Prelude.{◌≡◌, ◌<◌, ◌↔◌, IsTrue, List, length}
 use Rattle.ps_hoa.specs.Files.{FileData}
 use Rattle.ps_circuit.specs.Circuits.{CircuitData}
@@ -22,19 +25,20 @@ use Rattle.ps_traces.specs.Traces.{AllAccepted, NoneAccepted}
 use Rattle.ps_verify.specs.declared.judgement.Judgement.{Judgement}
 use Rattle.ps_verify.specs.declared.judgement.Judgement.TheVariants.{Wins, Loses}
 
--- The circuit has all properties of a printed circuit, with one exception. If the circuit moves first, its outputs are
--- independent of the inputs at least at the latch values that a trace reaches.
+-- The circuit has all properties of the circuits that psyn prints, with one exception. If it moves first, its outputs
+-- need be independent of the inputs only at latch values that a trace reaches.
 pub record IsWinning (order : Order) (role : Role) (file : FileData) (c : CircuitData) : Type 0 where
   pub symbols : HasSymbols role file.names file.controllable c
   pub in_time : IsInTimeWhereReached order role c
   pub accepted : role ≡ Controller → AllAccepted file c
   pub rejected : role ≡ Environment → NoneAccepted file c
-  -- traces, letters and meetings exist, so the two fields above do not hold vacuously
+  -- traces, their letters and joint runs with controllers exist, so the two fields above do not hold vacuously
   pub goes_on : EachInputGoesOn c
   pub letters : (moments : List Moment) → HasLetters file.names c moments
   pub meetings : role ≡ Environment → (k : FiniteController) → IsController order c k → LosesMeeting file c k
 
--- The stimulus is a counterexample: its verdict is wrong, and its lap repeats from the first occurrence on.
+-- The stimulus is a counterexample: the automaton wrongly accepts or rejects the circuit's trace on it. The trace is a
+-- lasso that repeats from the first lap on.
 pub record IsLosing (order : Order) (role : Role) (file : FileData) (c : CircuitData) (s : StimulusData) : Type 0 where
   pub symbols : HasSymbols role file.names file.controllable c
   pub in_time : IsInTimeWhereReached order role c

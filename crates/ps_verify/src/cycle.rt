@@ -9,7 +9,8 @@ use ps_game::{Arena, Counts, Game, Region, Strategy};
 use ps_measure::{MeasureFault, ranks};
 use std::alloc::{AllocError, Global};
 
-/// A cycle of edges that the player loses, if there is one, from its smallest vertex on. Fails if memory runs out.
+/// A cycle of edges whose greatest priority has the opponent's parity, if there is one. The cycle begins with its
+/// smallest vertex. Fails if memory runs out.
 pub(crate) fn lost_cycle(
     alloc: Global,
     game: &Game,

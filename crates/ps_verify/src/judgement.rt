@@ -1,13 +1,14 @@
-//! The judgement on a circuit.
+//! The result of judging a circuit.
 
 use ps_simulate::Stimulus;
 
-/// Whether an automaton accepts each lasso trace of a controller, or none of an environment.
+/// Whether a circuit wins: the automaton accepts each lasso trace of a controller, or none of an environment.
 #[derive(Debug, Drop)]
 pub enum Judgement {
-    /// The circuit wins: the automaton accepts, or rejects, all of its lasso traces, as the circuit's role wants.
+    /// The circuit wins: the automaton accepts all of its lasso traces, if it is a controller, or none, if it is an
+    /// environment.
     Wins,
-    /// The circuit loses: the lasso trace in which it reads this stem, and then this lap for ever, has the wrong
-    /// verdict.
+    /// The circuit loses: if it reads this stem, and then this lap for ever, the automaton rejects the trace though the
+    /// circuit is a controller, or accepts it though it is an environment.
     Loses(Stimulus),
 }

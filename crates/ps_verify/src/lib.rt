@@ -1,4 +1,4 @@
-//! Whether an automaton accepts each lasso trace of a controller, or none of an environment; if not, with a
+//! Decides whether an automaton accepts each lasso trace of a controller, or none of an environment; if not, gives a
 //! counterexample.
 //!
 //! [`verified`] uses no solver. The call builds the product of the circuit and the automaton, in which all vertices

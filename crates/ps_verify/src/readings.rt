@@ -1,4 +1,4 @@
-//! The inputs that a circuit reads along paths of its product.
+//! The inputs that a circuit reads along paths of its product with an automaton.
 
 ghost use Rattle.std.specs.Prelude.{◌≡◌, ◌<◌, Some, slice_get, IfOk, slice_index, ℕ};
 ghost use Rattle.ps_game.specs.Games.{HasEdge, successors_of, vertex_count};
@@ -28,7 +28,7 @@ fn number_of(game: &Game, vertex: usize, next: usize) -> usize
     unreachable!()
 }
 
-/// The inputs that are read in a step along an edge.
+/// The inputs that the circuit reads in a step along an edge of the product.
 fn inputs_of(
     alloc: Global,
     product: &Product,
@@ -42,7 +42,7 @@ fn inputs_of(
     product.inputs(alloc, vertex, number)
 }
 
-/// The inputs that are read in each step along a path.
+/// The inputs that the circuit reads in each step along a path of the product.
 fn letters_along(
     alloc: Global,
     product: &Product,
@@ -69,7 +69,8 @@ fn way_in(alloc: Global, game: &Game, vertex: usize) -> Result<Vec<usize>, Alloc
     Ok(way)
 }
 
-/// The inputs that are read on the path to a cycle (the stem), and along the cycle (the lap).
+/// The stimulus of a lost cycle of the product: its stem has the inputs that the circuit reads on a path to the cycle,
+/// and its lap those along the cycle.
 pub(crate) fn stimulus_of(
     alloc: Global,
     product: &Product,

@@ -24,13 +24,13 @@ use ps_simulate::{Role, circuit_has_one_values};
 use std::alloc::{AllocError, Global};
 
 /// Decides whether the automaton accepts each lasso trace of a controller, or no lasso trace of an environment. If not,
-/// the result is a stimulus that shows this, whose lap repeats from its first occurrence on.
+/// the result has a stimulus that shows this; the circuit's trace on it is a lasso that repeats from the first lap on.
 ///
 /// # Errors
 ///
-/// Fails with [`ProductFault::Symbols`] if the names of the inputs and outputs are not those of the role. Otherwise
-/// fails with [`ProductFault::Timing`] if the circuit moves first, but an output depends on an input, at some latch
-/// values that a trace reaches. Fails also if memory runs out.
+/// Fails with [`ProductFault::Symbols`] if the names of the circuit's inputs and outputs are not those of its role's
+/// propositions. Otherwise fails with [`ProductFault::Timing`] if the circuit moves first, but an output depends on an
+/// input, at some latch values that a trace reaches. Fails also if memory runs out.
 pub fn verified(
     alloc: Global,
     circuit: &Circuit,
@@ -68,7 +68,8 @@ fn asked(role: Role) -> u8
     }
 }
 
-/// Whether the player wins all loops of a product in which only the other player moves.
+/// The judgement on the circuit of a product in which only the player's opponent moves: the circuit wins, unless there
+/// is a cycle that the player loses.
 fn told(alloc: Global, product: &Product, player: u8) -> Result<Judgement, AllocError>
     requires player { player < 2 }
     requires owners { (v : ℕ) → v < vertex_count product.now.game →

@@ -1,7 +1,8 @@
--- The inputs that are read along paths of a product.
--- - `ReadsEdge p v w inputs`: a step along the edge reads these inputs
+-- The inputs that the circuit reads along paths of the product of a circuit and an automaton.
+-- - `ReadsEdge p v w inputs`: in a step along the edge from v to w, the circuit reads these inputs
 -- - `ReadsPath p path letters`: the letters are the inputs of steps along the path, one for each edge
--- - `IsToldOf player p judgement`: the player wins all loops, or the stimulus follows a cycle the player loses
+-- - `IsToldOf player p judgement`: the judgement is that the player wins all loops of the product, or has a stimulus
+--   whose lap is read along a cycle that the player loses
 use Rattle.std.specs.Prelude.{◌≡◌, ℕ, ◌+◌, ◌<◌, Bool, List, [], length, slice_get, slice_index, slice_index_or, Some}
 use Rattle.ps_game.specs.Games.{successors_of}
 use Rattle.ps_product.specs.Products.{ProductData, inputs_at}
@@ -21,7 +22,7 @@ pub record ReadsPath (p : ProductData) (path : List ℕ) (letters : List (List B
   pub each : (k : ℕ) → k < length letters → ReadsEdge p (slice_index path k) (slice_index path (k + 1))
       (slice_index_or letters k [])
 
--- the stem is read on the path to a cycle that the player loses, and the lap is read along the cycle
+-- the circuit reads the stem on a path to a cycle of the product that the player loses, and the lap along the cycle
 pub record ReadsRound (player : ℕ) (p : ProductData) (s : StimulusData) : Type 0 where
   pub cycle : List ℕ
   pub lost : IsLostRound p.game player cycle

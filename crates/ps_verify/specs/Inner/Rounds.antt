@@ -1,7 +1,8 @@
 -- Who wins the loops of a game in which only one player moves.
--- - `WinsLoops game player`: for each opposing priority, valid counts (a progress measure) exist
--- - `IsLostRound game player cycle`: a cycle that the player loses
--- - `IsTurned old new`: the same cycle, rotated so that it begins with its smallest vertex
+-- - `WinsLoops game player`: the player wins all loops: for each priority of the opponent's parity, there are counts (a
+--   progress measure) that satisfy the rules of a certificate
+-- - `IsLostRound game player cycle`: a cycle of edges whose greatest priority has the opponent's parity
+-- - `IsTurned old new`: `new` is the cycle `old`, rotated so that it begins with its smallest vertex
 use Rattle.std.specs.Prelude.{◌≡◌, ℕ, ◌%◌, ◌<◌, ◌≤◌, List, [], ◌∷◌, ◌++◌, length, map, slice_index, take}
 use Rattle.std.specs.Prelude.{drop}
 use Rattle.ps_game.specs.Games.{ParityGame, HasEdge, priority_of}
@@ -25,7 +26,7 @@ pub record IsLostRound (game : ParityGame) (player : ℕ) (cycle : List ℕ) : T
   pub is_path : IsPath game (round_of cycle)
   pub lost : greatest (map (priority_of game) cycle) % 2 ≡ other_player player
 
--- the same cycle, rotated so that it begins with its smallest vertex
+-- `new` is the cycle `old`, rotated so that it begins with its smallest vertex
 pub record IsTurned (old new : List ℕ) : Type 0 where
   pub place : ℕ
   pub within : place < length old

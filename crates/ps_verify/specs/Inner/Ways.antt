@@ -1,9 +1,12 @@
 -- Paths from vertex 0 to a given vertex. The list `firsts` has, for each vertex, the first vertex that has an edge to
 -- it.
--- - `HasLowered game v count old new`: the entries of v's first successors are lowered to v, if larger
--- - `AreFirsts game n firsts`: the entry of w is w or, if smaller, the first vertex less than n with an edge to w
--- - `IsWayBy firsts way v`: the vertex before each vertex of the path is the entry of that vertex in `firsts`
--- - `IsWayTo game way v`: a path from vertex 0
+-- - `HasLowered game v count old new`: `new` is the list `old`, where the entries of the first `count` successors of v
+--   are lowered to v, if they were larger
+-- - `AreFirsts game n firsts`: the entry of w is w or a vertex with an edge to w, and is at most each vertex less than
+--   n that has an edge to w
+-- - `IsWayBy firsts way v`: `way` leads from vertex 0 to v, and the vertex before each vertex of `way` is the entry of
+--   that vertex in `firsts`
+-- - `IsWayTo game way v`: `way` is a path from vertex 0 to v
 use Rattle.std.specs.Prelude.{◌≡◌, ℕ, ◌+◌, ◌<◌, ◌≤◌, ◌⊎◌, List, length, slice_index}
 use Rattle.ps_game.specs.Games.{ParityGame, HasEdge, successors_of, vertex_count}
 use Rattle.ps_game.specs.Plays.{IsPath}
@@ -21,7 +24,7 @@ pub record AreFirsts (game : ParityGame) (n : ℕ) (firsts : List ℕ) : Type 0 
   pub sound : (w : ℕ) → w < vertex_count game →
       (slice_index firsts w ≡ w) ⊎ HasEdge game (slice_index firsts w) w
 
--- the entry of each vertex except 0 is an earlier vertex
+-- the entry of each vertex except 0 in `firsts` is a smaller vertex
 abbrev pub Fall : List ℕ → Type 0
 Fall firsts = (w : ℕ) → 0 < w → w < length firsts → slice_index firsts w < w
 
@@ -38,7 +41,8 @@ pub record IsWayTo (game : ParityGame) (way : List ℕ) (v : ℕ) : Type 0 where
   pub from : slice_index way 0 ≡ 0
   pub ends : last_vertex way ≡ v
 
--- the path in reverse, from the vertex v back to the vertex reached so far
+-- `way` leads from the vertex v back to the vertex `first`, where each next vertex is the entry of the one before it in
+-- `firsts`
 pub record IsWayBack (firsts : List ℕ) (way : List ℕ) (v first : ℕ) : Type 0 where
   pub begins : 0 < length way
   pub from : slice_index way 0 ≡ v
