@@ -56,7 +56,8 @@ impl Source for Bytes<'_> {
     }
 }
 
-/// A sink that keeps what is written. A write fails if the memory for it can't be allocated.
+/// A place in memory that the program writes to, which keeps what is written. A write fails if the memory for it can't
+/// be allocated.
 #[derive(Drop)]
 struct Page {
     text: Vec<u8>,

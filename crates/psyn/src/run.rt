@@ -16,9 +16,9 @@ use std::alloc::Global;
 /// Reads the whole input, writes the answer to it, and returns the exit status.
 ///
 /// Reading stops at the first read that fails, or at the first byte past `INPUT_LIMIT`. Nothing is written after a
-/// write or a flush that failed, or after a write that accepted no bytes. In this case the exit status is 1, and only a
-/// beginning of the answer was written. The first solver solves games; the second is used if the input contains a
-/// certificate.
+/// write or a flush that failed, or after a write that accepted no bytes. In this case the exit status is 1, and what
+/// was written is a beginning of the answer, or all of it if only the flush failed. The solver `built_in` solves games;
+/// the solver `replay` is used if the input contains a certificate.
 pub fn run<R: Source, W: Sink>(
     alloc: Global,
     reader: &mut R,
@@ -40,7 +40,7 @@ pub fn run<R: Source, W: Sink>(
     run_by(alloc, reader, writer, &mut built_in, &mut replay)
 }
 
-/// Like `run`, but with any solvers in place of psyn's own and the replaying one.
+/// Like `run`, but with solvers whose types are known at compile time.
 pub fn run_by<R: Source, W: Sink, S: Solver, T: Solver>(
     alloc: Global,
     reader: &mut R,

@@ -13,13 +13,13 @@ use std::alloc::Global;
 
 /// The report on an HOA text. The report contains the game of the text's automaton in the given order of moves, a
 /// certificate of the game that the given solver found, and the circuit of the player who wins from the start. The
-/// certificate lists all counts, or it is in the compact form.
+/// certificate lists the counts of each vertex for all priorities or, with `compact`, only the nonzero ones.
 ///
 /// # Errors
 ///
-/// Fails, in this order, with the first error of the text; with the reason why the text has no automaton; with the
-/// solver's fault, or because its certificate does not fit or is not valid; or because the circuit is too large. Fails
-/// at any time if memory runs out.
+/// Fails with the first error of the text, or else with the reason why psyn builds no automaton from it. Otherwise
+/// fails with the solver's fault, or because the solver's certificate does not fit the game or is not valid. Otherwise
+/// fails if the circuit is too large. Fails at any time if memory runs out.
 pub fn synthesise(
     alloc: Global,
     text: &[u8],
@@ -27,15 +27,15 @@ pub fn synthesise(
     compact: bool,
     solver: &mut Box<dyn Solver>,
 ) -> Result<Report, SynthFault>
-    // The report is right, whatever the solver does, and each fault is returned only for its cause. The clauses on
-    // reports and on faults refer to what the solver returned.
+    // The report is right, whatever the solver does, and each fault is returned only if its cause is there. The clauses
+    // `report` and `refused` refer to what the solver returned.
     ensures report { IfOk result (IsReport (Answered (known solver.old) (known solver.new)) order compact text.now) }
     ensures refused { IfErr result (IsSynthFault (Answered (known solver.old) (known solver.new)) order text.now) }
     // If the solver is sure (its certificates are always valid, and it fails only if memory runs out), every accepted
     // text gets a report, unless memory runs out or the circuit is too large.
     ensures sure { (known solver.old).is_sure ≡ true → (file : FileData) → IsAcceptedText text.now file →
         IsReportOrFault (Answered (known solver.old) (known solver.new)) order compact text.now result }
-    // The call keeps everything about the solver except the record of its last answer.
+    // The call changes nothing that is known of the solver, except the record of its last answer.
     ensures kept { IsKept (known solver.old) (known solver.new) }
 {
     synthesise_by(alloc, text, order, compact, solver)
