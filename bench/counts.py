@@ -1,12 +1,13 @@
 #!/usr/bin/env python3
-"""Times the computation of least counts of games against an unverified solver, or checks the counts of random games
-against a plain search.
+"""Times the computation of a certificate's least counts against that of an unverified solver, or checks the counts of
+random games against a plain search.
 
   bench/counts.py GAMES YARDSTICK [--size SIZE] [--only WORD] [--runs N] [--program PROGRAM]
   bench/counts.py --random N [--program PROGRAM]
 
 psyn has no command that only computes counts, so the program bench/counts is built in a temporary folder, on copies of
-the crates with what earlier checks kept in out/. --program names a program that was built before.
+the crates with the libraries that earlier checks left in their folders out/. --program names a program that was built
+before.
 
 GAMES is a Python file. Its FAMILIES maps a name to a function that gives a list of (priority, owner, successors); its
 SUITE maps a size (medium, large) to lines of a family's name and its numbers. `YARDSTICK solve --out sol --stats FILE`
@@ -136,7 +137,7 @@ def speed(program, given):
 
 
 def remaining(nodes, winners, moves, player):
-    """The edges inside a player's region: the opponent's edges, and the player's moves."""
+    """The edges inside the region that a player wins: the edges of the opponent's vertices, and the player's moves."""
     return [
         (v, w)
         for v, (_, owner, successors) in enumerate(nodes)
@@ -158,7 +159,7 @@ def reached(edges, start):
 
 
 def least(count, edges, level, priority):
-    """The least counts for a priority, found by raising counts until nothing changes."""
+    """The least counts of a certificate for a priority, found by raising counts until nothing changes."""
     counts, is_changed = [0] * count, True
     while is_changed:
         is_changed = False

@@ -1,12 +1,13 @@
 #!/usr/bin/env python3
-"""Times unions of random cubes, compared with BuDDy, and the division of letters into classes.
+"""Times psyn's decision diagrams: unions of random cubes, compared with BuDDy, and the division of letters into classes
+that lead to the same diagram of the rest.
 
   bench/diagrams.py [--runs N] [--program PROGRAM] [--labels] [COUNT..]
 
-The program bench/diagrams is built in a temporary folder, on copies of the crates with what earlier checks kept in
-out/; --program names a program that was built before. bench/union.c is compiled with the package libbdd-dev; if that
-fails, there is no comparison with BuDDy. Both programs join COUNT cubes (10000, 20000, 40000, 80000) over 24
-propositions: recursively one half of the cubes, then the other half, and then the two unions.
+The program bench/diagrams is built in a temporary folder, on copies of the crates with the libraries that earlier
+checks left in their folders out/; --program names a program that was built before. bench/union.c is compiled with the
+package libbdd-dev; if that fails, there is no comparison with BuDDy. Both programs join COUNT cubes (10000, 20000,
+40000, 80000) over 24 propositions: recursively one half of the cubes, then the other half, and then the two unions.
 
 A line for each count has psyn's and BuDDy's least time of --runs (3) runs in milliseconds, for the unions alone, and
 psyn's time divided by BuDDy's. Then it has psyn's nodes, the nodes made in a second, and the times of two calls of
@@ -79,7 +80,7 @@ def tell(names):
 
 
 def labels(program, counts, runs):
-    """Times the diagrams of labels, and the division of letters into classes."""
+    """Times the decision diagrams of labels, and the division of their letters into classes."""
     tell(["label", "signs", "seconds", "doubling", "made", "nodes", "classes", "first ms", "classes", "eighth ms"])
     for shape in ("any", "all"):
         last = None

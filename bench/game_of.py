@@ -8,9 +8,9 @@ PSYN is the built program (crates/psyn/out/psyn). The families are:
     classes    64 states, each with 16 to 8,192 letters of the inputs as classes
 In the family `states`, one output leads to another state for each letter of the inputs, and the other to the sink.
 Each automaton is twice as large as the one before, up to --edges edges (1,048,576, the most that psyn reads). A line
-for each automaton has its states, the classes of a state, the vertices and edges of the game, and the bytes of both
-texts. Then it has the least seconds of --runs (3) runs of the whole process, and the growth of the seconds for each
-doubling of the vertices since the line above (2 is proportional).
+for each automaton has its states, the classes of input letters in each state, the vertices and edges of the game, and
+the bytes of both texts. Then it has the least seconds of --runs (3) runs of the whole process, and the growth of the
+seconds for each doubling of the vertices since the line above (2 is proportional).
 
 Run the script on a machine that does nothing else. A small automaton is run before the first line, so that the program
 is already in memory.
@@ -50,8 +50,8 @@ def by_states(states):
 
 def by_classes(inputs):
     """Each state has an edge for each letter; the low bits of a letter are the inputs, and the high bit is the output.
-    The targets for the two outputs together determine all bits of the inputs, so each letter of the inputs is a class
-    of its own."""
+    The targets and acceptance sets for the two outputs together determine all bits of the inputs, so each letter of the
+    inputs is a class of its own."""
     parts = [head(FEW, inputs), "--BODY--\n"]
     for q in range(FEW):
         parts.append(f"State: {q}\n")
@@ -63,7 +63,7 @@ def by_classes(inputs):
 
 def automata(family, most):
     """The automata of a family, each twice as large as the one before, with the number of states and of the classes of
-    a state."""
+    letters in each state."""
     if family == "states":
         for states in SIZES:
             if 16 * states <= most:

@@ -1,7 +1,7 @@
-"""Texts that are made to be hard for psyn: each function makes the runs of one kind.
+"""Texts that are made to be hard for psyn: each function makes the runs of psyn on one kind of texts.
 
-A run is a command line, its texts, and whether out of memory is the right answer, because the answer or the counts in
-it are larger than any machine's memory. A text has 16 MiB if a text of its kind can be so long."""
+A run has a command line, its texts, and whether "out of memory" is the right answer, because the answer or the counts
+in it are larger than any machine's memory. A text has 16 MiB if a text of its kind can be so long."""
 import collections
 import os
 import subprocess
@@ -192,12 +192,12 @@ def fan():
     return on_games(fanned) + on_games(f"0 0 0 0{',0' * (SIZE // 2 - 10)};\n")
 
 
-# Games by rungs. A family describes each vertex (a, b, c and so on) of a rung by its player, its priority and its
-# edges. An edge leads to a vertex of the same rung, with `+` to one of the next rung, and with `-` to one of the rung
-# before. Edges beyond the first or the last rung are left out; a vertex that has no edge then gets a self-loop. A
-# priority of kind `low` is the same in all rungs; a priority of kind `rises` or `falls` changes from rung to rung by
-# the family's step. In a family with `turns`, the players and the parities of low priorities are exchanged in every
-# second rung.
+# Games by rungs. The games of a family consist of equal rungs. A family describes each vertex (a, b, c and so on) of a
+# rung by its player, its priority and its edges. An edge leads to a vertex of the same rung, with `+` to one of the
+# next rung, and with `-` to one of the rung before. Edges beyond the first or the last rung are left out; a vertex that
+# has no edge then gets a self-loop. A priority of kind `low` is the same in all rungs; a priority of kind `rises` or
+# `falls` changes from rung to rung by the family's step. In a family with `turns`, the players and the parities of low
+# priorities are exchanged in every second rung.
 Family = collections.namedtuple("Family", "step turns vertices")
 
 
@@ -253,14 +253,14 @@ SLOW_TO_IMPROVE = Family(4, False, (
 
 
 def ladder(rungs=40):
-    """A ladder game for recursive solvers: each further rung of five vertices multiplies the number of calls by about
-    2.1."""
+    """A ladder game, hard for recursive solvers: each further rung of five vertices multiplies the number of recursive
+    calls by about 2.1."""
     return on_games(game_by_rungs(LADDER, rungs))
 
 
 def second_ladder(rungs=40):
-    """The game `ladder` with two priorities exchanged and other players: each further rung doubles the number of
-    calls."""
+    """The game `ladder` with two priorities exchanged and other players: each further rung doubles a recursive solver's
+    number of calls."""
     return on_games(game_by_rungs(SECOND_LADDER, rungs))
 
 
@@ -271,18 +271,20 @@ def twisted(rungs=40):
 
 
 def braided(rungs=40):
-    """Rungs of six vertices with the same property as in `twisted`."""
+    """Rungs of six vertices that also stay hard for solvers that split the game into components, and for priority
+    promotion."""
     return on_games(game_by_rungs(BRAIDED, rungs))
 
 
 def steep(rungs=40):
-    """Each further rung of five vertices multiplies the number of calls by 2.55, the greatest factor that was found."""
+    """Each further rung of five vertices multiplies a recursive solver's number of calls by 2.55, the greatest factor
+    that was found."""
     return on_games(game_by_rungs(STEEP, rungs))
 
 
 def slow_to_improve(rungs=40):
-    """Each further rung of six vertices doubles the number of calls; the rounds of strategy improvement grow with the
-    number of rungs."""
+    """Each further rung of six vertices doubles a recursive solver's number of calls; a solver by strategy improvement
+    needs more rounds the more rungs there are."""
     return on_games(game_by_rungs(SLOW_TO_IMPROVE, rungs))
 
 

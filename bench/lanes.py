@@ -5,9 +5,10 @@ step of either.
   bench/lanes.py [--random N] [--program PROGRAM]
 
 psyn has no command that runs many stimuli, so the program bench/lanes is built in a temporary folder, on copies of the
-crates with what earlier checks kept in out/. --program names a program that was built before. The program runs eight
-random letters in each of the 256 lanes, and fails if an output or a latch of a lane differs from that of the plain run.
-Runs in lanes alternate with plain runs, and the least time of each kind counts.
+crates with the libraries that earlier checks left in their folders out/. --program names a program that was built
+before. The program runs eight random letters in each of the 256 lanes, and fails if an output or a latch of a lane
+differs from that of the plain run. Runs in lanes alternate with plain runs (of one stimulus after another), and the
+least time of each kind is printed.
 
 --random makes N (200) small random circuits for this comparison, with latches that may read any variable and gates in
 any order. Then come circuits of 10000, 100000 and 1000000 gates (those of bench/simulate.py). A line for each has the

@@ -4,11 +4,12 @@
   bench/regions.py [--random N] [--program PROGRAM] [--beside SOLVER] [--games FOLDER]
 
 psyn has no command that only solves, so the program bench/regions is built in a temporary folder, on copies of the
-crates with what earlier checks kept in out/. --program names a program that was built before.
+crates with the libraries that earlier checks left in their folders out/. --program names a program that was built
+before.
 
---random makes N (1000) random games of at most 12 vertices. Each positional strategy of one player is played against
-each of the other. A player wins the vertices from which one of the player's strategies beats all of the opponent's. The
-printed winners must be the same, and the printed moves must win.
+--random makes N (1000) random games of at most 12 vertices. The enumeration plays each positional strategy of one
+player against each one of the other. A player wins the vertices from which one of the player's strategies beats all of
+the opponent's. The printed winners must be the same, and the printed moves must win.
 
 Then come paths of up to 10000 vertices, and up to 100000 vertices with self-loops only, all with different priorities;
 the largest game once more with a stack of 256 KiB; and the games in FOLDER. A line for each has the milliseconds and
@@ -91,7 +92,8 @@ def tables(game, player):
 
 
 def check(game, lines):
-    """Checks that the printed moves win, and that the printed winners are those of the enumeration."""
+    """Checks that the moves which psyn printed win, and that the winners which it printed are those of the
+    enumeration."""
     where = [None, None]
     for player in (0, 1):
         where[player] = set()

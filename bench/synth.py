@@ -8,9 +8,11 @@ Automata of 10 states and more (ten times as many each, at most STATES, which is
     inputs         1,000 states and 2 to 62 inputs; each state reads two of the inputs
     priorities     a state for each of the 2 to 64 sets of a chain condition
     unrealizable   the output must equal the next step's input, in every state
-A line for each has the seconds of `game` (read, build, game, its text), of `cert` (solve, check and the certificate's text in
-the place of the game's), and of `synth` (besides the machine, the circuit and its text); the growth of `synth` against that of
-the states (1.00 is proportional); the first line of the answer, the gates, and the most memory that `synth` held.
+A line for each automaton has the seconds of three commands. `game` reads the text, builds the automaton and its game,
+and writes the game. `cert` also solves the game and checks the certificate, and writes the certificate in place of the
+game. `synth` also makes the machine and the circuit, and writes the circuit. Then come the growth of the seconds of
+`synth` divided by that of the states (1.00 is proportional), the first line of the answer, the gates, and the most
+memory that `synth` held.
 """
 import os
 import subprocess
@@ -27,8 +29,8 @@ def head(inputs, outputs, acceptance):
 
 
 def states(count):
-    """A request (input 0) leads to another state, and a grant (output 0) two or five states on, in the acceptance set;
-    input 1 jumps ahead, and output 1 chooses between the grants."""
+    """Edges form a ring of states: a request (input 0) leads one state on, and a grant (output 0) two or five states
+    on, by an edge in the acceptance set. Input 1 jumps far ahead, and output 1 chooses between two and five."""
     lines = [head(2, 2, "1 Inf(0)")]
     for q in range(count):
         lines.append(f"State: {q} [0&!2] {(q + 1) % count} [!0&!2&!1] {q} [!0&!2&1] {(q * 7 + 3) % count} [2&!3] {(q + 2) % count} {{0}} [2&3] {(q + 5) % count} {{0}}\n")
@@ -45,8 +47,8 @@ def inputs(count):
 
 
 def priorities(count):
-    """A state for each set of a chain condition; the environment can move to the next set, and the controller down to a
-    half or a third of the set's number."""
+    """A state for each acceptance set of a chain condition. The environment can move to the next set's state; otherwise
+    the controller chooses the state with a half or a third of the present number."""
     chain = "t"
     for k in reversed(range(count)):
         chain = f"Inf({k}) | ({chain})" if k % 2 == 0 else f"Fin({k}) & ({chain})"

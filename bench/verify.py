@@ -64,7 +64,8 @@ def gallery(psyn):
 
 
 def cases(psyn, named):
-    """For each automaton and each order of moves, the beginning of the output line, and the case."""
+    """For each automaton and each order of moves, the beginning of the output line, and the case: the automaton with
+    the circuit that `synth` prints."""
     for name, spec in named:
         for moore in (False, True):
             try:
@@ -92,8 +93,8 @@ def compare(psyn, seed, literals, files):
 
 
 def answers(case, seed, literals):
-    """How often each verdict was given. A circuit's literals are no longer changed after several products were too
-    large, or if the product of the unchanged circuit is too large."""
+    """How often each verdict was given. No further literal of a circuit is changed after several products with the
+    automaton were too large, or if the product of the unchanged circuit is too large."""
     told = collections.Counter()
     for text in case.drawn(seed, literals):
         try:
