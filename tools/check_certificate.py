@@ -57,8 +57,8 @@ def entries_of(text, game):
 
 
 def flaws_of(game, entries):
-    """Yields the certificate's flaws in order: first wrong moves and escapes, vertex by vertex, and then wrong
-    counts."""
+    """Yields the certificate's flaws in order. First come wrong moves and escapes (edges to a vertex that the other
+    player wins), vertex by vertex, and then wrong counts."""
     remaining = {}
     for v, (_, owner, successors) in game.items():
         winner, move, _ = entries[v]

@@ -1,5 +1,5 @@
-"""The tool `psyn`, which runs the program psyn on files: it joins the input files, explains faults, and draws games and
-circuits. This package is installed for users, unlike the package `upkeep`.
+"""The tool `psyn`, which runs the program psyn on files: it joins the files to one input of the program, explains
+faults, and draws games and circuits. This package is installed for users, unlike the package `upkeep`.
 
   main, words, command, table    parsing a command line; what a command is; the table of all commands
   commands                       the commands, one file each

@@ -1,4 +1,4 @@
-"""Runs the program on files, prints its answer unchanged, and explains the fault if the answer is one."""
+"""Runs the program on files, prints its answer unchanged, and explains the answer if it is a fault."""
 from psyntool import console, explaining, files, program
 from psyntool.ends import FAULT
 

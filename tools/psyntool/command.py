@@ -72,8 +72,9 @@ class Command:
     function that runs it.
 
     The flags in `flags` are passed to the program; the flags in `own` are handled by the tool. `behind` maps a flag to
-    a kind of file that the flag adds. `instead` maps a flag to optional files that the command then reads in place of
-    all others. `least` is the number of words that must be given, if the last words may be left out.
+    the kind of one more file that the command reads if the flag is given. `instead` maps a flag to optional files that
+    the command then reads in place of all others. `least` is the number of words that must be given, if the last words
+    may be left out.
     """
 
     name: str
@@ -168,7 +169,8 @@ class Request:
         return None if said is None else int(said)
 
     def texts(self):
-        """The files that the command reads. A command of the tool refuses a file of a wrong kind here."""
+        """The files that the command reads. For a command that is not one of the program, a file of a wrong kind is
+        refused here."""
         texts = Reader(self).texts(self.command.kinds(self.given), self.words)
         wrong = wrong_kinds(self.command, texts)
         if wrong and not self.command.is_of_the_program:

@@ -10,8 +10,8 @@ STEP = 1 << 20
 
 
 def fill_closed():
-    """Opens /dev/null, in the wrong direction, for each closed standard stream, so that no file gets its number and
-    each use fails."""
+    """Opens /dev/null, in the wrong direction, in place of each closed standard stream. So no file that is opened later
+    gets the stream's descriptor, and each use of the stream fails."""
     for number, way in ((INPUT, os.O_WRONLY), (OUTPUT, os.O_RDONLY), (ERROR, os.O_WRONLY)):
         try:
             os.fstat(number)

@@ -54,7 +54,7 @@ def place_of(fault, text, offset):
 
 
 def seen_in_texts(number, behind, request, texts):
-    """Further lines for faults without an offset, if the input texts can be parsed."""
+    """Further lines that explain a fault without an offset, if the input texts can be parsed."""
     seen = {17: acceptance_line, 21: clashing_edges, SYMBOLS: wrong_symbols}.get(number)
     if not seen or texts[0].kind is not Kind.AUTOMATON or number == SYMBOLS and len(texts) < 2 or any(len(text.bytes) > LONGEST for text in texts):
         return []
@@ -65,7 +65,7 @@ def seen_in_texts(number, behind, request, texts):
 
 
 def seen_in_solution(number, offset, behind, texts):
-    """Further lines about an error in a solution, with the names of the game's vertices."""
+    """Further lines that explain an error in a solution, with the names of the game's vertices."""
     if texts[-1].kind is not Kind.SOLUTION or any(len(text.bytes) > LONGEST for text in texts):
         return []
     try:

@@ -59,7 +59,8 @@ def lost_cycle(behind, texts):
 
 
 def wrong_move(behind, texts):
-    """A vertex whose owner is said to win it, but without a move, or with a move along no edge."""
+    """Explains a wrong move: by the solution, the vertex's owner wins the vertex, but the solution has no move there,
+    or a move that is no edge."""
     case, (word, move) = case_of(texts), behind.split()
     vertex = case.game.by_identity[int(word)]
     to = ", ".join(map(str, vertex.successors[:MOST])) + (" .." if len(vertex.successors) > MOST else "")
@@ -71,7 +72,8 @@ def wrong_move(behind, texts):
 
 
 def escape(behind, texts):
-    """An edge by which a play leaves the region of the player who is said to win it."""
+    """Explains an escape: by the solution, a player wins a vertex, but an edge that may be taken leads to a vertex that
+    the other player wins."""
     case, (source, target) = case_of(texts), map(int, behind.split())
     vertex, winner = case.game.by_identity[source], case.entry(source).winner
     way = "moves" if vertex.owner == winner else "can move"
@@ -83,7 +85,8 @@ def escape(behind, texts):
 
 
 def other_game(offset, texts):
-    """The id that is wrong at an offset or, if all entries were read, the vertices without an entry."""
+    """Explains that a solution is not one of this game: the wrong vertex id at the offset or, if there is no id, the
+    vertices without an entry."""
     case = case_of(texts)
     found = re.compile(rb"0*(\d{1,20})").match(texts[1].bytes, offset)
     if not found:
@@ -98,7 +101,8 @@ def other_game(offset, texts):
 
 
 def check_picture(request):
-    """Refuses --picture without --by, because only another solver's solution can have a lost cycle."""
+    """Refuses --picture without --by, because only the solution of another solver can have a cycle that its winner
+    loses."""
     if request.has(PICTURE) and not request.has(BY):
         raise Refused(f"{request.command.name} {PICTURE.name} wants {BY.shown}")
 

@@ -63,7 +63,8 @@ class BesideCheck(unittest.TestCase):
     def test_on_all_certificates(self):
         texts = list(inputs())
         pairs = [pair for text in texts for pair in (pair_of(text), self.made(text)) if pair]
-        # the same certificates with one count decreased or increased, or with another winner
+        # damaged certificates: the last number of each line is decreased or increased, or the first vertex that player
+        # 0 wins is given to player 1
         pairs += [(game, re.sub(rb"(?m)(\d+)$", change, text)) for game, text in pairs[:40] for change in (lower, higher)]
         pairs += [(game, re.sub(rb"(?m)^(\d+) 0 ", rb"\1 1 ", text, count=1)) for game, text in pairs[:40]]
         counts.ran("examples", "certificates checked by another program", len(pairs))

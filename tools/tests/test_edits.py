@@ -1,4 +1,5 @@
-"""Tests of the edits that the prover must refuse: each edit still applies to its crate, and is in the right folder.
+"""Tests of the edits, which are deliberate changes to the code that the prover must refuse: each edit still applies to
+its crate, and is in the right folder.
 
 The gate tries the edits in crates/*/must-fail, which are the wrong bodies listed in NAMED. All other edits are in
 crates/*/more-edits. Each has a row in docs/EDITS.tsv, in which `tools/try-edits` records the verdict.
@@ -13,7 +14,8 @@ from unittest import mock
 
 from upkeep.sweeps import TOOLS, TOP
 
-# The edits that matter most to psyn's promises. The gate proves each crate that has one of these edits once more.
+# The edits (wrong function bodies) that matter most to psyn's promises. The gate proves each crate that has one of them
+# once more, to try its edits.
 NAMED = (
     "always_not_certified",
     "always_too_large",

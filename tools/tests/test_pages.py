@@ -89,7 +89,8 @@ class Rules(unittest.TestCase):
         draw = random.Random(SEED)
         drawn = list(boards(draw, BOARDS))
         letters = [["".join(draw.choices("01", k=len(board.mine))) for _ in range(LETTERS)] for *_, board in drawn for _ in range(PLAYS)]
-        # for each board, one play has no letters of its own and takes the choices that hold out longest
+        # for each specification, no letters are given for one play, which takes the choices with the greatest counts;
+        # the letters of the other plays are random
         plays = [[[], *letters[at + 1 : at + PLAYS]] for at in range(0, len(letters), PLAYS)]
         said, kinds = self.played([(contents.of(board), moves) for (*_, board), moves in zip(drawn, plays)]), {}
         for (text, printed, board), these in zip(drawn, said):
@@ -284,7 +285,8 @@ class InChromium(OnFiles):
         return done.stdout.decode()
 
     def page(self, name, path):
-        """The page of a specification; the letters of the play that holds out longest, and its output by `play`."""
+        """The page of a specification; the letters of the play that `play --auto` plays, and what `play` prints for
+        it."""
         self.assertIn(self.tool("synth", "-o", name, *(["--parts"] if path.endswith(".parts") else []), path).returncode, (10, 20))
         specification = path if path.endswith(".hoa") else f"{name}.hoa"
         said = self.tool("play", "--auto", name, specification).stdout.decode()
@@ -297,7 +299,8 @@ class InChromium(OnFiles):
         return html.unescape(re.search(r'<pre id="test">(.*?)</pre>', document, re.S)[1])
 
     def test_plays_of_the_gallery(self):
-        # the page of the lift's automaton has a map, besides the graph around the present state
+        # the automaton of the lift is large, so its page has a map without labels, besides the graph around the present
+        # state
         for name, places in (("lift", 3), ("handshake", 2)):
             page, moves, said = self.page(name, os.path.join(GALLERY, f"{name}.parts"))
             document = self.document(page, f"#test={','.join(moves)}")

@@ -158,8 +158,8 @@ def boards(draw, count):
 
 
 class Drawn(unittest.TestCase):
-    """For random specifications, the play that holds out longest and a random play end with the verdict that `lasso`
-    confirms."""
+    """For random specifications, `lasso` confirms how two plays end: one takes the choices with the greatest counts,
+    and the other takes random choices."""
 
     def test_drawn_specifications(self):
         draw, ends = random.Random(7), {}
@@ -175,7 +175,8 @@ class Drawn(unittest.TestCase):
         self.assertEqual(set(ends), {(0, False), (1, False), (1, True)})
 
     def look_at(self, play, told):
-        """The verdicts on the parts agree with the verdict on the play."""
+        """What is told about the parts agrees with the play's winner: if the environment wins, a guarantee fails; else
+        a guarantee fails only if an assumption does."""
         broken = [line for line in told[1:] if " the guarantee " in line]
         failed = [line for line in told[1:] if " the assumption " in line]
         if play.board.winner == 1:

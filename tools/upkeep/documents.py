@@ -116,8 +116,8 @@ def calls_of(lines):
 
 
 def definitions_of(lines):
-    """The files and names in the brackets at the end of each definition, with the number of the definition's first
-    line."""
+    """The files and names in the parentheses at the end of each definition in docs/definitions.md, with the number of
+    the definition's first line."""
     last = [(number, re.findall(r"`([^`]+)`", found[-1])) for number, text in prose_of(lines) if (found := re.findall(r"\([^()]*\)\.?$", text))]
     return [(number, code) for number, codes in last for code in codes]
 

@@ -107,7 +107,7 @@ def answer_to_beginning(cut, end):
 
 
 def rows_of_cut(cut):
-    """The rows that a cut stands for."""
+    """The rows that a table `[[cut]]` stands for: one for each beginning of its text."""
     exactly(cut, CUT_KEYS, CUT_KEYS - {"other"})
     for other in cut.get("other", []):
         exactly(other, OTHER_KEYS, OTHER_KEYS)
@@ -120,7 +120,7 @@ def rows_of_cut(cut):
 
 
 def read(path):
-    """The rows of a file, with those of its cuts."""
+    """The rows of a file: those of its tables `[[row]]`, and those that its tables `[[cut]]` stand for."""
     with open(path, "rb") as file:
         tables = tomllib.load(file)
     if set(tables) - {"row", "cut"} or not tables:

@@ -1,5 +1,5 @@
-"""`compose`: makes one automaton of a specification in parts, which states that all assumptions together imply all
-guarantees."""
+"""`compose`: makes one automaton of a specification in parts; it accepts the words in which all assumptions together
+imply all guarantees."""
 from psyntool import console
 from psyntool.command import OF_PARTS, Command
 from psyntool.kinds import Kind

@@ -33,7 +33,7 @@ def head(found):
 
 
 def rows(parts):
-    """For each part, a line with its name and its sentence."""
+    """A line for each part, with its name and with the sentence that describes it."""
     width = max((len(part.title) for part in parts), default=0)
     return [f"  {part.title:<{width}}  {part.sentence}".rstrip() for part in parts]
 

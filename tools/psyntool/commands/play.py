@@ -30,7 +30,8 @@ def run(request):
 
 
 def automatic(play):
-    """Plays to the end, and takes in each step the choice that holds out longest."""
+    """Plays to the end, and takes in each step the choice with the greatest counts, which should delay the user's loss
+    longest."""
     while not play.is_over:
         if len(play.steps) == LONGEST:
             raise Refused(f"the play has {LONGEST:,} steps and no end")
@@ -66,7 +67,7 @@ def taken(play, choices, line):
 
 
 def letter_of(play, choices, line):
-    """The letter that a typed line denotes, or None if the line is no choice."""
+    """The user's letter that a typed line denotes, or None if the line does not denote one."""
     if line in ("a", "auto"):
         return play.board.longest(choices).letter
     if line.isdecimal() and 0 < int(line[:9]) <= len(choices):
@@ -80,8 +81,8 @@ def letter_of(play, choices, line):
 
 
 def judged(play, text):
-    """The program's verdict on the play's word. An error is raised unless it is the verdict that the circuit's player
-    wants."""
+    """The program's answer whether the automaton accepts the word of the play. An error is raised unless this answer
+    means that the circuit's player wins."""
     flags = [ENV.name] if play.board.winner == 1 else []
     given = " ".join(["lasso", *flags]) + f"\n{text}%%\n"
     answer = program.ask(given.encode("utf-8", "surrogateescape") + play.circuit.text + b"%%\n" + play.stimulus().encode())

@@ -1,4 +1,5 @@
-"""`sim`: what a circuit does, letter by letter; with --names, under the names of its latches, inputs and outputs."""
+"""`sim`: what a circuit does, letter by letter; with --names, below a line of the names of its latches, inputs and
+outputs."""
 from psyntool import asking, console, files, program
 from psyntool.command import Flag, of_the_program
 from psyntool.texts import circuit

@@ -57,7 +57,8 @@ class Solving:
         self.request, self.picture, self.solver = request, judging.path_of(request), solvers.Solver(request)
 
     def run(self, texts, paths, others):
-        """Answers by the certificate of the other solver's solution; explains the error of a wrong solution."""
+        """Prints the answer of `synth` for the certificate that is made from the other solver's solution; explains the
+        error of a wrong solution."""
         request = self.request
         game = program.ask(files.joined("game", [name for name in request.passed if name == MOORE.name], texts))
         if not asking.is_had(game):

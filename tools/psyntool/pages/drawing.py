@@ -42,7 +42,8 @@ def of_game(board):
 
 
 def lines_of(board, vertex):
-    """A vertex in words: its state and priority, or the letter that was chosen; and the player who moves there."""
+    """A vertex of the game in words: the automaton's state and the priority, or the letter that was chosen; and the
+    player who moves there."""
     key = board.names.keys[vertex.identity]
     mover = f"the {PLAYERS[1 - vertex.owner]} moves"
     if key.letter is None:

@@ -1,5 +1,5 @@
-"""Writes a page: the template, filled with its style, its scripts and the data of the board. Texts from the
-specification are escaped in the HTML."""
+"""Writes a page: the template, filled with its style, its scripts and the data of the specification, the game, the
+certificate and the circuit. Texts from the specification are escaped in the HTML."""
 import base64
 import hashlib
 import html
@@ -69,7 +69,7 @@ def escaped(text):
 
 
 def order_of(board):
-    """Whose propositions are which, and which player moves first."""
+    """Which propositions belong to which player, and which player moves first."""
     environment, controller = (", ".join(name for _, name in these) or "nothing" for these in board.automaton.owners())
     first = board.me if board.am_first else board.other
     return f"The environment says {escaped(environment)}; the controller says {escaped(controller)}. In each step the {first} moves first."

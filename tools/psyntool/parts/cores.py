@@ -54,8 +54,8 @@ def core_of(asking):
 
 
 def shrunk(parts, stays):
-    """Parts with which the answer is the same as with all, and of which none can be left out. Long runs of parts are
-    tried first, then shorter ones."""
+    """Parts with which the answer is the same as with all, and of which none can be left out. It is tried to leave out
+    long runs of parts first, and then shorter ones."""
     parts, size = tuple(parts), max(1, len(parts) // 2)
     while size:
         place = 0

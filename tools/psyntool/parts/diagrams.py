@@ -46,11 +46,13 @@ class Diagrams:
         return self.lows[leaf]
 
     def sides(self, one, proposition):
-        """The children of a diagram at a proposition that is not greater than the diagram's own."""
+        """The diagram if a proposition is false, and if it is true; the proposition is not greater than the diagram's
+        own."""
         return (self.lows[one], self.highs[one]) if self.propositions[one] == proposition else (one, one)
 
     def joined(self, first, second, function, known):
-        """The diagram that applies the function to the values of two diagrams; `known` caches results."""
+        """The diagram whose value at each letter is the function of the two diagrams' values there; `known` caches
+        results."""
         key = first, second
         found = known.get(key)
         if found is None:
@@ -66,7 +68,7 @@ class Diagrams:
         return found
 
     def mapped(self, one, function, known):
-        """The diagram that applies the function to the values of a diagram."""
+        """The diagram whose value at each letter is the function of the given diagram's value there."""
         found = known.get(one)
         if found is None:
             if self.is_leaf(one):
@@ -98,7 +100,7 @@ class Diagrams:
         return found
 
     def values(self, one):
-        """The values of the leaves, in the order of the letters."""
+        """The values of the diagram, in the order of the first letter that has each."""
         found, seen, waiting = {}, set(), [one]
         while waiting:
             now = waiting.pop()

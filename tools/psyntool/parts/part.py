@@ -1,7 +1,7 @@
 """A part of a specification: a small deterministic automaton over its own named propositions.
 
-A part has safety acceptance (`t`) or Büchi acceptance (`Inf(0)`). A letter without an edge violates the part. In a
-Büchi part, so does a letter that leads to a state from which no accepting edge can be reached.
+A part has safety acceptance (`t`) or Büchi acceptance (`Inf(0)`). A letter without an edge violates the part. A letter
+also violates a Büchi part if it leads to a state from which no accepting edge can be reached.
 """
 import re
 from dataclasses import dataclass
@@ -16,7 +16,7 @@ SAFETY, BUCHI = True, ("Inf", 0)
 
 
 class Move(NamedTuple):
-    """The state to which a letter leads, and whether the edge there is accepting."""
+    """The step of a part at a letter: the state to which the letter leads, and whether the edge to it is accepting."""
 
     target: int
     is_met: bool
@@ -24,7 +24,8 @@ class Move(NamedTuple):
 
 @dataclass(frozen=True, eq=False)
 class Part:
-    """A part: its title, its sentence (perhaps empty), its automaton, and its text."""
+    """A part of a specification: its title, the sentence that describes it (perhaps empty), its automaton, and its
+    text."""
 
     title: str
     sentence: str
@@ -124,7 +125,8 @@ class Moves:
         self.start = None if part.automaton.start in hopeless else part.automaton.start
 
     def moved(self, label):
-        """The label with the specification's numbers of propositions in place of the part's."""
+        """The label, where each number of a proposition in the part is replaced by the proposition's number in the
+        specification."""
         return tuple(Proposition(self.places[it.number]) if isinstance(it, Proposition) else it for it in label)
 
     def of_state(self, state, aliases):

@@ -113,7 +113,8 @@ def listed(text, wishes):
 
 
 def refused_behind(name, function, *values):
-    """The function's result; if the function refuses something, the file's name is put before the message."""
+    """The result of a function that parses a file; if the function refuses something, the file's name is put before the
+    message."""
     try:
         return function(*values)
     except Refused as error:

@@ -8,7 +8,7 @@ from psyntool.texts import Unreadable, labels
 REGION = {0: "palegreen", 1: "lightsalmon"}
 MOVE = {0: "darkgreen", 1: "firebrick"}
 CYCLE = "blue"
-# In a picture with more edges than this, letters are put into tables.
+# In a picture with more edges than this, the letters of edges are put into tables at the vertices.
 FEW_EDGES = 60
 OTHER_GAME = "the certificate, or the solution, is one of another game: its ids are not those of the game"
 OTHER_AUTOMATON = "the game is not that of this automaton: its vertices have other names"
@@ -70,7 +70,8 @@ class Names:
         return "no edge" if state is None else str(state)
 
     def of_edge(self, source, target):
-        """The letter of an edge: the first player's choice, or a letter by which the second player completes it."""
+        """The letter of an edge: the first player's choice, or a letter of the second player that leads to the edge's
+        target."""
         before, after = self.keys[source.identity], self.keys[target.identity]
         if before.state is None:
             return ""
@@ -81,7 +82,8 @@ class Names:
         return labels.letter_text(mine, self.automaton.names)
 
     def leading(self, before, after):
-        """A letter that extends that of `before` and leads to `after`; for the sink, a letter without an edge."""
+        """A letter of both players that has the first player's choice at `before` and leads to `after`; if `after` is
+        the sink, a letter without an edge."""
         edges, aliases, chain = self.automaton.edges.get(before.state, ()), self.automaton.aliases, self.automaton.chain
         if after.state is None:
             return labels.meeting([(*edge.label, labels.NOT) for edge in edges], aliases, before.letter)
@@ -91,8 +93,8 @@ class Names:
 
 
 class Drawing:
-    """The drawn vertices of a game, with their colours and names. If there are many edges, letters go into tables, so
-    that none covers another."""
+    """The drawn vertices of a game, with their colours and names. If there are many edges, their letters go into
+    tables, so that no letter covers another."""
 
     def __init__(self, game, certificate, automaton, reach, cycle=()):
         self.game, self.entries = game, certificate.entries if certificate else {}

@@ -1,4 +1,5 @@
-"""The board of a play: a specification with its game, certificate and circuit, and the user's choices at each vertex.
+"""What stays the same during a play against a circuit (its board): a specification with its game, certificate and
+circuit, and the user's choices at each vertex.
 
 The circuit moves for the winning player, and the user for the losing player. The user's letters are the circuit's
 inputs.
@@ -21,7 +22,7 @@ LONGEST_SET = 60
 @dataclass(frozen=True)
 class Choice:
     """A choice of the user: a successor in the game, the truth of the user's propositions, the letters in words, where
-    they lead and, if they have no edge, the guarantees that they break."""
+    they lead and, if they have no edge, the guarantees that they violate."""
 
     vertex: int
     letter: dict
@@ -91,7 +92,7 @@ class Board:
         return "no edge" if state is None else self.automaton.state_names.get(state) or str(state)
 
     def counts(self, vertex):
-        """The certificate's counts at a vertex, from the greatest priority down."""
+        """The counts that the certificate has for a vertex, from the greatest priority down."""
         entry = self.certificate.entries[vertex]
         return tuple(entry.counts.get(priority, 0) for priority in sorted(self.certificate.opposing(entry.winner), reverse=True))
 
@@ -122,7 +123,8 @@ class Board:
                     yield Choice(one, letter, self.set_text(said, letter), after.state, after.priority, self.counts(one), broken)
 
     def ends(self, state):
-        """For each letter the state and priority to which it leads; without an edge, those of the game's sink."""
+        """A decision diagram with, for each letter, the state and priority to which it leads in a state; for a letter
+        without an edge, those of the game's sink."""
         whole = self.diagrams.leaf((None, 1))
         for edge in self.automaton.edges.get(state, ()):
             taken, ends = self.diagrams.of_label(edge.label, self.aliases), (edge.target, self.automaton.chain.priority(edge.marks))
@@ -136,7 +138,8 @@ class Board:
         return said if len(said) <= LONGEST_SET else f"{self.letter_text(letter)}, or others"
 
     def breaking(self, states):
-        """A diagram of the guarantees, by title, that each letter breaks in the given states."""
+        """A decision diagram with, for each letter, the titles of the guarantees that it violates in the given
+        states."""
         whole = self.diagrams.leaf(())
         for moves, state in zip(self.guaranteed, states):
             if state is not None:
@@ -146,7 +149,8 @@ class Board:
         return whole
 
     def longest(self, choices):
-        """The choice that holds out longest: that of the greatest counts, and then of the smallest vertex."""
+        """The choice that should delay the user's loss longest: that of the greatest counts in the certificate, and
+        then of the smallest vertex."""
         return max(choices, key=lambda choice: (choice.counts, -choice.vertex))
 
 
@@ -164,7 +168,7 @@ def added(some, more):
 
 @dataclass(frozen=True)
 class Run:
-    """A part after some steps: its state, or the step that broke it, and the steps that took an accepting edge."""
+    """A part after some steps: its state, or the step that violated it, and the steps that took an accepting edge."""
 
     state: int | None
     broke: int | None
@@ -225,7 +229,8 @@ class Play:
         return [step.digits for step in self.steps]
 
     def look(self):
-        """Updates the latches, the circuit's letter if the circuit moves first, and the loop of the play."""
+        """Brings the latches, the circuit's letter (if the circuit moves first) and the loop of the play up to date
+        after a step."""
         nothing = self.circuit.digits({number: False for number, _ in self.board.mine})
         self.latches, said = self.circuit.after([*self.lines, nothing])
         self.theirs = None if self.board.am_first else said
@@ -239,7 +244,7 @@ class Play:
         return self.board.choices(self.vertex, self.theirs, [run(moves, self.steps).state for moves in self.board.guaranteed])
 
     def take(self, mine):
-        """Plays a letter of the user, together with the circuit's letter and the edge of both."""
+        """Plays a step: the user's letter, the circuit's letter, and the automaton's edge for both letters."""
         digits = self.circuit.digits(mine)
         theirs = self.theirs or self.circuit.after([*self.lines, digits])[1]
         letter = {**mine, **theirs}

@@ -16,7 +16,7 @@ KINDS = (Kind.CIRCUIT, Kind.GAME, Kind.CERTIFICATE)
 @dataclass(frozen=True)
 class Given:
     """The automaton's text; the texts of circuit, game and certificate; the specification's text as it was given; and
-    the board."""
+    the `Board` that is made of them."""
 
     automaton: str
     printed: tuple
@@ -34,7 +34,7 @@ def given(request):
 
 
 def board_of(text, *printed):
-    """The board for the texts of an automaton, a circuit, a game and a certificate."""
+    """The `Board` of a play, made of the texts of an automaton, a circuit, a game and a certificate."""
     read = automaton.read(text)
     these = game.read(printed[1]), certificate.read(printed[2]), circuit.read(printed[0])
     return Board(read, *these, specification.kept(read))

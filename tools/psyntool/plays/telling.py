@@ -10,7 +10,8 @@ def standing(play):
 
 
 def offered(play):
-    """The choices, and for each a line with its number; `*` marks the choice that holds out longest."""
+    """The user's choices, and for each a line with its number; `*` marks the choice that should delay the user's loss
+    longest."""
     choices = play.choices()
     best, width = play.board.longest(choices), max(len(choice.said) for choice in choices)
     lines = [f"{'*' if choice is best else ' '}{number:>3}  {choice.said:<{width}}  -> {where(play.board, choice)}" for number, choice in enumerate(choices, 1)]
@@ -25,8 +26,8 @@ def where(board, choice):
 
 
 def ended(play):
-    """How the play ended: in a loop, with its greatest priority, or in a step without an edge; and the parts that were
-    violated."""
+    """How the play ended: in a loop, with its greatest priority, or in a step for which the automaton has no edge; and
+    the parts that were violated."""
     last = len(play.steps) - 1
     if play.loop is None:
         told = [f"at step {last} there is no edge: the automaton rejects, whatever follows"]
@@ -41,7 +42,8 @@ def ended(play):
 
 
 def of_part(play, side, moves):
-    """Lines about a part that was broken, or whose accepting edges the loop never takes, with the part's sentence."""
+    """Lines about a part that was violated, or whose accepting edges the loop never takes, with the sentence that
+    describes the part."""
     found, part = run(moves, play.steps), moves.part
     if found.broke is not None:
         said = f"step {found.broke} breaks the {side} {part.title}"

@@ -1,5 +1,5 @@
-"""Acceptance conditions that are chains, that is nested like a parity condition, and the priorities that a chain gives
-to edges.
+"""Acceptance conditions that are chains, which means nested like a parity condition, and the priorities that a chain
+gives to edges.
 
 A condition is a Boolean constant or a pair: (`Inf`, set), (`Fin`, set), (`&`, operands) or (`|`, operands).
 """
@@ -8,14 +8,16 @@ from dataclasses import dataclass
 
 @dataclass(frozen=True)
 class Chain:
-    """The links of a chain, each an acceptance set and whether meeting it infinitely often accepts. The first link
-    whose set is met infinitely often decides or, if there is none, `base`."""
+    """A chain: a list of links, each of which is an acceptance set and whether meeting the set infinitely often
+    accepts. The first link whose set is met infinitely often decides; if there is none, `base` says whether the run is
+    accepted."""
 
     links: tuple
     base: bool
 
     def priority(self, marks):
-        """The priority of an edge: that of the first link with one of the edge's sets, or that of the base."""
+        """The priority of an edge, which is in the sets `marks`: that of the first link whose set is among them or, if
+        there is none, that of `base`."""
         numbers, number = [], 0 if self.base else 1
         for _, accepts in reversed(self.links):
             number += accepts != (number % 2 == 0)

@@ -111,7 +111,8 @@ class Reader:
 
 
 def release(waiting, output, binds):
-    """Moves waiting operators to the output, down to an open parenthesis or to an operator that binds less strongly."""
+    """Moves operators from the stack to the postfix form, down to an open parenthesis or to an operator that binds less
+    strongly."""
     while waiting and waiting[-1] != "(" and BINDS.get(waiting[-1], 3) >= binds:
         sign = waiting.pop()
         output.append(Operator(sign, 1 if sign == "!" else 2))
