@@ -67,7 +67,7 @@ over-made (s ∷ vs) f d sound within room =
 
 -- ## Bits of a step
 
--- the letter that the variables of the inputs give, and the code that the variables of the first latches give
+-- the input letter, and the code in the first latches, that the values v of the variables give
 abbrev pub letter_read : Behaviour → (ℕ → Bool) → ℕ
 letter_read b v = letter_over b.inputs (map v (range_with_len 1 (length b.inputs)))
 

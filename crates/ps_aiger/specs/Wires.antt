@@ -7,7 +7,7 @@
 --   whose gates are built after those
 -- - `IsWired b c`: the circuit c has the literals and gates that these definitions build for the machine b, in the same
 --   order
--- - `IsOutOfLiterals b`: the gates need too many variables, so that there is no circuit
+-- - `IsOutOfLiterals b`: the gates that are built for the machine b need too many variables, so that it has no circuit
 use Rattle.std.specs.Prelude.{◌≡◌, ℕ, zero, suc, ◌+◌, ◌*◌, ◌^◌, ◌≤◌, Bool, true, false, if◌then◌else◌, List, []}
 use Rattle.std.specs.Prelude.{◌∷◌, length, map, slice_get, Some}
 use Rattle.std.specs.List.{range_with_len}

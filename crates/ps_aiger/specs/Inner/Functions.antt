@@ -37,7 +37,8 @@ wanted_bit (Output p) row = is_in p row.letter
 abbrev pub row_by : MachineData → ℕ → ℕ → Row
 row_by m node x = row_at_leaf m (unwrap_or (leaf_of m.store node x) (length m.rows))
 
--- the literal of the bit w of the row to which a node leads, as a function of the input letter
+-- the gates of d and those for the bit w of the machine's row to which a diagram node leads, and the literal of this
+-- bit, which depends on the input letter
 unfoldable pub node_made : MachineData → Wanted → ℕ → Drafted → Made
 node_made m w node d =
     over_variables (range_with_len 1 (length m.inputs)) (λ bits.
