@@ -1,6 +1,6 @@
 -- Decimal numbers.
 -- - `digit_is`, `digit_passes`: a byte is a digit if and only if it passes the test
--- - `value_pushed`, `value_more`: how one more digit changes the value
+-- - `value_pushed`, `value_more`: one more digit changes the value to ten times the value plus the digit
 -- - `value_grows`, `value_front`: more digits never denote a smaller number
 -- - `IsNumberText n digits`: `digits` have no leading zero and denote n
 -- - `number_text`, `plain`: the digits that are written for a number less than 2^64 denote it, and have no leading zero

@@ -117,7 +117,7 @@ module _ {T F : Type 0} (causes : Causes T F) where
         o ≡ Some (record { cause = f; offset = offset_of old.pieces old.end }) → Stops causes (one take Bad) old o
     stops_bad t f o n b least k = rw k (stops_there f (bad_one take Bad causes (signs old.pieces) t f n b least))
 
-    -- the grammar has a text, because `take` accepts the symbol s
+    -- the grammar of one symbol has a text, because `take` accepts the symbol s
     pub stops_refusal : (s : T) (w : V) → take s ≡ Some w → ((t : T) → next_of old ≡ Some t → take t ≡ None) →
         ((t : T) (f : F) → next_of old ≡ Some t → Bad t f → ⊥) →
         (o : Option (Found F)) → o ≡ Some (refusal_at causes old) → Stops causes (one take Bad) old o

@@ -1,5 +1,6 @@
 -- A grammar that has the same result, or the same first fault, as another grammar.
--- - `stops_by`, `stops_at`: `StopsAt` holds exactly if no text continues with the next symbol
+-- - `stops_by`, `stops_at`, `quiet_by`, `quiet_at`: `StopsAt` holds exactly if no text continues with the next symbol,
+--   and `NoCauseAt` exactly if this symbol is no error
 -- - `read_quiet`: after a grammar was parsed, the symbol after the parsed text is not an error of the grammar
 -- - `fault_begins`: the symbols before a first fault begin a text of the grammar
 -- - `fault_from`: the first fault of P is the first fault of R, if R has no error before it, and no text or error there

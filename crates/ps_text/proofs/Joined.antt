@@ -2,10 +2,10 @@
 -- first fault of Q after P.
 -- - `joint`: two grammars in a row satisfy `Joint`, if they satisfy the laws and no symbol both continues the first and
 --   begins the second
--- - `text_behind`, `cause_behind`: unless the text of P continues, a text or error of P and Q together after a text of
---   P is one of Q
--- - `begins_left`, `begins_right`: a beginning of a text of P begins a text of P and Q together; so does a text of P
---   with a beginning of a text of Q
+-- - `text_behind`, `cause_behind`: after a text of P that can't continue with the next symbol, each text or error of P
+--   and Q together is one of Q
+-- - `begins_left`, `begins_right`: a text of P and Q together can begin with each beginning of a text of P, and with
+--   each text of P followed by a beginning of a text of Q
 -- - `read_then`, `fault_left`, `fault_right`: P and Q together are parsed if both are; they have the first fault of P,
 --   or of Q after a text of P
 use Rattle.std.proofs.Common.{◌≡◌, ◌⊎◌, List, [], ◌∷◌, ◌++◌, length, Option, Some, refl, ap, subst}

@@ -44,7 +44,7 @@ module _ {T F : Type 0} (causes : Causes T F) where
   pub has_give : {V : Type 0} (v : V) → HasOutcomes causes (give {T = T} {V = V} {F = F} v)
   has_give v = record { outcome = λ all. was_read v all (read_give all v) }
 
-  -- the grammar has a text, because `take` accepts the symbol s
+  -- the grammar of one symbol has a text, because `take` accepts the symbol s
   pub has_one : {V : Type 0} (take : T → Option V) (Bad : T → F → Type 0) (s : T) (w : V) → take s ≡ Some w →
       ((t : T) → Judged causes.number (Bad t)) → HasOutcomes causes (one take Bad)
   has_one {V} take Bad s w e judge = record { outcome = go }
@@ -223,7 +223,7 @@ module _ {T V F : Type 0} {causes : Causes T F} {part : Part T V F} {First More 
             }),
           )
 
--- the same result, from the premises of the law `some_answer`
+-- each text has an answer, proved from the premises of the law `some_answer`
 module _ {T V F : Type 0} {causes : Causes T F} {part : Part T V F} where
   some_text : Outcome causes part [] → Begins part.IsText []
   some_text cases = search (rules, append_nil_left, none_is_some, nil_is_cons)

@@ -6,7 +6,7 @@
 -- - `taken_byte`: the symbol that is taken for a byte is this byte
 -- - `read_one`, `bad_one`, `refused_one`: the result of parsing one symbol that is accepted; that is an error; that is
 --   not allowed, or missing because the text ends
--- - `read_mapped`, `fault_mapped`: when `mapped` is parsed, and when it fails
+-- - `read_mapped`, `fault_mapped`: if P is parsed, `mapped h P` is parsed; the first fault of P is that of `mapped h P`
 use Rattle.std.proofs.Common.{◌≡◌, ◌≤◌, List, [], ◌∷◌, ◌++◌, Option, None, Some, refl, sym, ap, subst, inl, inr}
 use Rattle.std.proofs.Common.{◌⊎◌, ◌∙◌, ℕ, append_assoc, arith, rules}
 use Rattle.std.specs.Prelude.{◌==◌, if◌then◌else◌}

@@ -11,7 +11,7 @@
 -- The combinators:
 -- - `give v`: the grammar of the empty text, with the value v
 -- - `one take Bad`: one symbol, whose value `take` gives; Bad states which errors a symbol has here
--- - `then_by P Q`: P and then Q a, for the value a of P; the value of Q a is the value of both
+-- - `then_by P Q`: a text of P with some value a, and then a text of Q a, whose value is the value of both
 -- - `either P Q`: a text of P or a text of Q
 -- - `times n item c, many item c`: n items, or any number of items, in a row; each item depends on a context, which is
 --   c for the first item

@@ -121,7 +121,7 @@ module _ {C : Type 0} {number : C → ℕ} {syntax : C} where
     has = has_one (byte_causes number syntax) take Bad s v e judge;
   }
 
-  -- a run exists, because the byte b passes p
+  -- there is a run of bytes that pass the test p, because the byte b passes it
   pub run_by : {V : Type 0} (p : ℕ → Bool) (see : ℕ → List ℕ → V) (Bad : List ℕ → C → Type 0) (b : ℕ) → p b ≡ true →
       ((bytes : List ℕ) → Judged number (Bad bytes)) →
       Lawful number syntax (run p see Bad) (λ s. p s.byte ≡ true) (λ s. p s.byte ≡ true) ⊥

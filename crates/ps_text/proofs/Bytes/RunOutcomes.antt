@@ -76,7 +76,7 @@ module _ {V C : Type 0} (number : C → ℕ) (syntax : C) (p : ℕ → Bool) (se
     })
     judged (good right) = run_there right
 
-  -- a run exists, because the byte b passes p
+  -- there is a run of bytes that pass the test p, because the byte b passes it
   pub has_run : (b : ℕ) → p b ≡ true → ((bytes : List ℕ) → Judged number (Bad bytes)) →
       HasOutcomes (byte_causes number syntax) (run p see Bad)
   has_run b e judge = record { outcome = go }

@@ -2,8 +2,9 @@
 -- fail.
 -- - `Odd`: the empty set of symbols, as no byte is an error wherever it occurs
 -- - `At b, Any`: the symbols with the byte b; all symbols
--- - `stops_here`: the next symbol does not begin the grammar
--- - `byte_reads`, `byte_stops`: the next byte is the expected byte, or it is not
+-- - `stops_here`: the result of parsing, if the next symbol does not begin the grammar
+-- - `byte_reads`, `byte_stops`: the result of parsing the grammar of a byte, if the next byte is this byte, and if it
+--   is not
 -- - `avoids`, `enters_byte`: the grammar of a byte begins at the next symbol exactly if this has the byte
 -- - `refuted`: if a test fails, a statement that implies the test is false
 use Rattle.std.proofs.Common.{◌≡◌, ℕ, Bool, true, false, cond, [], Option, Some, None, refl, sym, ap, subst, ◌∙◌, rules}
