@@ -1,6 +1,6 @@
 -- In an infinite sequence of numbers below a bound some number recurs, and therefore some point of an infinite run
 -- recurs.
--- - `comes_again`: among values below a bound, some value recurs
+-- - `comes_again`: in an infinite sequence of numbers below a bound, some number recurs
 -- - `legs`, `legs_go`: the steps of an infinite run that lead from one point to a later point
 -- - `come_back`: if the points of an infinite run have codes below a bound, and points with the same code are equal,
 --   the run leads to some point and then back to it

@@ -99,7 +99,7 @@ pub fn every_meeting_is_rejected()
     circuit_has_one_values();
 }
 
-/// The words of the lasso traces of a machine's circuit are words of the machine.
+/// The word of each lasso trace of a machine's circuit is the word of a lasso of the machine.
 pub fn circuit_has_machine_words()
     ensures { (m : Behaviour) (c : CircuitData) (stem lap : List ℕ) → IsMachine m → Encodes m c →
         IsLassoWord m.names c stem lap → IsLasso m stem lap }
