@@ -60,7 +60,7 @@ module _ {owner : ℕ} {names : List (List ℕ)} {auto : Auto} {c : CircuitData}
   abbrev greatest_behind : ℕ → ℕ → ℕ
   greatest_behind from laps = greatest_of_laps auto (state_after auto start lap from) lap laps
 
-  -- the greatest priority on one more lap is the greater one of that on the earlier laps and that on the new lap
+  -- with one more lap, the greatest priority is the maximum of that on the earlier laps and that on the new lap
   greatest_more : (from laps : ℕ) → greatest_behind from (suc laps) ≡ max (greatest_behind from laps)
       (greatest_along auto (reached (from + laps)).vertex.state lap)
   greatest_more from laps = ap (λ q. max (greatest_behind from laps) (greatest_along auto q lap))
