@@ -83,7 +83,7 @@ class Case:
         return automaton.read(self.spec)
 
     def drawn(self, seed, count):
-        """The circuit, and then copies with one literal negated, for `count` randomly chosen literals."""
+        """The circuit, and then changed copies of it: in each, one of `count` randomly chosen literals is negated."""
         found = places(self.text)
         chosen = random.Random(seed).sample(found, min(count, len(found)))
         return [self.text, *(negated(self.text, place) for place in chosen)]

@@ -1,5 +1,5 @@
-"""Tests of the gallery: each list of parts has a row with its answer, each part has a sentence, and each core is
-minimal. A specification of twelve parts is composed quickly."""
+"""Tests of the gallery: docs/GALLERY.md has a row with the answer for each list of parts, each part has a sentence, and
+each core is minimal. A specification of twelve parts is composed quickly."""
 import glob
 import os
 import re

@@ -299,7 +299,7 @@ class InChromium(OnFiles):
         return html.unescape(re.search(r'<pre id="test">(.*?)</pre>', document, re.S)[1])
 
     def test_plays_of_the_gallery(self):
-        # the automaton of the lift is large, so its page has a map without labels, besides the graph around the present
+        # the page of the lift's automaton has a map (a picture without labels), besides the graph around the present
         # state
         for name, places in (("lift", 3), ("handshake", 2)):
             page, moves, said = self.page(name, os.path.join(GALLERY, f"{name}.parts"))

@@ -1,4 +1,5 @@
-"""`judge`: whether another solver's solution of a game is right; with --picture, draws a cycle that a player loses."""
+"""`judge`: whether another solver's solution of a game is right; with --picture, draws a cycle that the player loses
+who wins it by the solution."""
 from psyntool import asking, files, judging, program
 from psyntool.command import PICTURE, of_the_program
 

@@ -1,5 +1,5 @@
-"""`verify`: whether the automaton accepts all that the circuit does; if not, a stimulus that shows this, and the run on
-it step by step."""
+"""`verify`: whether the automaton accepts each lasso trace of a controller's circuit, or none of an environment's; if
+not, a stimulus that shows this, and the run on it step by step."""
 import os
 
 from psyntool import asking, console, files, outputs, program, tracing

@@ -8,8 +8,8 @@ from psyntool.texts import report
 
 
 class Asking:
-    """Whether a specification has a controller if only some of its parts are used. Answers are kept, so that none is
-    asked twice."""
+    """Whether a specification has a controller if only some of its parts are used. The program's answers are kept, so
+    that it is asked only once about the same parts."""
 
     def __init__(self, specification, flags=()):
         self.specification, self.composer, self.said = specification, Composer(specification), {}
@@ -54,8 +54,8 @@ def core_of(asking):
 
 
 def shrunk(parts, stays):
-    """Parts with which the answer is the same as with all, and of which none can be left out. It is tried to leave out
-    long runs of parts first, and then shorter ones."""
+    """Parts with which the answer is the same as with all, and of which none can be left out. Long runs of parts are
+    left out first, where the answer stays the same, and then shorter ones."""
     parts, size = tuple(parts), max(1, len(parts) // 2)
     while size:
         place = 0

@@ -49,7 +49,8 @@ def picture(circuit, reach=None):
 
 
 def wires(literals, target, is_drawn, more=""):
-    """The edges from literals to what reads them. In place of a literal that is not drawn, the picture shows `..`."""
+    """The edges from literals to the gates, latches and outputs that read them. In place of a literal that is not
+    drawn, the picture shows `..`."""
     lines = []
     for place, literal in enumerate(literals):
         begin = f"n{literal // 2}"

@@ -19,7 +19,8 @@ def offered(play):
 
 
 def where(board, choice):
-    """Where a choice leads: to a state, with a priority, or to no edge, with the guarantees that the choice breaks."""
+    """Where a choice leads: to a state, with a priority, or to no edge, with the guarantees that the choice
+    violates."""
     if choice.target is not None:
         return f"{board.title(choice.target)} (priority {choice.priority})"
     return f"no edge{', since it breaks ' if choice.broken else ''}{' and '.join(choice.broken)}"

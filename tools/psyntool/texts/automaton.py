@@ -51,7 +51,8 @@ class Automaton:
         return labels.written(label, self.names, self.alias_texts)[0]
 
     def edge_at(self, state, true):
-        """The first edge of a state whose label holds if exactly the propositions in `true` are true, or None."""
+        """The first edge of a state that can be taken if exactly the propositions in `true` are true, because its label
+        holds then; None if there is none."""
         edges = self.edges.get(state, ())
         place = labels.first_met([edge.label for edge in edges], {number: number in true for number in range(len(self.names))}, self.aliases)
         return None if place is None else edges[place]

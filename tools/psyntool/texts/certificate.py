@@ -27,7 +27,7 @@ class Certificate:
     entries: dict
 
     def opposing(self, winner):
-        """The priorities of the parity by which the player loses."""
+        """The priorities of the game that have the opponent's parity, by which the player loses."""
         return self.even if winner else self.odd
 
     def text(self):
