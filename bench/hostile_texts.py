@@ -253,14 +253,14 @@ SLOW_TO_IMPROVE = Family(4, False, (
 
 
 def ladder(rungs=40):
-    """A ladder game, hard for recursive solvers: each further rung of five vertices multiplies the number of recursive
-    calls by about 2.1."""
+    """A ladder game, hard for recursive solvers: each further rung of five vertices multiplies the calls of psyn's
+    recursion by about 2.1."""
     return on_games(game_by_rungs(LADDER, rungs))
 
 
 def second_ladder(rungs=40):
-    """The game `ladder` with two priorities exchanged and other players: each further rung doubles a recursive solver's
-    number of calls."""
+    """The game `ladder` with two priorities exchanged and other players: each further rung doubles the calls of psyn's
+    recursion."""
     return on_games(game_by_rungs(SECOND_LADDER, rungs))
 
 
@@ -277,14 +277,14 @@ def braided(rungs=40):
 
 
 def steep(rungs=40):
-    """Each further rung of five vertices multiplies a recursive solver's number of calls by 2.55, the greatest factor
-    that was found."""
+    """Each further rung of five vertices multiplies the calls of psyn's recursion by 2.55, the greatest factor that was
+    found."""
     return on_games(game_by_rungs(STEEP, rungs))
 
 
 def slow_to_improve(rungs=40):
-    """Each further rung of six vertices doubles a recursive solver's number of calls; a solver by strategy improvement
-    needs more rounds the more rungs there are."""
+    """Each further rung of six vertices doubles the calls of psyn's recursion, and strategy improvement needs more
+    rounds the more rungs there are."""
     return on_games(game_by_rungs(SLOW_TO_IMPROVE, rungs))
 
 
