@@ -8,7 +8,8 @@ FACTOR, SUMMAND, WORD = 6364136223846793005, 1442695040888963407, 2**64
 
 
 def game_of(rows):
-    """The game of rows (priority, owner, successors); the index of a row is the id of its vertex."""
+    """The game whose vertices are given as rows (priority, owner, successors); the index of a row is the id of its
+    vertex."""
     return Game(tuple(Vertex(place, priority, owner, tuple(dict.fromkeys(to)), None) for place, (priority, owner, to) in enumerate(rows)))
 
 
@@ -81,7 +82,7 @@ def ladder(n):
 
 
 def ladder2(n):
-    """The games of `ladder` with two priorities exchanged in each rung, and other owners: about half as hard."""
+    """The games of `ladder` with two priorities exchanged in each rung, and other owners."""
     return rungs(n, (0, 1, 0, 1, 1), (None, None, 3, 4, 5))
 
 

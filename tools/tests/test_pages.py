@@ -133,7 +133,8 @@ class Rules(unittest.TestCase):
         return steps
 
     def test_boards_by_hand(self):
-        """Equal states with equal latches close a loop, a latch may start at 1, and a letter may have no bits."""
+        """A play closes a loop when a state recurs with the same latches; a latch may start at 1, and a letter may have
+        no bits."""
         made = [report.read(program.ask(f"synth --full\n{text}".encode()).text).parts[1:] for text in (TURNS, NO_INPUT)]
         own = report.read(program.ask(f"synth --full\n{NO_INPUT}".encode()).text).parts[0]
         given = [(TURNS, NO_LATCH, *made[0]), (TURNS, FROM_ONE, *made[0]), (NO_INPUT, own, *made[1])]

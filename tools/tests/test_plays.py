@@ -145,7 +145,7 @@ class Commands(OnFiles):
 
 def boards(draw, count):
     """Random specifications that either player wins, in both orders of moves: for each the texts of the automaton and
-    of the circuit, and the board."""
+    of the circuit, and the `Board` for plays."""
     names = ["a", "b", "c"]
     for number in range(count):
         sides = [tuple(part.part_of(f"part{place}", "", {}, Table(draw, names).text()) for place in range(draw.randint(1, 3))) for _ in range(2)]

@@ -32,8 +32,8 @@ def small(seed):
 
 
 def is_right(read, entries):
-    """Whether each player's moves keep to the region that it is said to win, and win every cycle there; found by a
-    plain search."""
+    """Whether, by a solution, each player's moves keep plays in the region that the player wins, and the player wins
+    every cycle there; found by a plain search."""
     remaining = {}
     for vertex in read.vertices:
         winner, move = entries[vertex.identity]
@@ -62,7 +62,7 @@ def comes_back(remaining, inside, begin):
 
 
 def changed(draw, read, entries):
-    """The entries with another winner, or another move, at one vertex."""
+    """A solution's entries, where one vertex is given another winner or another move."""
     one = draw.choice(read.vertices)
     winner, move = entries[one.identity]
     other = (1 - winner, move) if draw.randrange(2) else (winner, draw.choice([None, *one.successors]))

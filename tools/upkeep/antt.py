@@ -169,7 +169,7 @@ def clauses_of(lines, indent, start=0, outer=None):
 
 
 def places_of(body):
-    """The expressions in a body whose types are known: for each its start, its end and its kind."""
+    """The expressions in a body that have a known type: for each its start, its end and its kind."""
     tokens, found = tokens_of(body), {}
 
     def put(first, end, kind):
@@ -183,7 +183,7 @@ def places_of(body):
         return at
 
     def put_all(first, end, kind):
-        """Adds an expression, and what follows each `let` and each `λ` in it."""
+        """Adds an expression to the found ones, and also what follows each `let` and each `λ` in it."""
         put(first, end, kind)
         while first < end and tokens[first][2] in ("let", "λ"):
             if tokens[first][2] == "λ":
@@ -215,7 +215,8 @@ def places_of(body):
 
 
 def put_parts(tokens, at, put, put_all):
-    """Adds the components of a tuple, or the expression in parentheses, and their own expressions."""
+    """Adds to the found expressions the components of a tuple, or the expression in parentheses, and the expressions in
+    these."""
     end, first, parts = closing(tokens, at), at + 1, []
     while first < end:
         behind = end_of(tokens, first, (",",))
