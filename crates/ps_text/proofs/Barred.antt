@@ -1,5 +1,5 @@
--- `barred P Bad` adds to the grammar P the errors that `Bad` states at the symbol after a text of P. These lemmas,
--- except `laws_barred`, assume that no text of P continues with a symbol at which `Bad` states an error.
+-- `barred P Bad` adds to the grammar P the errors that `Bad` states at the symbol after a text of P. The lemmas of this
+-- file, except `laws_barred`, assume that no text of P continues with a symbol at which `Bad` states an error.
 -- - `laws_barred`: `barred P Bad` satisfies the laws of grammars (`Laws`)
 -- - `read_barred`: if P is parsed, and `Bad` states no error at the symbol after the parsed text, `barred P Bad` is
 --   parsed

@@ -1,5 +1,5 @@
 -- Decimal numbers.
--- - `digit_is`, `digit_passes`: a byte is a digit if and only if it passes the test
+-- - `digit_is`, `digit_passes`: a byte is a digit (`IsDigit`) if and only if it passes the test `is_ascii_digit`
 -- - `value_pushed`, `value_more`: one more digit changes the value to ten times the value plus the digit
 -- - `value_grows`, `value_front`: more digits never denote a smaller number
 -- - `IsNumberText n digits`: `digits` have no leading zero and denote n

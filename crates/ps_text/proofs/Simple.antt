@@ -1,4 +1,4 @@
--- The combinators `give`, `one` and `mapped`: they satisfy the laws (`Laws`), and when they are parsed and when they
+-- The combinators `give`, `one` and `mapped`: that they satisfy the laws (`Laws`), when they are parsed, and when they
 -- fail. Also the laws of `then_by`.
 -- - `laws_give`, `laws_one`, `laws_mapped`, `laws_then`: a grammar made by each of these combinators satisfies the laws
 -- - `refused`: the fault of a grammar without an empty text, if the next symbol does not begin the grammar

@@ -1,4 +1,4 @@
--- Grammars of single bytes: they satisfy the laws (`Laws`) and have outcomes, and when they are parsed and when they
+-- Grammars of single bytes: that they satisfy the laws (`Laws`) and have outcomes, when they are parsed, and when they
 -- fail.
 -- - `Odd`: the empty set of symbols, as no byte is an error wherever it occurs
 -- - `At b, Any`: the symbols with the byte b; all symbols
