@@ -1,4 +1,4 @@
--- The machine that follows a valid certificate belongs to the winner, and all words of its lassos are won. So the
+-- The machine that follows a valid certificate belongs to the winner, who wins all lassos of the machine. So the
 -- circuit of the machine satisfies `IsWitness`.
 use Rattle.std.proofs.Common.{◌≡◌, ℕ, ◌==◌, subst, rules}
 use Rattle.ps_machine.specs.Keys.{mover_of}

@@ -1,4 +1,4 @@
--- The machine that follows a valid certificate belongs to the winner, and all words of its lassos are won, whichever
+-- The machine that follows a valid certificate belongs to the winner, who wins all lassos of the machine, whichever
 -- automaton of the file the game is made from.
 use Rattle.std.proofs.Common.{◌≡◌, ℕ, ◌==◌, subst, rules}
 use Rattle.ps_machine.specs.Keys.{mover_of}
