@@ -1,4 +1,4 @@
--- The inputs that are read along a path, edge by edge.
+-- The inputs that the circuit reads along a path of the product, collected edge by edge.
 use Rattle.std.proofs.Common.{◌≡◌, ℕ, ◌+◌, ◌-◌, ◌<◌, inl, inr, Bool, List, [], ◌∷◌, ◌++◌, length, take, get_or}
 use Rattle.std.proofs.Common.{arith, get_or-take, length-take-le, Vec}
 use Rattle.std.proofs.lemmas.Bool.{cases_lt}

@@ -1,5 +1,5 @@
--- A region with all vertices of the game, none of which the player owns: counts for the region are counts for the game,
--- and a cycle that the player loses in it is one of the game.
+-- If the player owns no vertex, counts for the region of all vertices are counts for the game, and a cycle that the
+-- player loses in this region is one of the game.
 -- - `wins_loops`: for each priority of the opponent's parity, there are counts that satisfy the rules of a certificate
 -- - `lost_round`: a lost cycle of the region, followed by its first vertex, is a path of the game, and its greatest
 --   priority has the opponent's parity
