@@ -3,7 +3,7 @@
 
   bench/automata.py [--program PROGRAM]
 
-psyn has no command that only builds an automaton, so a program of a few lines (SOURCE) is built in a temporary folder,
+psyn has no command that only builds an automaton. So a program of a few lines (SOURCE) is built in a temporary folder,
 on copies of the crates with the libraries that earlier checks left in their folders out/. The program reads an HOA
 text, builds its automaton, and prints the state after one step, or the fault. --program names a program that was built
 before. Texts of 4,096 to 65,535 states with 16 edges each are made in these ways:

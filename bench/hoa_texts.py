@@ -3,7 +3,7 @@
 
   bench/hoa_texts.py [--program PROGRAM]
 
-psyn has no command that only reads HOA texts, so a program of a few lines (SOURCE) is built in a temporary folder, on
+psyn has no command that only reads HOA texts. So a program of a few lines (SOURCE) is built in a temporary folder, on
 copies of the crates with the libraries that earlier checks left in their folders out/. The program reads a text, and
 prints the number of states that the text's body lists, or the position of the first error. --program names a program
 that was built before. Texts of 1, 2, 4, 8 and 16 MiB are made in these ways:

@@ -150,7 +150,7 @@ class Diagrams:
 
 
     def of_label(self, label, aliases):
-        """The diagram of a label; `aliases` has the diagram of each alias."""
+        """The decision diagram of a label; `aliases` has the diagram of each alias."""
         stack = []
         for part in label:
             if isinstance(part, Proposition):

@@ -132,7 +132,7 @@ class Drawing:
     def table_line(self, vertex):
         """A vertex after the first player's choice, as a table with a row for each letter of the second player.
 
-        A row that leads to the sink says so, and has no edge.
+        A row whose letters lead to the sink says so, and no edge is drawn from it.
         """
         entry = self.entries.get(vertex.identity)
         shade = f' bgcolor="{REGION[entry.winner]}"' if entry else ""
