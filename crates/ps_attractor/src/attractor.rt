@@ -16,7 +16,7 @@ use crate::aim::Aim;
 use crate::room::{has_room, no_room};
 use crate::sources::Adjacency;
 use crate::tables::Tables;
-use ps_game::{Arena, Region, Strategy, Subgame, Width};
+use ps_game::{Arena, Player, Region, Strategy, Subgame, Width};
 use std::alloc::{AllocError, Global};
 
 /// The level of the vertices outside the subgame.
@@ -50,7 +50,7 @@ pub fn attract<A: Arena>(
     alloc: Global,
     arena: &A,
     subgame: &Subgame,
-    player: u8,
+    player: Player,
     target: &Region,
 ) -> Result<Attracted, AllocError>
     requires subgame { IsSubgame (A.game arena.now) (has subgame.now) }
@@ -84,7 +84,7 @@ fn attract_in<A: Arena, W: Width>(
     alloc: Global,
     arena: &A,
     subgame: &Subgame,
-    player: u8,
+    player: Player,
     target: &Region,
 ) -> Result<Attracted, AllocError>
     requires room { HasRoom (A.game arena.now) W.LIMIT }
@@ -101,7 +101,7 @@ fn read_off<A: Arena, W: Width>(
     alloc: Global,
     arena: &A,
     tables: &Tables<W>,
-    player: u8,
+    player: Player,
     target: &Region,
 ) -> Result<Attracted, AllocError>
     requires fits { FitsGame (A.game arena.now) tables.now }
@@ -123,7 +123,7 @@ fn attracted_tables<A: Arena, W: Width>(
     alloc: Global,
     edges: &Adjacency<'_, A, W>,
     subgame: &Subgame,
-    player: u8,
+    player: Player,
     target: &Region,
 ) -> Result<Tables<W>, AllocError>
     requires { IsGoal (A.game edges.now.arena.now) subgame.now target.now }
@@ -190,7 +190,7 @@ fn placed_moves<A: Arena, W: Width>(
     alloc: Global,
     arena: &A,
     tables: &Tables<W>,
-    player: u8,
+    player: Player,
     target: &Region,
 ) -> Result<Strategy, AllocError>
     requires levels { length tables.now.level ≡ vertex_count (A.game arena.now) }
@@ -204,7 +204,7 @@ fn placed_moves<A: Arena, W: Width>(
     let mut moves = Strategy::empty(alloc, count)?;
     for vertex in 0..count {
         let placed = tables.level(vertex) == PLACED;
-        if placed && arena.owner(vertex) == player && !target.contains(vertex) {
+        if placed && player.owns(arena, vertex) && !target.contains(vertex) {
             moves.set(vertex, tables.chosen(vertex));
         }
     }

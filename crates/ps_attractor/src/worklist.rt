@@ -40,7 +40,7 @@ impl<W: Width> Tables<W> {
     {
         let mut place = aim.begin;
         while place < self.placed() {
-            self.spread(edges, aim, place)?;
+            self.spread(edges, &aim, place)?;
             place += 1;
         }
         Ok(())
@@ -50,20 +50,20 @@ impl<W: Width> Tables<W> {
     fn spread<A: Arena>(
         &mut self,
         edges: &Adjacency<'_, A, W>,
-        aim: Aim,
+        aim: &Aim,
         place: usize,
     ) -> Result<(), AllocError>
-        requires ready { IsReady (A.game edges.now.arena.now) W.LIMIT aim self.old }
-        requires differ { aim.level ≢ aim.free }
-        requires after { aim.begin ≤ place }
+        requires ready { IsReady (A.game edges.now.arena.now) W.LIMIT aim.now self.old }
+        requires differ { aim.now.level ≢ aim.now.free }
+        requires after { aim.now.begin ≤ place }
         requires within { place < length self.old.trail }
         ensures fits { FitsGame (A.game edges.now.arena.now) self.new }
         ensures longer { OnOk result (length self.old.trail ≤ length self.new.trail) }
-        ensures frees { OnOk result (free_count aim self.new + length self.new.trail ≡ free_count aim self.old + length
-            self.old.trail) }
-        ensures reaching { OnOk result ((start : TablesData) → aim.begin ≤ length start.trail →
-            Reaching (A.game edges.now.arena.now) aim start self.old (From place) →
-            Reaching (A.game edges.now.arena.now) aim start self.new (From (place + 1))) }
+        ensures frees { OnOk result (free_count aim.now self.new + length self.new.trail ≡
+            free_count aim.now self.old + length self.old.trail) }
+        ensures reaching { OnOk result ((start : TablesData) → aim.now.begin ≤ length start.trail →
+            Reaching (A.game edges.now.arena.now) aim.now start self.old (From place) →
+            Reaching (A.game edges.now.arena.now) aim.now start self.new (From (place + 1))) }
     {
         let reached = self.vertex_at(place);
         for source in edges.sources.at(reached) {
@@ -76,20 +76,20 @@ impl<W: Width> Tables<W> {
     fn look<A: Arena>(
         &mut self,
         edges: &Adjacency<'_, A, W>,
-        aim: Aim,
+        aim: &Aim,
         source: usize,
         reached: usize,
     ) -> Result<(), AllocError>
-        requires ready { IsReady (A.game edges.now.arena.now) W.LIMIT aim self.old }
+        requires ready { IsReady (A.game edges.now.arena.now) W.LIMIT aim.now self.old }
         requires vertex { source < vertex_count (A.game edges.now.arena.now) }
         requires reached { reached < vertex_count (A.game edges.now.arena.now) }
         ensures fits { FitsGame (A.game edges.now.arena.now) self.new }
-        ensures looked { OnOk result (Look (A.game edges.now.arena.now) aim self.old self.new source reached) }
+        ensures looked { OnOk result (Look (A.game edges.now.arena.now) aim.now self.old self.new source reached) }
     {
         if self.level(source) != aim.free {
             return Ok(());
         }
-        if edges.arena.owner(source) == aim.player {
+        if aim.player.owns(edges.arena, source) {
             self.choose(source, reached);
         } else if self.has_free(edges, source, aim.free) {
             return Ok(());

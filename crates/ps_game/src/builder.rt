@@ -10,6 +10,7 @@ ghost use Rattle.ps_game.specs.Drafts.{NoneBare, IsFirstBare, IsFirstUnknown, No
 
 use crate::faults::GameFault;
 use crate::games::Game;
+use crate::player::Player;
 use crate::vertices::Vertices;
 use smallvec::SmallVec;
 use std::alloc::{AllocError, Global};
@@ -19,7 +20,7 @@ use std::marker::Model;
 /// most vertices have no more.
 #[derive(Drop)]
 pub(crate) struct Vertex {
-    owner: u8,
+    owner: Player,
     priority: u64,
     successors: SmallVec<usize, 4>,
 }
@@ -68,7 +69,7 @@ impl GameBuilder {
         let number = self.vertices.len();
         let successors = SmallVec::new(self.alloc);
         self.vertices.push(Vertex {
-            owner,
+            owner: Player::of_number(owner),
             priority,
             successors,
         })?;
@@ -141,7 +142,7 @@ fn game_of(alloc: Global, vertices: &[Vertex]) -> Result<Game, AllocError>
 /// A vertex with a newly allocated list of the given successors.
 pub(crate) fn listed_vertex(
     alloc: Global,
-    owner: u8,
+    owner: Player,
     priority: u64,
     successors: &[usize],
 ) -> Result<Vertex, AllocError>

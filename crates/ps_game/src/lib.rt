@@ -16,7 +16,8 @@
 //! | `NamedGame::new`, `with_first_names`, `game`, `id`, `name` | a game with ids and optional names; the first names |
 //! | `FlatGame::of` | the same game with numbers of 4 or 8 bytes, in four arrays; also an `Arena` |
 //! | `fits_narrow` | whether 4 bytes hold the numbers of vertices and edges; 8 bytes always do |
-//! | `Player::of_priority`, `opponent`, `owns`, `number` | the winner of a priority; the other player; who moves |
+//! | `Player::of_number`, `of_priority` | the player with a number, 0 or 1; the player who wins a priority |
+//! | `Player::opponent`, `owns`, `number` | the other player; who moves; the number of a player |
 //! | `Region::empty`, `full`, `insert`, `remove`, `contains`, `count` | a set of vertices, one bit each |
 //! | `Strategy::empty`, `set`, `get` | a move, or none, for each vertex |
 //! | `Subgame::whole`, `find`, `known`, `region` | a region in which each vertex has a successor; `find` checks this |

@@ -56,6 +56,18 @@ impl Player {
     /// Player 1.
     pub const ODD: Player = Player { wins: Parity::Odd };
 
+    /// The player with a given number, 0 or 1.
+    pub fn of_number(number: u8) -> Player
+        requires { number < 2 }
+        ensures { result ≡ number }
+    {
+        if number == 0 {
+            Player::EVEN
+        } else {
+            Player::ODD
+        }
+    }
+
     /// The player who wins a loop with the given greatest priority.
     pub fn of_priority(priority: u64) -> Player
         ensures { result ≡ priority % 2 }

@@ -13,6 +13,7 @@ use crate::builder::{Vertex, distinct_game, listed_vertex};
 use crate::flat::FlatGame;
 use crate::games::Game;
 use crate::numbers::Numbers;
+use crate::player::Player;
 use ps_ids::Ids;
 use std::alloc::{AllocError, Global};
 use std::marker::Model;
@@ -58,9 +59,13 @@ impl Vertices {
         self.owners.len()
     }
 
-    /// Appends a vertex with an owner, 0 or 1. Fails if out of memory; then nothing changes.
-    pub fn push(&mut self, owner: u8, priority: u64, successors: &[usize]) -> Result<(), AllocError>
-        requires { owner < 2 }
+    /// Appends a vertex. Fails if out of memory; then nothing changes.
+    pub fn push(
+        &mut self,
+        owner: Player,
+        priority: u64,
+        successors: &[usize],
+    ) -> Result<(), AllocError>
         ensures ok { OnOk result (self.new ≡ self.old ++ record {
           owner = owner;
           priority = priority;
@@ -78,7 +83,7 @@ impl Vertices {
         put_all(&mut self.successors, successors);
         let end = self.successors.len();
         self.offsets.push_reserved(end);
-        self.owners.push_reserved(owner);
+        self.owners.push_reserved(owner.number());
         self.priorities.push_reserved(priority);
         Ok(())
     }
@@ -180,7 +185,7 @@ impl Vertices {
         for vertex in 0..self.len() {
             let listed = listed_vertex(
                 alloc,
-                self.owners[vertex],
+                Player::of_number(self.owners[vertex]),
                 self.priorities[vertex],
                 self.successors(vertex),
             )?;

@@ -5,7 +5,7 @@ ghost use Rattle.std.specs.Prelude.{◌≤◌};
 
 use ps_attractor::{Attracted, Sources, attract, has_room, places_by_number};
 use ps_game::{
-    Arena, Counts, FlatGame, Game, GameBuilder, Numbers, Region, Strategy, Subgame, Width,
+    Arena, Counts, FlatGame, Game, GameBuilder, Numbers, Player, Region, Strategy, Subgame, Width,
     fits_narrow,
 };
 use ps_measure::{CountTable, MeasureFault, Ranks, ranks};
@@ -48,7 +48,7 @@ fn has_moves(strategy: &Strategy, wanted: &[Option<usize>]) -> bool {
 fn attract_to<A: Arena>(
     alloc: Global,
     arena: &A,
-    player: u8,
+    player: Player,
     vertices: &[usize],
 ) -> Result<Attracted, AllocError> {
     let mut target = Region::empty(alloc, arena.count())?;
@@ -65,7 +65,7 @@ fn attract_to<A: Arena>(
 /// moves.
 fn attracts(
     alloc: Global,
-    player: u8,
+    player: Player,
     vertices: &[usize],
     wanted: &[usize],
     moves: &[Option<usize>],
@@ -82,10 +82,34 @@ fn attracts(
 #[test]
 fn attractors(rt: HostRuntime) {
     let along_an_edge = [Some(2), None, None, None];
-    assert!(rt; attracts(rt.alloc(), 0, &[2], &[0, 2], &along_an_edge));
-    assert!(rt; attracts(rt.alloc(), 0, &[2, 3], &[0, 1, 2, 3], &along_an_edge));
-    assert!(rt; attracts(rt.alloc(), 0, &[3], &[3], &[None, None, None, None]));
-    assert!(rt; attracts(rt.alloc(), 1, &[3], &[1, 3], &[None, Some(3), None, None]));
+    assert!(rt; attracts(rt.alloc(), Player::EVEN, &[2], &[0, 2], &along_an_edge));
+    assert!(rt;
+        attracts(
+            rt.alloc(),
+            Player::EVEN,
+            &[2, 3],
+            &[0, 1, 2, 3],
+            &along_an_edge
+        )
+    );
+    assert!(rt;
+        attracts(
+            rt.alloc(),
+            Player::EVEN,
+            &[3],
+            &[3],
+            &[None, None, None, None]
+        )
+    );
+    assert!(rt;
+        attracts(
+            rt.alloc(),
+            Player::ODD,
+            &[3],
+            &[1, 3],
+            &[None, Some(3), None, None]
+        )
+    );
 }
 
 /// Whether numbers that are stored as integers of the type `W` are the wanted ones.
@@ -272,7 +296,7 @@ fn is_count(alloc: Global, ranks: &Ranks, vertex: usize, count: u64) -> bool {
 fn is_ranked(
     alloc: Global,
     game: &Game,
-    (player, region): (u8, &Region),
+    (player, region): (Player, &Region),
     chosen: (usize, usize),
     counts: &mut Counts,
     wanted: Wanted,
@@ -280,8 +304,7 @@ fn is_ranked(
     let Ok(strategy) = moving(alloc, game.count(), chosen) else {
         return false;
     };
-    player < 2
-        && region.places() == game.count()
+    region.places() == game.count()
         && strategy.places() == game.count()
         && wanted.is(
             alloc,
@@ -293,7 +316,7 @@ fn is_ranked(
 /// `only`, or all vertices if `only` is `None`.
 fn are_ranked(
     alloc: Global,
-    (player, only): (u8, Option<usize>),
+    (player, only): (Player, Option<usize>),
     chosen: (usize, usize),
     counts: &mut Counts,
     wanted: Wanted,
@@ -321,13 +344,21 @@ fn counts_of_a_region(rt: HostRuntime) {
         raises: 7,
     };
     let all = Wanted::Counts(2, [1, 0, 1]);
-    assert!(rt; are_ranked(rt.alloc(), (1, None), (1, 1), &mut counts, all));
+    assert!(rt; are_ranked(rt.alloc(), (Player::ODD, None), (1, 1), &mut counts, all));
     assert!(rt; counts.depth == 3 && counts.raises == 2);
     let one = Wanted::Counts(1, [0, 0, 0]);
-    assert!(rt; are_ranked(rt.alloc(), (0, Some(2)), (3, 0), &mut counts, one));
+    assert!(rt;
+        are_ranked(
+            rt.alloc(),
+            (Player::EVEN, Some(2)),
+            (3, 0),
+            &mut counts,
+            one
+        )
+    );
     assert!(rt; counts.depth == 3 && counts.raises == 0);
     let lost = Wanted::Cycle(&[1]);
-    assert!(rt; are_ranked(rt.alloc(), (0, None), (2, 0), &mut counts, lost));
+    assert!(rt; are_ranked(rt.alloc(), (Player::EVEN, None), (2, 0), &mut counts, lost));
 }
 
 /// Appends the vertices of a region and the moves of a table to a list of results.
@@ -349,7 +380,7 @@ fn add_table(
 fn add_attracted<A: Arena>(
     alloc: Global,
     arena: &A,
-    player: u8,
+    player: Player,
     found: &mut Vec<Option<u64>>,
 ) -> Result<(), AllocError> {
     let attracted = attract_to(alloc, arena, player, &[0])?;
@@ -369,7 +400,14 @@ fn add_won<A: Arena>(
 ) -> Result<(), MeasureFault> {
     let (won, first, second) = regions(alloc, arena, &mut Counts::default())?;
     add_tables(found, &won, &first, &second)?;
-    let ranks = ranks(alloc, arena, 0, &won, &first, &mut Counts::default())?;
+    let ranks = ranks(
+        alloc,
+        arena,
+        Player::EVEN,
+        &won,
+        &first,
+        &mut Counts::default(),
+    )?;
     add_counts(alloc, &ranks.counts, found)
 }
 
@@ -403,8 +441,8 @@ fn add_counts(
 /// The results of all solvers for a game, in whatever data structure it is stored.
 fn found_in<A: Arena>(alloc: Global, arena: &A) -> Result<Vec<Option<u64>>, MeasureFault> {
     let mut found = Vec::new(alloc);
-    add_attracted(alloc, arena, 0, &mut found)?;
-    add_attracted(alloc, arena, 1, &mut found)?;
+    add_attracted(alloc, arena, Player::EVEN, &mut found)?;
+    add_attracted(alloc, arena, Player::ODD, &mut found)?;
     add_won(alloc, arena, &mut found)?;
     Ok(found)
 }

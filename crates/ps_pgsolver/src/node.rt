@@ -7,7 +7,7 @@ ghost use Rattle.ps_pgsolver.specs.GamesOf.{named_game_of};
 ghost use Rattle.ps_pgsolver.specs.Inner.Kept.{AreKept, nodes_kept, node_with, names_with};
 ghost use Rattle.ps_pgsolver.specs.Nodes.{NodeData, IsReadNode, AreNodes, KnowsAll, ids_of, is_member, knows_all};
 
-use ps_game::{NamedGame, Vertices};
+use ps_game::{NamedGame, Player, Vertices};
 use ps_ids::Ids;
 use std::alloc::{AllocError, Global};
 use std::marker::Model;
@@ -19,8 +19,8 @@ pub struct Node {
     pub id: u64,
     /// The priority.
     pub priority: u64,
-    /// The player who owns the node, 0 or 1.
-    pub owner: u8,
+    /// The player who owns the node.
+    pub owner: Player,
     /// The bytes between the quotes of the node's name, if it has one.
     pub name: Option<Vec<u8>>,
 }

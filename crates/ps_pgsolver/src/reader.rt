@@ -24,7 +24,7 @@ use crate::fault::{PgCause, PgFault};
 use crate::game::named_game;
 use crate::node::{Node, Nodes};
 use crate::token::{Kind, Token, Tokens};
-use ps_game::NamedGame;
+use ps_game::{NamedGame, Player};
 use ps_ids::Ids;
 use std::alloc::Global;
 
@@ -204,7 +204,7 @@ fn any_number(tokens: &mut Tokens) -> Result<u64, PgFault>
 
 /// Parses an owner.
 #[inline(always)]
-fn owner(tokens: &mut Tokens) -> Result<u8, PgFault>
+fn owner(tokens: &mut Tokens) -> Result<Player, PgFault>
     ensures part { ReadsAs (λ n. n) parts.owner tokens.old result tokens.new }
     ensures player { IfOk result (λ owner. owner < 2) }
 {
@@ -336,13 +336,13 @@ fn unless_twice(id: u64, start: usize, nodes: &Nodes) -> Result<u64, PgFault>
 
 /// Returns the number at offset `start` as an owner, if it is 0 or 1.
 #[inline(always)]
-fn one_of_two(owner: u64, start: usize) -> Result<u8, PgFault>
+fn one_of_two(owner: u64, start: usize) -> Result<Player, PgFault>
     ensures answer { result ≡ owner_of_number start owner }
     ensures player { IfOk result (λ owner. owner < 2) }
 {
     match owner {
-        0 => Ok(0),
-        1 => Ok(1),
+        0 => Ok(Player::EVEN),
+        1 => Ok(Player::ODD),
         _ => Err(PgFault::Text {
             cause: PgCause::Number,
             offset: start,

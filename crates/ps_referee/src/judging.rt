@@ -12,7 +12,7 @@ ghost use Rattle.ps_referee.specs.Inner.Counting.{IsLostIn};
 use crate::building::{Solution, claim_of, entries_of};
 use crate::fault::JudgeFault;
 use ps_certificate::{Certificate, closed};
-use ps_game::{Arena, Counts, Region, Strategy};
+use ps_game::{Arena, Counts, Player, Region, Strategy};
 use ps_measure::{MeasureFault, Ranks, ranks};
 use std::alloc::{AllocError, Global};
 
@@ -121,8 +121,8 @@ fn counting<A: Arena>(alloc: Global, solution: &Solution<'_, A>) -> Result<Certi
     let arena = solution.arena;
     let _vertices = arena.count();
     let lost = others(alloc, solution.won)?;
-    let odd = counts_of(alloc, arena, 0, solution.won, solution.first)?;
-    let even = counts_of(alloc, arena, 1, &lost, solution.second)?;
+    let odd = counts_of(alloc, arena, Player::EVEN, solution.won, solution.first)?;
+    let even = counts_of(alloc, arena, Player::ODD, &lost, solution.second)?;
     let entries = entries_of(alloc, solution, &odd.counts, &even.counts)?;
     Ok(Certificate {
         odd: odd.priorities,
@@ -146,11 +146,10 @@ fn others(alloc: Global, region: &Region) -> Result<Region, AllocError>
 fn counts_of<A: Arena>(
     alloc: Global,
     arena: &A,
-    player: u8,
+    player: Player,
     region: &Region,
     strategy: &Strategy,
 ) -> Result<Ranks, JudgeFault>
-    requires player { player < 2 }
     requires region { length region.now ≡ vertex_count (A.game arena.now) }
     requires strategy { length strategy.now ≡ vertex_count (A.game arena.now) }
     ensures ranks { IfOk result (λ r. AreRanks (A.game arena.now) player (has region.now) (move_at strategy.now)
@@ -160,7 +159,10 @@ fn counts_of<A: Arena>(
     let mut counts = Counts::default();
     match ranks(alloc, arena, player, region, strategy, &mut counts) {
         Ok(ranks) => Ok(ranks),
-        Err(MeasureFault::BadCycle { cycle }) => Err(JudgeFault::BadCycle { player, cycle }),
+        Err(MeasureFault::BadCycle { cycle }) => Err(JudgeFault::BadCycle {
+            player: player.number(),
+            cycle,
+        }),
         Err(MeasureFault::OutOfMemory) => Err(JudgeFault::OutOfMemory),
     }
 }

@@ -5,7 +5,7 @@ ghost use Rattle.ps_game.specs.Games.{IsGame, owner_of, vertex_count};
 ghost use Rattle.ps_game.specs.Plays.{other_player};
 ghost use Rattle.ps_verify.specs.Inner.Rounds.{IsLostRound, IsTurned, WinsLoops};
 
-use ps_game::{Arena, Counts, Game, Region, Strategy};
+use ps_game::{Arena, Counts, Game, Player, Region, Strategy};
 use ps_measure::{MeasureFault, ranks};
 use std::alloc::{AllocError, Global};
 
@@ -14,14 +14,14 @@ use std::alloc::{AllocError, Global};
 pub(crate) fn lost_cycle(
     alloc: Global,
     game: &Game,
-    player: u8,
+    player: Player,
 ) -> Result<Option<Vec<usize>>, AllocError>
-    requires player { player < 2 }
     requires owners { (v : ℕ) → v < vertex_count game.now → owner_of game.now v ≡ other_player player }
     ensures is_game { IsGame game.now }
     ensures none { IfOk result (λ found. IfNone found (WinsLoops game.now player)) }
     ensures cycle { IfOk result (λ found. IfSome found (λ cycle. IsLostRound game.now player cycle.items)) }
 {
+    let _number = player.number();
     let region = Region::full(alloc, game.count())?;
     let strategy = Strategy::empty(alloc, game.count())?;
     let mut counts = Counts::default();

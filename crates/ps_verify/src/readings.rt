@@ -10,7 +10,7 @@ ghost use Rattle.ps_verify.specs.Inner.Rounds.{IsLostRound};
 ghost use Rattle.ps_verify.specs.Inner.Ways.{IsWayTo};
 
 use crate::ways::{firsts, way_to};
-use ps_game::{Arena, Game};
+use ps_game::{Arena, Game, Player};
 use ps_product::Product;
 use ps_simulate::Stimulus;
 use std::alloc::{AllocError, Global};
@@ -75,7 +75,7 @@ pub(crate) fn stimulus_of(
     alloc: Global,
     product: &Product,
     mut cycle: Vec<usize>,
-    player: u8,
+    player: Player,
 ) -> Result<Stimulus, AllocError>
     requires lost { IsLostRound product.now.game player cycle.items }
     requires reached { (w : ℕ) → 0 < w → w < vertex_count product.now.game → IsLedTo product.now.game w }

@@ -18,6 +18,7 @@ use crate::judgement::Judgement;
 use crate::readings::stimulus_of;
 use ps_automaton::Automaton;
 use ps_circuit::Circuit;
+use ps_game::Player;
 use ps_machine::Order;
 use ps_product::{Product, ProductFault};
 use ps_simulate::{Role, circuit_has_one_values};
@@ -58,20 +59,19 @@ fn sound(circuit: &Circuit, automaton: &Automaton)
     automaton.names();
 }
 
-/// The circuit's player: 0 for a controller, 1 for an environment.
-fn asked(role: Role) -> u8
+/// The circuit's player: player 0 for a controller, player 1 for an environment.
+fn asked(role: Role) -> Player
     ensures { result ≡ asked_of role }
 {
     match role {
-        Role::Controller => 0,
-        Role::Environment => 1,
+        Role::Controller => Player::EVEN,
+        Role::Environment => Player::ODD,
     }
 }
 
 /// The judgement on the circuit of a product in which only the player's opponent moves: the circuit wins, unless there
 /// is a cycle that the player loses.
-fn told(alloc: Global, product: &Product, player: u8) -> Result<Judgement, AllocError>
-    requires player { player < 2 }
+fn told(alloc: Global, product: &Product, player: Player) -> Result<Judgement, AllocError>
     requires owners { (v : ℕ) → v < vertex_count product.now.game →
         owner_of product.now.game v ≡ other_player player }
     requires reached { (w : ℕ) → 0 < w → w < vertex_count product.now.game → IsLedTo product.now.game w }

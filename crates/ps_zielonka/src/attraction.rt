@@ -29,7 +29,7 @@ impl Attraction {
         ensures { result ≡ aim_of self.now }
     {
         Aim {
-            player: self.player.number(),
+            player: self.player,
             begin: self.begin,
             level: self.level.code(),
             free: Level::Unplaced.code(),

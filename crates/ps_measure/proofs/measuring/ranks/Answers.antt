@@ -1,6 +1,5 @@
-use Rattle.std.proofs.Common.{ap, refl, ◌∙◌, rules}
+use Rattle.std.proofs.Common.{refl, ◌∙◌, rules}
 use Rattle.std.proofs.lemmas.Result.{err_from_is_err_and}
-use Rattle.ps_game.specs.Plays.{other_player}
 use Rattle.ps_measure.proofs.Held.{held_refusal}
 use Rattle.ps_measure.proofs.Whole.{whole}
 use Rattle.ps_measure.proofs.measuring.ranks.Goals as goal
@@ -10,8 +9,7 @@ returns-in_err-table-clause-held g c = search (rules, err_from_is_err_and, held_
 
 pub returns : goal.returns
 returns g c =
-    let is = c.player_of-player.ensures in
-    let opposing = c.from.ensures ∙ c.number.ensures.number ∙ c.opponent-opponent.ensures ∙ ap other_player is in
+    let opposing = c.from.ensures ∙ c.number.ensures.number ∙ c.opponent-opponent.ensures in
     let done = whole (rw opposing at c.in_ok-priorities.ensures)
-    (rw (is, c.deref.ensures.value) at c.in_ok-table.ensures.ranked) in
+    (rw c.deref.ensures.value at c.in_ok-table.ensures.ranked) in
     record { ranks = done.0; cycle = tt; held = λ _. tt; fewest = done.1; total = done.2; most = done.3; depth = refl }

@@ -6,7 +6,8 @@ use Rattle.ps_verify.proofs.cycle.lost_cycle.Goals as goal
 
 pub returns-in-Ok-clause-none : goal.returns-in-Ok-clause-none
 returns-in-Ok-clause-none c =
-    wins_loops c.requires.player c.count.ensures.well_formed c.requires.owners c.in_ok-region.region
+    wins_loops (rw c.number-number.ensures.number at c.number-number.ensures.player) c.count.ensures.well_formed
+    c.requires.owners c.in_ok-region.region
     (search (rules, get_or-replicate)) c.in-Ok.ensures.ranks
 
 pub returns-in-Err-BadCycle-clause-cycle : goal.returns-in-Err-BadCycle-clause-cycle

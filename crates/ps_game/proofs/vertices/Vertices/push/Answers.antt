@@ -18,11 +18,13 @@ more c =
     stand_for (tell_more (rw c.self.view_is at c.self.invariant.tell) vertex
     (c.push_reserved.ensures.items ∙ ap (λ (ns : List ℕ). ns ++ c.len-end.result ∷ []) room.offsets)
     (c.put_all.ensures ∙ ap (λ (ns : List ℕ). ns ++ c.args.successors.now) room.successors)
-    (c.push_reserved-2.ensures.items ∙ ap (λ (ns : List ℕ). ns ++ c.args.owner ∷ []) room.owners)
+    (rw c.number.ensures.number at
+    (c.push_reserved-2.ensures.items ∙ ap (λ (ns : List ℕ). ns ++ c.number.result ∷ []) room.owners))
     (c.push_reserved-3.ensures.items ∙ ap (λ (ns : List ℕ). ns ++ c.args.priority ∷ []) room.priorities)
     (omega (arith, c.len-end.ensures, c.put_all.new.numbers.ok.0))
     (omega (arith, c.len-end.ensures, c.put_all.new.numbers.small)))
-    (All-push (λ (v : VertexData). v.owner < 2) _ vertex (rw c.self.view_is at c.self.invariant.players) c.requires)
+    (All-push (λ (v : VertexData). v.owner < 2) _ vertex (rw c.self.view_is at c.self.invariant.players)
+    (rw c.number.ensures.number at c.number.ensures.player))
 
 pub invariant_of-self-2 : goal.invariant_of-self-2
 invariant_of-self-2 c = search (rules, more)
