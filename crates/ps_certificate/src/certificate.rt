@@ -5,6 +5,7 @@ ghost use Rattle.ps_certificate.specs.Certificates.{CertificateData, winner_of, 
 
 use crate::entries::Entries;
 use crate::row::Row;
+use ps_game::Player;
 use std::marker::Model;
 
 /// Who wins each vertex of a game, by which moves, and the counts that prove it.
@@ -57,10 +58,10 @@ impl Certificate {
     }
 
     /// The priorities that oppose a player: those of the opponent's parity, in ascending order.
-    pub fn opposing(&self, player: u8) -> &[u64]
+    pub fn opposing(&self, player: Player) -> &[u64]
         ensures { result.now ≡ opposing self.now player }
     {
-        if player == 0 {
+        if player == Player::EVEN {
             self.odd.as_slice()
         } else {
             self.even.as_slice()

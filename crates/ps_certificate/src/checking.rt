@@ -14,7 +14,7 @@ use crate::certificate::Certificate;
 use crate::closing::unsound_at;
 use crate::flaw::Flaw;
 use crate::rising::Rising;
-use ps_game::Arena;
+use ps_game::{Arena, Player};
 
 /// The first priority for which an edge breaks the certificate's rule of counts, of those that oppose the winner of the
 /// vertex that the edge leaves. A binary search finds the first listed priority that is not less than that of either
@@ -32,7 +32,7 @@ fn broken_priority<A: Arena>(
     ensures none { IfNone result (KeepsCounts (A.game arena.now) certificate.now vertex successor) }
     ensures some { IfSome result (IsFirstBroken (A.game arena.now) certificate.now vertex successor) }
 {
-    let priorities = certificate.opposing(certificate.winner(vertex));
+    let priorities = certificate.opposing(Player::of_number(certificate.winner(vertex)));
     let rising = Rising { list: priorities };
     let before = certificate.counts(vertex);
     let after = certificate.counts(successor);

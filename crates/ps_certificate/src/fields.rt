@@ -10,6 +10,7 @@ ghost use Rattle.ps_certificate.specs.Texts as parts;
 ghost use Rattle.ps_certificate.specs.Texts.{IsMissing};
 
 use crate::fault::{CertCause, CertFault};
+use ps_game::Player;
 use ps_ids::Ids;
 use ps_text::cursor::Cursor;
 
@@ -106,16 +107,16 @@ pub(crate) fn version(cursor: &mut Cursor) -> Result<bool, CertFault>
 }
 
 /// Parses the winner, 0 or 1.
-pub(crate) fn winner(cursor: &mut Cursor) -> Result<u8, CertFault>
+pub(crate) fn winner(cursor: &mut Cursor) -> Result<Player, CertFault>
     ensures { Tells (λ w. w) parts.winner cursor.old result cursor.new }
 {
     if cursor.comes(b'0') {
         cursor.step();
-        return Ok(0);
+        return Ok(Player::EVEN);
     }
     if cursor.comes(b'1') {
         cursor.step();
-        return Ok(1);
+        return Ok(Player::ODD);
     }
     Err(cursor.refusal(CertCause::Syntax))
 }

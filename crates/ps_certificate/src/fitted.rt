@@ -9,7 +9,7 @@ ghost use Rattle.ps_certificate.specs.Inner.Prefixes.{IsComplete, EntryFits};
 
 use crate::certificate::Certificate;
 use crate::rising::{Rising, is_rising};
-use ps_game::Arena;
+use ps_game::{Arena, Player};
 
 /// How many of the certificate's listed priorities are searched for in one pass over the vertices.
 const WINDOW: usize = 1024;
@@ -118,7 +118,11 @@ fn entry_fits(certificate: &Certificate, vertices: usize, vertex: usize) -> bool
     ensures { IsTrue result ↔ EntryFits vertices certificate.now vertex }
 {
     let winner = certificate.winner(vertex);
-    if winner > 1 || certificate.counts(vertex).len() != certificate.opposing(winner).len() {
+    if winner > 1 {
+        return false;
+    }
+    let opposing = certificate.opposing(Player::of_number(winner));
+    if certificate.counts(vertex).len() != opposing.len() {
         return false;
     }
     match certificate.choice(vertex) {

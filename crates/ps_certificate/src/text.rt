@@ -17,7 +17,7 @@ use crate::fault::{CertCause, CertFault};
 use crate::fields::{choice, exactly, priorities, version, winner};
 use crate::pairs::counts_for;
 use crate::rising::Rising;
-use ps_game::{Arena, NamedGame, priorities_of};
+use ps_game::{Arena, NamedGame, Player, priorities_of};
 use ps_ids::Ids;
 use ps_text::cursor::Cursor;
 use std::alloc::{AllocError, Global};
@@ -37,10 +37,10 @@ struct Known {
 
 impl Known {
     /// The priorities that oppose a player: those of the opponent's parity, in ascending order.
-    fn lost_by(&self, player: u8) -> Rising<'_>
+    fn lost_by(&self, player: Player) -> Rising<'_>
         ensures { result.list.now ≡ parts.lost_by self.now.odd.items self.now.even.items player }
     {
-        let list = if player == 0 {
+        let list = if player == Player::EVEN {
             self.odd.as_slice()
         } else {
             self.even.as_slice()
@@ -79,7 +79,7 @@ fn head(cursor: &mut Cursor, known: &Known, count: usize) -> Result<bool, CertFa
 /// The winner of a vertex, and the winner's move.
 #[derive(Clone, Copy)]
 struct Won {
-    winner: u8,
+    winner: Player,
     choice: Option<usize>,
 }
 
@@ -122,7 +122,7 @@ fn entries(
     for vertex in 0..vertices {
         let won = entry(cursor, known, compact, game.id(vertex), &mut counts)?;
         entries.push(&Entry {
-            winner: won.winner,
+            winner: won.winner.number(),
             choice: won.choice,
             counts: &counts,
         })?;

@@ -12,7 +12,7 @@ ghost use Rattle.ps_certificate.specs.Written.{version_digit, head_text, text_in
 use crate::certificate::Certificate;
 use crate::entries::{Entries, Entry};
 use crate::zeros::leading_zeros;
-use ps_game::{Arena, NamedGame};
+use ps_game::{Arena, NamedGame, Player};
 use ps_text::numbers::write_number;
 use std::alloc::{AllocError, Global};
 
@@ -141,17 +141,17 @@ fn write_entries(
             choice: entries.choice(vertex),
             counts: row,
         };
-        let priorities = lost_by(odd, even, entry.winner);
+        let priorities = lost_by(odd, even, Player::of_number(entry.winner));
         write_entry(out, game, vertex, &entry, priorities, compact)?;
     }
     Ok(())
 }
 
 /// The priorities that oppose a player: those of the opponent's parity.
-fn lost_by<'a>(odd: &'a [u64], even: &'a [u64], player: u8) -> &'a [u64]
+fn lost_by<'a>(odd: &'a [u64], even: &'a [u64], player: Player) -> &'a [u64]
     ensures { result.now ≡ lost_by odd.now even.now player }
 {
-    if player == 0 { odd } else { even }
+    if player == Player::EVEN { odd } else { even }
 }
 
 /// Writes the line of a vertex, given the priorities that oppose its winner.

@@ -16,7 +16,7 @@ ghost use Rattle.ps_solution.specs.Texts as parts;
 use crate::solution::Solution;
 use crate::solved::Solved;
 use ps_certificate::{CertCause, CertFault, ids_of};
-use ps_game::{Arena, NamedGame};
+use ps_game::{Arena, NamedGame, Player};
 use ps_ids::Ids;
 use ps_pgsolver::{Kind, Token, Tokens};
 use std::alloc::Global;
@@ -124,7 +124,7 @@ fn vertex(tokens: &mut Tokens, ids: &Ids, solved: &Solved) -> Result<usize, Cert
 }
 
 /// Parses a winner.
-fn winner(tokens: &mut Tokens) -> Result<u8, CertFault>
+fn winner(tokens: &mut Tokens) -> Result<Player, CertFault>
     ensures { ReadsAs (λ w. w) parts.winner tokens.old result tokens.new }
 {
     let start = tokens.start();
@@ -208,12 +208,12 @@ fn unless_named(id: u64, start: usize, ids: &Ids, solved: &Solved) -> Result<usi
 }
 
 /// Returns the number at offset `start` as a winner, if it is 0 or 1.
-fn one_of_two(winner: u64, start: usize) -> Result<u8, CertFault>
+fn one_of_two(winner: u64, start: usize) -> Result<Player, CertFault>
     ensures { result ≡ winner_of_number start winner }
 {
     match winner {
-        0 => Ok(0),
-        1 => Ok(1),
+        0 => Ok(Player::EVEN),
+        1 => Ok(Player::ODD),
         _ => Err(fault(CertCause::Syntax, start)),
     }
 }

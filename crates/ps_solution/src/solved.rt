@@ -5,7 +5,7 @@ ghost use Rattle.ps_game.specs.Regions.{has};
 ghost use Rattle.ps_solution.specs.Solved.{none_solved, with_entry, AreMoves, IsFilled, solution_of};
 
 use crate::solution::Solution;
-use ps_game::{Region, Strategy};
+use ps_game::{Player, Region, Strategy};
 use std::alloc::{AllocError, Global};
 use std::marker::Model;
 
@@ -49,13 +49,13 @@ impl Solved {
     }
 
     /// Adds the entry of a vertex, with its winner and its move.
-    pub(crate) fn name(&mut self, vertex: usize, winner: u8, choice: Option<usize>)
+    pub(crate) fn name(&mut self, vertex: usize, winner: Player, choice: Option<usize>)
         requires vertex { vertex < length self.old.named }
         requires choice { IfSome choice (λ successor. successor < length self.old.named) }
         ensures { self.new ≡ with_entry self.old vertex winner choice }
     {
         self.named.insert(vertex);
-        if winner == 0 {
+        if winner == Player::EVEN {
             self.won.insert(vertex);
         }
         if let Some(successor) = choice {
