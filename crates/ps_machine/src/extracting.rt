@@ -31,7 +31,7 @@ use indexmap::IndexSet;
 use ps_automaton::Automaton;
 use ps_certificate::Certificate;
 use ps_diagram::{Node, Store};
-use ps_game::{Game, NamedGame};
+use ps_game::{Game, NamedGame, Player};
 use std::alloc::{AllocError, Global};
 
 /// Builds the machine of the player who wins vertex 0 in the game of an automaton. The machine plays by the moves of a
@@ -138,7 +138,7 @@ fn machine_by(alloc: Global, plan: &Plan<'_>) -> Result<Machine, AllocError>
 {
     let diagrams = draw(alloc, plan)?;
     let propositions = roles(alloc, plan.automaton, plan.order, plan.moves_first)?;
-    let player = plan.certificate.winner(0);
+    let player = Player::of_number(plan.certificate.winner(0));
     Ok(Machine::new(player, plan.moves_first, propositions, diagrams))
 }
 

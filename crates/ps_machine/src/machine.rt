@@ -8,6 +8,7 @@ ghost use Rattle.ps_machine.specs.Machines.{IsWholeMachine, behaviour, row_at_le
 
 use indexmap::IndexSet;
 use ps_diagram::{Node, Store};
+use ps_game::Player;
 use std::marker::Model;
 
 /// One row of a machine: the memory state after a step, and the letter that is output.
@@ -50,7 +51,7 @@ pub struct Machine {
     names: Vec<Vec<u8>>,
     inputs: Vec<u32>,
     outputs: Vec<u32>,
-    player: u8,
+    player: Player,
     moves_first: bool,
     store: Store,
     nodes: Vec<Node>,
@@ -91,7 +92,7 @@ impl Model for Machine {
 impl Machine {
     /// Builds the machine of a player from its parts.
     pub(crate) fn new(
-        player: u8,
+        player: Player,
         moves_first: bool,
         propositions: Propositions,
         diagrams: Diagrams,
@@ -135,8 +136,8 @@ impl Machine {
         self.outputs.as_slice()
     }
 
-    /// The player whose machine this is: 0 is the controller, 1 the environment.
-    pub fn player(&self) -> u8
+    /// The player whose machine this is: player 0 is the controller, player 1 the environment.
+    pub fn player(&self) -> Player
         ensures player { result ≡ self.now.player }
         ensures machine { IsWholeMachine self.now }
     {
