@@ -12,7 +12,7 @@ use Rattle.ps_attractor.specs.Tables.{TablesData, level_of, moves_of, place_in}
 use Rattle.ps_attractor.specs.Aims.{StandsFrom, IsPosed, IsSetOfPlaced, StaysOut, IsAttracted, rank_of}
 use Rattle.ps_attractor.specs.Steps.{IsInTrailBefore, LeadsBack, Reaching, From}
 use Rattle.ps_attractor.proofs.PlaceIn.{place_in-le, place_in-at}
-use Rattle.ps_attractor.proofs.Reaching.{stands_now}
+use Rattle.ps_attractor.proofs.TrailWalk.{stands_now}
 use Rattle.ps_attractor.proofs.Least.{falls_least}
 
 -- every entry of the worklist has been processed

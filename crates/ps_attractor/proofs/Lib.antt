@@ -11,6 +11,6 @@ pub mod Parts
 pub mod PlaceIn
 pub mod Placing
 pub mod Putting
-pub mod Reaching
 pub mod Spread
+pub mod TrailWalk
 pub mod Turned

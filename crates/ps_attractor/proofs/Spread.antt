@@ -6,7 +6,7 @@ use Rattle.ps_attractor.specs.Sources.{sources_of, IsSourcesOf}
 use Rattle.ps_attractor.specs.declared.aim.Aim.{Aim}
 use Rattle.ps_attractor.specs.Tables.{TablesData, FitsGame}
 use Rattle.ps_attractor.specs.Steps.{Look, Reaching, From, FromSource}
-use Rattle.ps_attractor.proofs.Reaching.{reaching_enter, reaching_look}
+use Rattle.ps_attractor.proofs.TrailWalk.{reaching_enter, reaching_look}
 
 -- an edge leads from each listed predecessor to the vertex
 pub source_edge : {game : ParityGame} {sources : List (List ℕ)} (list : List ℕ) (w n source : ℕ) →

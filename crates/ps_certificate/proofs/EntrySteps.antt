@@ -35,7 +35,7 @@ use Rattle.ps_certificate.specs.Texts.{Field, causes, number, priorities, winner
 use Rattle.ps_certificate.specs.Texts.{entry, entries, version, certificate}
 use Rattle.ps_text.proofs.Bytes.Single.{avoids, byte_reads}
 use Rattle.ps_text.proofs.Bytes.Lefts.{unread, past, stops_at, stops_last, reads_last}
-use Rattle.ps_certificate.proofs.Lawful.{Left}
+use Rattle.ps_certificate.proofs.CertificateParts.{Left}
 use Rattle.ps_certificate.proofs.NumberPart.{AtDigit}
 use Rattle.ps_certificate.proofs.TextLaws.{chosen, lawful_dash, lawful_chosen, entry_counts, behind_winner, behind_id}
 use Rattle.ps_certificate.proofs.TextLaws.{chain_id, chain_space, chain_winner, chain_second, chain_choice, chain_first}

@@ -15,8 +15,8 @@ use Rattle.ps_game.proofs.Memory.{WinsByNoMemory-AllHistoriesBeaten}
 use Rattle.ps_certificate.specs.Certificates.{CertificateData, Fits, IsValid, KeepsCount, winner_of, choice_of}
 use Rattle.ps_certificate.specs.Certificates.{counts_of, opposing, opposing_at}
 use Rattle.ps_certificate.specs.Regions.{BothHold, NoneWinsOutside}
-use Rattle.ps_certificate.proofs.Edges.{place_of}
-use Rattle.ps_certificate.proofs.Counts.{opposing_complete}
+use Rattle.ps_certificate.proofs.SuccessorEdges.{place_of}
+use Rattle.ps_certificate.proofs.CountRule.{opposing_complete}
 use Rattle.ps_certificate.proofs.Keeping.{path_stays, BothKeep-from_closed}
 
 -- if a sequence of numbers never rises, its last number is at most its first

@@ -1,8 +1,8 @@
-pub mod Counts
-pub mod Edges
+pub mod CountRule
+pub mod SuccessorEdges
 pub mod EntrySteps
 pub mod FirstFlaws
-pub mod Fitting
+pub mod TextFits
 pub mod Holding
 pub mod Keeping
 pub mod SomeFlaw
@@ -15,8 +15,8 @@ pub mod OneFlaw
 pub mod OneReading
 pub mod PairLoops
 pub mod PairSteps
-pub mod Steps
-pub mod Lawful
+pub mod ByteSteps
+pub mod CertificateParts
 pub mod NumberOutcomes
 pub mod TextLaws
 pub mod Windows

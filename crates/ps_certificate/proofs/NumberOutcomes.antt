@@ -26,7 +26,7 @@ use Rattle.ps_certificate.specs.Texts.{WrongPriority, IsZero}
 use Rattle.ps_text.proofs.Bytes.Single as bytes
 use Rattle.ps_certificate.proofs.NumberPart.{Settled, IsWrongRun, run_length, settled_other, nothing_there, too_large}
 use Rattle.ps_certificate.proofs.NumberPart.{wrong_number, at_front, number_read, AtDigit, laws_judged}
-use Rattle.ps_certificate.proofs.Lawful.{Lawful}
+use Rattle.ps_certificate.proofs.CertificateParts.{Lawful}
 
 -- ## Numbers
 

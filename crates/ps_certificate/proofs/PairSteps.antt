@@ -29,10 +29,10 @@ use Rattle.ps_certificate.specs.Texts.{causes, judged, WrongPriority, IsZero, pa
 use Rattle.ps_certificate.proofs.NumberPart.{settled_zero, settled_priority, syntax_least, judged_reads, judged_fails}
 use Rattle.ps_certificate.proofs.NumberPart.{judged_wrong}
 use Rattle.ps_text.proofs.Bytes.Lefts.{unread, past, stops_at}
-use Rattle.ps_certificate.proofs.Lawful.{Left}
+use Rattle.ps_certificate.proofs.CertificateParts.{Left}
 use Rattle.ps_certificate.proofs.TextLaws.{behind_space, chain_pair, chain_priority, chain_colon}
 use Rattle.ps_text.proofs.Bytes.Single.{byte_stops}
-use Rattle.ps_certificate.proofs.Steps.{ends_true, ends_false}
+use Rattle.ps_certificate.proofs.ByteSteps.{ends_true, ends_false}
 
 -- ## A count that is not 0
 

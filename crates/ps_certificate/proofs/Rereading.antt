@@ -2,4 +2,4 @@
 
 pub mod WritingSteps
 pub mod CountsOfPairs
-pub mod Writing
+pub mod WrittenEntries

@@ -20,10 +20,10 @@ use Rattle.ps_certificate.specs.Certificates.{IsFirstFlaw, KeepsCount, winner_of
 use Rattle.ps_certificate.specs.Certificates.{opposing_at}
 use Rattle.ps_certificate.specs.Inner.Prefixes.{IsSoundAt, IsFirstFlawAt, IsFirstBroken, IsFirstEscape, KeepsCounts}
 use Rattle.ps_certificate.specs.Inner.Prefixes.{KeepsCountsAt, StaysInside}
-use Rattle.ps_certificate.proofs.Counts.{IsFirstFlawAt-rank, KeepsCountsAt-from_all, first_unranked, other_edges}
-use Rattle.ps_certificate.proofs.Counts.{own_edge, own_edges, valid_has_no_flaw, valid_in_the_end}
-use Rattle.ps_certificate.proofs.Edges.{HasEdge-at, IsFirstEscape-at, IsSomeAnd-at, Remains-other}
-use Rattle.ps_certificate.proofs.Edges.{StaysInside-from_all, not_wrong_when_right, own_move}
+use Rattle.ps_certificate.proofs.CountRule.{IsFirstFlawAt-rank, KeepsCountsAt-from_all, first_unranked, other_edges}
+use Rattle.ps_certificate.proofs.CountRule.{own_edge, own_edges, valid_has_no_flaw, valid_in_the_end}
+use Rattle.ps_certificate.proofs.SuccessorEdges.{HasEdge-at, IsFirstEscape-at, IsSomeAnd-at, Remains-other}
+use Rattle.ps_certificate.proofs.SuccessorEdges.{StaysInside-from_all, not_wrong_when_right, own_move}
 use Rattle.ps_certificate.proofs.FirstFlaws.{IsClosed-from_sound, closed_has_no_flaw, first_move, first_unsound}
 
 -- ## The first place

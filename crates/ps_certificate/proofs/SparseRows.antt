@@ -2,4 +2,4 @@
 
 pub mod Sparse
 pub mod Lines
-pub mod Rows
+pub mod RowCopies

@@ -24,7 +24,7 @@ use Rattle.ps_certificate.specs.Inner.Reading.{all_entries}
 use Rattle.ps_certificate.specs.Texts.{Field, take_two, two, judged, number, Never, NotNext, priority, IsMissing}
 use Rattle.ps_certificate.specs.Texts.{priorities, winner, vertex_of, choice, counts, WrongPriority, IsZero, pair}
 use Rattle.ps_certificate.specs.Texts.{counts_in, lost_by, entry, entries, version, certificate}
-use Rattle.ps_certificate.proofs.Lawful.{Lawful, Chain}
+use Rattle.ps_certificate.proofs.CertificateParts.{Lawful, Chain}
 use Rattle.ps_certificate.proofs.NumberPart.{AtDigit, settled_zero, settled_priority}
 use Rattle.ps_certificate.proofs.NumberOutcomes.{judged_by, number_by, decide_next, judge_priority, judge_zero}
 use Rattle.ps_certificate.proofs.NumberOutcomes.{judge_missing}

@@ -11,7 +11,7 @@ use Rattle.ps_game.specs.Games.{ParityGame, vertex_count, priority_of}
 use Rattle.ps_game.specs.Ranking.{HasPriority}
 use Rattle.ps_certificate.specs.Inner.Prefixes.{IsAt}
 use Rattle.ps_certificate.proofs.Lists.{rising_far}
-use Rattle.ps_certificate.proofs.Edges.{Contains-at}
+use Rattle.ps_certificate.proofs.SuccessorEdges.{Contains-at}
 
 -- if a search of a list returned an index of a number, the list contains this number
 pub Contains-found : (list : List ℕ) (number : ℕ) (found : Option ℕ) → IfSome found (IsAt list number) →

@@ -33,11 +33,11 @@ use Rattle.ps_circuit.specs.Texts.{comment, DraftData, draft_of as drafted, symb
 use Rattle.ps_circuit.specs.Texts.{refused, undefined, cyclic, meaning, IsCircuitAnswer}
 use Rattle.ps_circuit.specs.Inner.Reading.{FoundAnswers, TellsDraft, TellsDefined, TellsCyclic}
 use Rattle.ps_text.proofs.Bytes.Lefts.{unread, past, stops_at, reads_last}
-use Rattle.ps_circuit.proofs.Lawful.{Left, Chain}
+use Rattle.ps_circuit.proofs.CircuitParts.{Left, Chain}
 use Rattle.ps_text.proofs.Bytes.Single.{Any}
 use Rattle.ps_circuit.proofs.SignLaws.{AtBody}
 use Rattle.ps_circuit.proofs.SymbolLemmas.{comment_other}
-use Rattle.ps_circuit.proofs.TextLaws.{laws_text, chain_text, chain_symbols, first_names, body_latches}
+use Rattle.ps_circuit.proofs.CircuitTextLaws.{laws_text, chain_text, chain_symbols, first_names, body_latches}
 
 -- ## From parts to answers
 

@@ -23,7 +23,7 @@ use Rattle.ps_circuit.specs.declared.fault.AigCause.TheVariants.{Syntax}
 use Rattle.ps_circuit.specs.Causes.{AigFault, cause_number}
 use Rattle.ps_circuit.specs.Signs.{aig_causes, gap, rest_of_line, newline, line_end, more}
 use Rattle.ps_circuit.specs.Inner.Cursors.{Tells, saturated}
-use Rattle.ps_circuit.proofs.Lawful.{Odd, Left}
+use Rattle.ps_circuit.proofs.CircuitParts.{Odd, Left}
 use Rattle.ps_text.proofs.Bytes.Lefts.{unread, past, branch}
 use Rattle.ps_circuit.proofs.SignLaws.{AtSpace, laws_gap, laws_ends_here, ends_here, gap_more, chain_line_end}
 use Rattle.ps_circuit.proofs.SignLaws.{chain_gap_more, space_newline}

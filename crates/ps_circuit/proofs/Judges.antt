@@ -17,7 +17,7 @@ use Rattle.ps_text.specs.Bytes.{Seen, is_digit}
 use Rattle.ps_circuit.specs.Texts.{AnyNumber, WrongMost, WrongCount, WrongLiteral, WrongDefinition, WrongReset, Kind}
 use Rattle.ps_circuit.specs.Texts.{NamesData, names_of, take_kind, IsBadSymbol}
 use Rattle.ps_text.proofs.Bytes.RunOutcomes.{Spanned, run_of, stops_bytes}
-use Rattle.ps_circuit.proofs.Lawful.{Judges}
+use Rattle.ps_circuit.proofs.CircuitParts.{Judges}
 
 pub syntax_least : (g : AigCause) → cause_number Syntax ≤ cause_number g
 syntax_least g = search rules

@@ -1,8 +1,8 @@
-pub mod Lawful
+pub mod CircuitParts
 pub mod SignLaws
 pub mod Judges
-pub mod TextLaws
-pub mod Exits
+pub mod CircuitTextLaws
+pub mod FieldExits
 pub mod FieldLemmas
 pub mod NumberLemmas
 pub mod LineLemmas
@@ -12,10 +12,10 @@ pub mod DraftReading
 pub mod LinksLemmas
 pub mod Adding
 pub mod ReadingLemmas
-pub mod Rereading
-pub mod OneReading
+pub mod CircuitRereading
+pub mod OneCircuitReading
 pub mod GateCycles
-pub mod SomeReading
+pub mod SomeCircuitReading
 pub mod Ordered
 pub mod GateLemmas
 pub mod MadeLemmas

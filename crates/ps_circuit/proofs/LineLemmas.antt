@@ -25,13 +25,13 @@ use Rattle.ps_circuit.specs.Inner.Cursors.{saturated, NumberIs}
 use Rattle.ps_circuit.specs.Texts.{WrongLiteral, WrongDefinition, WrongReset, field, Lines, add_input, add_latch}
 use Rattle.ps_circuit.specs.Texts.{add_output, add_gate, input_line, reset, latch_line, output_line, gate_line}
 use Rattle.ps_circuit.specs.Inner.Reading.{AddsVariable, Grown, none, more as grow, IsRow, TellsField}
-use Rattle.ps_circuit.proofs.Lawful.{Lawful, Left}
+use Rattle.ps_circuit.proofs.CircuitParts.{Lawful, Left}
 use Rattle.ps_circuit.proofs.Judges.{judge_literal}
 use Rattle.ps_text.proofs.Bytes.Lefts.{unread, past}
-use Rattle.ps_circuit.proofs.Exits.{comes, none_comes}
-use Rattle.ps_circuit.proofs.TextLaws.{is_one, chain_input, chain_output, chain_reset, latch_end, latch_next}
-use Rattle.ps_circuit.proofs.TextLaws.{chain_next, chain_latch, gate_end, gate_second, gate_first, chain_second}
-use Rattle.ps_circuit.proofs.TextLaws.{chain_first, chain_gate}
+use Rattle.ps_circuit.proofs.FieldExits.{comes, none_comes}
+use Rattle.ps_circuit.proofs.CircuitTextLaws.{is_one, chain_input, chain_output, chain_reset, latch_end, latch_next}
+use Rattle.ps_circuit.proofs.CircuitTextLaws.{chain_next, chain_latch, gate_end, gate_second, gate_first, chain_second}
+use Rattle.ps_circuit.proofs.CircuitTextLaws.{chain_first, chain_gate}
 use Rattle.ps_circuit.proofs.SignLaws.{AtDigit, Separates, separates_digit}
 use Rattle.ps_circuit.proofs.NumberLemmas.{number_small, number_wrong, field_reads, field_fails}
 

@@ -24,12 +24,12 @@ use Rattle.ps_circuit.specs.Texts.{AnyNumber, WrongMost, WrongCount, sections, f
 use Rattle.ps_circuit.specs.Inner.Reading.{TellsField, TellsCount, TellsHeader}
 use Rattle.ps_text.proofs.Bytes.Runs.{run_reads, run_bad, run_stops}
 use Rattle.ps_text.proofs.Bytes.Lefts.{unread, past}
-use Rattle.ps_circuit.proofs.Lawful.{Left, Judges}
-use Rattle.ps_circuit.proofs.Exits.{comes, none_comes}
+use Rattle.ps_circuit.proofs.CircuitParts.{Left, Judges}
+use Rattle.ps_circuit.proofs.FieldExits.{comes, none_comes}
 use Rattle.ps_circuit.proofs.Judges.{judge_any, judge_most}
-use Rattle.ps_circuit.proofs.TextLaws.{laws_sections, chain_sections, chain_counted, chain_field, chain_header, chain_0}
-use Rattle.ps_circuit.proofs.TextLaws.{chain_1, chain_2, chain_3, chain_4, header_0, header_1, header_2, header_3}
-use Rattle.ps_circuit.proofs.TextLaws.{header_4, header_5}
+use Rattle.ps_circuit.proofs.CircuitTextLaws.{laws_sections, chain_sections, chain_counted, chain_field, chain_header, chain_0}
+use Rattle.ps_circuit.proofs.CircuitTextLaws.{chain_1, chain_2, chain_3, chain_4, header_0, header_1, header_2, header_3}
+use Rattle.ps_circuit.proofs.CircuitTextLaws.{header_4, header_5}
 
 -- ## Numbers
 

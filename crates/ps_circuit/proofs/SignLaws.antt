@@ -17,7 +17,7 @@ use Rattle.ps_text.specs.Bytes.{Seen, is_digit, is_space, is_inner, NoBadRun}
 use Rattle.ps_circuit.specs.Signs.{Field, number_at, number, gap, rest_of_line, newline, line_end, more, by_more}
 use Rattle.ps_text.proofs.Bytes.Single.{At}
 use Rattle.ps_text.proofs.Bytes.Lawful.{byte_of, larger, chained, next, given, mapped_by, either_of, or_nothing, run_by}
-use Rattle.ps_circuit.proofs.Lawful.{Lawful, Chain, Judges}
+use Rattle.ps_circuit.proofs.CircuitParts.{Lawful, Chain, Judges}
 
 -- ## Sets of bytes
 

@@ -20,7 +20,7 @@ use Rattle.ps_circuit.specs.declared.number.Number.{Number}
 use Rattle.ps_circuit.specs.Signs.{Field, gap, number}
 use Rattle.ps_circuit.specs.Texts.{field}
 use Rattle.ps_circuit.specs.Inner.Reading.{Grown, none, more}
-use Rattle.ps_circuit.proofs.Lawful.{Lawful}
+use Rattle.ps_circuit.proofs.CircuitParts.{Lawful}
 use Rattle.ps_circuit.proofs.SignLaws.{Separates, separates_digit}
 
 -- each byte of the list is given with the bytes that follow it

@@ -33,7 +33,7 @@ use Rattle.ps_circuit.proofs.SoundParts.{Safe, IsRight, Placed, followed_field, 
 use Rattle.ps_circuit.proofs.SoundParts.{safe_any}
 use Rattle.ps_circuit.proofs.SoundParts.{safe_before, safe_many, safe_mapped, safe_then, safe_times}
 use Rattle.ps_circuit.proofs.SymbolLemmas.{all_plain}
-use Rattle.ps_circuit.proofs.TextLaws.{chain_1, chain_first, chain_next, laws_ended}
+use Rattle.ps_circuit.proofs.CircuitTextLaws.{chain_1, chain_first, chain_next, laws_ended}
 
 -- ## Lines
 

@@ -35,13 +35,13 @@ use Rattle.ps_circuit.specs.Inner.Cursors.{NumberIs}
 use Rattle.ps_circuit.specs.Texts.{Kind, NamesData, names_of, put_names, add_name, take_kind, IsBadSymbol, symbol_line}
 use Rattle.ps_circuit.specs.Texts.{anything, comment}
 use Rattle.ps_circuit.specs.Inner.Names.{is_kind}
-use Rattle.ps_circuit.proofs.Lawful.{Odd, Left}
+use Rattle.ps_circuit.proofs.CircuitParts.{Odd, Left}
 use Rattle.ps_circuit.proofs.Judges.{syntax_least, Digits, bad_symbol}
 use Rattle.ps_text.proofs.Bytes.Pieces.{bytes_at}
 use Rattle.ps_text.proofs.Bytes.Single.{stops_here, byte_taken, next_is, byte_reads}
 use Rattle.ps_text.proofs.Bytes.Lefts.{unread, past, stops_at, reads_last}
-use Rattle.ps_circuit.proofs.TextLaws.{letter, symbol_number, symbol_space, symbol_name, symbol_end, chain_letter}
-use Rattle.ps_circuit.proofs.TextLaws.{chain_number, chain_space, chain_name, laws_symbol_line, chain_c_line, any_sign}
+use Rattle.ps_circuit.proofs.CircuitTextLaws.{letter, symbol_number, symbol_space, symbol_name, symbol_end, chain_letter}
+use Rattle.ps_circuit.proofs.CircuitTextLaws.{chain_number, chain_space, chain_name, laws_symbol_line, chain_c_line, any_sign}
 use Rattle.ps_circuit.proofs.SignLaws.{AtKind}
 use Rattle.ps_circuit.proofs.NumberLemmas.{number_any}
 

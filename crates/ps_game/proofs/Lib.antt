@@ -1,5 +1,5 @@
 pub mod Beaten
-pub mod Distinct
+pub mod DistinctByStamps
 pub mod Finished
 pub mod FlatArrays
 pub mod VertexArrays

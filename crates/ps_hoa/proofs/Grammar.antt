@@ -1,7 +1,7 @@
 -- The laws of a grammar: which tokens can begin and continue the texts of each production, and that no token can both
 -- continue one part and begin the next.
 
-pub mod SignLaws
+pub mod TokenLaws
 pub mod OperandLaws
 pub mod KindSets
 pub mod InfixLaws

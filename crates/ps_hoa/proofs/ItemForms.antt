@@ -44,19 +44,19 @@ use Rattle.ps_hoa.proofs.Grammar.InfixLaws.{is_connective}
 use Rattle.ps_hoa.proofs.Grammar.KindSets.{union, within, laws_sign}
 use Rattle.ps_hoa.proofs.Grammar.LabelLaws.{laws_label}
 use Rattle.ps_hoa.proofs.Grammar.OperandLaws.{Odd, Of, Tight, false_true, nothing_apart}
-use Rattle.ps_hoa.proofs.Grammar.SignLaws.{is_string, laws_int, laws_string, laws_proposition_name, new_alias}
-use Rattle.ps_hoa.proofs.Grammar.SignLaws.{laws_new_alias, laws_alternating}
-use Rattle.ps_hoa.proofs.Outcomes.Judging.{JudgesAll, judge_above, judge_alternating, judge_name, judge_alias}
-use Rattle.ps_hoa.proofs.Outcomes.LabelOutcomes.{Has, has_signs, has_int, has_string, has_loop, has_label}
-use Rattle.ps_hoa.proofs.Outcomes.LabelOutcomes.{has_condition}
+use Rattle.ps_hoa.proofs.Grammar.TokenLaws.{is_string, laws_int, laws_string, laws_proposition_name, new_alias}
+use Rattle.ps_hoa.proofs.Grammar.TokenLaws.{laws_new_alias, laws_alternating}
+use Rattle.ps_hoa.proofs.HoaOutcomes.Judging.{JudgesAll, judge_above, judge_alternating, judge_name, judge_alias}
+use Rattle.ps_hoa.proofs.HoaOutcomes.LabelOutcomes.{Has, has_signs, has_int, has_string, has_loop, has_label}
+use Rattle.ps_hoa.proofs.HoaOutcomes.LabelOutcomes.{has_condition}
 use Rattle.ps_hoa.proofs.Reading.BodyReading.{int_begins}
-use Rattle.ps_hoa.proofs.Reading.Exits.{Serves, serves_as, Loop}
+use Rattle.ps_hoa.proofs.Reading.HoaExits.{Serves, serves_as, Loop}
 use Rattle.ps_hoa.proofs.Reading.ExpectReading.{tests_string, sign_begins, expect_elsewhere}
 use Rattle.ps_hoa.proofs.Reading.StateReading.{string_begins}
 use Rattle.ps_hoa.proofs.Soundness.HeaderKept.{Kept, keeps_int, keeps_names, few_more, one_more_alias}
-use Rattle.ps_hoa.proofs.Soundness.Keeping.{Keeps, keeps_give, keeps_one, keeps_then, keeps_behind, keeps_either}
-use Rattle.ps_hoa.proofs.Soundness.Keeping.{keeps_mapped, keeps_many}
-use Rattle.ps_hoa.proofs.Soundness.Places.{different_kept}
+use Rattle.ps_hoa.proofs.Soundness.KeptByParts.{Keeps, keeps_give, keeps_one, keeps_then, keeps_behind, keeps_either}
+use Rattle.ps_hoa.proofs.Soundness.KeptByParts.{keeps_mapped, keeps_many}
+use Rattle.ps_hoa.proofs.Soundness.NumberSlots.{different_kept}
 use Rattle.ps_hoa.proofs.Soundness.SoundLabels.{keeps_label}
 
 -- the kinds of tokens that can continue a header item

@@ -1,9 +1,9 @@
 pub mod Positions
 pub mod NameLemmas
-pub mod NumberLemmas
+pub mod DigitRuns
 pub mod Lexing
 pub mod Grammar
 pub mod Reading
 pub mod ItemForms
 pub mod Soundness
-pub mod Outcomes
+pub mod HoaOutcomes

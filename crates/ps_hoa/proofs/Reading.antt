@@ -1,8 +1,8 @@
 -- Lemmas for the proofs of the functions that parse HOA texts.
 
 pub mod NextSign
-pub mod SingleSigns
-pub mod Exits
+pub mod SingleTokens
+pub mod HoaExits
 pub mod ExpectReading
 pub mod IntSigns
 pub mod RowReading

@@ -1,9 +1,9 @@
 -- Every parsed HOA file satisfies `IsSoundFile`.
 
-pub mod Keeping
+pub mod KeptByParts
 pub mod NameSets
 pub mod Differences
-pub mod Places
+pub mod NumberSlots
 pub mod SoundLabels
 pub mod HeaderKept
 pub mod SoundHeaders

@@ -11,7 +11,7 @@ use Rattle.ps_game.specs.Games.{ParityGame, NamedGameData, IsGame, HasEdge, vert
 use Rattle.ps_game.specs.Plays.{Follows, Holds, IsPath}
 use Rattle.ps_game.specs.Regions.{has, move_at}
 use Rattle.ps_referee.specs.Solutions.{IsCertificateOf, IsCycleOf, IsSolution, claimed}
-use Rattle.ps_referee.proofs.Parts.{holds_same}
+use Rattle.ps_referee.proofs.PlayersPart.{holds_same}
 use Rattle.ps_zielonka.specs.Divisions.{Division}
 use Rattle.ps_machine.specs.Solving.{AnswersLeast}
 

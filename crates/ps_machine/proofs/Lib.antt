@@ -3,7 +3,7 @@ mod BoardMoves
 mod BoardSteps
 mod ByLetters
 mod CertificateThere
-mod Choosing
+mod DecidedMoves
 mod FileBoards
 mod LeastLetters
 mod LetterLists

@@ -1,6 +1,6 @@
 -- How a machine is made from a certificate.
 
-pub mod Following
+pub mod UsedVertices
 pub mod MemorySteps
 pub mod KeptMemories
 pub mod Listing

@@ -8,7 +8,7 @@ use Rattle.ps_components.proofs.Places.{slice_get-append_left, slice_get-push, s
 use Rattle.ps_measure.specs.Inner.Columns.{AreRoots}
 use Rattle.ps_measure.specs.Inner.Groups.{IsGroup}
 use Rattle.ps_measure.specs.Inner.Remaining.{StarData, star_graph, LowData, low_graph, low_weight}
-use Rattle.ps_measure.proofs.Edges.{heavy_inside, heavy_level}
+use Rattle.ps_measure.proofs.RemainingEdges.{heavy_inside, heavy_level}
 
 -- the target of link k of the vertex v in a stored graph
 abbrev pub member : StarData → ℕ → ℕ → ℕ

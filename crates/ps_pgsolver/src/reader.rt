@@ -410,7 +410,7 @@ fn semicolon_of(token: Token) -> Result<(), PgFault>
 }
 
 /// Returns the value of a number token, or the token's error.
-#[tactic(auto, using(crate::proofs::ValueLemmas::number_small, crate::proofs::ValueLemmas::number_large))]
+#[tactic(auto, using(crate::proofs::NumberTokens::number_small, crate::proofs::NumberTokens::number_large))]
 fn number_of(token: Token) -> Result<u64, PgFault>
     requires { IsPlain token.kind }
     ensures { result ≡ number_answer (sign_of token.entry.kind) token.entry.start }

@@ -1,4 +1,5 @@
 pub mod Agreeing
+pub mod AgreeingAnswers
 pub mod AutomatonLemmas
 pub mod CheckLemmas
 pub mod CircuitLemmas
@@ -6,17 +7,14 @@ pub mod CommandLemmas
 pub mod HelpLemmas
 pub mod JudgeLemmas
 pub mod KindLemmas
-pub mod LassoLemmas
+pub mod LassoAnswers
 pub mod LongWords
 pub mod MissingTexts
-pub mod OneAnswer
 pub mod OneCertified
 pub mod OneCut
-pub mod OneJudgement
 pub mod OneLine
 pub mod OneStage
 pub mod OneStep
-pub mod OneTrace
 pub mod OutcomeLemmas
 pub mod ProgramLemmas
 pub mod SolverLemmas
@@ -31,5 +29,7 @@ pub mod SomeStep
 pub mod StreamLemmas
 pub mod SynthLemmas
 pub mod TextLemmas
+pub mod TraceFromLetters
 pub mod TraceLemmas
+pub mod VerifyDetermined
 pub mod VerifyLemmas

@@ -17,7 +17,7 @@ use Rattle.ps_simulate.specs.Stimuli.{StimulusData}
 use Rattle.ps_simulate.specs.StimulusTexts as stimulus_text
 use Rattle.ps_simulate.specs.declared.lassos.LassoFault.TheVariants.{EmptyLap, Symbols}
 use Rattle.ps_simulate.specs.declared.role.Role.{Role}
-use Rattle.ps_traces.proofs.Runs.{Run, run}
+use Rattle.ps_traces.proofs.CircuitRuns.{Run, run}
 use Rattle.ps_program.specs.Automata.{ReadsAutomaton}
 use Rattle.ps_program.specs.Lassos.{AnswersLasso, RunsCircuit, TellsVerdict, lasso_line, verdict_text}
 use Rattle.ps_program.specs.Replies.{line_reply, text_reply}

@@ -10,7 +10,7 @@ use Rattle.ps_synthesis.specs.Promises.{IsAcceptedText}
 use Rattle.ps_synthesis.specs.SynthFaults.{IsReportOrFault, IsSynthFault}
 use Rattle.ps_synthesis.specs.declared.fault.SynthFault.{SynthFault}
 use Rattle.ps_synthesis.specs.declared.report.Report.{Report}
-use Rattle.ps_synthesis.proofs.Outcomes.{fault_more, report_more, sure_in}
+use Rattle.ps_synthesis.proofs.ReportOutcomes.{fault_more, report_more, sure_in}
 use Rattle.ps_program.specs.declared.answer.Answer.{Answer}
 use Rattle.ps_program.specs.declared.answer.Refusal.{Refusal}
 use Rattle.ps_program.specs.declared.answer.Refusal.TheVariants as refusal

@@ -16,7 +16,7 @@ use Rattle.ps_certificate.specs.Least.{DiffersInCounts, HasLeastCounts, SaysTheS
 use Rattle.ps_referee.specs.Solutions.{claim_with, claimed}
 use Rattle.ps_referee.specs.Inner.Building.{row_in, winner_row, claims}
 use Rattle.ps_referee.proofs.Claims.{winner_is, choice_is}
-use Rattle.ps_referee.proofs.Parts.{two_path, two_follows}
+use Rattle.ps_referee.proofs.PlayersPart.{two_path, two_follows}
 
 -- what a certificate states about a vertex that a player wins: the vertex is in the player's set, and has the move of
 -- the player's table and the row of the player's counts

@@ -19,8 +19,8 @@ use Rattle.ps_referee.specs.Inner.Building.{claims, winner_row}
 use Rattle.ps_referee.specs.Inner.Counting.{IsLostIn}
 use Rattle.ps_referee.proofs.Certified.{made_of, certified_entries, entries_say}
 use Rattle.ps_referee.proofs.Claims.{winner_is}
-use Rattle.ps_referee.proofs.Parts.{part, keeps, right_move, stays_in, keeps_same, holds_same, lost_same}
-use Rattle.ps_referee.proofs.Counted.{ranks_hold}
+use Rattle.ps_referee.proofs.PlayersPart.{part, keeps, right_move, stays_in, keeps_same, holds_same, lost_same}
+use Rattle.ps_referee.proofs.HeldByCounts.{ranks_hold}
 
 module _ (game : ParityGame) (won : List Bool) (first second : List (Option ℕ)) where
   -- ## Closed solutions

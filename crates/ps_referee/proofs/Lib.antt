@@ -1,8 +1,8 @@
 pub mod ClaimLists
 pub mod Certified
 pub mod Claims
-pub mod Counted
+pub mod HeldByCounts
 pub mod Judged
-pub mod OneVerdict
-pub mod Parts
+pub mod OneSolutionVerdict
+pub mod PlayersPart
 pub mod SomeJudgement

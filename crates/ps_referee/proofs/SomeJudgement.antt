@@ -9,7 +9,7 @@ use Rattle.ps_certificate.specs.declared.flaw.Flaw.{Flaw}
 use Rattle.ps_measure.specs.Ranks.{AreRanks, IsLostCycle}
 use Rattle.ps_referee.specs.Solutions.{IsCertificateOf, IsCycleOf, IsSolution, claimed}
 use Rattle.ps_referee.proofs.Judged.{first_holds, judged}
-use Rattle.ps_referee.proofs.Parts.{lost_same}
+use Rattle.ps_referee.proofs.PlayersPart.{lost_same}
 
 -- the statements of two laws, which the lemmas take as arguments
 abbrev pub ClosedOrFlawed : Type 0

@@ -9,13 +9,13 @@ pub mod RowLemmas
 pub mod ValueLemmas
 pub mod StepLemmas
 pub mod NeededLemmas
-pub mod LetterLists
+pub mod BitLists
 pub mod NamingLemmas
-pub mod LetterLemmas
+pub mod LetterBitLaws
 pub mod LassoLemmas
 pub mod SeenLemmas
 pub mod CountLemmas
 pub mod GateOrders
-pub mod Uniqueness
+pub mod UniqueVerdicts
 pub mod Stimuli
 pub mod DecidedSymbols

@@ -5,7 +5,7 @@ use Rattle.ps_circuit.specs.Circuits.{CircuitData, IsCircuit}
 use Rattle.ps_circuit.specs.Values.{Moment, GoesOn, HasOneValues}
 use Rattle.ps_simulate.specs.Lanes.{lane_of}
 use Rattle.ps_simulate.specs.LaneRuns.{LaneMoment, moment_in, GoOnInLanes, AreLanesPlain}
-use Rattle.ps_simulate.proofs.Uniqueness.OneTrace.{runs_agree}
+use Rattle.ps_simulate.proofs.UniqueVerdicts.OneTrace.{runs_agree}
 
 module _ {c : CircuitData} (is : IsCircuit c) (one : HasOneValues c) where
   -- each lane continues

@@ -1,6 +1,6 @@
 -- The parser of stimuli is correct, and each text of a stimulus has exactly one answer.
 
-pub mod LineLemmas
+pub mod StimulusLines
 pub mod StimulusSteps
 pub mod StimulusLemmas
 pub mod OneStimulus

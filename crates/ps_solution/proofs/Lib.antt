@@ -1,6 +1,6 @@
-pub mod Loops
-pub mod OneReading
-pub mod PartLaws
+pub mod EntryLoop
+pub mod OneSolutionReading
 pub mod SignAnswers
-pub mod SomeReading
-pub mod Wholes
+pub mod SolutionLaws
+pub mod SomeSolutionReading
+pub mod WholeSolutions

@@ -1,7 +1,7 @@
 pub mod CertifyingLemmas
 pub mod CircuitFaults
-pub mod Outcomes
+pub mod ReportOutcomes
 pub mod Reporting
 mod SynthesiseLemmas
-mod OneCircuit
-mod CircuitThere
+mod OneWinnersCircuit
+mod WinnersCircuitThere

@@ -30,7 +30,7 @@ use Rattle.ps_synthesis.specs.declared.fault.SynthFault.{SynthFault}
 use Rattle.ps_synthesis.specs.declared.fault.SynthFault.TheVariants.{Text, Automaton, BadCycle, Certificate}
 use Rattle.ps_synthesis.specs.declared.fault.SynthFault.TheVariants.{NotCertified, CircuitTooLarge, OutOfMemory}
 use Rattle.ps_synthesis.specs.declared.report.Report.{Report}
-use Rattle.ps_synthesis.proofs.Outcomes.{IsSureFault, outcome}
+use Rattle.ps_synthesis.proofs.ReportOutcomes.{IsSureFault, outcome}
 use Rattle.ps_traces.specs.Answers.{IsWitness}
 
 module _ (order : Order) (text : List ℕ) (a : AutomatonData) (keys : List Key) (game : NamedGameData)

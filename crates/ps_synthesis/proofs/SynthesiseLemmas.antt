@@ -11,7 +11,7 @@ use Rattle.ps_synthesis.specs.Stages.{IsSolverFault}
 use Rattle.ps_synthesis.specs.SynthFaults.{IsReportOrFault, IsSynthFault, OfGame}
 use Rattle.ps_synthesis.specs.declared.fault.SynthFault.{SynthFault}
 use Rattle.ps_synthesis.specs.declared.report.Report.{Report}
-use Rattle.ps_synthesis.proofs.Outcomes.{AnswersMore, outcome_more}
+use Rattle.ps_synthesis.proofs.ReportOutcomes.{AnswersMore, outcome_more}
 
 module _ (May : MayAnswer) (game : NamedGameData) (certificate : CertificateData) (may : May game (Ok certificate))
   where

@@ -1,5 +1,5 @@
 -- What a parsing function may return for a choice between two grammars, and for repeated items (a loop). The module
--- Meeting restates each of these lemmas for the contract `Meets`, which maps the value that the function returns.
+-- MeetsLemmas restates each of these lemmas for the contract `Meets`, which maps the value that the function returns.
 -- - `Stands there P Q`: at the next symbol `there`, parsing P has the same result as parsing Q
 -- - `left_entered`, `right_entered`: `either` has the result of the alternative that the next symbol begins, or of
 --   which it is an error

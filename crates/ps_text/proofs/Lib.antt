@@ -7,7 +7,7 @@ pub mod Simple
 pub mod Exits
 pub mod Following
 pub mod Combined
-pub mod Meeting
+pub mod MeetsLemmas
 pub mod Covered
 pub mod Repeated
 pub mod Whole

@@ -9,7 +9,7 @@ use Rattle.ps_simulate.proofs.CountLemmas.{code, code_lt, code_same}
 use Rattle.ps_simulate.proofs.LassoLemmas.{GoesOn-append, length_trace}
 use Rattle.ps_traces.specs.Inputs.{GoesOnInLasso, EachInputGoesOn, AreInputs, inputs_of}
 use Rattle.ps_traces.proofs.Returns.{come_back, legs}
-use Rattle.ps_traces.proofs.Runs.{Run, run}
+use Rattle.ps_traces.proofs.CircuitRuns.{Run, run}
 
 module _ (c : CircuitData) (one : HasOneValues c) (stem lap : List (List Bool)) (stem_wide : AreInputs c stem)
     (lap_wide : AreInputs c lap) (some : 0 < length lap) where

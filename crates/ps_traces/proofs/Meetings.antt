@@ -17,7 +17,7 @@ use Rattle.ps_traces.specs.Meetings.{MeetsInLasso}
 use Rattle.ps_simulate.proofs.CountLemmas.{code, code_lt, code_same}
 use Rattle.ps_simulate.proofs.LassoLemmas.{GoesOn-append}
 use Rattle.ps_traces.proofs.Returns.{come_back, legs, legs_go}
-use Rattle.ps_traces.proofs.Runs.{next_reached, resets_reached, step}
+use Rattle.ps_traces.proofs.CircuitRuns.{next_reached, resets_reached, step}
 
 -- a step of a circuit whose inputs are the controller's answer to the circuit's outputs
 pub record JointStep (c : CircuitData) (k : FiniteController) (latches : List Bool) (memory : ℕ) : Type 0 where

@@ -9,8 +9,8 @@ use Rattle.ps_simulate.specs.declared.role.Role.TheVariants.{Environment}
 use Rattle.ps_traces.specs.Shapes.{IsInTimeWhereReached, IsReachedByTrace}
 use Rattle.ps_traces.specs.Meetings.{FiniteController, IsController, AnswersMoments, IsOneMeeting}
 use Rattle.ps_traces.proofs.Meetings.{meeting_of}
-use Rattle.ps_traces.proofs.Runs.{next_reached, resets_reached}
-use Rattle.ps_simulate.proofs.Uniqueness.OneTrace.{firsts_agree}
+use Rattle.ps_traces.proofs.CircuitRuns.{next_reached, resets_reached}
+use Rattle.ps_simulate.proofs.UniqueVerdicts.OneTrace.{firsts_agree}
 
 module _ (c : CircuitData) (is_circuit : IsCircuit c) (one : HasOneValues c) where
   outputs_wide : {latches inputs outputs next : List Bool} → Steps c latches inputs outputs next →

@@ -11,7 +11,7 @@ use Rattle.ps_simulate.specs.declared.role.Role.TheVariants.{Environment}
 use Rattle.ps_traces.specs.Traces.{NoneAccepted}
 use Rattle.ps_traces.specs.Shapes.{IsInTimeWhereReached}
 use Rattle.ps_traces.specs.Meetings.{FiniteController, IsController, IsRejected}
-use Rattle.ps_traces.proofs.Letters.{has_letters}
+use Rattle.ps_traces.proofs.StepLetters.{has_letters}
 use Rattle.ps_traces.proofs.Meetings.{in_lasso}
 
 pub meeting_is_rejected : (order : Order) (file : FileData) (c : CircuitData) (k : FiniteController) →

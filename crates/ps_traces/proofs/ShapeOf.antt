@@ -16,8 +16,8 @@ use Rattle.ps_simulate.specs.declared.role.Role.{Role}
 use Rattle.ps_simulate.proofs.NamingLemmas.{names_differ, role_apart}
 use Rattle.ps_traces.specs.Roles.{IsMachineFor}
 use Rattle.ps_traces.specs.Shapes.{HasShape}
-use Rattle.ps_traces.proofs.Bits.{is_there, stands_in}
-use Rattle.ps_simulate.proofs.Uniqueness.OneLetter.{side}
+use Rattle.ps_traces.proofs.LetterBits.{is_there, stands_in}
+use Rattle.ps_simulate.proofs.UniqueVerdicts.OneLetter.{side}
 use Rattle.ps_traces.proofs.Words.{memory_below}
 
 -- a strictly ascending list has each number at only one index

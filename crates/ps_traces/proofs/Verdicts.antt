@@ -23,9 +23,9 @@ use Rattle.ps_simulate.specs.Symbols.{HasSymbols}
 use Rattle.ps_simulate.specs.declared.lassos.Verdict.{Verdict}
 use Rattle.ps_simulate.specs.declared.role.Role.{Role}
 use Rattle.ps_simulate.proofs.LassoLemmas.{HasRead-start, HasRead-lap, few_letters, fewer, lap_within, repeats}
-use Rattle.ps_traces.proofs.Letters.{has_letters}
+use Rattle.ps_traces.proofs.StepLetters.{has_letters}
 use Rattle.ps_traces.proofs.Returns.{comes_again}
-use Rattle.ps_traces.proofs.Runs.{run}
+use Rattle.ps_traces.proofs.CircuitRuns.{run}
 use Rattle.std.proofs.lemmas.Bool.{cases_lt}
 use Rattle.ps_automaton.proofs.Deciding.{some_or_none}
 

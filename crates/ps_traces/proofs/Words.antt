@@ -16,8 +16,8 @@ use Rattle.ps_simulate.specs.Symbols.{IsSymbol}
 use Rattle.ps_simulate.specs.Lassos.{IsLetterOf, AreLetters, latches_along}
 use Rattle.ps_simulate.proofs.LassoLemmas.{AreLetters-append, GoesOn-append, along_more, at_end, length_letters}
 use Rattle.ps_traces.specs.Traces.{IsLassoWord, AllAccepted, NoneAccepted}
-use Rattle.ps_traces.proofs.Bits.{AreApart, are_apart, few_bits, bit_with, bit_with_at, bit_with_none, in_letter_over}
-use Rattle.ps_traces.proofs.Bits.{in_sum_left, in_sum_right, same_letter, stands_in}
+use Rattle.ps_traces.proofs.LetterBits.{AreApart, are_apart, few_bits, bit_with, bit_with_at, bit_with_none, in_letter_over}
+use Rattle.ps_traces.proofs.LetterBits.{in_sum_left, in_sum_right, same_letter, stands_in}
 
 -- ## Traces
 

@@ -20,7 +20,7 @@ use Rattle.ps_simulate.specs.Lassos.{AreLetters}
 use Rattle.ps_traces.specs.Traces.{IsLassoTrace}
 use Rattle.ps_traces.proofs.Returns.{comes_again}
 use Rattle.ps_verify.specs.Inner.Rounds.{HasCounts}
-use Rattle.ps_verify.proofs.Walks.{Falls, Walk, left, walk}
+use Rattle.ps_verify.proofs.TraceWalks.{Falls, Walk, left, walk}
 
 module _ {owner : ℕ} {names : List (List ℕ)} {auto : Auto} {c : CircuitData} {p : ProductData}
     (product : IsProductOf owner names auto c p) {stem_moments lap_moments : List Moment}

@@ -1,11 +1,11 @@
-pub mod Rounds
-pub mod Walks
+pub mod WholeRegion
+pub mod TraceWalks
 pub mod Laps
-pub mod Paths
+pub mod PathInputs
 pub mod Worth
 pub mod Losing
-pub mod Judging
+pub mod ProductJudgements
 pub mod FirstWays
 pub mod PathReadings
 pub mod OneJudgement
-pub mod Turning
+pub mod TurnedCycles

@@ -32,7 +32,7 @@ use Rattle.ps_traces.specs.Traces.{IsLassoWord}
 use Rattle.ps_verify.specs.Inner.Readings.{ReadsPath, ReadsRound}
 use Rattle.ps_verify.specs.Inner.Rounds.{round_of}
 use Rattle.ps_verify.specs.Judgements.{IsLosing}
-use Rattle.ps_verify.proofs.Paths.{Follows, follow}
+use Rattle.ps_verify.proofs.PathInputs.{Follows, follow}
 use Rattle.ps_verify.proofs.Worth.{refuted}
 
 -- ## Lists

@@ -21,7 +21,7 @@ use Rattle.ps_traces.specs.Inputs.{inputs_of}
 use Rattle.ps_traces.specs.Shapes.{IsInTimeWhereReached}
 use Rattle.ps_traces.specs.Traces.{IsLassoWord, AllAccepted, NoneAccepted}
 use Rattle.ps_traces.proofs.Inputs.{each_goes_on}
-use Rattle.ps_traces.proofs.Letters.{has_letters}
+use Rattle.ps_traces.proofs.StepLetters.{has_letters}
 use Rattle.ps_traces.proofs.OneMeeting.{meeting_is_one}
 use Rattle.ps_traces.proofs.Rejected.{meeting_is_rejected}
 use Rattle.ps_verify.specs.Judgements.{IsLosing, IsWinning}

@@ -14,7 +14,7 @@ use Rattle.ps_game.specs.Attractors.{Falls, LeadsDown}
 use Rattle.ps_game.specs.Games.{ParityGame, vertex_count, owner_of, successors_of, HasEdge}
 use Rattle.ps_game.specs.Subgames.{IsSubgame, IsWithin, LeadsInto}
 use Rattle.ps_game.proofs.SubgameFacts.{edge_at, number_of_edge}
-use Rattle.ps_zielonka.proofs.Holding.{some_more}
+use Rattle.ps_zielonka.proofs.HeldSets.{some_more}
 use Rattle.ps_zielonka.proofs.Walks.{some_or_none}
 
 -- ## Searches

@@ -19,8 +19,8 @@ use Rattle.ps_game.proofs.SubgameFacts.{whole_game}
 use Rattle.ps_zielonka.specs.Divisions.{Division}
 use Rattle.ps_zielonka.proofs.Attracted.{Attracted, all_or_some, attracted, both_true, not_false, not_true, size, size_less}
 use Rattle.ps_zielonka.proofs.Attracted.{true_both}
-use Rattle.ps_zielonka.proofs.Holding.{HoldsWithin-all, HoldsWithin-attracted, HoldsWithin-beside, HoldsWithin-larger}
-use Rattle.ps_zielonka.proofs.Holding.{HoldsWithin-none, HoldsWithin-same}
+use Rattle.ps_zielonka.proofs.HeldSets.{HoldsWithin-all, HoldsWithin-attracted, HoldsWithin-beside, HoldsWithin-larger}
+use Rattle.ps_zielonka.proofs.HeldSets.{HoldsWithin-none, HoldsWithin-same}
 use Rattle.ps_zielonka.proofs.SetTables.{by_set, by_set-inside, by_set-outside, is_false, some_as}
 use Rattle.ps_zielonka.proofs.Tops.{IsGreatest, top_there}
 

@@ -14,7 +14,7 @@ use Rattle.ps_attractor.specs.Tables.{TablesData}
 use Rattle.ps_zielonka.specs.Inner.Nests.{from}
 use Rattle.ps_zielonka.specs.Inner.Stacks.{IsSolvedBy}
 use Rattle.ps_zielonka.proofs.Sets.{from_at, to_from}
-use Rattle.ps_zielonka.proofs.Holding.{not_in, HoldsWithin-same}
+use Rattle.ps_zielonka.proofs.HeldSets.{not_in, HoldsWithin-same}
 use Rattle.ps_zielonka.proofs.Turning.{won_by, IsWon-won_by}
 
 -- if a player holds a set, the player also holds each set that has the same vertices of the game

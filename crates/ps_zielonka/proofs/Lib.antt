@@ -15,8 +15,7 @@ pub mod Forms
 pub mod Frames
 pub mod GoesOn
 pub mod Grown
-pub mod Holding
-pub mod Kept
+pub mod HeldSets
 pub mod Measure
 pub mod Orders
 pub mod Ranked
@@ -25,3 +24,4 @@ pub mod Sets
 pub mod Tops
 pub mod Turning
 pub mod Walks
+pub mod WholeTurn

@@ -31,7 +31,7 @@ use Rattle.ps_hoa.proofs.Grammar.KindSets.{union, within, within_both, apart, la
 use Rattle.ps_hoa.proofs.Grammar.OperandLaws.{Odd, Of, Known, Tight}
 use Rattle.ps_hoa.proofs.Grammar.InfixLaws.{is_start}
 use Rattle.ps_hoa.proofs.Grammar.LabelLaws.{laws_label}
-use Rattle.ps_hoa.proofs.Grammar.SignLaws.{laws_alternating}
+use Rattle.ps_hoa.proofs.Grammar.TokenLaws.{laws_alternating}
 
 -- the kinds of tokens that can continue an edge
 abbrev pub lengthens_edge : Kind → Bool

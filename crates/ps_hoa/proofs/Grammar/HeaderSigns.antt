@@ -24,7 +24,7 @@ use Rattle.ps_text.specs.declared.faults.Fault.TheVariants.{Text as Fault}
 use Rattle.ps_hoa.specs.declared.items.Item.TheVariants as items
 use Rattle.ps_hoa.specs.declared.tokens.Kind.{Kind}
 use Rattle.ps_hoa.specs.declared.tokens.Kind.TheVariants.{Header, Int, Text, Word, AliasName, Body, Finish}
-use Rattle.ps_hoa.proofs.Reading.SingleSigns.{IsOfSigns, reads_one}
+use Rattle.ps_hoa.proofs.Reading.SingleTokens.{IsOfSigns, reads_one}
 
 pub reads_token : {V X : Type 0} (view : X → V) {take : Sign → Option V} {Bad : Sign → HoaCause → Type 0} →
     IsOfSigns take Bad → (piece : Piece Sign) (old new : Stream Sign) (r : Result X HoaFault) →

@@ -24,7 +24,7 @@ use Rattle.ps_hoa.specs.declared.tokens.Kind.TheVariants.{Header, End}
 use Rattle.ps_hoa.proofs.Grammar.ConditionLaws.{is_int}
 use Rattle.ps_hoa.proofs.Grammar.KindSets.{laws_behind_option, within_both, apart, laws_sign, union}
 use Rattle.ps_hoa.proofs.Grammar.OperandLaws.{Odd, Of, Known, Tight}
-use Rattle.ps_hoa.proofs.Grammar.SignLaws.{header_apart, is_string, some_there, named_text, plain_named, laws_string}
+use Rattle.ps_hoa.proofs.Grammar.TokenLaws.{header_apart, is_string, some_there, named_text, plain_named, laws_string}
 use Rattle.ps_hoa.proofs.Grammar.BodyLaws.{lengthens_edge, laws_target_number, laws_marks, laws_state_label, laws_edge}
 use Rattle.ps_hoa.proofs.Grammar.BodyLaws.{edge_apart}
 

@@ -21,9 +21,9 @@ use Rattle.ps_hoa.specs.Tokens.{Sign}
 use Rattle.ps_hoa.specs.declared.tokens.Kind.TheVariants.{Header, Body, Finish}
 use Rattle.ps_hoa.proofs.Grammar.KindSets.{apart, laws_sign}
 use Rattle.ps_hoa.proofs.Grammar.OperandLaws.{Odd, Of, Tight, false_true}
-use Rattle.ps_hoa.proofs.Grammar.SignLaws.{header_apart, item_header, item_there, laws_item_name, is_body}
+use Rattle.ps_hoa.proofs.Grammar.TokenLaws.{header_apart, item_header, item_there, laws_item_name, is_body}
 use Rattle.ps_hoa.proofs.ItemForms.{is_argument, ItemMore, form}
-use Rattle.ps_hoa.proofs.Reading.Exits.{Loop}
+use Rattle.ps_hoa.proofs.Reading.HoaExits.{Loop}
 use Rattle.ps_hoa.proofs.Reading.ExpectReading.{sign_begins}
 use Rattle.ps_hoa.proofs.Reading.NextSign.{next_same}
 

@@ -33,11 +33,11 @@ use Rattle.ps_hoa.proofs.Grammar.OperandLaws.{false_true}
 use Rattle.ps_hoa.proofs.Grammar.HeaderSigns.{reads_token, least_same}
 use Rattle.ps_hoa.proofs.Grammar.BodyLaws.{laws_target_number, number_barred, laws_sets, laws_no_sets, joint_braces}
 use Rattle.ps_hoa.proofs.Grammar.BodyLaws.{joint_edge_label, joint_plain_marks, laws_labelled_edge, laws_plain_edge}
-use Rattle.ps_hoa.proofs.Reading.Exits.{Serves, serves_as, entered}
+use Rattle.ps_hoa.proofs.Reading.HoaExits.{Serves, serves_as, entered}
 use Rattle.ps_hoa.proofs.Reading.ExpectReading.{tests_and, tests_int, tests_left_brace, tests_left_bracket, sign_begins}
 use Rattle.ps_hoa.proofs.Reading.ExpectReading.{taken_there, expect_begins, expect_elsewhere, enters_left, enters_right}
 use Rattle.ps_hoa.proofs.Reading.NextSign.{next_there, next_same, start_there}
-use Rattle.ps_hoa.proofs.Reading.SingleSigns.{IsOfSigns, signs_of}
+use Rattle.ps_hoa.proofs.Reading.SingleTokens.{IsOfSigns, signs_of}
 
 -- ## Single symbols
 

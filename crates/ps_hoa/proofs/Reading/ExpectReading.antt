@@ -28,10 +28,10 @@ use Rattle.ps_hoa.proofs.Grammar.HeaderSigns.{signs_expect}
 use Rattle.ps_hoa.proofs.Grammar.KindSets.{test_of}
 use Rattle.ps_hoa.proofs.Grammar.InfixLaws.{laws_left, laws_right}
 use Rattle.ps_hoa.proofs.Grammar.OperandLaws.{Odd, Of, joint_expect, joint_closed, laws_held}
-use Rattle.ps_hoa.proofs.Grammar.SignLaws.{is_string}
-use Rattle.ps_hoa.proofs.Reading.Exits.{Leads, first, behind, under}
+use Rattle.ps_hoa.proofs.Grammar.TokenLaws.{is_string}
+use Rattle.ps_hoa.proofs.Reading.HoaExits.{Leads, first, behind, under}
 use Rattle.ps_hoa.proofs.Reading.NextSign.{next_there, next_same}
-use Rattle.ps_hoa.proofs.Reading.SingleSigns.{reads_one}
+use Rattle.ps_hoa.proofs.Reading.SingleTokens.{reads_one}
 
 pub record Tests (test : Kind → Bool) (kind : Kind) : Type 0 where
   pub is : IsTestOf test kind

@@ -32,8 +32,8 @@ use Rattle.ps_hoa.proofs.Grammar.InfixLaws.{is_start, AndMore, AndOrMore, joint_
 use Rattle.ps_hoa.proofs.Grammar.InfixLaws.{laws_both, laws_rows, laws_nested, laws_negation, laws_holding}
 use Rattle.ps_hoa.proofs.Grammar.InfixLaws.{laws_operand}
 use Rattle.ps_hoa.proofs.Grammar.InfixLaws.{single_holds, apart_or, apart_right}
-use Rattle.ps_hoa.proofs.Reading.Exits.{Serves, serves_as, itself, serves_both, Leads, behind, under, instead}
-use Rattle.ps_hoa.proofs.Reading.Exits.{value_is}
+use Rattle.ps_hoa.proofs.Reading.HoaExits.{Serves, serves_as, itself, serves_both, Leads, behind, under, instead}
+use Rattle.ps_hoa.proofs.Reading.HoaExits.{value_is}
 use Rattle.ps_hoa.proofs.Reading.ExpectReading.{avoids_kind, tests_not, tests_and, tests_or, tests_left, expect_read}
 use Rattle.ps_hoa.proofs.Reading.ExpectReading.{inner_reads}
 use Rattle.ps_hoa.proofs.Reading.ExpectReading.{expect_elsewhere, inner_fails, inner_stays_open}

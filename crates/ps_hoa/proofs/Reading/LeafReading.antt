@@ -25,9 +25,9 @@ use Rattle.ps_hoa.proofs.Grammar.InfixLaws.{laws_not, laws_left}
 use Rattle.ps_hoa.proofs.Grammar.ConditionLaws.{laws_set, laws_complement, not_int, laws_often, laws_closed_set}
 use Rattle.ps_hoa.proofs.Grammar.ConditionLaws.{joint_closed_set, joint_visit, laws_visit, laws_constant}
 use Rattle.ps_hoa.proofs.Grammar.ConditionLaws.{constant_often}
-use Rattle.ps_hoa.proofs.Reading.Exits.{Serves, serves_as, serves_meets, Leads, first, behind, under, instead}
-use Rattle.ps_hoa.proofs.Reading.Exits.{entered}
-use Rattle.ps_hoa.proofs.Reading.SingleSigns.{IsOfSigns, signs_of, reads_one}
+use Rattle.ps_hoa.proofs.Reading.HoaExits.{Serves, serves_as, serves_meets, Leads, first, behind, under, instead}
+use Rattle.ps_hoa.proofs.Reading.HoaExits.{entered}
+use Rattle.ps_hoa.proofs.Reading.SingleTokens.{IsOfSigns, signs_of, reads_one}
 use Rattle.ps_hoa.proofs.Reading.ExpectReading.{tests_not, expect_read, expect_begins, expect_elsewhere}
 
 pub leaf_signs : (scope : ScopeData) → IsOfSigns (leaf_in scope.names) (BadLeaf scope)

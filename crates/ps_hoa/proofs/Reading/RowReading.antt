@@ -22,7 +22,7 @@ use Rattle.ps_hoa.specs.declared.fault.HoaCause.{HoaCause}
 use Rattle.ps_hoa.specs.declared.tokens.Kind.{Kind}
 use Rattle.ps_hoa.proofs.Grammar.OperandLaws as rows
 use Rattle.ps_hoa.proofs.Grammar.OperandLaws.{Odd, Of, row_alone, row_begins, row_goes_on, row_stops, row_ends}
-use Rattle.ps_hoa.proofs.Reading.Exits.{Leads}
+use Rattle.ps_hoa.proofs.Reading.HoaExits.{Leads}
 use Rattle.ps_hoa.proofs.Reading.ExpectReading.{Tests, expect_read, expect_elsewhere, behind_shrinks}
 
 -- the part of the recursion's measure that depends on the connective

@@ -27,11 +27,11 @@ use Rattle.ps_hoa.proofs.Grammar.BodyLaws.{laws_bracketed, laws_no_label, joint_
 use Rattle.ps_hoa.proofs.Grammar.BodyLaws.{laws_set_number}
 use Rattle.ps_hoa.proofs.Grammar.StateLaws.{IsState, text_of_state, laws_named, laws_no_name, joint_state, laws_state}
 use Rattle.ps_hoa.proofs.Grammar.StateLaws.{state_apart}
-use Rattle.ps_hoa.proofs.Reading.Exits.{Serves, serves_as, itself, entered, Loop}
+use Rattle.ps_hoa.proofs.Reading.HoaExits.{Serves, serves_as, itself, entered, Loop}
 use Rattle.ps_hoa.proofs.Reading.ExpectReading.{tests_left_bracket, tests_string, sign_begins, expect_begins}
 use Rattle.ps_hoa.proofs.Reading.ExpectReading.{expect_elsewhere}
 use Rattle.ps_hoa.proofs.Reading.NextSign.{next_same}
-use Rattle.ps_hoa.proofs.Reading.SingleSigns.{IsOfSigns, signs_of}
+use Rattle.ps_hoa.proofs.Reading.SingleTokens.{IsOfSigns, signs_of}
 
 pub next_signs : (h : HeaderData) (b : BodyData) → IsOfSigns state_value (IsBadNext h b)
 next_signs h b = signs_of Header (codes "State:") refl refl (λ f k. k.0 refl)

@@ -25,7 +25,7 @@ use Rattle.ps_hoa.specs.declared.fault.HoaCause.{HoaCause}
 use Rattle.ps_hoa.specs.declared.fault.HoaCause.TheVariants as causes
 use Rattle.ps_hoa.proofs.NameLemmas.{bytes_eq-sym}
 use Rattle.ps_hoa.proofs.Soundness.Differences.{neither}
-use Rattle.ps_hoa.proofs.Soundness.Keeping.{Keeps, keeps_less, keeps_give, keeps_one, keeps_then, keeps_mapped}
+use Rattle.ps_hoa.proofs.Soundness.KeptByParts.{Keeps, keeps_less, keeps_give, keeps_one, keeps_then, keeps_mapped}
 use Rattle.ps_hoa.proofs.Soundness.SoundLabels.{NamesBelow, below}
 
 -- ## Numbers

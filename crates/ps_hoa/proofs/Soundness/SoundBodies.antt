@@ -32,8 +32,8 @@ use Rattle.ps_hoa.specs.declared.fault.HoaCause.TheVariants as causes
 use Rattle.ps_hoa.specs.declared.tokens.Kind.TheVariants.{LeftBracket}
 use Rattle.std.proofs.lemmas.Bool.{false_from_ne_true}
 use Rattle.ps_hoa.proofs.Reading.ExpectReading.{tests_left_bracket}
-use Rattle.ps_hoa.proofs.Soundness.Keeping.{Keeps, keeps_less, keeps_give, keeps_one, keeps_then, keeps_behind}
-use Rattle.ps_hoa.proofs.Soundness.Keeping.{keeps_either, keeps_mapped, keeps_many, keeps_barred, keeps_read}
+use Rattle.ps_hoa.proofs.Soundness.KeptByParts.{Keeps, keeps_less, keeps_give, keeps_one, keeps_then, keeps_behind}
+use Rattle.ps_hoa.proofs.Soundness.KeptByParts.{keeps_either, keeps_mapped, keeps_many, keeps_barred, keeps_read}
 use Rattle.ps_hoa.proofs.Soundness.HeaderKept.{keeps_number}
 use Rattle.std.specs.Prelude.{nat_eq}
 use Rattle.ps_hoa.proofs.Grammar.OperandLaws.{taken_expect}

@@ -21,7 +21,7 @@ use Rattle.ps_hoa.specs.Tokens.{in_context}
 use Rattle.ps_hoa.specs.Scan.{fresh}
 use Rattle.ps_hoa.specs.declared.edges.Labelling.TheVariants.{ByPlace}
 use Rattle.ps_hoa.specs.declared.fault.HoaCause.TheVariants as causes
-use Rattle.ps_hoa.proofs.Soundness.Keeping.{Keeps, keeps_then, keeps_mapped}
+use Rattle.ps_hoa.proofs.Soundness.KeptByParts.{Keeps, keeps_then, keeps_mapped}
 use Rattle.ps_hoa.proofs.Soundness.SoundBodies.{AreSets, IsStateOf, IsScoped, IsGuardKept, IsEdgeKept, IsRowKept}
 use Rattle.ps_hoa.proofs.Soundness.SoundBodies.{HasRightCount, IsBodyDone, LabelledBy, way_of, way, keeps_body}
 use Rattle.ps_hoa.proofs.Soundness.HeaderKept.{Kept}

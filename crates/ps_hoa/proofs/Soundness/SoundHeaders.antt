@@ -13,7 +13,7 @@ use Rattle.ps_hoa.specs.declared.tokens.Kind.{Kind}
 use Rattle.ps_hoa.specs.declared.tokens.Kind.TheVariants.{Body}
 use Rattle.ps_hoa.proofs.ItemForms.{form}
 use Rattle.ps_hoa.proofs.Soundness.HeaderKept.{Kept, NamesRise}
-use Rattle.ps_hoa.proofs.Soundness.Keeping.{Keeps, keeps_one, keeps_then, keeps_behind, keeps_many}
+use Rattle.ps_hoa.proofs.Soundness.KeptByParts.{Keeps, keeps_one, keeps_then, keeps_behind, keeps_many}
 use Rattle.ps_hoa.proofs.Soundness.SoundLabels.{label_from}
 
 keeps_item : (h : HeaderData) → Kept h → Keeps (item h) Kept

@@ -23,8 +23,8 @@ use Rattle.ps_hoa.specs.declared.fault.HoaCause.{HoaCause}
 use Rattle.ps_hoa.specs.declared.fault.HoaCause.TheVariants as causes
 use Rattle.ps_hoa.specs.declared.tokens.Kind.{Kind}
 use Rattle.ps_hoa.specs.declared.tokens.Kind.TheVariants.{Word, Int, AliasName}
-use Rattle.ps_hoa.proofs.Soundness.Keeping.{Keeps, keeps_one, keeps_then, keeps_behind, keeps_either, keeps_mapped}
-use Rattle.ps_hoa.proofs.Soundness.Keeping.{keeps_many}
+use Rattle.ps_hoa.proofs.Soundness.KeptByParts.{Keeps, keeps_one, keeps_then, keeps_behind, keeps_either, keeps_mapped}
+use Rattle.ps_hoa.proofs.Soundness.KeptByParts.{keeps_many}
 
 abbrev mutual
   pub NamesBelow : ℕ → Expression → Type 0

@@ -13,7 +13,7 @@ use Rattle.indexmap.proofs.SetLemmas.{AllZip-push}
 use Rattle.ps_label.specs.Truth.{is_in}
 use Rattle.ps_game.specs.Games.{vertex_count, owner_of}
 use Rattle.ps_certificate.specs.Certificates.{CertificateData, choice_of}
-use Rattle.ps_certificate.proofs.Edges.{some_of}
+use Rattle.ps_certificate.proofs.SuccessorEdges.{some_of}
 use Rattle.ps_diagram.specs.Letters.{AgreeOn}
 use Rattle.ps_diagram.specs.Reached.{AreLeaves}
 use Rattle.ps_diagram.specs.declared.classes.Classes.{Classes}

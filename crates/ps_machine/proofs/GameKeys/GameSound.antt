@@ -16,8 +16,8 @@ use Rattle.ps_machine.specs.declared.key.Key.TheVariants.{First, Second}
 use Rattle.ps_machine.specs.declared.key.Order.{Order}
 use Rattle.ps_machine.proofs.BoardLetters.{not_before_itself}
 use Rattle.ps_machine.proofs.BoardSteps.{pairs_map, second_same}
-use Rattle.ps_machine.proofs.Choosing.{class_there, move_there, over_first, over_second, part_over, same_priorities}
-use Rattle.ps_machine.proofs.Choosing.{same_states}
+use Rattle.ps_machine.proofs.DecidedMoves.{class_there, move_there, over_first, over_second, part_over, same_priorities}
+use Rattle.ps_machine.proofs.DecidedMoves.{same_states}
 use Rattle.ps_machine.proofs.GameKeys.Standing.{stand-apart, stand-within}
 use Rattle.ps_machine.proofs.Movers.{small_mover}
 

@@ -33,9 +33,9 @@ use Rattle.ps_machine.specs.declared.key.Order.{Order}
 use Rattle.ps_machine.specs.contracts.key.KeyPartialEq.TheImpl as key_eq
 use Rattle.ps_machine.proofs.BoardLetters.{compared, not_before_itself, one_least, sum_within}
 use Rattle.ps_machine.proofs.BoardSteps.{pairs_map, second_same}
-use Rattle.ps_machine.proofs.Choosing.{both_or_not, class_there, first_or_not, move_there, over_first, over_second}
-use Rattle.ps_machine.proofs.Choosing.{part_over, same_priorities, same_states, second_or_not, step_or_not}
-use Rattle.ps_machine.proofs.Choosing.{steps_or_not}
+use Rattle.ps_machine.proofs.DecidedMoves.{both_or_not, class_there, first_or_not, move_there, over_first, over_second}
+use Rattle.ps_machine.proofs.DecidedMoves.{part_over, same_priorities, same_states, second_or_not, step_or_not}
+use Rattle.ps_machine.proofs.DecidedMoves.{steps_or_not}
 use Rattle.ps_machine.proofs.GameKeys.Exploring.{by_keys, explored_first, explored_more}
 use Rattle.ps_machine.proofs.GameKeys.KeyTests.{key_same, same_key}
 use Rattle.ps_machine.proofs.LeastLetters.{before_ranks, least_there, rank, rank_lt}

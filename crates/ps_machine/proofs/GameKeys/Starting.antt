@@ -17,7 +17,7 @@ use Rattle.ps_machine.specs.Numbering.{IsGameByKeys, IsNumbered}
 use Rattle.ps_machine.specs.declared.key.Key.{Key}
 use Rattle.ps_machine.specs.declared.key.Key.TheVariants.{First}
 use Rattle.ps_machine.specs.declared.key.Order.{Order}
-use Rattle.ps_machine.proofs.GameKeys.NamingLemmas.{no_quote}
+use Rattle.ps_machine.proofs.GameKeys.KeyNames.{no_quote}
 
 pub game_is : {order o : Order} {a b : AutomatonData} {q : ℕ} {keys : List Key} {game : ParityGame} → o ≡ order →
     b ≡ a → q ≡ a.start → IsGameByKeys (LeadsTo (board_of o b)) (mover_of order) (First q 0) keys game →

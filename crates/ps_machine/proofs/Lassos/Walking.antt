@@ -22,7 +22,7 @@ use Rattle.ps_machine.specs.Extracting.{IsMachineOf}
 use Rattle.ps_machine.specs.Solving.{winner_at_start}
 use Rattle.ps_machine.specs.declared.key.Key.{Key}
 use Rattle.ps_machine.specs.declared.key.Key.TheVariants.{First}
-use Rattle.ps_machine.proofs.Machines.Following.{used_first}
+use Rattle.ps_machine.proofs.Machines.UsedVertices.{used_first}
 use Rattle.ps_machine.proofs.GameKeys.Standing.{one_state}
 use Rattle.ps_machine.proofs.Lassos.Rounds.{Setting, Round, within_game, same_place, first_owner, priority_here}
 use Rattle.ps_machine.proofs.Lassos.Rounds.{to_class, round_first, round_second}

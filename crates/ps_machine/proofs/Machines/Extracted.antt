@@ -18,7 +18,7 @@ use Rattle.ps_machine.specs.declared.key.Key.{Key}
 use Rattle.ps_machine.specs.declared.key.Order.{Order}
 use Rattle.ps_machine.specs.declared.machine.Diagrams.{Diagrams}
 use Rattle.ps_machine.specs.declared.machine.Propositions.{Propositions}
-use Rattle.ps_machine.proofs.Machines.Following.{used_first}
+use Rattle.ps_machine.proofs.Machines.UsedVertices.{used_first}
 use Rattle.ps_machine.proofs.Machines.KeptMemories.{all_kept, each_kept, some_kept}
 use Rattle.ps_machine.proofs.Machines.MachineLemmas.{is_machine, is_step}
 use Rattle.std.proofs.lemmas.Option.{slice_get_within}

@@ -21,7 +21,7 @@ use Rattle.ps_machine.specs.Numbering.{StandsAt}
 use Rattle.ps_machine.specs.declared.key.Key.{Key}
 use Rattle.ps_machine.specs.declared.key.Key.TheVariants.{First}
 use Rattle.ps_machine.proofs.BoardLetters.{neither_before, one_least}
-use Rattle.ps_machine.proofs.Choosing.{part, part_bit, part_over, steps_sym, steps_trans, over_other}
+use Rattle.ps_machine.proofs.DecidedMoves.{part, part_bit, part_over, steps_sym, steps_trans, over_other}
 use Rattle.ps_machine.proofs.Machines.KeptMemories.{anchor_shares, shares_anchor}
 use Rattle.ps_machine.proofs.Machines.Listing.{one_listed}
 use Rattle.ps_machine.proofs.Machines.MachineLemmas.{one_letter}

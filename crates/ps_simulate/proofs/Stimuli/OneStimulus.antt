@@ -9,7 +9,7 @@ use Rattle.ps_simulate.specs.Faults.{rank}
 use Rattle.ps_simulate.specs.Stimuli.{StimulusData}
 use Rattle.ps_simulate.specs.StimulusTexts.{lines_of, digit_of, digits_of, divider, spelled, IsErrorAt, IsFirstError}
 use Rattle.ps_simulate.specs.StimulusTexts.{IsStimulus, HasOneAnswer}
-use Rattle.ps_simulate.proofs.Stimuli.LineLemmas.{digits_of-divider}
+use Rattle.ps_simulate.proofs.Stimuli.StimulusLines.{digits_of-divider}
 use Rattle.ps_simulate.proofs.Stimuli.StimulusLemmas.{divides_at, no_cause}
 
 digit_of-injective : (x y : Bool) → digit_of x ≡ digit_of y → x ≡ y

@@ -12,7 +12,7 @@ use Rattle.ps_simulate.specs.Stimuli.{StimulusData}
 use Rattle.ps_simulate.specs.StimulusTexts.{put_byte, lines_of, digits_of, divider, spelled, IsDigit, StandsInLine}
 use Rattle.ps_simulate.specs.StimulusTexts.{IsFirstError, HasSomeAnswer}
 use Rattle.ps_simulate.specs.Inner.StimulusReading.{HasRead}
-use Rattle.ps_simulate.proofs.Stimuli.LineLemmas.{digit_of-is, letter_none}
+use Rattle.ps_simulate.proofs.Stimuli.StimulusLines.{digit_of-is, letter_none}
 use Rattle.ps_simulate.proofs.Stimuli.StimulusSteps.{HasRead-start, HasRead-letter, HasRead-divider, at_line}
 use Rattle.ps_simulate.proofs.Stimuli.StimulusSteps.{IsFirstError-in_line, not_divides, IsStimulus-end}
 use Rattle.ps_simulate.proofs.Stimuli.StimulusSteps.{IsFirstError-end}

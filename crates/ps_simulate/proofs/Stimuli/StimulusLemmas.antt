@@ -7,7 +7,7 @@ use Rattle.std.proofs.lemmas.Bool.{cases_order}
 use Rattle.ps_simulate.specs.declared.fault.StimulusCause.{StimulusCause}
 use Rattle.ps_simulate.specs.Stimuli.{StimulusData}
 use Rattle.ps_simulate.specs.StimulusTexts.{digits_of, divider, spelled, Divides, IsLetterLine, StandsInLine}
-use Rattle.ps_simulate.proofs.Stimuli.LineLemmas.{digits_of-divider, letter_none}
+use Rattle.ps_simulate.proofs.Stimuli.StimulusLines.{digits_of-divider, letter_none}
 
 -- ## Entries of lists
 

@@ -18,7 +18,7 @@ use Rattle.ps_simulate.specs.StimulusTexts.{StandsInLine, StandsInLetter, Misses
 use Rattle.ps_simulate.specs.StimulusTexts.{IsStimulus}
 use Rattle.ps_simulate.specs.StimulusTexts.{IsStimulusAnswer}
 use Rattle.ps_simulate.specs.Inner.StimulusReading.{HasRead, ReadsLine}
-use Rattle.ps_simulate.proofs.Stimuli.LineLemmas.{start_of-later, in_line_from, in_line_within}
+use Rattle.ps_simulate.proofs.Stimuli.StimulusLines.{start_of-later, in_line_from, in_line_within}
 use Rattle.ps_simulate.proofs.Stimuli.StimulusLemmas.{slice_get-right, no_divider, divides_at, no_cause}
 
 -- the stimulus with one more letter, either in the stem or in the lap

@@ -1,7 +1,7 @@
 use Rattle.std.proofs.Common.{◌≡◌, ℕ, ◌<◌, List, length, ap, arith, rules}
 use Rattle.std.specs.List.Sorted.{IsStrictlyIncreasing}
-use Rattle.ps_certificate.proofs.Counts.{opposing_rises, Compared, FallsAtStart, KeepsCount-compared}
-use Rattle.ps_certificate.proofs.Counts.{IsFirstBroken-behind}
+use Rattle.ps_certificate.proofs.CountRule.{opposing_rises, Compared, FallsAtStart, KeepsCount-compared}
+use Rattle.ps_certificate.proofs.CountRule.{IsFirstBroken-behind}
 use Rattle.ps_certificate.proofs.checking.broken_priority.Goals as goal
 
 pub invariant_of-rising : goal.invariant_of-rising

@@ -5,7 +5,7 @@ use Rattle.ps_text.proofs.Bytes.Lefts.{unread, exits_at}
 use Rattle.ps_certificate.proofs.TextLaws.{chain_listed}
 use Rattle.ps_certificate.proofs.Loops.{fails, listed_reads, is_not_next, is_next}
 use Rattle.ps_certificate.proofs.NumberPart.{judged_fails, number_reads, number_wrong}
-use Rattle.ps_certificate.proofs.Steps.{ends_true, ends_false}
+use Rattle.ps_certificate.proofs.ByteSteps.{ends_true, ends_false}
 use Rattle.ps_certificate.proofs.fields.listed.Goals as goal
 use Rattle.ps_certificate.proofs.fields.listed.Goals.{else-ne-via-then-ne+else-ends, else-ne-via-else-ne}
 

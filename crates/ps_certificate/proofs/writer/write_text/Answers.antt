@@ -1,7 +1,7 @@
 use Rattle.std.proofs.Common.{◌≡◌, Ok, sym, subst, rules}
 use Rattle.ps_certificate.specs.Texts.{ReadsCertificate}
 use Rattle.ps_certificate.specs.Written.{HasWords, text_in}
-use Rattle.ps_certificate.proofs.Rereading.Writing.{writable, reads_again}
+use Rattle.ps_certificate.proofs.Rereading.WrittenEntries.{writable, reads_again}
 use Rattle.ps_certificate.proofs.writer.write_text.Goals as goal
 
 pub write_entries-requires-clause-writable : goal.write_entries-requires-clause-writable

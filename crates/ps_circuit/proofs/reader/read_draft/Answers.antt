@@ -5,9 +5,9 @@ use Rattle.ps_circuit.specs.Inner.Names.{names_data}
 use Rattle.ps_circuit.specs.Inner.Reading.{lines_of}
 use Rattle.ps_circuit.specs.Texts.{Lines, input_line, latch_line, output_line, gate_line, symbols, HeaderData}
 use Rattle.ps_text.proofs.Bytes.Lefts.{stops_at}
-use Rattle.ps_circuit.proofs.TextLaws.{laws_input_line, laws_latch_line, laws_output_line, laws_gate_line, body_latches}
-use Rattle.ps_circuit.proofs.TextLaws.{body_outputs, body_gates, first_names, chain_text, chain_inputs, chain_latches}
-use Rattle.ps_circuit.proofs.TextLaws.{chain_outputs, chain_gates}
+use Rattle.ps_circuit.proofs.CircuitTextLaws.{laws_input_line, laws_latch_line, laws_output_line, laws_gate_line, body_latches}
+use Rattle.ps_circuit.proofs.CircuitTextLaws.{body_outputs, body_gates, first_names, chain_text, chain_inputs, chain_latches}
+use Rattle.ps_circuit.proofs.CircuitTextLaws.{chain_outputs, chain_gates}
 use Rattle.ps_circuit.proofs.LineLemmas.{is_row}
 use Rattle.ps_circuit.proofs.DraftReading.{Reached, Ahead, numbers, past_header, past_lines, lines_fail, text_unread}
 use Rattle.ps_circuit.proofs.DraftReading.{symbols_fail, all_reads, draft_fails, draft_memory, draft_trails}

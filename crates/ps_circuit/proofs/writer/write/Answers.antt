@@ -1,7 +1,7 @@
 use Rattle.std.proofs.Common.{rules, ◌≡◌, length, Ok, ◌<◌, ◌^◌, subst, sym}
 use Rattle.ps_circuit.specs.Texts.{ReadsCircuit}
 use Rattle.ps_circuit.specs.Written.{text_of}
-use Rattle.ps_circuit.proofs.Rereading.RereadText.{reads_again}
+use Rattle.ps_circuit.proofs.CircuitRereading.RereadText.{reads_again}
 use Rattle.ps_circuit.proofs.writer.write.Goals as goal
 
 pub returns-clause-read_again : goal.returns-clause-read_again

@@ -2,7 +2,7 @@ use Rattle.std.proofs.Common.{arith}
 use Rattle.ps_text.proofs.Exits.{reads_then}
 use Rattle.ps_hoa.specs.Header.{header_data}
 use Rattle.ps_hoa.proofs.Grammar.StateLaws.{joint_body}
-use Rattle.ps_hoa.proofs.Reading.Exits.{exit, first, behind, here}
+use Rattle.ps_hoa.proofs.Reading.HoaExits.{exit, first, behind, here}
 use Rattle.ps_hoa.proofs.body.body.Goals as goal
 
 pub returns-in_err-rows : goal.returns-in_err-rows

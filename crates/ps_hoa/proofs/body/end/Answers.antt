@@ -1,6 +1,6 @@
 use Rattle.std.proofs.Common.{arith}
 use Rattle.ps_text.specs.Parts.{one}
-use Rattle.ps_text.proofs.Meeting.{meets_mapped}
+use Rattle.ps_text.proofs.MeetsLemmas.{meets_mapped}
 use Rattle.ps_hoa.specs.Body.{is_end, IsBadClose}
 use Rattle.ps_hoa.specs.Causes.{found_of, hoa_causes}
 use Rattle.ps_hoa.specs.Operands.{expect_in}

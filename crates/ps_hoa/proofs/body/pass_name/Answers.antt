@@ -4,7 +4,7 @@ use Rattle.ps_text.proofs.Exits.{reads_give, reads_mapped}
 use Rattle.ps_hoa.specs.Body.{nothing_of}
 use Rattle.ps_hoa.specs.Scan.{stream_of}
 use Rattle.ps_hoa.proofs.Grammar.HeaderSigns.{signs_string}
-use Rattle.ps_hoa.proofs.Reading.SingleSigns.{reads_one}
+use Rattle.ps_hoa.proofs.Reading.SingleTokens.{reads_one}
 use Rattle.ps_hoa.proofs.Reading.StateReading.{name_serves, no_name_serves, string_next}
 use Rattle.ps_hoa.proofs.body.pass_name.Goals as goal
 

@@ -8,7 +8,7 @@ use Rattle.ps_hoa.specs.Inner.Rows.{body_data}
 use Rattle.ps_hoa.specs.Header.{header_data}
 use Rattle.ps_hoa.specs.Views.{edge_data, row_data}
 use Rattle.ps_hoa.proofs.Grammar.StateLaws.{joint_state, joint_state_label, joint_number, joint_name, joint_marks}
-use Rattle.ps_hoa.proofs.Reading.Exits.{exit, first, behind, under}
+use Rattle.ps_hoa.proofs.Reading.HoaExits.{exit, first, behind, under}
 use Rattle.ps_hoa.proofs.Reading.StateReading.{edges_serve}
 use Rattle.ps_hoa.proofs.Soundness.SoundBodies.{IsRowOf, edges_within}
 use Rattle.ps_hoa.proofs.body.row.Goals as goal

@@ -1,5 +1,5 @@
 use Rattle.std.proofs.Common.{sym}
-use Rattle.ps_hoa.proofs.Reading.Exits.{value_is}
+use Rattle.ps_hoa.proofs.Reading.HoaExits.{value_is}
 use Rattle.ps_hoa.proofs.body.state.Goals as goal
 
 pub returns : goal.returns

@@ -4,7 +4,7 @@ use Rattle.ps_text.proofs.Exits.{reads_give, reads_then}
 use Rattle.ps_hoa.specs.Body.{is_left_bracket}
 use Rattle.ps_hoa.specs.Header.{header_data}
 use Rattle.ps_hoa.proofs.Grammar.BodyLaws.{joint_bracket}
-use Rattle.ps_hoa.proofs.Reading.Exits.{exit, first, behind, here, instead}
+use Rattle.ps_hoa.proofs.Reading.HoaExits.{exit, first, behind, here, instead}
 use Rattle.ps_hoa.proofs.Reading.ExpectReading.{tests_left_bracket}
 use Rattle.ps_hoa.proofs.Reading.StateReading.{label_serves, no_label_serves}
 use Rattle.ps_hoa.proofs.body.state_label.Goals as goal

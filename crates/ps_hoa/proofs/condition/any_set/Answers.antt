@@ -1,7 +1,7 @@
 use Rattle.std.proofs.Common.{rules, arith}
 use Rattle.std.proofs.lemmas.Bool.{iff_false}
 use Rattle.ps_hoa.proofs.Reading.LeafReading.{complement_meets, set_serves}
-use Rattle.ps_hoa.proofs.Reading.Exits.{serves_meets}
+use Rattle.ps_hoa.proofs.Reading.HoaExits.{serves_meets}
 use Rattle.ps_hoa.proofs.condition.any_set.Goals as goal
 
 pub returns-then-is_at : goal.returns-then-is_at

@@ -3,7 +3,7 @@ use Rattle.std.proofs.lemmas.Bool.{iff_false}
 use Rattle.ps_hoa.specs.Header.{header_data}
 use Rattle.ps_hoa.specs.Views.{row_data}
 use Rattle.ps_hoa.proofs.Reading.BodyReading.{bracket_serves, int_serves}
-use Rattle.ps_hoa.proofs.Reading.Exits.{serves_meets}
+use Rattle.ps_hoa.proofs.Reading.HoaExits.{serves_meets}
 use Rattle.ps_hoa.proofs.edges.edge.Goals as goal
 
 pub returns-then-is_at : goal.returns-then-is_at

@@ -4,7 +4,7 @@ use Rattle.ps_hoa.specs.Header.{header_data}
 use Rattle.ps_hoa.specs.Views.{row_data}
 use Rattle.ps_hoa.proofs.Grammar.OperandLaws.{false_true}
 use Rattle.ps_hoa.proofs.Reading.BodyReading.{edge_begins}
-use Rattle.ps_hoa.proofs.Reading.Exits.{exit, loop_more, loop_fails, loop_ends, loop_shrinks}
+use Rattle.ps_hoa.proofs.Reading.HoaExits.{exit, loop_more, loop_fails, loop_ends, loop_shrinks}
 use Rattle.ps_hoa.proofs.Reading.ExpectReading.{avoids_kind}
 use Rattle.ps_hoa.proofs.Reading.StateReading.{edge_loop}
 use Rattle.ps_hoa.proofs.edges.edges.Goals as goal

@@ -9,7 +9,7 @@ use Rattle.ps_hoa.specs.Operands.{nesting_limit}
 use Rattle.ps_hoa.specs.Scan.{stream_of}
 use Rattle.ps_hoa.specs.Header.{header_data}
 use Rattle.ps_hoa.proofs.Grammar.BodyLaws.{joint_label}
-use Rattle.ps_hoa.proofs.Reading.Exits.{exit, first, behind, under}
+use Rattle.ps_hoa.proofs.Reading.HoaExits.{exit, first, behind, under}
 use Rattle.ps_hoa.proofs.Reading.ExpectReading.{tests_right_bracket}
 use Rattle.ps_hoa.proofs.edges.label_in_brackets.Goals as goal
 

@@ -6,7 +6,7 @@ use Rattle.ps_hoa.specs.Header.{header_data}
 use Rattle.ps_hoa.specs.Views.{row_data}
 use Rattle.ps_hoa.proofs.Grammar.BodyLaws.{joint_edge_label, joint_edge_target, joint_edge_marks}
 use Rattle.ps_hoa.proofs.Reading.BodyReading.{pushed_edge}
-use Rattle.ps_hoa.proofs.Reading.Exits.{exit, first, behind, under, value_is}
+use Rattle.ps_hoa.proofs.Reading.HoaExits.{exit, first, behind, under, value_is}
 use Rattle.ps_hoa.proofs.edges.labelled_edge.Goals as goal
 
 pub returns-in_err-bracket : goal.returns-in_err-bracket

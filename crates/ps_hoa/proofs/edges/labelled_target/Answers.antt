@@ -1,6 +1,6 @@
 use Rattle.ps_hoa.specs.Body.{IsBadState}
 use Rattle.ps_hoa.proofs.Reading.BodyReading.{target_reads, target_fails, target_alternates}
-use Rattle.ps_hoa.proofs.Reading.Exits.{exit, here}
+use Rattle.ps_hoa.proofs.Reading.HoaExits.{exit, here}
 use Rattle.ps_hoa.proofs.edges.labelled_target.Goals as goal
 
 pub returns-in_err-target : goal.returns-in_err-target

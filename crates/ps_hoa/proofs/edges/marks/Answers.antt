@@ -3,7 +3,7 @@ use Rattle.std.proofs.lemmas.Bool.{iff_false}
 use Rattle.ps_text.proofs.Exits.{reads_give}
 use Rattle.ps_hoa.specs.Header.{header_data}
 use Rattle.ps_hoa.proofs.Reading.BodyReading.{braces_serve, no_braces_serve}
-use Rattle.ps_hoa.proofs.Reading.Exits.{serves_meets, value_is}
+use Rattle.ps_hoa.proofs.Reading.HoaExits.{serves_meets, value_is}
 use Rattle.ps_hoa.proofs.edges.marks.Goals as goal
 
 pub returns-then-is_at : goal.returns-then-is_at

@@ -5,7 +5,7 @@ use Rattle.ps_hoa.specs.Header.{header_data}
 use Rattle.ps_hoa.specs.Views.{row_data}
 use Rattle.ps_hoa.proofs.Grammar.BodyLaws.{joint_plain_marks}
 use Rattle.ps_hoa.proofs.Reading.BodyReading.{pushed_edge}
-use Rattle.ps_hoa.proofs.Reading.Exits.{exit, first, behind, under, value_is}
+use Rattle.ps_hoa.proofs.Reading.HoaExits.{exit, first, behind, under, value_is}
 use Rattle.ps_hoa.proofs.edges.plain_edge.Goals as goal
 
 pub returns-in_err-target : goal.returns-in_err-target

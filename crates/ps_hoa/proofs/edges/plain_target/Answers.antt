@@ -1,7 +1,7 @@
 use Rattle.ps_hoa.specs.Body.{IsBadPlainTarget}
 use Rattle.ps_hoa.specs.Views.{row_data}
 use Rattle.ps_hoa.proofs.Reading.BodyReading.{target_reads, target_fails, target_alternates}
-use Rattle.ps_hoa.proofs.Reading.Exits.{exit, here}
+use Rattle.ps_hoa.proofs.Reading.HoaExits.{exit, here}
 use Rattle.ps_hoa.proofs.edges.plain_target.Goals as goal
 
 pub returns-in_err-target : goal.returns-in_err-target

@@ -11,7 +11,7 @@ use Rattle.ps_hoa.specs.Header.{int_in}
 use Rattle.ps_hoa.specs.Scan.{stream_of}
 use Rattle.ps_hoa.proofs.Grammar.HeaderSigns.{reads_token}
 use Rattle.ps_hoa.proofs.Reading.BodyReading.{int_signs, int_begins}
-use Rattle.ps_hoa.proofs.Reading.Exits.{exit, loop_more, loop_fails, loop_ends}
+use Rattle.ps_hoa.proofs.Reading.HoaExits.{exit, loop_more, loop_fails, loop_ends}
 use Rattle.ps_hoa.proofs.Reading.ExpectReading.{tests_int, expect_elsewhere}
 use Rattle.ps_hoa.proofs.Reading.StateReading.{set_loop}
 use Rattle.ps_hoa.proofs.edges.set_numbers.Goals as goal

@@ -2,7 +2,7 @@ use Rattle.std.proofs.Common.{rules, arith}
 use Rattle.ps_text.proofs.Exits.{reads_mapped, reads_then}
 use Rattle.ps_hoa.specs.Body.{is_left_brace, is_right_brace}
 use Rattle.ps_hoa.proofs.Grammar.BodyLaws.{joint_braces, joint_sets}
-use Rattle.ps_hoa.proofs.Reading.Exits.{exit, first, behind, under}
+use Rattle.ps_hoa.proofs.Reading.HoaExits.{exit, first, behind, under}
 use Rattle.ps_hoa.proofs.Reading.ExpectReading.{tests_left_brace, tests_right_brace}
 use Rattle.ps_hoa.proofs.edges.sets.Goals as goal
 

@@ -1,4 +1,4 @@
-use Rattle.ps_hoa.proofs.Outcomes.Nesting.{label_nesting, condition_nesting}
+use Rattle.ps_hoa.proofs.HoaOutcomes.Nesting.{label_nesting, condition_nesting}
 use Rattle.ps_hoa.proofs.expressions.bounded_nesting.Goals as goal
 
 pub returns : goal.returns

@@ -1,5 +1,5 @@
 use Rattle.std.proofs.Common.{arith}
-use Rattle.ps_label.proofs.Rows.{expression-Both, expression-Either}
+use Rattle.ps_label.proofs.OperandLists.{expression-Both, expression-Either}
 use Rattle.ps_hoa.proofs.flaws.+speaks_beyond.Goals as goal
 
 pub loop-operand-init : goal.loop-operand-init

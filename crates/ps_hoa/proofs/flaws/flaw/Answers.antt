@@ -1,8 +1,8 @@
 use Rattle.std.proofs.Common.{rules, arith}
 use Rattle.std.proofs.lemmas.Bool.{iff_false}
-use Rattle.ps_hoa.proofs.Outcomes.HeaderFlaws.{no_acceptance_least, too_large_least, no_start_least, range_least}
-use Rattle.ps_hoa.proofs.Outcomes.HeaderFlaws.{no_controllable_least, none_is_sound, said_none, said_some, is_said_none}
-use Rattle.ps_hoa.proofs.Outcomes.HeaderFlaws.{is_said_some}
+use Rattle.ps_hoa.proofs.HoaOutcomes.HeaderFlaws.{no_acceptance_least, too_large_least, no_start_least, range_least}
+use Rattle.ps_hoa.proofs.HoaOutcomes.HeaderFlaws.{no_controllable_least, none_is_sound, said_none, said_some, is_said_none}
+use Rattle.ps_hoa.proofs.HoaOutcomes.HeaderFlaws.{is_said_some}
 use Rattle.ps_hoa.proofs.flaws.flaw.Goals as goal
 
 pub returns-then-is_none : goal.returns-then-is_none

@@ -3,7 +3,7 @@ use Rattle.std.proofs.lemmas.Bool.{iff_false}
 use Rattle.ps_hoa.specs.Operands.{is_right}
 use Rattle.ps_hoa.proofs.Reading.RowReading.{last_value, first_fails, first_alone, row_starts, row_more}
 use Rattle.ps_hoa.proofs.Reading.RowReading.{row_fails, row_done, row_shrinks}
-use Rattle.ps_hoa.proofs.Reading.Exits.{exit, serves_meets, value_is}
+use Rattle.ps_hoa.proofs.Reading.HoaExits.{exit, serves_meets, value_is}
 use Rattle.ps_hoa.proofs.Reading.ExpectReading.{tests_right}
 use Rattle.ps_hoa.proofs.Reading.NextSign.{start_there}
 use Rattle.ps_hoa.proofs.Reading.InfixReading.{operand_row, leaf_serves, too_deep}

@@ -3,7 +3,7 @@ use Rattle.ps_text.proofs.Exits.{reads_then, reads_mapped}
 use Rattle.ps_hoa.specs.Conditions.{condition}
 use Rattle.ps_hoa.specs.Header.{with_acceptance, header_data}
 use Rattle.ps_hoa.specs.Operands.{nesting_limit}
-use Rattle.ps_hoa.proofs.Reading.Exits.{exit, first, behind, under}
+use Rattle.ps_hoa.proofs.Reading.HoaExits.{exit, first, behind, under}
 use Rattle.ps_hoa.proofs.ItemForms.{joint_counted_condition}
 use Rattle.ps_hoa.proofs.items.acceptance.Goals as goal
 

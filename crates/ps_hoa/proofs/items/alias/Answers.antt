@@ -3,7 +3,7 @@ use Rattle.std.proofs.lemmas.List.{map-append}
 use Rattle.ps_label.specs.Expression.{expression}
 use Rattle.ps_text.proofs.Exits.{reads_then, reads_mapped}
 use Rattle.ps_hoa.specs.Header.{with_alias, header_data}
-use Rattle.ps_hoa.proofs.Reading.Exits.{exit, first, behind, under, value_is}
+use Rattle.ps_hoa.proofs.Reading.HoaExits.{exit, first, behind, under, value_is}
 use Rattle.ps_hoa.proofs.ItemForms.{joint_named_label}
 use Rattle.ps_hoa.proofs.items.alias.Goals as goal
 

@@ -1,5 +1,5 @@
 use Rattle.ps_text.proofs.Exits.{reads_then}
-use Rattle.ps_hoa.proofs.Reading.Exits.{exit, first, behind, here}
+use Rattle.ps_hoa.proofs.Reading.HoaExits.{exit, first, behind, here}
 use Rattle.ps_hoa.proofs.Grammar.WholeHeader.{joint_header}
 use Rattle.ps_hoa.proofs.items.header.Goals as goal
 

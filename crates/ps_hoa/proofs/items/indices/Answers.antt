@@ -4,7 +4,7 @@ use Rattle.ps_text.proofs.Exits.{reads_mapped, stops_mapped}
 use Rattle.ps_hoa.specs.Causes.{hoa_causes}
 use Rattle.ps_hoa.specs.Header.{int, kept}
 use Rattle.ps_hoa.specs.Operands.{number_limit}
-use Rattle.ps_hoa.proofs.Reading.Exits.{exit, loop_more, loop_fails, loop_ends}
+use Rattle.ps_hoa.proofs.Reading.HoaExits.{exit, loop_more, loop_fails, loop_ends}
 use Rattle.ps_hoa.proofs.ItemForms.{index_begins, index_loop}
 use Rattle.ps_hoa.proofs.Reading.ExpectReading.{tests_int, expect_elsewhere}
 use Rattle.ps_hoa.proofs.items.indices.Goals as goal

@@ -5,7 +5,7 @@ use Rattle.ps_hoa.specs.Scan.{next_of, stream_of}
 use Rattle.ps_hoa.specs.Tokens.{Sign}
 use Rattle.ps_hoa.specs.declared.items.Item.{Item}
 use Rattle.ps_hoa.proofs.Grammar.WholeHeader.{item_loop, item_begins, item_elsewhere}
-use Rattle.ps_hoa.proofs.Reading.Exits.{exit, loop_more, loop_fails, loop_ends, loop_shrinks}
+use Rattle.ps_hoa.proofs.Reading.HoaExits.{exit, loop_more, loop_fails, loop_ends, loop_shrinks}
 use Rattle.ps_hoa.proofs.items.items.Goals as goal
 
 -- the next token begins an item exactly if the code finds an item

@@ -1,7 +1,7 @@
 use Rattle.std.proofs.Common.{arith}
 use Rattle.ps_text.proofs.Exits.{reads_then, reads_mapped}
 use Rattle.ps_hoa.specs.Header.{header_data}
-use Rattle.ps_hoa.proofs.Reading.Exits.{exit, first, behind, under}
+use Rattle.ps_hoa.proofs.Reading.HoaExits.{exit, first, behind, under}
 use Rattle.ps_hoa.proofs.ItemForms.{joint_counted_names}
 use Rattle.ps_hoa.proofs.items.names.Goals as goal
 

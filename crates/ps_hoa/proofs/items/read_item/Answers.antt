@@ -2,7 +2,7 @@ use Rattle.ps_text.proofs.Exits.{then_meets}
 use Rattle.ps_hoa.specs.Causes.{found_of, hoa_causes}
 use Rattle.ps_hoa.specs.Header.{header_data}
 use Rattle.ps_hoa.proofs.Grammar.WholeHeader.{joint_item}
-use Rattle.ps_hoa.proofs.Reading.Exits.{exit, first}
+use Rattle.ps_hoa.proofs.Reading.HoaExits.{exit, first}
 use Rattle.ps_hoa.proofs.items.read_item.Goals as goal
 
 pub returns-in_err-item : goal.returns-in_err-item

@@ -2,7 +2,7 @@ use Rattle.ps_text.specs.Parts.{barred}
 use Rattle.ps_text.proofs.Exits.{reads_mapped}
 use Rattle.ps_hoa.specs.Header.{with_start, int, IsAlternating, header_data}
 use Rattle.ps_hoa.specs.Operands.{number_limit}
-use Rattle.ps_hoa.proofs.Reading.Exits.{exit, under}
+use Rattle.ps_hoa.proofs.Reading.HoaExits.{exit, under}
 use Rattle.ps_hoa.proofs.items.start.Goals as goal
 
 pub returns-in_err-start_state : goal.returns-in_err-start_state

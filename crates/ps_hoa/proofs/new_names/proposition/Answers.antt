@@ -1,7 +1,7 @@
 use Rattle.std.proofs.Common.{arith, sym}
 use Rattle.ps_text.proofs.Exits.{reads_mapped}
 use Rattle.ps_hoa.specs.Header.{with_name}
-use Rattle.ps_hoa.proofs.Reading.Exits.{exit, under, value_is}
+use Rattle.ps_hoa.proofs.Reading.HoaExits.{exit, under, value_is}
 use Rattle.ps_hoa.proofs.new_names.proposition.Goals as goal
 
 pub returns-in_err-name : goal.returns-in_err-name

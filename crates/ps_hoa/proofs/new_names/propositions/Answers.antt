@@ -6,9 +6,9 @@ use Rattle.ps_text.proofs.Exits.{carries_reads, carries_stops}
 use Rattle.ps_hoa.specs.Causes.{hoa_causes}
 use Rattle.ps_hoa.specs.Header.{proposition_name}
 use Rattle.ps_hoa.specs.Scan.{stream_of}
-use Rattle.ps_hoa.proofs.Reading.Exits.{exit, here}
+use Rattle.ps_hoa.proofs.Reading.HoaExits.{exit, here}
 use Rattle.ps_hoa.proofs.Grammar.OperandLaws.{Of, nothing_apart}
-use Rattle.ps_hoa.proofs.Grammar.SignLaws.{is_string, laws_proposition_name}
+use Rattle.ps_hoa.proofs.Grammar.TokenLaws.{is_string, laws_proposition_name}
 use Rattle.ps_hoa.proofs.new_names.propositions.Goals as goal
 
 pub names-init : goal.names-init

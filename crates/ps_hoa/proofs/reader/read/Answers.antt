@@ -14,7 +14,7 @@ use Rattle.ps_hoa.specs.declared.file.HoaFile.{HoaFile}
 use Rattle.ps_hoa.specs.Tokens.{Sign}
 use Rattle.ps_hoa.proofs.Reading.Answering.{refused_answers, header_fails, body_fails, ends_answers, trails_answers}
 use Rattle.ps_hoa.proofs.Grammar.FileLaws.{joint_file}
-use Rattle.ps_hoa.proofs.Soundness.Keeping.{keeps_read}
+use Rattle.ps_hoa.proofs.Soundness.KeptByParts.{keeps_read}
 use Rattle.ps_hoa.proofs.Soundness.SoundFiles.{keeps_file}
 use Rattle.ps_hoa.proofs.reader.read.Goals as goal
 

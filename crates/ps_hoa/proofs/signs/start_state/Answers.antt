@@ -8,8 +8,8 @@ use Rattle.ps_hoa.specs.Scan.{stream_of, next_of}
 use Rattle.ps_hoa.specs.declared.fault.HoaCause.TheVariants.{Alternating}
 use Rattle.ps_hoa.proofs.Grammar.HeaderSigns.{least_same}
 use Rattle.ps_hoa.proofs.Grammar.OperandLaws.{nothing_apart}
-use Rattle.ps_hoa.proofs.Grammar.SignLaws.{laws_int}
-use Rattle.ps_hoa.proofs.Reading.Exits.{exit, here}
+use Rattle.ps_hoa.proofs.Grammar.TokenLaws.{laws_int}
+use Rattle.ps_hoa.proofs.Reading.HoaExits.{exit, here}
 use Rattle.ps_hoa.proofs.Reading.NextSign.{next_there, next_same, start_there}
 use Rattle.ps_hoa.proofs.signs.start_state.Goals as goal
 

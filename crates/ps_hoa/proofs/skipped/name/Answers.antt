@@ -1,7 +1,7 @@
 use Rattle.std.proofs.Common.{arith}
 use Rattle.ps_text.proofs.Exits.{reads_mapped}
 use Rattle.ps_hoa.specs.Header.{unchanged}
-use Rattle.ps_hoa.proofs.Reading.Exits.{exit, under}
+use Rattle.ps_hoa.proofs.Reading.HoaExits.{exit, under}
 use Rattle.ps_hoa.proofs.skipped.name.Goals as goal
 
 pub returns-in_err-quoted : goal.returns-in_err-quoted

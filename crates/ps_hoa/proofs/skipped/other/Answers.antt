@@ -5,7 +5,7 @@ use Rattle.ps_hoa.specs.Causes.{hoa_causes}
 use Rattle.ps_hoa.specs.Header.{no_items, read_over}
 use Rattle.ps_hoa.specs.Inner.Items.{is_value}
 use Rattle.ps_hoa.proofs.Grammar.OperandLaws.{false_true}
-use Rattle.ps_hoa.proofs.Reading.Exits.{exit, loop_more, loop_fails, loop_ends, loop_shrinks}
+use Rattle.ps_hoa.proofs.Reading.HoaExits.{exit, loop_more, loop_fails, loop_ends, loop_shrinks}
 use Rattle.ps_hoa.proofs.ItemForms.{read_over_begins, read_over_loop}
 use Rattle.ps_hoa.proofs.Reading.ExpectReading.{avoids_kind}
 use Rattle.ps_hoa.proofs.skipped.other.Goals as goal

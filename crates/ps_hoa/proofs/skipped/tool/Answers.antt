@@ -3,7 +3,7 @@ use Rattle.std.proofs.lemmas.Bool.{iff_false}
 use Rattle.ps_text.proofs.Exits.{reads_then, reads_mapped, reads_give}
 use Rattle.ps_hoa.specs.Header.{string, unchanged}
 use Rattle.ps_hoa.proofs.ItemForms.{joint_strings, string_serves, no_string_serves}
-use Rattle.ps_hoa.proofs.Reading.Exits.{exit, first, behind, under, instead}
+use Rattle.ps_hoa.proofs.Reading.HoaExits.{exit, first, behind, under, instead}
 use Rattle.ps_hoa.proofs.skipped.tool.Goals as goal
 
 pub returns-in_err-quoted : goal.returns-in_err-quoted

@@ -1,6 +1,6 @@
 use Rattle.std.proofs.Common.{arith, nat_eq}
 use Rattle.std.proofs.lemmas.Nat.Bits.{shr_and_one}
-use Rattle.ps_machine.proofs.GameKeys.NamingLemmas.{digits_more, plain_more}
+use Rattle.ps_machine.proofs.GameKeys.KeyNames.{digits_more, plain_more}
 use Rattle.ps_machine.proofs.game.write_digits.Goals as goal
 
 pub loop-proposition-preserved : goal.loop-proposition-preserved

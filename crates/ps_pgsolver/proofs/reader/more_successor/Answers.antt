@@ -4,7 +4,7 @@ use Rattle.ps_pgsolver.specs.Nodes.{KnowsEach}
 use Rattle.ps_pgsolver.proofs.NodeLemmas.{all_before, all_last}
 use Rattle.std.specs.Option.{option_copied}
 use Rattle.ps_pgsolver.specs.GameTexts.{more_successor, successor}
-use Rattle.ps_pgsolver.proofs.Exits.{exit, stops_left, stops_right, stops_mapped, done_then, done_mapped, done_value}
+use Rattle.ps_pgsolver.proofs.GameExits.{exit, stops_left, stops_right, stops_mapped, done_then, done_mapped, done_value}
 use Rattle.ps_pgsolver.proofs.PartLaws.{joint_more}
 use Rattle.ps_pgsolver.proofs.reader.more_successor.Goals as goal
 

@@ -1,5 +1,5 @@
 use Rattle.std.proofs.Common.{arith}
-use Rattle.ps_pgsolver.proofs.Exits.{exit}
+use Rattle.ps_pgsolver.proofs.GameExits.{exit}
 use Rattle.ps_pgsolver.proofs.SingleSigns.{reads_id}
 use Rattle.ps_pgsolver.proofs.reader.new_id.Goals as goal
 

@@ -1,5 +1,5 @@
 use Rattle.std.proofs.Common.{arith}
-use Rattle.ps_pgsolver.proofs.Exits.{exit}
+use Rattle.ps_pgsolver.proofs.GameExits.{exit}
 use Rattle.ps_pgsolver.proofs.Choices.{setting_none, setting_done, setting_halts}
 use Rattle.ps_pgsolver.proofs.reader.setting.Goals as goal
 

@@ -3,8 +3,8 @@ use Rattle.std.specs.Option.{option_copied}
 use Rattle.ps_text.specs.Parts.{many}
 use Rattle.ps_pgsolver.specs.GameTexts.{successors, more_successor}
 use Rattle.ps_pgsolver.proofs.Choices.{comma_entered, comma_avoided, more_shrinks}
-use Rattle.ps_pgsolver.proofs.Exits.{Continues, exit, stops_left, continues_start, continues_then, continues_many}
-use Rattle.ps_pgsolver.proofs.Exits.{many_halts, many_done}
+use Rattle.ps_pgsolver.proofs.GameExits.{Continues, exit, stops_left, continues_start, continues_then, continues_many}
+use Rattle.ps_pgsolver.proofs.GameExits.{many_halts, many_done}
 use Rattle.ps_pgsolver.proofs.PartLaws.{joint_successors, laws_more}
 use Rattle.ps_pgsolver.proofs.reader.successors.Goals as goal
 

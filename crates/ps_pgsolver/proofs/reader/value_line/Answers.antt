@@ -1,7 +1,7 @@
 use Rattle.std.proofs.Common.{rules}
-use Rattle.ps_text.proofs.Meeting.{then_meets}
+use Rattle.ps_text.proofs.MeetsLemmas.{then_meets}
 use Rattle.ps_pgsolver.specs.GameTexts.{value_line}
-use Rattle.ps_pgsolver.proofs.Exits.{exit, stops_left}
+use Rattle.ps_pgsolver.proofs.GameExits.{exit, stops_left}
 use Rattle.ps_pgsolver.proofs.GameLaws.{joint_value}
 use Rattle.ps_pgsolver.proofs.reader.value_line.Goals as goal
 

@@ -1,7 +1,7 @@
 use Rattle.std.proofs.Common.{◌∙◌, false, get_or, sym, take}
 use Rattle.std.proofs.lemmas.List.{take_more}
 use Rattle.ps_diagram.proofs.KnownLemmas.{keeps_trans}
-use Rattle.ps_product.proofs.Outcomes.{along_kept, along_more, truth_along}
+use Rattle.ps_product.proofs.LiteralTruths.{along_kept, along_more, truth_along}
 use Rattle.ps_product.proofs.TruthLemmas.{learns_on, learnt, ready_on}
 use Rattle.ps_simulate.specs.declared.plan.Wire.{Wire}
 use Rattle.ps_product.specs.Inner.Knowing.{Learns}

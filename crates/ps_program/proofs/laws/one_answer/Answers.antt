@@ -1,5 +1,5 @@
 use Rattle.ps_program.specs.Solvers.{Solvers, solvers_of}
-use Rattle.ps_program.proofs.OneAnswer.{whole_one}
+use Rattle.ps_program.proofs.AgreeingAnswers.{whole_one}
 use Rattle.ps_program.proofs.OneCertified.{certified_one}
 use Rattle.ps_program.proofs.laws.one_answer.Goals as goal
 

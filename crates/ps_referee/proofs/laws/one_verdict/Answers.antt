@@ -1,6 +1,6 @@
 -- Each clause of the law `one_verdict` is proved by a lemma.
 use Rattle.ps_referee.proofs.Judged.{no_cycle, no_flaw, flaw_without_cycle}
-use Rattle.ps_referee.proofs.OneVerdict.{same_player}
+use Rattle.ps_referee.proofs.OneSolutionVerdict.{same_player}
 use Rattle.ps_referee.proofs.laws.one_verdict.Goals as goal
 
 pub returns-clause-apart : goal.returns-clause-apart

@@ -1,4 +1,4 @@
-use Rattle.ps_simulate.proofs.Uniqueness.OneVerdict.{one_verdict}
+use Rattle.ps_simulate.proofs.UniqueVerdicts.OneVerdict.{one_verdict}
 use Rattle.ps_simulate.proofs.laws.verdict_is_one.Goals as goal
 
 pub returns : goal.returns

@@ -1,9 +1,9 @@
 use Rattle.std.proofs.Common.{◌≡◌, ◌-◌, take, drop, length, arith}
 use Rattle.std.proofs.lemmas.Result.{err_from_is_err_and}
 use Rattle.std.proofs.lemmas.List.{length-map}
-use Rattle.ps_simulate.proofs.LetterLists.{letters_in-push, whole-push, IsLettersAnswer-line}
+use Rattle.ps_simulate.proofs.BitLists.{letters_in-push, whole-push, IsLettersAnswer-line}
 use Rattle.ps_simulate.proofs.Stimuli.StimulusSteps.{HasRead-letter}
-use Rattle.ps_simulate.proofs.Stimuli.LineLemmas.{line_length}
+use Rattle.ps_simulate.proofs.Stimuli.StimulusLines.{line_length}
 use Rattle.ps_simulate.proofs.letters.parse_letters.Goals as goal
 
 pub returns-in_err-letter : goal.returns-in_err-letter

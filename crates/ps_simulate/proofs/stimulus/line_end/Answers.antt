@@ -1,4 +1,4 @@
-use Rattle.ps_simulate.proofs.Stimuli.LineLemmas.{lines_of-drop}
+use Rattle.ps_simulate.proofs.Stimuli.StimulusLines.{lines_of-drop}
 use Rattle.ps_simulate.proofs.stimulus.line_end.Goals as goal
 
 pub returns-clause-lines : goal.returns-clause-lines

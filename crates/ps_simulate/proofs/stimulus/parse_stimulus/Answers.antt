@@ -6,7 +6,7 @@ use Rattle.ps_simulate.specs.Stimuli.{StimulusData, letters_of}
 use Rattle.ps_simulate.specs.StimulusTexts.{lines_of, spelled, divider}
 use Rattle.ps_simulate.proofs.Stimuli.StimulusSteps.{HasRead-letter, HasRead-divider, HasRead-same, IsFirstError-end}
 use Rattle.ps_simulate.proofs.Stimuli.StimulusSteps.{IsStimulusAnswer-line, at_line, letters_of-push}
-use Rattle.ps_simulate.proofs.Stimuli.LineLemmas.{line_length}
+use Rattle.ps_simulate.proofs.Stimuli.StimulusLines.{line_length}
 use Rattle.ps_simulate.proofs.stimulus.parse_stimulus.Goals as goal
 use Rattle.ps_simulate.proofs.stimulus.parse_stimulus.Goals.{then-split+then-not-in_lap+then-is_divider}
 use Rattle.ps_simulate.proofs.stimulus.parse_stimulus.Goals.{else-split+in_ok-letter+then-in_lap+in_ok-push}

@@ -1,5 +1,5 @@
 -- The law `some_answer` is proved by the lemma `some_reading`.
-use Rattle.ps_solution.proofs.SomeReading.{some_reading}
+use Rattle.ps_solution.proofs.SomeSolutionReading.{some_reading}
 use Rattle.ps_solution.proofs.laws.some_answer.Goals as goal
 
 pub returns : goal.returns

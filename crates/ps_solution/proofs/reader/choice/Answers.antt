@@ -1,5 +1,5 @@
 use Rattle.std.proofs.Common.{rules}
-use Rattle.ps_solution.proofs.Loops.{exit, choice_none, choice_reads, choice_stops}
+use Rattle.ps_solution.proofs.EntryLoop.{exit, choice_none, choice_reads, choice_stops}
 use Rattle.ps_solution.proofs.reader.choice.Goals as goal
 
 pub returns-then-not-is_at_number-clause-part : goal.returns-then-not-is_at_number-clause-part

@@ -1,5 +1,5 @@
 use Rattle.std.proofs.Common.{◌≡◌, length}
-use Rattle.ps_solution.proofs.Loops.{Goes}
+use Rattle.ps_solution.proofs.EntryLoop.{Goes}
 use Rattle.ps_solution.proofs.reader.entries.Given as goal
 
 -- parsing the remaining entries of the text gives the same result as parsing all entries from the start

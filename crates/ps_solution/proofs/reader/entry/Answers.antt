@@ -1,5 +1,5 @@
 use Rattle.std.proofs.Common.{rules}
-use Rattle.ps_solution.proofs.Loops.{exit, entry_reads, vertex_stops, winner_stops, choice_halts, end_stops}
+use Rattle.ps_solution.proofs.EntryLoop.{exit, entry_reads, vertex_stops, winner_stops, choice_halts, end_stops}
 use Rattle.ps_solution.proofs.reader.entry.Goals as goal
 
 pub returns-in_err-vertex-clause-part : goal.returns-in_err-vertex-clause-part

@@ -1,5 +1,5 @@
 use Rattle.std.proofs.Common.{arith}
-use Rattle.ps_solution.proofs.Loops.{exit, heading_none, heading_reads, heading_stops}
+use Rattle.ps_solution.proofs.EntryLoop.{exit, heading_none, heading_reads, heading_stops}
 use Rattle.ps_solution.proofs.reader.heading.Goals as goal
 
 pub returns-else-is_at_word : goal.returns-else-is_at_word

@@ -2,7 +2,7 @@ use Rattle.std.proofs.Common.{rules, subst, Ok}
 use Rattle.std.proofs.lemmas.Bool.{both_ways}
 use Rattle.ps_pgsolver.specs.Lexer.{stream_of}
 use Rattle.ps_solution.specs.Inner.Answered.{TextAnswers}
-use Rattle.ps_solution.proofs.Wholes.{refused_exit, incomplete_answer, whole_answer}
+use Rattle.ps_solution.proofs.WholeSolutions.{refused_exit, incomplete_answer, whole_answer}
 use Rattle.ps_solution.proofs.reader.read.Goals as goal
 
 pub returns-in_err-solved-clause-answer : goal.returns-in_err-solved-clause-answer

@@ -1,7 +1,7 @@
 use Rattle.std.proofs.Common.{subst, Ok}
 use Rattle.ps_solution.specs.Inner.Answered.{TextAnswers}
-use Rattle.ps_solution.proofs.Loops.{solution_reads, heading_halts, entries_halt}
-use Rattle.ps_solution.proofs.Wholes.{answer_exit, ended, not_ended}
+use Rattle.ps_solution.proofs.EntryLoop.{solution_reads, heading_halts, entries_halt}
+use Rattle.ps_solution.proofs.WholeSolutions.{answer_exit, ended, not_ended}
 use Rattle.ps_solution.proofs.reader.solution_text.Goals as goal
 
 pub returns-in_err-heading-clause-answer : goal.returns-in_err-heading-clause-answer

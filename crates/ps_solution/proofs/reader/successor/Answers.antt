@@ -1,5 +1,5 @@
 use Rattle.std.proofs.Common.{arith}
-use Rattle.ps_solution.proofs.Loops.{exit}
+use Rattle.ps_solution.proofs.EntryLoop.{exit}
 use Rattle.ps_solution.proofs.SignAnswers.{reads_successor}
 use Rattle.ps_solution.proofs.reader.successor.Goals as goal
 

@@ -1,4 +1,4 @@
-use Rattle.ps_solution.proofs.Loops.{exit, value_stops, value_ends}
+use Rattle.ps_solution.proofs.EntryLoop.{exit, value_stops, value_ends}
 use Rattle.ps_solution.proofs.reader.value_line.Goals as goal
 
 pub returns-in_err-number : goal.returns-in_err-number

@@ -1,5 +1,5 @@
 use Rattle.std.proofs.Common.{arith}
-use Rattle.ps_solution.proofs.Loops.{exit}
+use Rattle.ps_solution.proofs.EntryLoop.{exit}
 use Rattle.ps_solution.proofs.SignAnswers.{reads_winner}
 use Rattle.ps_solution.proofs.reader.winner.Goals as goal
 

@@ -1,4 +1,4 @@
-use Rattle.ps_synthesis.proofs.CircuitThere.{circuit_or_out}
+use Rattle.ps_synthesis.proofs.WinnersCircuitThere.{circuit_or_out}
 use Rattle.ps_synthesis.proofs.laws.winners_circuit_is_there.Goals as goal
 
 pub returns : goal.returns

@@ -1,7 +1,7 @@
 use Rattle.std.proofs.Common.{arith, Ok, subst}
 use Rattle.ps_game.specs.Games.{NamedGameData}
 use Rattle.ps_machine.specs.Solvers.{Answered, MayAnswer}
-use Rattle.ps_synthesis.proofs.Outcomes.{cause_in, report_in}
+use Rattle.ps_synthesis.proofs.ReportOutcomes.{cause_in, report_in}
 use Rattle.ps_synthesis.proofs.SynthesiseLemmas.{outcome_by}
 use Rattle.ps_synthesis.proofs.synthesis.report_by.Goals as goal
 

@@ -3,7 +3,7 @@
 use Rattle.std.proofs.Common.{◌≡◌, ℕ, ◌==◌, subst, rules}
 use Rattle.ps_machine.specs.Keys.{mover_of}
 use Rattle.ps_traces.specs.Answers.{IsWitness}
-use Rattle.ps_traces.proofs.Answering.{is_answer}
+use Rattle.ps_traces.proofs.CircuitAnswers.{is_answer}
 use Rattle.ps_traces.proofs.CertifiedCircuits.{is_for_file}
 use Rattle.ps_traces.proofs.laws.certified_circuit_of_file_answers.Goals as goal
 

@@ -1,5 +1,5 @@
 use Rattle.std.proofs.Common.{arith}
-use Rattle.ps_traces.proofs.Answering.{is_answer}
+use Rattle.ps_traces.proofs.CircuitAnswers.{is_answer}
 use Rattle.ps_traces.proofs.laws.circuit_answers.Goals as goal
 
 pub returns : goal.returns

@@ -1,4 +1,4 @@
-use Rattle.ps_traces.proofs.Letters.{has_letters}
+use Rattle.ps_traces.proofs.StepLetters.{has_letters}
 use Rattle.ps_traces.proofs.laws.every_trace_has_letters.Goals as goal
 
 pub returns : goal.returns

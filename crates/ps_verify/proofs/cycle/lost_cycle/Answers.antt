@@ -1,7 +1,7 @@
 use Rattle.std.proofs.Common.{rules}
 use Rattle.std.proofs.lemmas.List.{get_or-replicate}
-use Rattle.ps_verify.proofs.Rounds.{lost_round, wins_loops}
-use Rattle.ps_verify.proofs.Turning.{lost_turned}
+use Rattle.ps_verify.proofs.WholeRegion.{lost_round, wins_loops}
+use Rattle.ps_verify.proofs.TurnedCycles.{lost_turned}
 use Rattle.ps_verify.proofs.cycle.lost_cycle.Goals as goal
 
 pub returns-in-Ok-clause-none : goal.returns-in-Ok-clause-none

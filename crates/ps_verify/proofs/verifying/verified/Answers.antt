@@ -1,4 +1,4 @@
-use Rattle.ps_verify.proofs.Judging.{judgement}
+use Rattle.ps_verify.proofs.ProductJudgements.{judgement}
 use Rattle.ps_verify.proofs.verifying.verified.Goals as goal
 
 pub returns-clause-judged : goal.returns-clause-judged

@@ -1,7 +1,7 @@
 use Rattle.std.proofs.Common.{◌≡◌, ◌<◌, ◌≤◌, ℕ, List, length, map, get_or, sym, ap, ◌∙◌, refl, arith}
 use Rattle.std.proofs.lemmas.List.{get_or-map, length-map}
 use Rattle.ps_attractor.specs.Sources.{sources_of}
-use Rattle.ps_attractor.proofs.Reaching.{reaching_leave}
+use Rattle.ps_attractor.proofs.TrailWalk.{reaching_leave}
 use Rattle.ps_attractor.proofs.FreeCounts.{keeps_look}
 use Rattle.ps_attractor.proofs.Turned.{sources_given}
 use Rattle.ps_attractor.proofs.Spread.{source_edge, enter, look_on}

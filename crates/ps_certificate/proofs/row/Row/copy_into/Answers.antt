@@ -1,5 +1,5 @@
 use Rattle.std.proofs.Common.{arith, replicate}
-use Rattle.ps_certificate.proofs.SparseRows.Rows.{resized, filled_next, filled_end}
+use Rattle.ps_certificate.proofs.SparseRows.RowCopies.{resized, filled_next, filled_end}
 use Rattle.ps_certificate.proofs.row.Row.copy_into.Goals as goal
 
 pub loop-number-preserved : goal.loop-number-preserved

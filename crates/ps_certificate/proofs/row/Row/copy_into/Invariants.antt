@@ -1,4 +1,4 @@
-use Rattle.ps_certificate.proofs.SparseRows.Rows.{IsFilled}
+use Rattle.ps_certificate.proofs.SparseRows.RowCopies.{IsFilled}
 use Rattle.ps_certificate.proofs.row.Row.copy_into.Given as goal
 
 abbrev pub invariant-loop-number : goal.invariant-loop-number

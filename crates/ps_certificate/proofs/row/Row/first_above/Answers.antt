@@ -1,6 +1,6 @@
 use Rattle.std.proofs.Common.{◌≡◌, subst, arith, rules}
 use Rattle.ps_certificate.specs.Sparse.{IsFirstAbove, place_at, dense_row}
-use Rattle.ps_certificate.proofs.SparseRows.Rows.{not_above_start, not_above_end, not_above_next, above_here}
+use Rattle.ps_certificate.proofs.SparseRows.RowCopies.{not_above_start, not_above_end, not_above_next, above_here}
 use Rattle.ps_certificate.proofs.SparseRows.Sparse.{rising, length-counts_from}
 use Rattle.ps_certificate.proofs.row.Row.first_above.Goals as goal
 

@@ -1,5 +1,5 @@
 use Rattle.std.proofs.Common.{◌-◌, length}
-use Rattle.ps_certificate.proofs.SparseRows.Rows.{AreNotAbove}
+use Rattle.ps_certificate.proofs.SparseRows.RowCopies.{AreNotAbove}
 use Rattle.ps_certificate.proofs.row.Row.first_above.Given as goal
 
 abbrev pub invariant-loop-number : goal.invariant-loop-number

@@ -1,7 +1,7 @@
 use Rattle.std.proofs.Common.{true, false, arith}
 use Rattle.ps_label.specs.Expression.{expression}
 use Rattle.ps_label.specs.Truth.{truth}
-use Rattle.ps_label.proofs.Rows.{expression-Both, expression-Either}
+use Rattle.ps_label.proofs.OperandLists.{expression-Both, expression-Either}
 use Rattle.ps_diagram.proofs.KnownLemmas.{keeps_trans}
 use Rattle.ps_diagram.proofs.Truths.{drop_is, opposite_of}
 use Rattle.ps_diagram.proofs.Unions.{no_operands, operands_more}

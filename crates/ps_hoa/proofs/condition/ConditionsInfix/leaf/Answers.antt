@@ -2,7 +2,7 @@ use Rattle.std.proofs.Common.{arith, ap, sym, ◌∙◌}
 use Rattle.ps_hoa.specs.Conditions.{often_in}
 use Rattle.ps_hoa.specs.Operands.{is_left, is_right}
 use Rattle.ps_hoa.specs.Values.{condition_of}
-use Rattle.ps_hoa.proofs.Reading.Exits.{exit, serves_meets, value_is}
+use Rattle.ps_hoa.proofs.Reading.HoaExits.{exit, serves_meets, value_is}
 use Rattle.ps_hoa.proofs.Reading.ExpectReading.{tests_left, tests_right}
 use Rattle.ps_hoa.proofs.Reading.LeafReading.{visit_unopened, visit_fails, visit_stays_open, visit_reads}
 use Rattle.ps_hoa.proofs.Reading.LeafReading.{constant_serves}

@@ -1,5 +1,5 @@
 use Rattle.std.proofs.Common.{arith}
-use Rattle.ps_label.proofs.Rows.{expression-Both, expression-Either}
+use Rattle.ps_label.proofs.OperandLists.{expression-Both, expression-Either}
 use Rattle.ps_hoa.proofs.label.ScopeInfix.together.Goals as goal
 
 pub returns-in-And : goal.returns-in-And

@@ -1,5 +1,5 @@
 use Rattle.ps_measure.specs.Inner.Columns.{value_of}
-use Rattle.ps_measure.proofs.Placing.{ArePut}
+use Rattle.ps_measure.proofs.CountsPlaced.{ArePut}
 use Rattle.ps_measure.proofs.column.Column.put_into.Given as goal
 
 abbrev pub invariant-loop-vertex : goal.invariant-loop-vertex

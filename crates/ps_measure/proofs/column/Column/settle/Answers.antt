@@ -3,7 +3,7 @@ use Rattle.std.specs.Prelude.{slice_get}
 use Rattle.std.proofs.lemmas.Option.{slice_get-get_or}
 use Rattle.ps_components.specs.ComponentLists.{ComponentsData}
 use Rattle.ps_measure.proofs.Passing.{grows_on}
-use Rattle.ps_measure.proofs.Steps.{settle_one, grows_within}
+use Rattle.ps_measure.proofs.PassSteps.{settle_one, grows_within}
 use Rattle.ps_measure.proofs.column.Column.settle.Goals as goal
 
 -- the vertex that the code reads at an index of `order` is the entry of that list at the index

@@ -1,6 +1,6 @@
 use Rattle.std.proofs.Common.{Option, rules}
 use Rattle.std.specs.Prelude.{IfNone}
-use Rattle.ps_measure.proofs.Steps.{settled}
+use Rattle.ps_measure.proofs.PassSteps.{settled}
 use Rattle.ps_measure.proofs.column.Column.work_out.Goals as goal
 
 none_weaker : {X P Q : Type 0} (o : Option X) → (P → Q) → IfNone o P → IfNone o Q

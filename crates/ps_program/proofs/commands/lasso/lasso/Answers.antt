@@ -1,6 +1,6 @@
 use Rattle.ps_program.specs.Lassos.{AnswersLasso}
 use Rattle.ps_program.specs.Replies.{reply_of}
-use Rattle.ps_program.proofs.LassoLemmas.{lasso_automaton_fault, lasso_run}
+use Rattle.ps_program.proofs.LassoAnswers.{lasso_automaton_fault, lasso_run}
 use Rattle.ps_program.proofs.OutcomeLemmas.{gives_passed}
 use Rattle.ps_program.proofs.commands.lasso.lasso.Goals as goal
 

@@ -1,7 +1,7 @@
 use Rattle.std.proofs.Common.{arith, length, ap}
 use Rattle.ps_program.specs.Lassos.{RunsCircuit}
 use Rattle.ps_program.specs.Replies.{reply_of}
-use Rattle.ps_program.proofs.LassoLemmas.{run_stimulus_fault, run_told}
+use Rattle.ps_program.proofs.LassoAnswers.{run_stimulus_fault, run_told}
 use Rattle.ps_program.proofs.OutcomeLemmas.{gives_passed}
 use Rattle.ps_program.proofs.commands.lasso.run_circuit.Goals as goal
 

@@ -1,7 +1,7 @@
 use Rattle.std.proofs.Common.{◌≡◌, ℕ, List, Result, Ok, Err, ap, inr}
 use Rattle.ps_machine.specs.Solvers.{Answered, MayAnswer, SolverData, answers_now}
 use Rattle.ps_synthesis.specs.declared.report.Report.{Report}
-use Rattle.ps_synthesis.proofs.Outcomes.{fault_more, outcome_more, report_more}
+use Rattle.ps_synthesis.proofs.ReportOutcomes.{fault_more, outcome_more, report_more}
 use Rattle.ps_program.specs.declared.answer.Refusal.{Refusal}
 use Rattle.ps_program.specs.declared.answer.Refusal.TheVariants as refusal
 use Rattle.ps_program.specs.Replies.{Reply, reply_of}
