@@ -18,13 +18,14 @@ pub record Places (aim : Aim) (mid new : TablesData) (u : ℕ) : Type 0 where
   pub trail : new.trail ≡ mid.trail ++ u ∷ []
 
 -- a vertex that is in the worklist at index m or later is also at index n or later, if n is at most m
-pub stands_after : {tables : TablesData} {m n v : ℕ} → StandsFrom tables m v → n ≤ m → StandsFrom tables n v
+pub stands_after : {tables : TablesData} {from earlier v : ℕ} → StandsFrom tables from v → earlier ≤ from →
+    StandsFrom tables earlier v
 stands_after stands earlier = search rules
 
 -- a vertex of the worklist is still in the worklist after the worklist grows
-pub stands_longer : {old new : TablesData} {m v : ℕ} → length old.trail ≤ length new.trail →
-    ((j : ℕ) → j < length old.trail → get_or new.trail j 0 ≡ get_or old.trail j 0) → StandsFrom old m v →
-    StandsFrom new m v
+pub stands_longer : {old new : TablesData} {from v : ℕ} → length old.trail ≤ length new.trail →
+    ((j : ℕ) → j < length old.trail → get_or new.trail j 0 ≡ get_or old.trail j 0) → StandsFrom old from v →
+    StandsFrom new from v
 stands_longer longer front stands = search rules
 
 module _ {aim : Aim} {mid new : TablesData} {u : ℕ} (places : Places aim mid new u) where

@@ -49,6 +49,7 @@ first_unsound {game} {flaw} sound at = record {
   ];
 }
 
+-- a certificate is closed if each vertex has a right move and edges that stay with its winner
 pub IsClosed-from_sound : {game : ParityGame} {certificate : CertificateData} →
     ((v : ℕ) → v < vertex_count game → IsSoundAt game certificate v) → IsClosed game certificate
 IsClosed-from_sound sound = record {

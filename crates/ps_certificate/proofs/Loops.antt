@@ -30,8 +30,8 @@ use Rattle.ps_certificate.proofs.TextLaws.{digit_no_space, laws_priority, chain_
 use Rattle.ps_certificate.proofs.TextLaws.{chain_counts, chain_entries}
 use Rattle.ps_text.proofs.Bytes.Single.{avoids, enters_byte}
 
-pub fails : {V X : Type 0} (view : X → V) (P : Field V) (old new : Stream Seen) (e : CertFault) (r : Result X CertFault)
-    → Stops causes P old (found_of e) → IsErrAnd r (λ y. y ≡ e) → Tells view P old r new
+pub fails : {V X : Type 0} (view : X → V) (P : Field V) (old new : Stream Seen) (fault : CertFault) (result : Result X
+    CertFault) → Stops causes P old (found_of fault) → IsErrAnd result (λ y. y ≡ fault) → Tells view P old result new
 fails view P old new e r s i = exits found_of causes view P old new e r s i
 
 -- ## A line of priorities

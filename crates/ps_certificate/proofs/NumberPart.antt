@@ -254,8 +254,8 @@ pub stops_at_place : {V : Type 0} {P : Field V} {old : Stream Seen} {f : CertCau
 stops_at_place {P = P} {old = old} s is = subst (λ x. Stops causes P old (found_of x)) (sym is) s
 
 -- if no number of 64 bits begins here, parsing a number stops at the first byte with the error `Syntax`
-pub judged_fails : (Wrong : Verdict) {old : Stream Seen} {e : CertFault} →
-    (e ≡ Text Syntax (stream_offset old)) × HasNoNumber old → Stops causes (judged Wrong) old (found_of e)
+pub judged_fails : (Wrong : Verdict) {old : Stream Seen} {fault : CertFault} →
+    (fault ≡ Text Syntax (stream_offset old)) × HasNoNumber old → Stops causes (judged Wrong) old (found_of fault)
 judged_fails Wrong h = stops_at_place (stops_there h.1.at h.1.bytes h.1.old_is (go h.1.none)) h.0
   where
     go : (numeral h.1.bytes ≡ []) ⊎ ((0 < run_length h.1.bytes) × (2 ^ 64 ≤ decimal_value (numeral h.1.bytes))) →
@@ -286,6 +286,7 @@ module _ (Wrong : ℕ → Type 0) {old new : Stream Seen} {n : ℕ} (r : IsNumbe
 abbrev pub Odd : Seen → Type 0
 Odd = Own causes
 
+-- symbols whose byte is a digit
 abbrev pub AtDigit : Seen → Type 0
 AtDigit s = IsDigit s.byte
 

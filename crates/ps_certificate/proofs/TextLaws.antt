@@ -143,7 +143,8 @@ behind_space ps pairs = then_by
     (judged (WrongPriority ps pairs)) (λ p. then_by (byte 58) (λ _. mapped (λ m. with_pair pairs p m) (judged IsZero)))
 
 -- a space and a count, as one part in a chain of parts, obey the grammar laws of the crate `ps_text`
-pub chain_pair : (ps : List ℕ) (pairs : Pairs) → Chain (byte 32) (λ _. behind_space ps pairs) (At 32) AtDigit ⊥
+pub chain_pair : (priorities : List ℕ) (pairs : Pairs) → Chain (byte 32) (λ _. behind_space priorities pairs) (At 32)
+    AtDigit ⊥
 chain_pair ps pairs = tight (byte_of 32) (λ _. (chain_priority ps pairs).whole)
 
 pub laws_pair : (ps : List ℕ) (pairs : Pairs) → Laws (Odd CertCause) (pair ps pairs) (At 32) AtDigit ⊥

@@ -19,7 +19,7 @@ use Rattle.ps_circuit.specs.Building.{NeedsChoice, NeedsGate, for_either}
 use Rattle.ps_circuit.specs.Building.{bit, variables_of}
 
 -- a truth value is true or false
-pub bool_cases : (b : Bool) → (b ≡ true) ⊎ (b ≡ false)
+pub bool_cases : (truth : Bool) → (truth ≡ true) ⊎ (truth ≡ false)
 bool_cases b = cases_Bool b
 
 -- the truth values `true` and `false` differ
@@ -64,12 +64,12 @@ pub held-negated : (d : Drafted) (l : ℕ) → IsHeld d l → IsHeld d (negated 
 held-negated d l h = subst (λ n. n ≤ variables_of d) (sym (variable-negated l)) h
 
 -- each gate of a builder is also in this builder, with the same variable, so `Extends` is reflexive
-pub extends-refl : (d : Drafted) → Extends d d
+pub extends-refl : (draft : Drafted) → Extends draft draft
 extends-refl d = record { given = refl; more = omega arith; same = λ k s e. e }
 
 -- if each gate of `a` is also in `b`, and each gate of `b` in `c`, each gate of `a` is also in `c`, so `Extends` is
 -- transitive
-pub extends-trans : (a b c : Drafted) → Extends a b → Extends b c → Extends a c
+pub extends-trans : (first second third : Drafted) → Extends first second → Extends second third → Extends first third
 extends-trans a b c x y = search rules
 
 pub held-extends : (a b : Drafted) → Extends a b → (l : ℕ) → IsHeld a l → IsHeld b l

@@ -66,8 +66,8 @@ number_wrong Wrong {old} {new} f x wrong least is = subst (λ y. Stops aig_cause
     (sym (is ∙ ap (Text f) x.offset)) (search (rules, run_bad))
 
 -- an error that the function for numbers reports is the first error of the grammar's part `number`
-pub number_none : (Wrong : ℕ → AigCause → Type 0) {old : Stream Seen} (new : Stream Seen) (e : AigFault) →
-    TellsNumber old (Err e) new → Stops aig_causes (number Wrong) old (found_of e)
+pub number_none : (Wrong : ℕ → AigCause → Type 0) {old : Stream Seen} (new : Stream Seen) (fault : AigFault) →
+    TellsNumber old (Err fault) new → Stops aig_causes (number Wrong) old (found_of fault)
 unfolding number
 number_none Wrong {old} new e m =
     grind (arith, run_stops is_digit number_at (BadDigits Wrong) cause_number Syntax 48 refl m.0)

@@ -6,20 +6,22 @@ use Rattle.std.proofs.lemmas.Bool.{cases_eq}
 use Rattle.std.proofs.lemmas.List.{length-take-le}
 
 -- an entry of a list keeps its index when another list is appended
-pub slice_get-append_left : {X : Type 0} (xs ys : List X) (i : ℕ) (x : X) → slice_get xs i ≡ Some x →
-    slice_get (xs ++ ys) i ≡ Some x
+pub slice_get-append_left : {X : Type 0} (list more : List X) (place : ℕ) (entry : X) →
+    slice_get list place ≡ Some entry → slice_get (list ++ more) place ≡ Some entry
 slice_get-append_left [] ys i x h = cc
 slice_get-append_left (y ∷ xs) ys zero x h = h
 slice_get-append_left (y ∷ xs) ys (suc i) x h = slice_get-append_left xs ys i x h
 
 -- an entry that is appended to a list is at the index that was the list's length
-pub slice_get-push : {X : Type 0} (xs : List X) (x : X) → slice_get (xs ++ x ∷ []) (length xs) ≡ Some x
+pub slice_get-push : {X : Type 0} (list : List X) (pushed : X) →
+    slice_get (list ++ pushed ∷ []) (length list) ≡ Some pushed
 slice_get-push [] x = refl
 slice_get-push (y ∷ xs) x = slice_get-push xs x
 
 -- an entry of a list to which one entry was appended is an old entry, or the new one at the end
-pub slice_get-push_cases : {X : Type 0} (xs : List X) (y : X) (i : ℕ) (x : X) → slice_get (xs ++ y ∷ []) i ≡ Some x →
-    (slice_get xs i ≡ Some x) ⊎ ((i ≡ length xs) × (y ≡ x))
+pub slice_get-push_cases : {X : Type 0} (list : List X) (pushed : X) (place : ℕ) (entry : X) →
+    slice_get (list ++ pushed ∷ []) place ≡ Some entry → (slice_get list place ≡ Some entry) ⊎ ((place ≡ length list) ×
+    (pushed ≡ entry))
 slice_get-push_cases [] y zero x h = inr (refl, cc)
 slice_get-push_cases [] y (suc i) x h = cc
 slice_get-push_cases (z ∷ xs) y zero x h = inl h
@@ -39,9 +41,9 @@ slice_get-set_other (x ∷ xs) (suc i) zero y h = refl
 slice_get-set_other (x ∷ xs) (suc i) (suc j) y h = slice_get-set_other xs i j y (λ e. h (ap suc e))
 
 -- after a write to a list, the new item is at the written index, and the entries at other indices are unchanged
-pub slice_get-set_cases : {X : Type 0} (xs : List X) (i j : ℕ) (y : X) →
-    ((j ≡ i) × (i < length xs → slice_get (set xs i y) j ≡ Some y)) ⊎
-    ((j ≢ i) × (slice_get (set xs i y) j ≡ slice_get xs j))
+pub slice_get-set_cases : {X : Type 0} (list : List X) (place wanted : ℕ) (item : X) →
+    ((wanted ≡ place) × (place < length list → slice_get (set list place item) wanted ≡ Some item)) ⊎
+    ((wanted ≢ place) × (slice_get (set list place item) wanted ≡ slice_get list wanted))
 slice_get-set_cases xs i j y = search (rules, cases_eq, slice_get-set_same, slice_get-set_other)
 
 pub slice_get-take_back : {X : Type 0} (n : ℕ) (xs : List X) (i : ℕ) (x : X) → slice_get (take n xs) i ≡ Some x →

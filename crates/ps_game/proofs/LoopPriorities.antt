@@ -32,8 +32,8 @@ module _ (game : ParityGame) (path : List ℕ) (i j : ℕ) (within : j ≤ lengt
   priority_at k below = search (rules, get_or-map, places, length-map, get_or-take, get_or-drop)
 
 -- no priority in a loop is greater than the priority of the loop
-pub le-loop_priority : (game : ParityGame) (path : List ℕ) (i j k : ℕ) → i ≤ k → k < j → j ≤ length path →
-    priority_of game (get_or path k 0) ≤ loop_priority game path i j
+pub le-loop_priority : (game : ParityGame) (path : List ℕ) (start end place : ℕ) → start ≤ place → place < end →
+    end ≤ length path → priority_of game (get_or path place 0) ≤ loop_priority game path start end
 unfolding loop_priority
 le-loop_priority game path i j k after before within =
     let all : List ℕ = map (priority_of game) (slice_range path i j) in
@@ -44,8 +44,9 @@ le-loop_priority game path i j k after before within =
     )
 
 -- some vertex of a loop has the priority of the loop
-pub loop_priority_stands : (game : ParityGame) (path : List ℕ) (i j : ℕ) → i < j → j ≤ length path →
-    (k : ℕ) × (i ≤ k) × (k < j) × (priority_of game (get_or path k 0) ≡ loop_priority game path i j)
+pub loop_priority_stands : (game : ParityGame) (path : List ℕ) (start end : ℕ) → start < end → end ≤ length path →
+    (place : ℕ) × (start ≤ place) × (place < end) × (priority_of game (get_or path place 0) ≡ loop_priority game path
+    start end)
 unfolding loop_priority
 loop_priority_stands game path i j rises within =
     let many = places game path i j within in

@@ -13,11 +13,11 @@ eqb-equivalence : IsEquivalence eqb
 eqb-equivalence = search (rules, eq-eqb, nat_tests, eqb-true)
 
 -- if an id is in the list, the test that compares the id with each entry is true
-pub any-from_Contains : (q : ℕ) (ids : List ℕ) → Contains ids q → list_any (eqb q) ids ≡ true
+pub any-from_Contains : (id : ℕ) (ids : List ℕ) → Contains ids id → list_any (eqb id) ids ≡ true
 any-from_Contains q ids h = list_any-from_Contains eqb-equivalence q ids h
 
 -- if the test that compares a number with each entry of the list is true, the number is in the list
-pub Contains-any : (q : ℕ) (ids : List ℕ) → list_any (eqb q) ids ≡ true → Contains ids q
+pub Contains-any : (id : ℕ) (ids : List ℕ) → list_any (eqb id) ids ≡ true → Contains ids id
 Contains-any q ids h = Contains-from_any eqb-true q ids h
 
 pub Contains-none : (q : ℕ) (ids : List ℕ) → list_any (eqb q) ids ≡ false → Contains ids q → ⊥

@@ -17,7 +17,8 @@ operands-vec v = operands-items (hidden-the_row-Label-0 v)
     ∙ ap (λ (ls : List Label). operands_in (expressions ls)) (items_hidden-the_row-Label-0 v)
 
 -- the expression of a conjunction is the conjunction of its operands' expressions
-pub expression-Both : (v : Vec Label Global) → expression (Both v) ≡ all_of (operands_in (expressions v.items))
+pub expression-Both : (labels : Vec Label Global) → expression (Both labels) ≡ all_of (operands_in (expressions
+    labels.items))
 expression-Both v = ap all_of (operands-vec v)
 
 -- the expression of a disjunction is the disjunction of its operands' expressions

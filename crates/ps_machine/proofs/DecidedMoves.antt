@@ -23,7 +23,7 @@ module _ (n : ℕ) (mine : ℕ → Bool) where
   part x = letter_of n (λ p. mine p && is_in p x)
 
   -- in the part of a letter that belongs to a player, only propositions of this player are true
-  pub part_over : (x : ℕ) → IsOver n mine (part x)
+  pub part_over : (letter : ℕ) → IsOver n mine (part letter)
   unfolding part
   part_over x = search (rules, letter_lt, cases_lt, letter_is, no_bit, part)
 

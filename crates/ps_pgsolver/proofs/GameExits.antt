@@ -29,7 +29,7 @@ pub done_then : {A B : Type 0} {P : Part Sign A PgCause} {Q : A → Part Sign B 
 done_then j old mid new a b m n = then_meets found_of pg_causes j (λ x. x) (λ x. x) old mid new a (Ok b) m n
 
 pub stops_left : {A B : Type 0} {P : Part Sign A PgCause} {Q : A → Part Sign B PgCause} → Joint P Q →
-    (old : Stream Sign) (e : PgFault) → Halts P old e → Halts (then_by P Q) old e
+    (old : Stream Sign) (fault : PgFault) → Halts P old fault → Halts (then_by P Q) old fault
 stops_left {A} {B} j old e m = then_fails found_of pg_causes {X = A} {Y = B} j (λ x. x) (λ x. x) old old old e m
 
 pub stops_right : {A B : Type 0} {P : Part Sign A PgCause} {Q : A → Part Sign B PgCause} → Joint P Q →
@@ -45,8 +45,8 @@ pub stops_mapped : {A B : Type 0} (h : A → B) (P : Part Sign A PgCause) (old :
     Halts P old e → Halts (mapped h P) old e
 stops_mapped {A} {B} h P old e m = meets_mapped found_of pg_causes {X = A} (λ x. x) h P old old (Err e) m
 
-pub exit : {V X : Type 0} (view : X → V) (P : Part Sign V PgCause) (old new : Stream Sign) (e : PgFault)
-    (r : Result X PgFault) → Halts P old e → IsErrAnd r (λ y. y ≡ e) → ReadsAs view P old r new
+pub exit : {V X : Type 0} (view : X → V) (P : Part Sign V PgCause) (old new : Stream Sign) (fault : PgFault)
+    (result : Result X PgFault) → Halts P old fault → IsErrAnd result (λ y. y ≡ fault) → ReadsAs view P old result new
 exit view P old new e r m i = exits found_of pg_causes view P old new e r m i
 
 -- if a part of the grammar was parsed with some value, it was parsed with any equal value

@@ -24,8 +24,8 @@ use Rattle.std.proofs.Math.Bool.{or-false}
 -- ## Traces
 
 -- two runs of a circuit, of which one continues the other, form one run
-pub GoesOn-append : (c : CircuitData) (from between to : List Bool) (xs ys : List Moment) → GoesOn c from xs between →
-    GoesOn c between ys to → GoesOn c from (xs ++ ys) to
+pub GoesOn-append : (circuit : CircuitData) (from between to : List Bool) (moments more : List Moment) →
+    GoesOn circuit from moments between → GoesOn circuit between more to → GoesOn circuit from (moments ++ more) to
 GoesOn-append c from between to [] ys on rest = rw on rest
 GoesOn-append c from between to (m ∷ ms) ys (next, at, step, on) rest =
     (next, at, step, GoesOn-append c next between to ms ys on rest)
@@ -37,15 +37,16 @@ AreLetters-append names c (m ∷ ms) ys [] vs a b = absurd a
 AreLetters-append names c (m ∷ ms) ys (u ∷ us) vs a b = (a.0, AreLetters-append names c ms ys us vs a.1 b)
 
 -- a trace has one letter for each step
-pub length_letters : (names : List (List ℕ)) (c : CircuitData) (ms : List Moment) (ls : List ℕ) →
-    AreLetters names c ms ls → length ls ≡ length ms
+pub length_letters : (names : List (List ℕ)) (circuit : CircuitData) (moments : List Moment) (letters : List ℕ) →
+    AreLetters names circuit moments letters → length letters ≡ length moments
 length_letters names c [] ls a = ap length a
 length_letters names c (m ∷ ms) [] a = absurd a
 length_letters names c (m ∷ ms) (u ∷ us) a = ap suc (length_letters names c ms us a.1)
 
 -- each letter of a trace is less than 2^n, where n is the number of propositions
-pub few_letters : (names : List (List ℕ)) (c : CircuitData) (ms : List Moment) (ls : List ℕ) →
-    AreLetters names c ms ls → (k d : ℕ) → k < length ls → get_or ls k d < 2 ^ length names
+pub few_letters : (names : List (List ℕ)) (circuit : CircuitData) (moments : List Moment) (letters : List ℕ) →
+    AreLetters names circuit moments letters → (place default : ℕ) → place < length letters →
+    get_or letters place default < 2 ^ length names
 few_letters names c [] ls a k d lt = absurd (let e : length ls ≡ 0 = ap length a in omega arith)
 few_letters names c (m ∷ ms) [] a k d lt = absurd a
 few_letters names c (m ∷ ms) (u ∷ us) a zero d lt = a.0.few

@@ -39,7 +39,7 @@ names_differ (x ∷ xs) all (suc p) zero lp lq e = absurd (not_among xs x p (ome
 names_differ (x ∷ xs) all (suc p) (suc q) lp lq e = ap suc (names_differ xs all.2 p q (omega arith) (omega arith) e)
 
 -- equal options hold equal values
-pub some_same : {X : Type 0} (x y : X) → Some x ≡ Some y → x ≡ y
+pub some_same : {X : Type 0} (value other : X) → Some value ≡ Some other → value ≡ other
 some_same x y e = cc
 
 none_some : {X : Type 0} {x : X} → None ≡ Some x → ⊥

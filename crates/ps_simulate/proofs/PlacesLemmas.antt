@@ -60,8 +60,9 @@ module _ {c : CircuitData} (is : IsCircuit c) where
   reads_contain (g ∷ gates) (suc i) d lt = search (rules, Contains-append_right, reads_contain gates i d (omega arith))
 
   -- for both literals that a gate reads, the variable is 0 or the circuit defines it
-  pub sides_known : (i : ℕ) (d : Gate) → i < length c.gates
-      → IsKnown (definitions c) (get_or c.gates i d).first × IsKnown (definitions c) (get_or c.gates i d).second
+  pub sides_known : (place : ℕ) (default : Gate) → place < length c.gates →
+      IsKnown (definitions c) (get_or c.gates place default).first × IsKnown (definitions c) (get_or c.gates place
+      default).second
   sides_known i d lt =
       let both = reads_contain c.gates i d lt in
       let front = map (λ l. l.next) c.latches ++ c.outputs in grind (

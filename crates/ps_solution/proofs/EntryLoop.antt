@@ -31,8 +31,9 @@ use Rattle.ps_solution.proofs.SolutionLaws.{joint_value, joint_solution, entry_e
 use Rattle.ps_ids.specs.Ids.{place_of}
 
 -- a function that reports the first error of a part of the grammar meets its contract for this part
-pub exit : {V X : Type 0} (view : X → V) (P : Field V) (old new : Stream Sign) (e : CertFault) (r : Result X CertFault)
-    → Stops solution_causes P old (found_of e) → IsErrAnd r (λ y. y ≡ e) → ReadsAs view P old r new
+pub exit : {V X : Type 0} (view : X → V) (P : Field V) (old new : Stream Sign) (fault : CertFault) (result : Result X
+    CertFault) → Stops solution_causes P old (found_of fault) → IsErrAnd result (λ y. y ≡ fault) →
+    ReadsAs view P old result new
 exit view P old new e r s i = exits found_of solution_causes view P old new e r s i
 
 abbrev Halts : {V : Type 0} → Field V → Stream Sign → Option (Found CertCause) → Type 0

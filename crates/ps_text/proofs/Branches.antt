@@ -51,12 +51,12 @@ pub record Stands {T V F : Type 0} (there : Option T) (P Q : Part T V F) : Type 
   pub covers : Covers there P Q
   pub starts : IsBroken P [] there → (v : V) → Q.IsText [] v → ⊥
 
-pub reads_as : {T V F : Type 0} {P Q : Part T V F} {old new : Stream T} {v : V} → Stands (next_of old) P Q →
-    Reads P old v new → Reads Q old v new
+pub reads_as : {T V F : Type 0} {P Q : Part T V F} {old new : Stream T} {value : V} → Stands (next_of old) P Q →
+    Reads P old value new → Reads Q old value new
 reads_as {P = P} {Q = Q} w m = (m.0, read_as P Q w.covers m.1)
 
-pub stops_as_well : {T V F : Type 0} (causes : Causes T F) {P Q : Part T V F} (old : Stream T) (o : Option (Found F)) →
-    Stands (next_of old) P Q → Stops causes P old o → Stops causes Q old o
+pub stops_as_well : {T V F : Type 0} (causes : Causes T F) {P Q : Part T V F} (old : Stream T) (stop : Option (Found F))
+    → Stands (next_of old) P Q → Stops causes P old stop → Stops causes Q old stop
 stops_as_well causes {P = P} {Q = Q} old o w s = search (rules, stops_as, fault_as)
 
 pub meets_as : {T V F X E : Type 0} (found : E → Option (Found F)) (causes : Causes T F) (view : X → V)
@@ -97,7 +97,8 @@ module _ {T C F : Type 0} {odd : T → Type 0} (item : C → Part T C F) {First 
   item_read {c} {d} {old} {mid} m =
       enters_read (item c) (signs old.pieces) (signs mid.pieces) d (λ w h. (l c).null w h) m.1
 
-  pub many_ends : (c : C) (s : Stream T) → Avoids First (next_of s) → Reads (many item c) s c s
+  pub many_ends : (value : C) (stream : Stream T) → Avoids First (next_of stream) →
+      Reads (many item value) stream value stream
   many_ends c s a = (suffix_refl s, read_none item l apart c (signs s.pieces) a)
 
   pub many_reads : {c d e : C} {old mid new : Stream T} → Reads (item c) old d mid → Reads (many item d) mid e new →
@@ -105,8 +106,8 @@ module _ {T C F : Type 0} {odd : T → Type 0} (item : C → Part T C F) {First 
   many_reads {c = c} {old = old} m n =
       reads_as (item_entered c (next_of old) (item_read m)) (reads_then (joint_many item l apart c) m n)
 
-  pub many_fails : (causes : Causes T F) (c : C) (old : Stream T) (o : Option (Found F)) →
-      Enters (item c) (next_of old) → Stops causes (item c) old o → Stops causes (many item c) old o
+  pub many_fails : (causes : Causes T F) (value : C) (old : Stream T) (stop : Option (Found F)) →
+      Enters (item value) (next_of old) → Stops causes (item value) old stop → Stops causes (many item value) old stop
   many_fails causes c old o e s = stops_as_well causes old o
       (item_entered c (next_of old) e) (stops_first causes (joint_many item l apart c) old o s)
 

@@ -51,7 +51,7 @@ module _ {T V F : Type 0} {odd : T → Type 0} where
 
 module _ {T A B F : Type 0} {odd : T → Type 0} {P : Part T A F} {Q : A → Part T B F} {F1 F2 : T → Type 0} where
   pub joint_tight : {M2 : T → Type 0} {N1 N2 : Type 0} → Laws odd P F1 Nothing N1 →
-      ((a : A) → Laws odd (Q a) F2 M2 N2) → Joint P Q
+      ((value : A) → Laws odd (Q value) F2 M2 N2) → Joint P Q
   joint_tight l r = joint l r (λ t h _. h)
 
   pub laws_last : {M1 : T → Type 0} → Laws odd P F1 M1 (Unit {0}) → ((a : A) → Laws odd (Q a) F2 Nothing ⊥) →

@@ -22,8 +22,8 @@ pub enters_broken : {T V F : Type 0} (P : Part T V F) (there : Option T) → Ent
 enters_broken P there e b = search rules
 
 -- if a nonempty text was parsed, its first symbol begins a text of the grammar
-pub enters_read : {T V F : Type 0} (P : Part T V F) (all rest : List T) (v : V) → ((w : V) → P.IsText [] w → ⊥) →
-    IsRead P all v rest → Enters P (first_of all)
+pub enters_read : {T V F : Type 0} (P : Part T V F) (all rest : List T) (value : V) → ((other : V) →
+    P.IsText [] other → ⊥) → IsRead P all value rest → Enters P (first_of all)
 enters_read {T} P all rest v some p = go p.text p.split p.is_text
   where
     go : (text : List T) → all ≡ text ++ rest → P.IsText text v → Enters P (first_of all)
@@ -43,8 +43,8 @@ enters_mapped h P (Some t) (inl b) = inl (record { more = b.more; value = h b.va
 enters_mapped h P (Some t) (inr c) = inr c
 
 -- a grammar of one symbol can begin with each symbol that it accepts, or for which it has an error
-pub enters_one : {T V F : Type 0} (take : T → Option V) (Bad : T → F → Type 0) (t : T) →
-    (((v : V) × (take t ≡ Some v)) ⊎ ((f : F) × Bad t f)) → Enters (one take Bad) (Some t)
+pub enters_one : {T V F : Type 0} (take : T → Option V) (Bad : T → F → Type 0) (sign : T) →
+    (((value : V) × (take sign ≡ Some value)) ⊎ ((cause : F) × Bad sign cause)) → Enters (one take Bad) (Some sign)
 enters_one take Bad t (inl h) = inl (record { more = []; value = h.0; is_text = (t, refl, h.1) })
 enters_one take Bad t (inr h) = inr (h.0, (refl, h.1))
 

@@ -57,7 +57,7 @@ pub record IsNumberText (n : ℕ) (digits : List ℕ) : Type 0 where
 begins_more : (ds more : List ℕ) → 0 < length ds → BeginsWithZero (ds ++ more) → BeginsWithZero ds
 begins_more ds more l h = search rules
 
-pub number_text : (n : ℕ) → n < 2 ^ 64 → IsNumberText n (decimal n)
+pub number_text : (number : ℕ) → number < 2 ^ 64 → IsNumberText number (decimal number)
 number_text n small = decimal_by_steps IsNumberText one further n small
   where
     one_digit : (d : ℕ) → d < 10 → All IsDigit ((48 + d) ∷ [])

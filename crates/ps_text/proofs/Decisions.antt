@@ -36,10 +36,10 @@ decide_true b = search rules
 pub decide_none : {A : Type 0} (o : Option A) → Decided (o ≡ None)
 decide_none o = search (rules, none_is_some)
 
-pub decide_below : (m n : ℕ) → Decided (m ≤ n)
+pub decide_below : (number limit : ℕ) → Decided (number ≤ limit)
 decide_below m n = search (rules, cases_lt)
 
-pub decide_in : (xs : List ℕ) (n : ℕ) → Decided (Contains xs n)
+pub decide_in : (list : List ℕ) (number : ℕ) → Decided (Contains list number)
 decide_in [] n = inr (λ c. omega (arith, c.1))
 decide_in (x ∷ xs) n = go (cases_eq x n) (decide_in xs n)
   where
@@ -59,7 +59,8 @@ module _ {F : Type 0} (number : F → ℕ) where
   judge_cause cause (inl a) = bad_only number _ cause (a, refl) (λ g b. sym b.1)
   judge_cause cause (inr n) = good (λ f b. n b.0)
 
-  pub judge_as : {P Q : F → Type 0} → ((f : F) → P f → Q f) → ((f : F) → Q f → P f) → Judged number P → Judged number Q
+  pub judge_as : {P Q : F → Type 0} → ((cause : F) → P cause → Q cause) → ((cause : F) → Q cause → P cause) →
+      Judged number P → Judged number Q
   judge_as to from (bad f b least) = bad f (to f b) (λ g c. least g (from g c))
   judge_as to from (good n) = good (λ f b. n f (from f b))
 

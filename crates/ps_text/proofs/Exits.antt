@@ -70,19 +70,22 @@ stops_later causes P Q old mid x h (Some g) s = record {
 
 -- ## A grammar was parsed
 
-pub reads_give : {T V F : Type 0} (s : Stream T) (v : V) → Reads (give {T = T} {V = V} {F = F} v) s v s
+pub reads_give : {T V F : Type 0} (stream : Stream T) (value : V) →
+    Reads (give {T = T} {V = V} {F = F} value) stream value stream
 reads_give s v = (suffix_refl s, read_give (signs s.pieces) v)
 
-pub reads_mapped : {T A B F : Type 0} (h : A → B) {P : Part T A F} {old new : Stream T} {a : A} → Reads P old a new →
-    Reads (mapped h P) old (h a) new
+pub reads_mapped : {T A B F : Type 0} (h : A → B) {P : Part T A F} {old new : Stream T} {value : A} →
+    Reads P old value new → Reads (mapped h P) old (h value) new
 reads_mapped h {P} m = (m.0, read_mapped h P m.1)
 
-pub reads_then : {T A B F : Type 0} {P : Part T A F} {Q : A → Part T B F} {old mid new : Stream T} {a : A} {b : B} →
-    Joint P Q → Reads P old a mid → Reads (Q a) mid b new → Reads (then_by P Q) old b new
+pub reads_then : {T A B F : Type 0} {P : Part T A F} {Q : A →
+    Part T B F} {old mid new : Stream T} {first : A} {second : B} → Joint P Q → Reads P old first mid →
+    Reads (Q first) mid second new → Reads (then_by P Q) old second new
 reads_then {old = old} {mid = mid} {new = new} j m n = (suffix_trans old mid new m.0 n.0, read_then j m.1 n.1)
 
-pub reads_next : {T V F : Type 0} (take : T → Option V) (Bad : T → F → Type 0) (old new : Stream T) (t : T) (v : V) →
-    next_of old ≡ Some t → new ≡ tail old → take t ≡ Some v → ((f : F) → Bad t f → ⊥) → Reads (one take Bad) old v new
+pub reads_next : {T V F : Type 0} (take : T → Option V) (Bad : T → F →
+    Type 0) (old new : Stream T) (sign : T) (value : V) → next_of old ≡ Some sign → new ≡ tail old →
+    take sign ≡ Some value → ((cause : F) → Bad sign cause → ⊥) → Reads (one take Bad) old value new
 reads_next {T} take Bad old new t v n z k good =
     let p = piece_next old t n in go p.0 (p.1 ∙ ap (λ s. p.0 ∷ s.pieces) (sym z)) (ap (λ s. s.end) z) p.2
   where
@@ -95,16 +98,16 @@ reads_next {T} take Bad old new t v n z k good =
 -- ## A fault was found
 
 module _ {T F : Type 0} (causes : Causes T F) where
-  pub stops_mapped : {A B : Type 0} (h : A → B) (P : Part T A F) (old : Stream T) (o : Option (Found F)) →
-      Stops causes P old o → Stops causes (mapped h P) old o
+  pub stops_mapped : {A B : Type 0} (h : A → B) (P : Part T A F) (old : Stream T) (stop : Option (Found F)) →
+      Stops causes P old stop → Stops causes (mapped h P) old stop
   stops_mapped h P old o s = stops_as causes P (mapped h P) old (λ f rest p. fault_mapped h P p) o s
 
   pub stops_first : {A B : Type 0} {P : Part T A F} {Q : A → Part T B F} → Joint P Q →
-      (old : Stream T) (o : Option (Found F)) → Stops causes P old o → Stops causes (then_by P Q) old o
+      (old : Stream T) (stop : Option (Found F)) → Stops causes P old stop → Stops causes (then_by P Q) old stop
   stops_first {P = P} {Q = Q} j old o s = search (rules, stops_as, fault_left)
 
   pub stops_behind : {A B : Type 0} {P : Part T A F} {Q : A → Part T B F} {old mid : Stream T} {a : A} → Joint P Q →
-      Reads P old a mid → (o : Option (Found F)) → Stops causes (Q a) mid o → Stops causes (then_by P Q) old o
+      Reads P old a mid → (stop : Option (Found F)) → Stops causes (Q a) mid stop → Stops causes (then_by P Q) old stop
   stops_behind {P = P} {Q = Q} {old = old} {mid = mid} {a = a} j m o s = search (rules, stops_later, fault_right)
 
   module _ {V : Type 0} (take : T → Option V) (Bad : T → F → Type 0) (old : Stream T) where
@@ -126,13 +129,14 @@ module _ {T F : Type 0} (causes : Causes T F) where
 -- ## Results
 
 pub exits : {T V F X E : Type 0} (found : E → Option (Found F)) (causes : Causes T F) (view : X → V) (P : Part T V F)
-    (old new : Stream T) (e : E) (r : Result X E) →
-    Stops causes P old (found e) → IsErrAnd r (λ y. y ≡ e) → Meets found causes view P old r new
+    (old new : Stream T) (fault : E) (result : Result X E) →
+    Stops causes P old (found fault) → IsErrAnd result (λ y. y ≡ fault) → Meets found causes view P old result new
 exits found causes view P old new e r s i = search (rules, err_from_is_err_and)
 
-pub then_meets : {T F E A B Y : Type 0} (found : E → Option (Found F)) (causes : Causes T F) (view : Y → B)
-    {P : Part T A F} {Q : A → Part T B F} {old mid : Stream T} {a : A} (new : Stream T) (r : Result Y E) → Joint P Q →
-    Reads P old a mid → Meets found causes view (Q a) mid r new → Meets found causes view (then_by P Q) old r new
+pub then_meets : {T F E A B Y : Type 0} (found : E → Option (Found F)) (causes : Causes T F) (view : Y →
+    B) {P : Part T A F} {Q : A → Part T B F} {old mid : Stream T} {first : A} (new : Stream T) (result : Result Y E) →
+    Joint P Q → Reads P old first mid → Meets found causes view (Q first) mid result new →
+    Meets found causes view (then_by P Q) old result new
 then_meets found causes view new (Ok y) j m n = reads_then j m n
 then_meets found causes view new (Err e) j m n = stops_behind causes j m (found e) n
 
@@ -146,8 +150,8 @@ pub carries_reads : {T V F : Type 0} (causes : Causes T F) {whole rest : Part T 
     → Carries causes whole start rest now → Reads rest now v new → Reads whole start v new
 carries_reads causes {new = new} {v = v} c m = c (Ok v) new m
 
-pub carries_stops : {T V F : Type 0} (causes : Causes T F) (whole rest : Part T V F) (start now : Stream T)
-    (o : Option (Found F)) → Carries causes whole start rest now → Stops causes rest now o → Stops causes whole start o
+pub carries_stops : {T V F : Type 0} (causes : Causes T F) (whole rest : Part T V F) (start now : Stream T) (stop :
+    Option (Found F)) → Carries causes whole start rest now → Stops causes rest now stop → Stops causes whole start stop
 carries_stops causes whole rest start now o c s = c (Err o) now s
 
 pub carries_then : {T A B F : Type 0} (causes : Causes T F) {whole : Part T B F} {P : Part T A F} {Q : A → Part T B F}

@@ -8,7 +8,7 @@ use Rattle.ps_text.proofs.Simple.{laws_then}
 
 module _ {T A B F : Type 0} {odd : T → Type 0} {P : Part T A F} {Q : A → Part T B F}
     {First First' More' : T → Type 0} where
-  pub laws_next : {More : T → Type 0} → Laws odd P First More ⊥ → ((a : A) → Laws odd (Q a) First' More' ⊥) →
+  pub laws_next : {More : T → Type 0} → Laws odd P First More ⊥ → ((value : A) → Laws odd (Q value) First' More' ⊥) →
       Apart More First' → Laws odd (then_by P Q) First More' ⊥
   laws_next {More} l r apart = weaker (laws_then l r apart) first next (λ n. n.0)
     where
@@ -18,7 +18,7 @@ module _ {T A B F : Type 0} {odd : T → Type 0} {P : Part T A F} {Q : A → Par
       next : (t : T) → Or More' (When ⊥ More) t → More' t
       next t h = grind arith
 
-  pub laws_tight : {Null : Type 0} → Laws odd P First Nothing ⊥ → ((a : A) → Laws odd (Q a) First' More' Null) →
+  pub laws_tight : {Null : Type 0} → Laws odd P First Nothing ⊥ → ((value : A) → Laws odd (Q value) First' More' Null) →
       Laws odd (then_by P Q) First More' ⊥
   laws_tight {Null} l r = weaker (laws_then l r (λ t x y. x)) first next (λ n. n.0)
     where

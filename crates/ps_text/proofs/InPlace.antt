@@ -79,8 +79,9 @@ module _ {T V F : Type 0} (P Q : Part T V F) where
   begins_as [] t c e b = search rules
   begins_as (s ∷ front) t c e b = search rules
 
-  pub read_as : {all rest : List T} {v : V} → Covers (first_of all) P Q → IsRead P all v rest → IsRead Q all v rest
-  read_as {all} {rest} {v} c p = search (rules, stops_by, stops_at, begins_as, sign_of)
+  pub read_as : {all rest : List T} {value : V} → Covers (first_of all) P Q → IsRead P all value rest →
+      IsRead Q all value rest
+  read_as {all} {rest} {value = v} c p = search (rules, stops_by, stops_at, begins_as, sign_of)
 
   pub fault_as : {causes : Causes T F} {all rest : List T} {f : F} → Covers (first_of all) P Q → (IsBroken P []
       (first_of all) → (v : V) → Q.IsText [] v → ⊥) → IsFault causes P all f rest → IsFault causes Q all f rest

@@ -34,7 +34,7 @@ GoesOn {T} P front there = (t : T) × (there ≡ Some t) × Begins P.IsText (fro
 -- two grammars P and Q in a row satisfy `Joint`, if they satisfy the laws and no symbol both continues a text of P and
 -- begins a text of Q
 pub joint : {T A B F : Type 0} {odd : T → Type 0} {P : Part T A F} {Q : A → Part T B F} {F1 M1 F2 M2 : T → Type 0}
-    {N1 N2 : Type 0} → Laws odd P F1 M1 N1 → ((a : A) → Laws odd (Q a) F2 M2 N2) → Apart M1 F2 → Joint P Q
+    {N1 N2 : Type 0} → Laws odd P F1 M1 N1 → ((value : A) → Laws odd (Q value) F2 M2 N2) → Apart M1 F2 → Joint P Q
 joint {T} {A} {P = P} {M1 = M1} l r apart = grind (arith, append_assoc)
 
 module _ {T A B F : Type 0} {P : Part T A F} {Q : A → Part T B F} (j : Joint P Q) where
@@ -135,7 +135,7 @@ module _ {T A B F : Type 0} {P : Part T A F} {Q : A → Part T B F} (j : Joint P
             ((front ≡ []) × P.IsCause p.text t f)) → (Q a).IsCause front t f
         cause_of front t f e h = grind (arith, quiet_at, read_quiet)
 
-    pub read_then : {rest : List T} {b : B} → IsRead (Q a) mid b rest → IsRead (then_by P Q) all b rest
+    pub read_then : {rest : List T} {second : B} → IsRead (Q a) mid second rest → IsRead (then_by P Q) all second rest
     read_then q = read_after (then_by P Q) p.text p.split clean_text (read_as (Q a) _ covers_behind q)
 
     pub fault_right : {causes : Causes T F} {rest : List T} {f : F} → IsFault causes (Q a) mid f rest →

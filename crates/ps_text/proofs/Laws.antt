@@ -31,19 +31,23 @@ pub record Laws {T V F : Type 0} (odd : T → Type 0) (part : Part T V F) (First
   pub plain_text : (front rest : List T) (t : T) (v : V) → part.IsText (front ++ t ∷ rest) v → odd t → ⊥
   pub plain_cause : (front : List T) (t : T) (f : F) → part.IsCause front t f → odd t → ⊥
 
--- sets of symbols: the empty set, the union of two sets, and a set that is empty unless N holds
+-- the empty set of symbols
 abbrev pub Nothing : {T : Type 0} → T → Type 0
 Nothing _ = ⊥
 
+-- the union of two sets of symbols
 abbrev pub Or : {T : Type 0} → (T → Type 0) → (T → Type 0) → T → Type 0
 Or A B t = A t ⊎ B t
 
+-- the set A, if N holds; else the empty set
 abbrev pub When : {T : Type 0} → Type 0 → (T → Type 0) → T → Type 0
 When N A t = N × A t
 
+-- each symbol of the first set is in the second
 abbrev pub Within : {T : Type 0} → (T → Type 0) → (T → Type 0) → Type 0
 Within {T} A B = (t : T) → A t → B t
 
+-- no symbol is in both sets
 abbrev pub Apart : {T : Type 0} → (T → Type 0) → (T → Type 0) → Type 0
 Apart {T} A B = (t : T) → A t → B t → ⊥
 

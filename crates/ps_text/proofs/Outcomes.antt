@@ -27,7 +27,9 @@ use Rattle.ps_text.proofs.Whole.{Own, answers_ok, answers_fault, answers_trailin
 
 -- a decision about the errors that `Bad` states: there is one with the smallest number, or there is none
 pub data Judged {F : Type 0} (number : F → ℕ) (Bad : F → Type 0) : Type 0 where
+  -- the error f occurs, and no error with a smaller number
   bad : (f : F) → Bad f → ((g : F) → Bad g → number f ≤ number g) → Judged number Bad
+  -- no error occurs
   good : ((f : F) → Bad f → ⊥) → Judged number Bad
 
 -- the decision for a symbol with exactly one error
@@ -41,12 +43,12 @@ pub exact : {T V F : Type 0} {odd : T → Type 0} {P : Part T V F} {First More :
 exact l = search rules
 
 module _ {T F : Type 0} (causes : Causes T F) where
-  pub has_give : {V : Type 0} (v : V) → HasOutcomes causes (give {T = T} {V = V} {F = F} v)
+  pub has_give : {V : Type 0} (value : V) → HasOutcomes causes (give {T = T} {V = V} {F = F} value)
   has_give v = record { outcome = λ all. was_read v all (read_give all v) }
 
   -- the grammar of one symbol has a text, because `take` accepts the symbol s
-  pub has_one : {V : Type 0} (take : T → Option V) (Bad : T → F → Type 0) (s : T) (w : V) → take s ≡ Some w →
-      ((t : T) → Judged causes.number (Bad t)) → HasOutcomes causes (one take Bad)
+  pub has_one : {V : Type 0} (take : T → Option V) (Bad : T → F → Type 0) (sign : T) (value : V) →
+      take sign ≡ Some value → ((other : T) → Judged causes.number (Bad other)) → HasOutcomes causes (one take Bad)
   has_one {V} take Bad s w e judge = record { outcome = go }
     where
       taken : (t : T) (rest : List T) → ((f : F) → Bad t f → ⊥) → (o : Option V) → take t ≡ o →
@@ -64,6 +66,7 @@ module _ {T F : Type 0} (causes : Causes T F) where
           (λ u y. absurd (none_is_some u y)) (λ u f y d. none_is_some u y))
       go (t ∷ rest) = by t rest (judge t)
 
+  -- a grammar whose value is mapped has outcomes if the grammar has them
   pub has_mapped : {A B : Type 0} (h : A → B) (P : Part T A F) → HasOutcomes causes P → HasOutcomes causes (mapped h P)
   has_mapped h P p = record { outcome = λ all. go all (p.outcome all) }
     where
@@ -81,8 +84,9 @@ module _ {T F : Type 0} (causes : Causes T F) where
       behind (was_read b rest s) = was_read b rest (read_then j r s)
       behind (has_fault f rest s) = has_fault f rest (fault_right j r s)
 
+  -- P followed by Q has outcomes if P has them, and Q for each value of P
   pub has_then : {A B : Type 0} {P : Part T A F} {Q : A → Part T B F} → Joint P Q → HasOutcomes causes P →
-      ((a : A) → HasOutcomes causes (Q a)) → HasOutcomes causes (then_by P Q)
+      ((value : A) → HasOutcomes causes (Q value)) → HasOutcomes causes (then_by P Q)
   has_then j p q = record { outcome = λ all. outcome_then j all (λ mid a r. (q a).outcome mid) (p.outcome all) }
 
   -- if the next symbol does not begin P, which has no empty text, the outcome is a fault at this symbol

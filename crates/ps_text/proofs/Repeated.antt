@@ -104,7 +104,7 @@ module _ {T C F : Type 0} {odd : T → Type 0} (item : C → Part T C F) {First 
       more : (t : T) → Or (Or Nothing (Or More First)) (Or (When (Unit {0}) First) (When ⊥ Nothing)) t → Or More First t
       more t h = grind arith
 
-  pub laws_many : (c : C) → Laws odd (many item c) First (Or More First) (Unit {0})
+  pub laws_many : (value : C) → Laws odd (many item value) First (Or More First) (Unit {0})
   laws_many c = record {
     some = record { more = []; value = c; is_text = (zero, (refl, refl)) };
     one_value = λ text x y h k. let n = h.0 + k.0 in (laws_upto n c).one_value text x y

@@ -19,11 +19,11 @@ use Rattle.ps_text.proofs.InPlace.{stops_by, stops_at, quiet_by, fault_from}
 use Rattle.ps_text.proofs.Joined.{GoesOn, begins_left, begins_right, joint, text_behind, cause_behind}
 
 -- if two options `Some` are equal, their values are equal
-pub same_some : {T : Type 0} (u t : T) → Some u ≡ Some t → u ≡ t
+pub same_some : {T : Type 0} (other value : T) → Some other ≡ Some value → other ≡ value
 same_some u t e = cc
 
 -- `None` is not equal to `Some`
-pub none_is_some : {T : Type 0} (t : T) → None ≡ Some t → ⊥
+pub none_is_some : {T : Type 0} (value : T) → None ≡ Some value → ⊥
 none_is_some {T} t e = let y : None ≡ Some t = e in cc
 
 pub nil_is_cons : {T : Type 0} (t : T) (ts : List T) → [] ≡ t ∷ ts → ⊥
@@ -51,8 +51,8 @@ refused {P = P} l causes all avoided = search (rules, stops_by, quiet_by)
 
 -- ## give
 
-pub laws_give : {T V F : Type 0} (odd : T → Type 0) (v : V) →
-    Laws odd (give {T = T} {V = V} {F = F} v) Nothing Nothing (Unit {0})
+pub laws_give : {T V F : Type 0} (odd : T → Type 0) (value : V) →
+    Laws odd (give {T = T} {V = V} {F = F} value) Nothing Nothing (Unit {0})
 laws_give odd v = search (rules, nil_is_cons, append_nil_right, behind)
 
 pub read_give : {T V F : Type 0} (all : List T) (v : V) → IsRead (give {T = T} {V = V} {F = F} v) all v all
@@ -60,10 +60,11 @@ read_give {T} {V} {F} all v = search (rules, stops_by, nil_is_cons)
 
 -- ## one
 
--- the symbols with which `one` begins: those that it accepts (Taken), and those that are errors (BadSign)
+-- the symbols that `one` accepts
 abbrev pub Taken : {T V : Type 0} → (T → Option V) → T → Type 0
 Taken {T} {V} take t = (v : V) × (take t ≡ Some v)
 
+-- the symbols that are errors of `one`
 abbrev pub BadSign : {T F : Type 0} → (T → F → Type 0) → T → Type 0
 BadSign {T} {F} Bad t = (f : F) × Bad t f
 
@@ -71,7 +72,7 @@ pub taken_byte : {b n : ℕ} {u : Unit {0}} → (if n == b then Some tt else Non
 taken_byte {b} {n} {u} e = search (rules, eqb-true)
 
 module _ {T V F : Type 0} (take : T → Option V) (Bad : T → F → Type 0) where
-  pub laws_one : (odd : T → Type 0) (t : T) (v : V) → take t ≡ Some v → Apart (Taken take) odd →
+  pub laws_one : (odd : T → Type 0) (sign : T) (value : V) → take sign ≡ Some value → Apart (Taken take) odd →
       Apart (BadSign Bad) odd → Laws odd (one take Bad) (Or (Taken take) (BadSign Bad)) Nothing ⊥
   laws_one odd t v e plain plain_bad = record {
     some = record { more = t ∷ []; value = v; is_text = (t, refl, e) };

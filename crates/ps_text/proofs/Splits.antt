@@ -16,7 +16,7 @@ pub data Compared {T : Type 0} (a b c d : List T) : Type 0 where
   longer : (t : T) (middle : List T) → a ≡ c ++ t ∷ middle → d ≡ t ∷ (middle ++ b) → Compared a b c d
 
 -- equal lists have equal first entries
-pub same_head : {T : Type 0} (s t : T) (xs ys : List T) → s ∷ xs ≡ t ∷ ys → s ≡ t
+pub same_head : {T : Type 0} (entry other : T) (xs ys : List T) → entry ∷ xs ≡ other ∷ ys → entry ≡ other
 same_head s t xs ys e = cc
 
 pub same_tail : {T : Type 0} (s t : T) (xs ys : List T) → s ∷ xs ≡ t ∷ ys → xs ≡ ys

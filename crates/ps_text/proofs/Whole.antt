@@ -126,15 +126,17 @@ module _ {T V F : Type 0} {causes : Causes T F} {part : Part T V F} {First More 
   at_pieces old found {text} front rest e f first offset =
       grind (arith, append_cancel_right text (signs front) (signs rest) (sym f ∙ signs_split old.pieces front rest e))
 
-  pub answers_ok : (old : Stream T) (v : V) → IsRead part (signs old.pieces) v [] → PartAnswers causes part old (Ok v)
+  pub answers_ok : (old : Stream T) (value : V) → IsRead part (signs old.pieces) value [] →
+      PartAnswers causes part old (Ok value)
   answers_ok old v p = no_fault (signs old.pieces) v p
 
-  pub answers_fault : (old : Stream T) (f : Found F) → StopsWith causes part old f → PartAnswers causes part old (Err f)
+  pub answers_fault : (old : Stream T) (found : Found F) → StopsWith causes part old found →
+      PartAnswers causes part old (Err found)
   answers_fault old f s = at_pieces old f s.front s.rest s.split s.fault.split (first_fault s.fault) s.offset
 
-  pub answers_trailing : (old new : Stream T) (v : V) (p : Piece T) (ps : List (Piece T)) → IsSuffix old new →
-      IsRead part (signs old.pieces) v (signs new.pieces) → new.pieces ≡ p ∷ ps →
-      PartAnswers causes part old (Err (record { cause = refusal_of causes (Some p.sign); offset = p.start }))
+  pub answers_trailing : (old new : Stream T) (value : V) (piece : Piece T) (ps : List (Piece T)) → IsSuffix old new →
+      IsRead part (signs old.pieces) value (signs new.pieces) → new.pieces ≡ piece ∷ ps →
+      PartAnswers causes part old (Err (record { cause = refusal_of causes (Some piece.sign); offset = piece.start }))
   answers_trailing old new v p ps x r e = let read : IsRead part (signs old.pieces) v (p.sign ∷ signs ps) =
       search (rules, old.pieces) in
       at_pieces old _ x.taken (p ∷ ps) (x.split ∙ ap (λ z. x.taken ++ z) e) read.split (trailing read) refl

@@ -57,6 +57,6 @@ module _ {role : Role} {names : List (List ℕ)} {controllable : List ℕ} {c : 
   letters (m ∷ ms) = let rest = letters ms in (letter m ∷ rest.0, (letter_of_moment m, rest.1))
 
   -- exactly one list of letters belongs to each list of steps
-  pub has_letters : (ms : List Moment) → HasLetters names c ms
+  pub has_letters : (moments : List Moment) → HasLetters names c moments
   has_letters ms = let found = letters ms in
       grind (arith, letters, one_letters)

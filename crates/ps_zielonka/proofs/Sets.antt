@@ -7,12 +7,12 @@ use Rattle.std.proofs.lemmas.Bool.{cases_lt, leb-true, le-leb, lt-leb}
 use Rattle.ps_zielonka.specs.Inner.Nests.{from, size_from}
 
 -- each vertex of the set `from levels c` has level c or higher
-pub from_at : (levels : List ℕ) (c v : ℕ) → IsTrue (from levels c v) → c ≤ get_or levels v 0
+pub from_at : (levels : List ℕ) (level v : ℕ) → IsTrue (from levels level v) → level ≤ get_or levels v 0
 unfolding from
 from_at levels c v inside = leb-true c (get_or levels v 0) inside
 
 -- each vertex of level c or higher is in the set `from levels c`
-pub to_from : (levels : List ℕ) (c v : ℕ) → c ≤ get_or levels v 0 → IsTrue (from levels c v)
+pub to_from : (levels : List ℕ) (level v : ℕ) → level ≤ get_or levels v 0 → IsTrue (from levels level v)
 unfolding from
 to_from levels c v high = le-leb c (get_or levels v 0) high
 

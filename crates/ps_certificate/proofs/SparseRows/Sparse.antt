@@ -12,7 +12,7 @@ use Rattle.ps_certificate.specs.declared.row.PlacedCount.{PlacedCount}
 -- ## The counts of a vertex
 
 -- the full list of a vertex's counts that is made for a length n has n counts
-pub length-counts_from : (ps : List PlacedCount) (n k : ℕ) → length (counts_from ps n k) ≡ n
+pub length-counts_from : (placed : List PlacedCount) (count place : ℕ) → length (counts_from placed count place) ≡ count
 length-counts_from ps zero k = refl
 length-counts_from ps (suc n) k = ap suc (length-counts_from ps n (suc k))
 

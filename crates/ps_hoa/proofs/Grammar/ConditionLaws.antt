@@ -24,6 +24,7 @@ abbrev pub is_word : Kind → Bool
 is_word Word = true
 is_word kind = false
 
+-- whether the kind is that of whole numbers
 abbrev pub is_int : Kind → Bool
 is_int Int = true
 is_int kind = false

@@ -27,9 +27,9 @@ use Rattle.ps_hoa.specs.declared.tokens.Kind.TheVariants.{Header, Int, Text, Wor
 use Rattle.ps_hoa.proofs.Reading.SingleTokens.{IsOfSigns, reads_one}
 
 pub reads_token : {V X : Type 0} (view : X → V) {take : Sign → Option V} {Bad : Sign → HoaCause → Type 0} →
-    IsOfSigns take Bad → (piece : Piece Sign) (old new : Stream Sign) (r : Result X HoaFault) →
-    Takes view take Bad piece r → piece ≡ next_of old → new ≡ behind_next old →
-    Meets found_of hoa_causes view (one take Bad) old r new
+    IsOfSigns take Bad → (piece : Piece Sign) (old new : Stream Sign) (result : Result X HoaFault) →
+    Takes view take Bad piece result → piece ≡ next_of old → new ≡ behind_next old →
+    Meets found_of hoa_causes view (one take Bad) old result new
 reads_token view {take} {Bad} o piece old new r t e n = grind (arith, reads_one)
 
 -- `expect_in` rejects a token of any kind but the expected one

@@ -29,6 +29,7 @@ use Rattle.ps_hoa.proofs.Grammar.OperandLaws.{Odd, Of, nothing_apart, laws_behin
 abbrev pub nests : Kind → Bool
 nests = union is_not is_left
 
+-- whether a token of the kind begins an operand
 abbrev pub is_start : Kind → Bool
 is_start = union is_single nests
 

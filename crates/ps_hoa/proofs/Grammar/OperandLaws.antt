@@ -29,6 +29,7 @@ use Rattle.ps_hoa.specs.Operands.{row}
 use Rattle.ps_hoa.specs.declared.fault.HoaCause.{HoaCause}
 use Rattle.ps_hoa.specs.declared.tokens.Kind.{Kind}
 
+-- tokens that are errors wherever they occur, so that no grammar accepts them
 abbrev pub Odd : Sign → Type 0
 Odd = Own hoa_causes
 

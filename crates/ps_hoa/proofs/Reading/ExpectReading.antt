@@ -60,7 +60,8 @@ module _ {test : Kind → Bool} {kind : Kind} (tests : Tests test kind) where
   pub expect_begins : (s : Stream Sign) → (next_of s).sign.kind ≡ kind → Enters (expect test) (there_of s)
   expect_begins s e = search (rules, sign_begins, taken_there)
 
-  pub expect_elsewhere : (s : Stream Sign) → ((next_of s).sign.kind ≡ kind → ⊥) → Avoids (Of test) (there_of s)
+  pub expect_elsewhere : (stream : Stream Sign) → ((next_of stream).sign.kind ≡ kind → ⊥) →
+      Avoids (Of test) (there_of stream)
   expect_elsewhere s differs = avoids_kind test s (λ h. differs (tests.is.1 (next_of s).sign.kind h))
 
 -- moving past a token does not increase the number of remaining tokens

@@ -46,8 +46,8 @@ pub serves_both : {V : Type 0} {old : Stream Sign} {P Q R : Part Sign V HoaCause
 serves_both w k = record { reads = λ v new m. k.reads v new (w.reads v new m); stops = λ o s. k.stops o (w.stops o s) }
 
 pub serves_meets : {V X : Type 0} (view : X → V) {old : Stream Sign} (new : Stream Sign) {P Q : Part Sign V HoaCause}
-    (r : Result X HoaFault) → Serves old P Q → Meets found_of hoa_causes view P old r new →
-    Meets found_of hoa_causes view Q old r new
+    (result : Result X HoaFault) → Serves old P Q → Meets found_of hoa_causes view P old result new →
+    Meets found_of hoa_causes view Q old result new
 serves_meets view new r w m = grind arith
 
 -- ## Faults
@@ -76,8 +76,9 @@ pub instead : {A B : Type 0} {P Q : Part Sign A HoaCause} {R : Part Sign B HoaCa
 instead w l = record { stops = λ o s. w.stops o (l.stops o s) }
 
 pub exit : {A V X : Type 0} (view : X → V) {P : Part Sign V HoaCause} {Q : Part Sign A HoaCause} {old now : Stream Sign}
-    (new : Stream Sign) (e : HoaFault) (r : Result X HoaFault) → Leads P old Q now →
-    Stops hoa_causes Q now (found_of e) → IsErrAnd r (λ y. y ≡ e) → Meets found_of hoa_causes view P old r new
+    (new : Stream Sign) (fault : HoaFault) (result : Result X HoaFault) → Leads P old Q now →
+    Stops hoa_causes Q now (found_of fault) → IsErrAnd result (λ y. y ≡ fault) →
+    Meets found_of hoa_causes view P old result new
 exit view {P} {old = old} new e r l s i = exits found_of hoa_causes view P old new e r (l.stops (found_of e) s) i
 
 -- ## The tokens that begin a part, and values
@@ -86,8 +87,8 @@ pub entered : {A B : Type 0} {P : Part Sign A HoaCause} {Q : A → Part Sign B H
     Enters P (there_of s) → Enters (then_by P Q) (there_of s)
 entered {P = P} {Q = Q} j s e = enters_then P Q j (there_of s) e
 
-pub value_is : {V : Type 0} {P : Part Sign V HoaCause} {old new : Stream Sign} {v w : V} → v ≡ w → Reads P old v new →
-    Reads P old w new
+pub value_is : {V : Type 0} {P : Part Sign V HoaCause} {old new : Stream Sign} {value other : V} → value ≡ other →
+    Reads P old value new → Reads P old other new
 value_is {P = P} {old = old} {new = new} e m = grind arith
 
 -- ## Loops
@@ -98,14 +99,15 @@ pub record Loop {C : Type 0} (item : C → Part Sign C HoaCause) (First : Sign �
   pub apart : Apart More First
 
 module _ {C : Type 0} {item : C → Part Sign C HoaCause} {First : Sign → Type 0} (w : Loop item First) where
-  pub loop_more : {whole : Part Sign C HoaCause} {start now next : Stream Sign} {c d : C} →
-      Carries hoa_causes whole start (many item c) now → Reads (item c) now d next →
-      Carries hoa_causes whole start (many item d) next
+  pub loop_more : {whole : Part Sign C HoaCause} {start now next : Stream Sign} {value next_value : C} →
+      Carries hoa_causes whole start (many item value) now → Reads (item value) now next_value next →
+      Carries hoa_causes whole start (many item next_value) next
   loop_more = carries_many item w.laws w.apart hoa_causes
 
-  pub loop_fails : {whole : Part Sign C HoaCause} {start now : Stream Sign} {c : C} →
-      Carries hoa_causes whole start (many item c) now → Enters (item c) (there_of now) → Leads whole start (item c) now
-  loop_fails {whole} {start} {now} {c} k e = record {
+  pub loop_fails : {whole : Part Sign C HoaCause} {start now : Stream Sign} {value : C} →
+      Carries hoa_causes whole start (many item value) now → Enters (item value) (there_of now) →
+      Leads whole start (item value) now
+  loop_fails {whole} {start} {now} {value = c} k e = record {
     stops = λ o s. carries_stops hoa_causes whole (many item c) start now o k
         (many_fails item w.laws w.apart hoa_causes c now o e s);
   }

@@ -12,7 +12,7 @@ use Rattle.ps_hoa.specs.declared.tokens.Kind.TheVariants.{Finish}
 pub next_there : (s : Stream Sign) → ((next_of s).sign.kind ≡ Finish → ⊥) → next_sign s ≡ Some (next_of s).sign
 next_there s h = grind arith
 
-pub next_same : (s : Stream Sign) (t : Sign) → next_sign s ≡ Some t → (next_of s).sign ≡ t
+pub next_same : (stream : Stream Sign) (t : Sign) → next_sign stream ≡ Some t → (next_of stream).sign ≡ t
 next_same s t h = grind (arith, none_is_some, same_some)
 
 pub start_there : (s : Stream Sign) → (next_of s).start ≡ offset_of s.pieces s.end

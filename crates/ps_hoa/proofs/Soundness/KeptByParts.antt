@@ -26,13 +26,14 @@ keeps_give S v s text w i q = subst S (sym i.1) s
 
 -- the values of a grammar of one token have a property if the value of each accepted token has it
 pub keeps_one : {T V F : Type 0} {S : V → Type 0} (take : T → Option V) (Bad : T → F → Type 0) →
-    ((t : T) (v : V) → take t ≡ Some v → ((f : F) → Bad t f → ⊥) → S v) → Keeps (one take Bad) S
+    ((sign : T) (value : V) → take sign ≡ Some value → ((cause : F) → Bad sign cause → ⊥) → S value) →
+    Keeps (one take Bad) S
 keeps_one take Bad h text v i q = h i.0 v i.2 (λ f b. q [] [] i.0 f i.1 (refl, b))
 
 -- the values of two grammars in sequence have a property if the second grammar's values have it for each value of the
 -- first grammar
 pub keeps_then : {T A B F : Type 0} {S : A → Type 0} {R : B → Type 0} {P : Part T A F} {Q : A → Part T B F} →
-    Keeps P S → ((a : A) → S a → Keeps (Q a) R) → Keeps (then_by P Q) R
+    Keeps P S → ((value : A) → S value → Keeps (Q value) R) → Keeps (then_by P Q) R
 keeps_then {P = P} {Q = Q} p q text b i quiet = q i.value (p i.left i.value i.is_left left) i.right b i.is_right right
   where
     left : IsQuiet P i.left

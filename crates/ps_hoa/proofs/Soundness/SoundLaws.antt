@@ -40,8 +40,8 @@ all_get P [] a k x e = absurd (none_is_some x e)
 all_get P (y ∷ xs) a zero x e = subst P (same_some y x e) (a 0 y (omega arith))
 all_get P (y ∷ xs) a (suc k) x e = all_get P xs (λ n d l. a (suc n) d (omega arith)) k x e
 
-pub sound_edge : (file : FileData) (row : RowData) → IsSoundRow file row → (j : ℕ) (edge : EdgeData) →
-    slice_get row.edges j ≡ Some edge → IsSoundEdge file edge
+pub sound_edge : (file : FileData) (row : RowData) → IsSoundRow file row → (place : ℕ) (edge : EdgeData) →
+    slice_get row.edges place ≡ Some edge → IsSoundEdge file edge
 sound_edge file row r j edge e = all_get (IsSoundEdge file) row.edges r.edges j edge e
 
 module _ (file : FileData) (s : IsSoundFile file) where

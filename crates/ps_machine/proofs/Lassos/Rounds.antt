@@ -21,9 +21,9 @@ use Rattle.ps_machine.proofs.LeastLetters.{none_without_least, contained_or_not}
 -- ## Keys
 
 -- in a list of different entries, each entry has only one index
-pub one_place : {X : Type 0} (xs : List X) → AllPairs (λ x y. x ≢ y) xs → (v w : ℕ) {x : X} →
-    slice_get xs v ≡ Some x → slice_get xs w ≡ Some x → v ≡ w
-one_place xs differ v w {x} at there = search (rules, slice_get_within, get_or_from_slice_get)
+pub one_place : {X : Type 0} (list : List X) → AllPairs (λ x y. x ≢ y) list → (place other : ℕ) {entry : X} →
+    slice_get list place ≡ Some entry → slice_get list other ≡ Some entry → place ≡ other
+one_place xs differ v w {entry = x} at there = search (rules, slice_get_within, get_or_from_slice_get)
 
 pub map_contains : (f : ℕ → Key) (letters : List ℕ) (k : ℕ) {y : ℕ} → k < length letters → get_or letters k y ≡ y →
     Contains (map f letters) (f y)
@@ -31,6 +31,7 @@ map_contains f letters k {y} within is = grind (arith, length-map letters f, get
 
 -- ## Edges
 
+-- a game that is made of keys, with a certificate that fits it and is valid
 pub record Setting (board : Board) (mover : ℕ) (keys : List Key) (game : ParityGame)
     (certificate : CertificateData) : Type 0 where
   pub is_mover : mover < 2
@@ -51,8 +52,8 @@ pub record Round (game : ParityGame) (certificate : CertificateData) (v w : ℕ)
 module _ {board : Board} {mover : ℕ} {keys : List Key} {game : ParityGame} {certificate : CertificateData}
     (s : Setting board mover keys game certificate) where
   -- each index in the list of keys is a vertex of the game
-  pub within_game : (v : ℕ) {k : Key} → StandsAt keys v k → v < vertex_count game
-  within_game v {k} at = omega (arith, slice_get_within keys v k at, s.by_keys.count)
+  pub within_game : (v : ℕ) {key : Key} → StandsAt keys v key → v < vertex_count game
+  within_game v {key = k} at = omega (arith, slice_get_within keys v k at, s.by_keys.count)
 
   pub same_place : (v w : ℕ) {k : Key} → StandsAt keys v k → StandsAt keys w k → v ≡ w
   same_place = one_place keys s.by_keys.different

@@ -137,5 +137,6 @@ module _ {C : Type 0} {number : C → ℕ} {syntax : C} where
   word_of [] = larger (given tt) (λ t h. tt) (λ t h. h) (λ n. n)
   word_of (b ∷ bytes) = larger (tight (byte_of b) (λ _. word_of bytes)).whole (λ t h. tt) (λ t h. h) (λ n. tt)
 
-  pub chain_word : (b : ℕ) (bytes : List ℕ) → Chain number syntax (byte b) (λ _. word bytes) (At b) Nothing ⊥
+  pub chain_word : (first : ℕ) (bytes : List ℕ) → Chain number syntax (byte first) (λ _. word bytes) (At first) Nothing
+      ⊥
   chain_word b bytes = tight (byte_of b) (λ _. word_of bytes)

@@ -37,16 +37,16 @@ module _ {C : Type 0} {number : C → ℕ} {syntax : C} where
   module _ {A V : Type 0} {P : Part Seen A C} {Q : A → Part Seen V C} {First More : Seen → Type 0} {Null : Type 0}
       (j : Chain number syntax P Q First More Null) {whole : Part Seen V C} {start now : Stream Seen}
       (l : Left number syntax whole start (then_by P Q) now) where
-    pub past : {a : A} {next : Stream Seen} → Reads P now a next → Left number syntax whole start (Q a) next
+    pub past : {first : A} {next : Stream Seen} → Reads P now first next → Left number syntax whole start (Q first) next
     past m = record { carries = carries_then (byte_causes number syntax) j.joint l.carries m }
 
-    pub stops_at : (o : Option (Found C)) → Stops (byte_causes number syntax) P now o →
-        Stops (byte_causes number syntax) whole start o
+    pub stops_at : (stop : Option (Found C)) → Stops (byte_causes number syntax) P now stop →
+        Stops (byte_causes number syntax) whole start stop
     stops_at o m = l.carries (Err o) now (stops_first (byte_causes number syntax) j.joint now o m)
 
-    pub exits_at : {X : Type 0} (view : X → V) (new : Stream Seen) (e : Fault C) (r : Result X (Fault C)) →
-        Stops (byte_causes number syntax) P now (found_of e) → IsErrAnd r (λ y. y ≡ e) →
-        Meets found_of (byte_causes number syntax) view whole start r new
+    pub exits_at : {X : Type 0} (view : X → V) (new : Stream Seen) (fault : Fault C) (result : Result X (Fault C)) →
+        Stops (byte_causes number syntax) P now (found_of fault) → IsErrAnd result (λ y. y ≡ fault) →
+        Meets found_of (byte_causes number syntax) view whole start result new
     exits_at view new e r m i =
         exits found_of (byte_causes number syntax) view whole start new e r (stops_at (found_of e) m) i
 
@@ -56,14 +56,15 @@ module _ {C : Type 0} {number : C → ℕ} {syntax : C} where
         Stops (byte_causes number syntax) whole start o
     stops_last o m = l.carries (Err o) now (stops_mapped (byte_causes number syntax) h P now o m)
 
-    pub exits_last : {X : Type 0} (view : X → V) (new : Stream Seen) (e : Fault C) (r : Result X (Fault C)) →
-        Stops (byte_causes number syntax) P now (found_of e) → IsErrAnd r (λ y. y ≡ e) →
-        Meets found_of (byte_causes number syntax) view whole start r new
+    pub exits_last : {X : Type 0} (view : X → V) (new : Stream Seen) (fault : Fault C) (result : Result X (Fault C)) →
+        Stops (byte_causes number syntax) P now (found_of fault) → IsErrAnd result (λ y. y ≡ fault) →
+        Meets found_of (byte_causes number syntax) view whole start result new
     exits_last view new e r m i =
         exits found_of (byte_causes number syntax) view whole start new e r (stops_last (found_of e) m) i
 
-    pub reads_last : {a : A} {v : V} {new : Stream Seen} → Reads P now a new → v ≡ h a → Reads whole start v new
-    reads_last {a} {v} {new} m e = value_is (sym e) (l.carries (Ok (h a)) new (reads_mapped h m))
+    pub reads_last : {last : A} {value : V} {new : Stream Seen} → Reads P now last new → value ≡ h last →
+        Reads whole start value new
+    reads_last {last = a} {value = v} {new} m e = value_is (sym e) (l.carries (Ok (h a)) new (reads_mapped h m))
 
   pub branch : {V : Type 0} {P Q whole : Part Seen V C} {start now : Stream Seen} →
       Left number syntax whole start Q now → Stands (next_of now) P Q → Left number syntax whole start P now

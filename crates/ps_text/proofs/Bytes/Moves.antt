@@ -47,11 +47,11 @@ nil_of [] h = refl
 nil_of (x ∷ xs) h = absurd (omega (arith, h))
 
 -- if the test for an empty list is true, the list is empty
-pub is_empty_true : {r : List ℕ} {b : Bool} → b ≡ eqb (length r) 0 → b ≡ true → r ≡ []
-is_empty_true {r} e t = nil_of r (eqb-true (length r) 0 (sym e ∙ t))
+pub is_empty_true : {list : List ℕ} {truth : Bool} → truth ≡ eqb (length list) 0 → truth ≡ true → list ≡ []
+is_empty_true {list = r} e t = nil_of r (eqb-true (length r) 0 (sym e ∙ t))
 
 -- if the test for an empty list is false, the list has an entry
-pub is_empty_false : (r : List ℕ) {b : Bool} → b ≡ eqb (length r) 0 → b ≡ false → 0 < length r
+pub is_empty_false : (list : List ℕ) {truth : Bool} → truth ≡ eqb (length list) 0 → truth ≡ false → 0 < length list
 is_empty_false r h k = search rules
 
 stops_ended : (p : ℕ → Bool) (u : Bool) (rest : List ℕ) → p 10 ≡ false → StopsBefore p rest →

@@ -26,7 +26,7 @@ use Rattle.ps_text.proofs.Exits.{reads_next}
 use Rattle.ps_text.proofs.Outcomes.{has_one}
 use Rattle.ps_text.proofs.Decisions.{judge_none}
 
-pub refuted : {A : Type 0} {b : Bool} → (A → b ≡ true) → b ≡ false → A → ⊥
+pub refuted : {A : Type 0} {truth : Bool} → (A → truth ≡ true) → truth ≡ false → A → ⊥
 refuted f e a = let y : true ≡ false = sym (f a) ∙ e in cc
 
 abbrev pub Odd : Type 0 → Seen → Type 0
@@ -46,7 +46,7 @@ abbrev pub seen : ℕ → Seen
 seen b = record { byte = b; at = 0; behind = [] }
 
 -- the grammar of a byte accepts this byte if it is next
-pub byte_taken : {b : ℕ} (s : Seen) → s.byte ≡ b → take_byte b s ≡ Some tt
+pub byte_taken : {b : ℕ} (sign : Seen) → sign.byte ≡ b → take_byte b sign ≡ Some tt
 byte_taken {b} s e = ap (λ x. cond x (Some tt) None) (eq-eqb s.byte b e)
 
 pub taken_byte : {b : ℕ} (s : Seen) {u : Unit {0}} → take_byte b s ≡ Some u → s.byte ≡ b
@@ -57,7 +57,7 @@ next_is o h = search (rules, none_is_some, same_some)
 
 -- ## Where a grammar begins, and where it does not
 
-pub avoids : (b : ℕ) (old : Stream Seen) → (next_byte old ≡ Some b → ⊥) → Avoids (At b) (next_of old)
+pub avoids : (byte : ℕ) (old : Stream Seen) → (next_byte old ≡ Some byte → ⊥) → Avoids (At byte) (next_of old)
 avoids b old none t n h = none (ap (option_map (λ (s : Seen). s.byte)) n ∙ ap Some h)
 
 pub enters_byte : (C : Type 0) (b : ℕ) (old : Stream Seen) → next_byte old ≡ Some b →
