@@ -1,5 +1,5 @@
 """Tests that each public name of the definitions has one meaning: a name that two files define must be listed in
-FAMILIES."""
+FAMILIES. Players are of the type `Player`, and no two crates have a lemma file of one name, but for those listed."""
 import collections
 import glob
 import os
@@ -18,6 +18,19 @@ FAMILIES = {
     "the same property of bytes and numbers": "AreRising BeginsWithZero IsByteRun IsDigit IsWord StopsBefore bytes_of is_among is_digit place_in",
     "the same property of two types of faults": "IsOutOfMemory IsRefusal IsTold NamesVertices",
     "the same view of two types": "draft_of moves_of name_bytes names_of with_move",
+}
+PLAYER = re.compile(r"\b(?:player|owner|winner)s?: u8\b|\((?:player|owner|winner)\b[^)]*\): \(u8\b")
+NUMBERS_OF_PLAYERS = {
+    "ps_certificate/src/entries.rt": "the public field of `Entry`, which may be any number until the certificate fits",
+    "ps_game/src/builder.rt": "`GameBuilder::vertex` takes the number of an owner",
+    "ps_game_tests/src/games.rt": "passes the number on to `GameBuilder::vertex`",
+    "ps_product/src/exploring.rt": "a field of a struct that is copied: a copy of a `Player` in it gets no proof",
+    "ps_referee/src/fault.rt": "the public field of `JudgeFault`",
+}
+PROOFS_OF_FUNCTIONS = ("Answers.antt", "Invariants.antt", "Proof.antt", "Lib.antt")
+SAME_LEMMA_FILES = {
+    "Distinct.antt": "ps_automaton ps_diagram: lists without repeats, of the entries of each crate",
+    "Unions.antt": "ps_automaton ps_diagram: joined edges, and joined diagrams",
 }
 
 
@@ -54,6 +67,22 @@ class Names(unittest.TestCase):
             if words and crate not in ("ps_hoa", "ps_automaton", "ps_automaton_tests"):
                 others.append(f"{path}: {' '.join(sorted(words))}")
         self.assertEqual(others, [])
+
+    def test_a_player_is_no_number(self):
+        numbers = collections.Counter()
+        for path in glob.glob(os.path.join(TOP, "crates", "*", "src", "**", "*.rt"), recursive=True):
+            with open(path, encoding="utf-8") as file:
+                numbers[os.path.relpath(path, os.path.join(TOP, "crates"))] += sum(bool(PLAYER.search(line)) for line in file)
+        self.assertEqual({path: count for path, count in numbers.items() if count}, dict.fromkeys(NUMBERS_OF_PLAYERS, 1))
+
+    def test_lemma_files_of_two_crates_differ_in_their_names(self):
+        crates = collections.defaultdict(set)
+        for path in glob.glob(os.path.join(TOP, "crates", "*", "proofs", "**", "*.antt"), recursive=True):
+            if os.path.basename(path) not in PROOFS_OF_FUNCTIONS:
+                crates[os.path.basename(path)].add(os.path.relpath(path, os.path.join(TOP, "crates")).split(os.sep)[0])
+        twice = {name: " ".join(sorted(where)) for name, where in crates.items() if len(where) > 1}
+        self.assertGreater(len(crates), 500)
+        self.assertEqual(twice, {name: reason.split(":")[0] for name, reason in SAME_LEMMA_FILES.items()})
 
 
 if __name__ == "__main__":
