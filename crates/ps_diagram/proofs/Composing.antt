@@ -1,5 +1,5 @@
 -- Trees in which Boolean functions (truths) replace propositions.
-use Rattle.std.proofs.Common.{◌≡◌, ℕ, ◌<◌, Bool, cond, List, All, Option, None, Some, length, get_or, refl, ap, sym}
+use Rattle.std.proofs.Common.{◌≡◌, ℕ, ◌<◌, Bool, cond, List, All, Option, None, Ok, Some, length, get_or, refl, ap, sym}
 use Rattle.std.proofs.Common.{◌∙◌}
 use Rattle.std.proofs.Common.{inl, inr}
 use Rattle.std.specs.Prelude.{is_some}
@@ -8,9 +8,10 @@ use Rattle.ps_diagram.specs.Inner.Known.{Knows}
 use Rattle.ps_diagram.specs.Inner.Parts.{IsChoice}
 use Rattle.ps_diagram.specs.Leaves.{chosen}
 use Rattle.ps_diagram.specs.Letters.{assignment}
-use Rattle.ps_diagram.specs.Table.{Table, IsNode, Keeps, leaf_of, tree_of}
+use Rattle.ps_diagram.specs.Table.{Table, IsNode, Keeps, MakesDiagram, MakesTree, leaf_of, tree_of}
 use Rattle.ps_diagram.specs.Tree.{Tree, leaf_at}
 use Rattle.ps_diagram.proofs.Cells.{bool_cases}
+use Rattle.ps_diagram.proofs.Making.{by-sides}
 
 -- if only one side of a test is needed, since the function in place of the proposition is constant, this side is an
 -- earlier node
@@ -48,24 +49,27 @@ chosen_side (Some k) a b = refl
 
 -- replacing propositions in a node: in its low side first, then in its high side, and the tested proposition's function
 -- chooses between the results
-pub composed_sides : {s r u v : Table} (w : Table) (truths : List ℕ) → All (IsNode r) truths → Keeps r u → Keeps u v →
-    {node p low high low' : ℕ} (high' made' : ℕ) → IsChoice s node p low high → p < length truths → IsNode u low' →
-    IsComposed r truths (tree_of s low) (tree_of u low') → IsComposed u truths (tree_of s high) (tree_of v high') →
-    ((letter : ℕ) → leaf_of w made' letter ≡
+pub composed_sides : {E : Type 0} {s r u v w : Table} (truths : List ℕ) → All (IsNode r) truths →
+    {node p low high low' high' made' : ℕ} → IsChoice s node p low high → p < length truths →
+    MakesTree {E = E} r u (Ok low') (IsComposed r truths (tree_of s low)) →
+    MakesTree {E = E} u v (Ok high') (IsComposed u truths (tree_of s high)) →
+    MakesDiagram {E = E} v w (Ok made') (λ letter.
     chosen (leaf_of v (get_or truths p 0) letter) (leaf_of v high' letter) (leaf_of v low' letter)) →
-    IsComposed r truths (tree_of s node) (tree_of w made')
-composed_sides {s} {r} {u} {v} w truths held k m {node} {p} {low} {high} {low'} high' made' h named low_held l g made
-    letter
-    f bits =
+    MakesTree {E = E} r w (Ok made') (IsComposed r truths (tree_of s node))
+composed_sides {s = s} {r = r} {u = u} {v = v} {w = w} truths held {p = p} {low = low} {high = high} {low' = low'}
+    {high' = high'} h named l g made =
+    let k = l.keeps in
+    let m = g.keeps in
+    by-sides l g made (λ letter f bits.
     let x = leaf_of v (get_or truths p 0) letter in
     let n : IsNode r (get_or truths p 0) = held p 0 named in
     let same : is_some x ≡ f p =
     ap is_some (leaf_same letter m (k.held (get_or truths p 0) n) ∙ leaf_same letter k n) ∙ sym (bits p named) in
     let one : leaf_of v high' letter ≡ leaf_at (tree_of s high) f =
-    g letter f (bits_after truths k held letter f bits) in
-    let other : leaf_of v low' letter ≡ leaf_at (tree_of s low) f = leaf_same letter m low_held ∙ l letter f bits in
-    made letter ∙ chosen_side x (leaf_of v high' letter) (leaf_of v low' letter)
+    g.leaf letter f (bits_after truths k held letter f bits) in
+    let other : leaf_of v low' letter ≡ leaf_at (tree_of s low) f = leaf_same letter m l.held ∙ l.leaf letter f bits in
+    made.leaf letter ∙ chosen_side x (leaf_of v high' letter) (leaf_of v low' letter)
     ∙ ap (λ b. cond b (leaf_of v high' letter) (leaf_of v low' letter)) same
     ∙ ap (λ y. cond (f p) y (leaf_of v low' letter)) one
     ∙ ap (λ y. cond (f p) (leaf_at (tree_of s high) f) y) other
-    ∙ sym (ap (λ (y : Tree). leaf_at y f) h.tree)
+    ∙ sym (ap (λ (y : Tree). leaf_at y f) h.tree))

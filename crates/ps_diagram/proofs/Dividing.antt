@@ -1,19 +1,22 @@
 -- Diagrams whose leaves are numbers of nodes.
-use Rattle.std.proofs.Common.{◌≡◌, ℕ, ◌+◌, Bool, true, false, cond, Option, Some, ap, sym, ◌∙◌, rules}
+use Rattle.std.proofs.Common.{◌≡◌, ℕ, ◌+◌, Bool, true, false, cond, Ok, Option, Some, ap, inl, inr, sym, ◌∙◌, rules}
 use Rattle.std.specs.Prelude.{IsSome}
 use Rattle.std.proofs.lemmas.Bool.{eqb-true}
 use Rattle.ps_label.specs.Truth.{is_in}
 use Rattle.ps_diagram.specs.Tree.{Tree, final, leaf_at, IsBlind, IsTestOf}
-use Rattle.ps_diagram.specs.Table.{Table, IsNode, IsSoundTable, Keeps, tree_of}
-use Rattle.ps_diagram.specs.Split.{IsSides}
+use Rattle.ps_diagram.specs.Table.{Table, IsNode, IsSoundTable, Keeps, MakesTree, tree_of}
+use Rattle.ps_diagram.specs.Split.{IsSides, IsSplit}
 use Rattle.ps_diagram.specs.Inner.Known.{Knows}
-use Rattle.ps_diagram.specs.Inner.Rests.{mixed, IsDivided, LeadsToNodes, AreTested, IsTested, IsDividedTest}
+use Rattle.ps_diagram.specs.Inner.Rests.{AreLeading, IsPlace, mixed, IsDivided, LeadsToNodes, AreTested, IsTested, IsDividedTest}
 use Rattle.ps_diagram.specs.Inner.Rests.{KnowsTests, test_eq}
 use Rattle.ps_diagram.proofs.Canon.{same_cond}
 use Rattle.ps_diagram.proofs.Cells.{bool_cases, keeps_refl}
 use Rattle.ps_diagram.proofs.Keys.{and_both}
 use Rattle.ps_diagram.proofs.Clashing.{one_node}
+use Rattle.ps_diagram.proofs.Mapping.{on_side}
+use Rattle.ps_diagram.specs.declared.split.Split.{Split}
 use Rattle.ps_diagram.proofs.KnownLemmas.{MayBePut, keeps_trans, knows_kept, one_more}
+use Rattle.ps_diagram.proofs.Making.{by-sides}
 
 are_tested : {t : Table} {test : (ℕ → Bool) → Bool} {x y z : Option ℕ} {low high made : ℕ} → x ≡ Some low →
     y ≡ Some high → z ≡ Some made → IsNode t low → IsNode t high → IsNode t made →
@@ -67,7 +70,7 @@ pub tested_blind : {t : Table} → IsSoundTable t → (p level : ℕ) (a b d : T
     IsBlind level b → IsBlind level d
 tested_blind {t} s p level a b d h ba bb f g e = tested_alike s p a b d h f g (ba f g e) (bb f g e)
 
--- how a diagram whose leaves are numbers of nodes is made from those of a node's low side and high side
+-- how divided trees and tested trees are made
 
 -- what remains of a diagram that tests no proposition has the diagram's leaf
 pub divided_here : {t u : Table} → Keeps t u → (mask : ℕ) {node place : ℕ} (a : Tree) {d : Tree} (leaf : Option ℕ) →
@@ -96,11 +99,6 @@ tested_same t p level a h f =
     let x = h f in
     are_tested x.1 x.1 x.1 x.2 x.2 x.2 (λ g. same_cond (g p) (leaf_at (tree_of t x.0) g))
 
--- the test of p can be moved into the leaves of two diagrams of nodes by moving it into the leaves of their sides
-tested_test : (t : Table) (p q : ℕ) (a al ah b bl bh d dl dh : Tree) → IsTestOf q al ah a → IsTestOf q bl bh b →
-    IsTestOf q dl dh d → IsTested t p al bl dl → IsTested t p ah bh dh → IsTested t p a b d
-tested_test t p q a al ah b bl bh d dl dh ta tb td l h f = search (rules, bool_cases)
-
 -- the entries of memo tables for diagrams whose leaves are numbers of nodes still hold when the table grows, and when
 -- an entry is added
 
@@ -116,9 +114,14 @@ tests_kept known k h p a b made e = search (rules, tested_kept)
 pub test_same : (a b : ℕ × ℕ × ℕ) → test_eq a b ≡ true → a ≡ b
 test_same (n, x, y) (p, a, b) e = search (rules, and_both, eqb-true)
 
-pub tests_more : {t : Table} (known new : ℕ × ℕ × ℕ → Option ℕ) (n : ℕ) {x y value : ℕ} →
-    MayBePut test_eq known new (n, x, y) value → KnowsTests t known → IsNode t x → IsNode t y → IsNode t value → IsTested t n (tree_of t x) (tree_of t y) (tree_of t value) → KnowsTests t new
-tests_more {t} known new n put h hx hy hv r p a b = search (rules, one_more, test_same)
+pub tests_put : {E : Type 0} {s u t : Table} (known new : ℕ × ℕ × ℕ → Option ℕ) (n : ℕ) {x y value : ℕ} →
+    MayBePut test_eq known new (n, x, y) value → Keeps u t → KnowsTests u known → IsNode s x → IsNode s y →
+    MakesTree {E = E} s t (Ok value) (IsTested t n (tree_of s x) (tree_of s y)) → KnowsTests t new
+tests_put {t = t} known new n put k h hx hy m p a b =
+    let j = m.keeps in
+    one_more (λ q v. IsNode t q.1 × IsNode t q.2 × IsNode t v × IsTested t q.0 (tree_of t q.1) (tree_of t q.2)
+    (tree_of t v)) test_eq test_same known new put (λ q. tests_kept known k h q.0 q.1 q.2)
+    (j.held _ hx, j.held _ hy, m.held, rw (j.same _ hx, j.same _ hy) m.leaf) (p, a, b)
 
 -- diagrams each of whose leaves is the number of a node
 
@@ -140,22 +143,41 @@ tested_between k m p a b d {low} {high} {made} ea eb ed hl hh hm h f =
     let j = keeps_trans k m in
     search (rules, are_tested)
 
-pub side_kept : {t u : Table} → Keeps t u → (p : ℕ) {node : ℕ} → IsNode t node →
+side_kept : {t u : Table} → Keeps t u → (p : ℕ) {node : ℕ} → IsNode t node →
     LeadsToNodes t (p + 1) (tree_of t node) → LeadsToNodes u (p + 1) (tree_of u node)
 side_kept {t} k p {node} held h = rw (k.same node held) (leads_kept k (p + 1) (tree_of t node) h)
 
+-- what holds of two nodes holds of their sides, in a table that may have grown
+pub leading_side : (b : Bool) {t u : Table} {p low high : ℕ} {s : Split} → Keeps t u → IsSplit t low high s →
+    AreLeading t p low high → AreLeading u p (cond b s.left.high s.left.low) (cond b s.right.high s.right.low)
+leading_side b {t} {p = p} k s l = record {
+  named = rw k.propositions l.named;
+  low_held = k.held _ (held b s.first_sides);
+  high_held = k.held _ (held b s.second_sides);
+  low_leads = side_kept k p (held b s.first_sides) (on_side (IsPlace t (p + 1)) b s.first_sides l.low_leads);
+  high_leads = side_kept k p (held b s.second_sides) (on_side (IsPlace t (p + 1)) b s.second_sides l.high_leads);
+}
+  where
+    held : (b : Bool) {t : Table} {node q low high : ℕ} → IsSides t node q low high → IsNode t (cond b high low)
+    held true s = s.high_held
+    held false s = s.low_held
+
 -- the test of p is moved into the leaves of two diagrams' low sides first, and then into those of their high sides,
--- while the table grows
-pub sides_tested : {t u v w : Table} → Keeps t u → Keeps u v → Keeps v w → (p : ℕ) {a b q al ah bl bh low : ℕ}
-    (high made : ℕ) → IsSides t a q al ah → IsSides t b q bl bh → IsNode u low →
-    IsTested u p (tree_of t al) (tree_of t bl) (tree_of u low) →
-    IsTested v p (tree_of u ah) (tree_of u bh) (tree_of v high) →
-    IsTestOf q (tree_of v low) (tree_of v high) (tree_of w made) →
-    IsTested w p (tree_of t a) (tree_of t b) (tree_of w made)
-sides_tested {t} {u} {v} {w} k m n p {a} {b} {q} {al} {ah} {bl} {bh} {low} high made sa sb held l h test = tested_test w
-    p q (tree_of t a) (tree_of t al) (tree_of t ah) (tree_of t b) (tree_of t bl) (tree_of t bh) (tree_of w made)
-    (tree_of v low) (tree_of v high) sa.leaf sb.leaf test (rw (m.same low held) (λ f. search (rules, tested_kept)))
-    (rw (← k.same ah sa.high_held, ← k.same bh sb.high_held) (λ f. tested_kept n (h f)))
+-- while the table grows; a test of the two results is made last
+pub sides_tested : {E : Type 0} {t u v w : Table} (p : ℕ) {a b low high made : ℕ} {s : Split} → IsSplit t a b s →
+    MakesTree {E = E} t u (Ok low) (IsTested u p (tree_of t s.left.low) (tree_of t s.right.low)) →
+    MakesTree {E = E} u v (Ok high) (IsTested v p (tree_of u s.left.high) (tree_of u s.right.high)) →
+    MakesTree {E = E} v w (Ok made) (IsTestOf s.proposition (tree_of v low) (tree_of v high)) →
+    MakesTree {E = E} t w (Ok made) (IsTested w p (tree_of t a) (tree_of t b))
+sides_tested p {s = s} sides l h test =
+    let sa = sides.first_sides in
+    let sb = sides.second_sides in
+    let k = l.keeps in
+    let m = h.keeps in
+    by-sides l h test (λ f. rw (sa.leaf f, sb.leaf f, test.leaf f) (elim (bool_cases (f s.proposition)) [
+      | inl is ↦ rw (is, ← k.same _ sa.high_held, ← k.same _ sb.high_held) (tested_kept test.keeps (h.leaf f))
+      | inr is ↦ rw (is, m.same _ l.held) (tested_kept test.keeps (tested_kept m (l.leaf f)))
+    ]))
 
 -- The diagram that leads each letter to the node that remains after it stays right when the table grows. The diagrams
 -- that are made for a node's two sides give the diagram for the node.
@@ -163,10 +185,16 @@ pub divided_side : {t u : Table} → Keeps t u → (mask : ℕ) (a : Tree) {node
     IsDivided t mask a (tree_of t node) → IsDivided u mask a (tree_of u node)
 divided_side {t} k mask a {node} held h = rw (k.same node held) (divided_kept k mask a (tree_of t node) h)
 
-pub sides_divided : {s t u v : Table} → Keeps t u → Keeps u v → (mask : ℕ) {a p al ah low : ℕ} (high made : ℕ) →
-    IsSides s a p al ah → IsNode t low → IsDivided t mask (tree_of s al) (tree_of t low) →
-    IsDivided u mask (tree_of s ah) (tree_of u high) →
-    IsDividedTest v mask p (tree_of u low) (tree_of u high) (tree_of v made) →
-    IsDivided v mask (tree_of s a) (tree_of v made)
-sides_divided {s} {t} {u} {v} k m mask {a} {p} {al} {ah} {low} high made sides held l h test =
-    search (rules, divided_test, divided_kept, divided_side)
+pub sides_divided : {E : Type 0} {s t u v w : Table} (mask : ℕ) {a p al ah low high made : ℕ} → IsSides s a p al ah →
+    MakesTree {E = E} t u (Ok low) (IsDivided u mask (tree_of s al)) →
+    MakesTree {E = E} u v (Ok high) (IsDivided v mask (tree_of s ah)) →
+    MakesTree {E = E} v w (Ok made) (IsDividedTest w mask p (tree_of v low) (tree_of v high)) →
+    MakesTree {E = E} t w (Ok made) (IsDivided w mask (tree_of s a))
+sides_divided mask sides l h test =
+    let k = h.keeps in
+    let m = test.keeps in
+    let held = l.held in
+    let low = l.leaf in
+    let high = h.leaf in
+    let made = test.leaf in
+    by-sides l h test (search (rules, divided_test, divided_kept, divided_side))

@@ -1,39 +1,36 @@
 -- Overlays of trees: the tree that has the leaves of two trees which never have different leaves at one letter.
-use Rattle.std.proofs.Common.{◌≡◌, ℕ, Bool, cond, ◌∙◌, inl, inr}
+use Rattle.std.proofs.Common.{◌≡◌, ℕ, Bool, Ok, cond, ◌∙◌, inl, inr}
 use Rattle.std.specs.Prelude.{Result, IfErr}
 use Rattle.std.specs.Result.{IsErrAnd}
 use Rattle.std.proofs.lemmas.Result.{err_from_is_err_and}
 use Rattle.ps_diagram.specs.declared.fault.OverlayError.{OverlayError}
 use Rattle.ps_diagram.specs.declared.fault.OverlayError.TheVariants.{Clash, OutOfMemory}
 use Rattle.ps_diagram.specs.Tree.{Tree, IsTestOf}
-use Rattle.ps_diagram.specs.Table.{Table, IsNode, Keeps, tree_of}
-use Rattle.ps_diagram.specs.Split.{IsSides}
+use Rattle.ps_diagram.specs.Table.{Table, MakesTree, tree_of}
+use Rattle.ps_diagram.specs.Split.{IsSides, IsSplit}
 use Rattle.ps_diagram.specs.Inner.Known.{IsOverlay, IsClash}
 use Rattle.ps_diagram.proofs.Cells.{bool_cases}
 use Rattle.ps_diagram.proofs.Canon.{changed}
+use Rattle.ps_diagram.specs.declared.split.Split.{Split}
 use Rattle.ps_diagram.proofs.Sides.{side_at}
+use Rattle.ps_diagram.proofs.Making.{by-sides}
 
--- if two nodes test the same proposition, the test whose sides are the overlays of their sides is the overlay of the
--- two nodes
-overlay_test : (p : ℕ) (a al ah b bl bh c cl ch : Tree) → IsTestOf p al ah a → IsTestOf p bl bh b →
-    IsTestOf p cl ch c → IsOverlay al bl cl → IsOverlay ah bh ch → IsOverlay a b c
-overlay_test p a al ah b bl bh c cl ch ta tb tc l h f = rw (ta f, tb f, tc f) (elim (bool_cases (f p)) [
-  | inl is ↦ rw is (h f)
-  | inr is ↦ rw is (l f)
-])
-
--- the overlay of two nodes is made of the overlay of their low sides, made first, and that of their high sides, made in
--- the grown table
-pub overlay_sides : {t u v : Table} (w : Table) → Keeps t u → Keeps u v → {a b p al ah bl bh low : ℕ} (high made : ℕ) →
-    IsSides t a p al ah → IsSides t b p bl bh → IsNode u low →
-    IsOverlay (tree_of t al) (tree_of t bl) (tree_of u low) →
-    IsOverlay (tree_of u ah) (tree_of u bh) (tree_of v high) →
-    IsTestOf p (tree_of v low) (tree_of v high) (tree_of w made) →
-    IsOverlay (tree_of t a) (tree_of t b) (tree_of w made)
-overlay_sides {t} {u} {v} w k m {a} {b} {p} {al} {ah} {bl} {bh} {low} high made sa sb held l h test =
-    overlay_test p (tree_of t a) (tree_of t al) (tree_of t ah) (tree_of t b) (tree_of t bl) (tree_of t bh)
-    (tree_of w made) (tree_of v low) (tree_of v high) sa.leaf sb.leaf test (rw (m.same low held) l)
-    (rw (← k.same ah sa.high_held, ← k.same bh sb.high_held) h)
+-- the overlay of two nodes is made of the overlay of their low sides, made first, that of their high sides, and a test
+-- of the two
+pub overlay_sides : {E F : Type 0} {t u v w : Table} {a b low high made : ℕ} {s : Split} → IsSplit t a b s →
+    MakesTree {E = E} t u (Ok low) (IsOverlay (tree_of t s.left.low) (tree_of t s.right.low)) →
+    MakesTree {E = E} u v (Ok high) (IsOverlay (tree_of u s.left.high) (tree_of u s.right.high)) →
+    MakesTree {E = F} v w (Ok made) (IsTestOf s.proposition (tree_of v low) (tree_of v high)) →
+    MakesTree {E = E} t w (Ok made) (IsOverlay (tree_of t a) (tree_of t b))
+overlay_sides {s = s} sides l h test =
+    let sa = sides.first_sides in
+    let sb = sides.second_sides in
+    let k = l.keeps in
+    let m = h.keeps in
+    by-sides l h test (λ f. rw (sa.leaf f, sb.leaf f, test.leaf f) (elim (bool_cases (f s.proposition)) [
+      | inl is ↦ rw (is, ← k.same _ sa.high_held, ← k.same _ sb.high_held) (h.leaf f)
+      | inr is ↦ rw (is, m.same _ l.held) (l.leaf f)
+    ]))
 
 -- if the sides of two nodes have different leaves at some letter, so have the two nodes
 pub clash_side : {t : Table} {a b p al ah bl bh : ℕ} → IsSides t a p al ah → IsSides t b p bl bh → (v : Bool)

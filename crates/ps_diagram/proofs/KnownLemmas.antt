@@ -1,10 +1,10 @@
 -- In a memo table, each entry still relates the tree of its key to the tree of its result when the table of nodes
 -- grows, and when an entry is added.
-use Rattle.std.proofs.Common.{◌≡◌, ℕ, Bool, true, eqb, Option, Some, rules, sym, subst, ◌∙◌, ◌⊎◌, inl, inr}
+use Rattle.std.proofs.Common.{◌≡◌, ℕ, Bool, true, eqb, Ok, Option, Some, rules, sym, subst, ◌∙◌, ◌⊎◌, inl, inr}
 use Rattle.std.specs.Option.{unwrap_or}
 use Rattle.std.proofs.lemmas.Bool.{eqb-true}
 use Rattle.ps_diagram.specs.Tree.{Tree}
-use Rattle.ps_diagram.specs.Table.{Table, IsNode, Keeps, tree_of}
+use Rattle.ps_diagram.specs.Table.{Table, IsNode, Keeps, MakesTree, tree_of}
 use Rattle.ps_diagram.specs.Inner.Known.{Knows, KnowsPairs, pair_eq}
 use Rattle.ps_diagram.proofs.Cells.{keeps_refl}
 use Rattle.ps_diagram.proofs.Keys.{and_both}
@@ -12,6 +12,9 @@ use Rattle.ps_diagram.proofs.Keys.{and_both}
 -- keeping nodes is transitive: if u keeps the nodes of t, and v those of u, then v keeps those of t
 pub keeps_trans : {t u v : Table} → Keeps t u → Keeps u v → Keeps t v
 keeps_trans a b = search rules
+
+pub keeps_three : {t u v w : Table} → Keeps t u → Keeps u v → Keeps v w → Keeps t w
+keeps_three a b c = keeps_trans (keeps_trans a b) c
 
 -- the table from which nodes are read (`other`, or t if `other` is None) keeps its nodes when t grows to u
 pub read_keeps : (other : Option Table) {t u : Table} → Keeps t u → Keeps (unwrap_or other t) (unwrap_or other u)
@@ -61,9 +64,11 @@ knows_more R s t known new update h hk hv r = one_more (λ k v. IsNode s k × Is
 pub pair_same : (a b : ℕ × ℕ) → pair_eq a b ≡ true → a ≡ b
 pair_same (x, y) (a, b) e = search (rules, and_both, eqb-true)
 
-pub pairs_more : (R : Tree → Tree → Tree → Type 0) (t : Table) (known new : ℕ × ℕ → Option ℕ) {x y value : ℕ} →
-    MayBePut pair_eq known new (x, y) value → KnowsPairs R t known → IsNode t x → IsNode t y → IsNode t value →
-    R (tree_of t x) (tree_of t y) (tree_of t value) → KnowsPairs R t new
-pairs_more R t known new update h hx hy hv r a b =
-    one_more (λ k v. IsNode t k.0 × IsNode t k.1 × IsNode t v × R (tree_of t k.0) (tree_of t k.1) (tree_of t v)) pair_eq
-    pair_same known new update (λ k. h k.0 k.1) (hx, hy, hv, r) (a, b)
+pub pairs_put : {E : Type 0} (R : Tree → Tree → Tree → Type 0) {s u t : Table} (known new : ℕ × ℕ → Option ℕ)
+    {x y value : ℕ} → MayBePut pair_eq known new (x, y) value → Keeps u t → KnowsPairs R u known → IsNode s x →
+    IsNode s y → MakesTree {E = E} s t (Ok value) (R (tree_of s x) (tree_of s y)) → KnowsPairs R t new
+pairs_put R {t = t} known new update k h hx hy m a b =
+    let j = m.keeps in
+    one_more (λ q v. IsNode t q.0 × IsNode t q.1 × IsNode t v × R (tree_of t q.0) (tree_of t q.1) (tree_of t v)) pair_eq
+    pair_same known new update (λ q. pairs_kept R known k h q.0 q.1)
+    (j.held _ hx, j.held _ hy, m.held, rw (j.same _ hx, j.same _ hy) m.leaf) (a, b)

@@ -1,5 +1,5 @@
 -- Diagrams whose leaves are the indices of pairs of two diagrams' leaves.
-use Rattle.std.proofs.Common.{◌≡◌, ℕ, Bool, true, false, cond, List, Option, None, Some, ◌∙◌, sym, ap, inl, inr, rules}
+use Rattle.std.proofs.Common.{◌≡◌, ℕ, Bool, true, false, cond, List, Option, None, Ok, Some, ◌∙◌, sym, ap, inl, inr, rules}
 use Rattle.std.specs.Bool.{Decides}
 use Rattle.std.proofs.lemmas.Bool.{eq-eqb}
 use Rattle.std.specs.List.{IsDistinct}
@@ -8,15 +8,17 @@ use Rattle.ps_diagram.specs.Inner.Chosen.{IsPairOf, Meet}
 use Rattle.ps_diagram.specs.Inner.Known.{KnowsPairs, pair_eq}
 use Rattle.ps_diagram.specs.Pairs.{Adds, IsPaired, MeetAt}
 use Rattle.ps_diagram.specs.Letters.{letter_of}
-use Rattle.ps_diagram.specs.Split.{IsSides}
+use Rattle.ps_diagram.specs.Split.{IsSides, IsSplit}
+use Rattle.ps_diagram.specs.declared.split.Split.{Split}
 use Rattle.ps_diagram.specs.Tree.{Tree, leaf_at, IsBlind, IsTestOf}
-use Rattle.ps_diagram.specs.Table.{Table, IsNode, IsSoundTable, Keeps, tree_of}
+use Rattle.ps_diagram.specs.Table.{Table, IsNode, IsSoundTable, Keeps, MakesTree, tree_of}
 use Rattle.ps_diagram.proofs.Canon.{changed}
 use Rattle.ps_diagram.proofs.Cells.{bool_cases}
 use Rattle.ps_diagram.proofs.Distinct.{inserted_keeps, inserted_is, one_place}
 use Rattle.ps_diagram.proofs.KnownLemmas.{pair_same}
 use Rattle.ps_diagram.proofs.Letters.{letter_lt, leaf_by_number}
 use Rattle.ps_diagram.proofs.Sides.{side_at}
+use Rattle.ps_diagram.proofs.Making.{by-sides}
 
 -- ## Lists of pairs
 
@@ -84,28 +86,23 @@ pair_blind xs once level a b c h ba bb f g e =
     paired_alike xs once (leaf_at a g) (leaf_at b g) (leaf_at c f) (leaf_at c g) (rw (ba f g e, bb f g e) at (h f))
     (h g)
 
--- Two nodes test the same proposition. If a third node tests it, and its low and high sides are the diagrams of pairs
--- of the two nodes' low and high sides, it is their diagram of pairs.
-pair_test : (xs : List (ℕ × ℕ)) (p : ℕ) (a al ah b bl bh c cl ch : Tree) → IsTestOf p al ah a → IsTestOf p bl bh b →
-    IsTestOf p cl ch c → IsPairOf xs al bl cl → IsPairOf xs ah bh ch → IsPairOf xs a b c
-pair_test xs p a al ah b bl bh c cl ch ta tb tc l h f = rw (ta f, tb f, tc f) (elim (bool_cases (f p)) [
-  | inl is ↦ rw is (h f)
-  | inr is ↦ rw is (l f)
-])
-
--- the diagram of pairs of two nodes is made of that of their low sides, made first, and that of their high sides, made
--- in the grown table
-pub pair_sides : {P : ℕ × ℕ → Type 0} {xs ys : List (ℕ × ℕ)} → Adds P xs ys → {t u v : Table} (w : Table) → Keeps t u →
-    Keeps u v → {a b p al ah bl bh low : ℕ} (high made : ℕ) → IsSides t a p al ah → IsSides t b p bl bh → IsNode u low →
-    IsPairOf xs (tree_of t al) (tree_of t bl) (tree_of u low) →
-    IsPairOf ys (tree_of u ah) (tree_of u bh) (tree_of v high) →
-    IsTestOf p (tree_of v low) (tree_of v high) (tree_of w made) →
-    IsPairOf ys (tree_of t a) (tree_of t b) (tree_of w made)
-pair_sides {P} {xs} {ys} more {t} {u} {v} w k m {a} {b} {p} {al} {ah} {bl} {bh} {low} high made sa sb held l h test =
-    pair_test ys p (tree_of t a) (tree_of t al) (tree_of t ah) (tree_of t b) (tree_of t bl) (tree_of t bh)
-    (tree_of w made) (tree_of v low) (tree_of v high) sa.leaf sb.leaf test
-    (pair_of_more more (tree_of t al) (tree_of t bl) (tree_of v low) (rw (m.same low held) l))
-    (rw (← k.same ah sa.high_held, ← k.same bh sb.high_held) h)
+-- the diagram of pairs of two nodes is made of that of their low sides, made first, that of their high sides, and a
+-- test of the two
+pub pair_sides : {E : Type 0} {Q : ℕ × ℕ → Type 0} {xs ys : List (ℕ × ℕ)} {t u v w : Table} {a b low high made : ℕ}
+    {s : Split} → IsSplit t a b s → Adds Q xs ys →
+    MakesTree {E = E} t u (Ok low) (IsPairOf xs (tree_of t s.left.low) (tree_of t s.right.low)) →
+    MakesTree {E = E} u v (Ok high) (IsPairOf ys (tree_of u s.left.high) (tree_of u s.right.high)) →
+    MakesTree {E = E} v w (Ok made) (IsTestOf s.proposition (tree_of v low) (tree_of v high)) →
+    MakesTree {E = E} t w (Ok made) (IsPairOf ys (tree_of t a) (tree_of t b))
+pair_sides {s = s} sides more l h test =
+    let sa = sides.first_sides in
+    let sb = sides.second_sides in
+    let k = l.keeps in
+    let m = h.keeps in
+    by-sides l h test (λ f. rw (sa.leaf f, sb.leaf f, test.leaf f) (elim (bool_cases (f s.proposition)) [
+      | inl is ↦ rw (is, ← k.same _ sa.high_held, ← k.same _ sb.high_held) (h.leaf f)
+      | inr is ↦ rw (is, m.same _ l.held) (pair_of_more more _ _ _ l.leaf f)
+    ]))
 
 -- if the sides of two nodes have a pair of leaves at one letter, the two nodes have it at some letter
 pub meet_side : {t : Table} {a b p al ah bl bh : ℕ} → IsSides t a p al ah → IsSides t b p bl bh → (v : Bool)
@@ -114,11 +111,15 @@ pub meet_side : {t : Table} {a b p al ah bl bh : ℕ} → IsSides t a p al ah �
 meet_side {p = p} sa sb v pair c = (changed c.0 p v, side_at v sa c.0 ∙ c.1, side_at v sb c.0 ∙ c.2)
 
 -- the pairs that are added for two nodes' low sides, and then for their high sides, are pairs of the two nodes' leaves
-pub adds_sides : {t u : Table} {xs ys zs : List (ℕ × ℕ)} → Keeps t u → {a b p al ah bl bh : ℕ} → IsSides t a p al ah →
-    IsSides t b p bl bh → Adds (Meet (tree_of t al) (tree_of t bl)) xs ys →
-    Adds (Meet (tree_of u ah) (tree_of u bh)) ys zs → Adds (Meet (tree_of t a) (tree_of t b)) xs zs
-adds_sides k {ah = ah} {bh = bh} sa sb = adds_both (meet_side sa sb false)
-    (λ pair m. meet_side sa sb true pair (rw (← k.same ah sa.high_held, ← k.same bh sb.high_held) m))
+pub adds_sides : {t u : Table} {xs ys zs : List (ℕ × ℕ)} {a b : ℕ} {s : Split} → Keeps t u → IsSplit t a b s →
+    Adds (Meet (tree_of t s.left.low) (tree_of t s.right.low)) xs ys →
+    Adds (Meet (tree_of u s.left.high) (tree_of u s.right.high)) ys zs →
+    Adds (Meet (tree_of t a) (tree_of t b)) xs zs
+adds_sides k sides =
+    let sa = sides.first_sides in
+    let sb = sides.second_sides in
+    adds_both (meet_side sa sb false)
+    (λ pair m. meet_side sa sb true pair (rw (← k.same _ sa.high_held, ← k.same _ sb.high_held) m))
 
 -- if two nodes have a pair of leaves at some letter, they have it at a letter over the table's propositions
 pub meet_at : {t : Table} → IsSoundTable t → {a b : ℕ} → IsNode t a → IsNode t b → (pair : ℕ × ℕ) →

@@ -1,15 +1,17 @@
 -- For each letter over some propositions, what remains of a diagram after this letter has been read (a cofactor).
-use Rattle.std.proofs.Common.{◌≡◌, ℕ, ◌+◌, ◌^◌, ◌<◌, Bool, true, false, cond, refl, sym, ◌∙◌}
+use Rattle.std.proofs.Common.{◌≡◌, ℕ, ◌+◌, ◌^◌, ◌<◌, Bool, Ok, true, false, cond, refl, sym, ◌∙◌}
 use Rattle.std.proofs.Common.{arith, inl, inr}
 use Rattle.std.proofs.lemmas.Bool.{cases_lt}
 use Rattle.ps_label.specs.Truth.{is_in}
 use Rattle.ps_diagram.specs.Letters.{assignment}
 use Rattle.ps_diagram.specs.Tree.{Tree, final, IsBlind, IsFrom, IsTestOf}
-use Rattle.ps_diagram.specs.Table.{Table, IsNode, Keeps, tree_of}
+use Rattle.ps_diagram.specs.Table.{Table, IsNode, Keeps, MakesTree, tree_of}
 use Rattle.ps_diagram.specs.Inner.Rests.{mixed, IsCofactor, IsDivided, IsSpread}
 use Rattle.ps_diagram.proofs.Canon.{from-blind}
 use Rattle.ps_diagram.proofs.Cells.{bool_cases}
+use Rattle.ps_diagram.specs.Split.{IsSides}
 use Rattle.ps_diagram.proofs.Letters.{lower_bit, no_bit, top_bit}
+use Rattle.ps_diagram.proofs.Making.{by-sides}
 
 -- ## One letter
 
@@ -31,21 +33,22 @@ cofactor_in mask letter p true a al ah d is bit test h g =
 cofactor_in mask letter p false a al ah d is bit test h g =
     rw (test (mixed mask (assignment letter) g), is, bit) (h g)
 
--- in a cofactor, a test of a proposition outside the mask stays a test
-pub cofactor_out : (mask letter p : ℕ) (a al ah d dl dh : Tree) → is_in p mask ≡ false → IsTestOf p al ah a →
-    IsTestOf p dl dh d → IsCofactor mask letter al dl → IsCofactor mask letter ah dh → IsCofactor mask letter a d
-cofactor_out mask letter p a al ah d dl dh isnt ta td l h g =
-    rw (ta (mixed mask (assignment letter) g), td g, isnt, l g, h g) refl
-
 -- the cofactor of a test is made of the cofactors of its sides, which are made one after the other while the table
 -- grows
-pub cofactor_sides : {t u : Table} (v : Table) (mask letter p : ℕ) (a al ah : Tree) {low : ℕ} (high made : ℕ) →
-    is_in p mask ≡ false → IsTestOf p al ah a → Keeps t u → IsNode t low →
-    IsCofactor mask letter al (tree_of t low) → IsCofactor mask letter ah (tree_of u high) →
-    IsTestOf p (tree_of u low) (tree_of u high) (tree_of v made) → IsCofactor mask letter a (tree_of v made)
-cofactor_sides {t} {u} v mask letter p a al ah {low} high made isnt ta k held l h td =
-    cofactor_out mask letter p a al ah (tree_of v made) (tree_of u low) (tree_of u high) isnt ta td
-    (rw (k.same low held) l) h
+pub cofactor_sides : {E : Type 0} {s t u v w : Table} (mask letter : ℕ) {a p al ah low high made : ℕ} →
+    is_in p mask ≡ false → IsSides s a p al ah →
+    MakesTree {E = E} t u (Ok low) (IsCofactor mask letter (tree_of s al)) →
+    MakesTree {E = E} u v (Ok high) (IsCofactor mask letter (tree_of s ah)) →
+    MakesTree {E = E} v w (Ok made) (IsTestOf p (tree_of v low) (tree_of v high)) →
+    MakesTree {E = E} t w (Ok made) (IsCofactor mask letter (tree_of s a))
+cofactor_sides mask letter isnt sides l h test = by-sides l h test (λ g. rw (
+  sides.leaf (mixed mask (assignment letter) g),
+  test.leaf g,
+  isnt,
+  h.keeps.same _ l.held,
+  l.leaf g,
+  h.leaf g,
+) refl)
 
 -- ## All letters
 

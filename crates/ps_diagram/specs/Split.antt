@@ -25,6 +25,13 @@ pub record IsSides (t : Table) (node p low high : ℕ) : Type 0 where
   pub high_later : IsBlind (p + 1) (tree_of t high)
   pub leaf : IsTestOf p (tree_of t low) (tree_of t high) (tree_of t node)
 
+-- two nodes that test no proposition
+pub record AreConstants (t : Table) (first second : ℕ) : Type 0 where
+  pub first_held : IsNode t first
+  pub second_held : IsNode t second
+  pub first_constant : IsConstant (tree_of t first)
+  pub second_constant : IsConstant (tree_of t second)
+
 -- two nodes are split at the same proposition; as numbers, their low sides have a smaller sum than the nodes, and so
 -- have their high sides
 pub record IsSplit (t : Table) (first second : ℕ) (s : Split) : Type 0 where

@@ -5,8 +5,11 @@
 -- - `tree_of t node`: the tree of the node
 -- - `leaf_of t node x`: the leaf of the node at the letter x
 -- - `Keeps old new`: each old node is in the new table, with the same tree and so with the same leaf at each letter
+-- - `MakesDiagram old new result leaf`: a call keeps the old nodes; the node that it makes has the leaf `leaf letter`,
+--   or none, at each letter
 -- - `IsSoundTable`: what is true of every store
-use Rattle.std.specs.Prelude.{◌≡◌, ℕ, ◌<◌, ◌≤◌, Option, List, [], ◌∷◌, ◌++◌, length, fold, slice_index_or}
+use Rattle.std.specs.Prelude.{◌≡◌, ℕ, ◌<◌, ◌≤◌, IfOk, List, Option, Result, [], ◌∷◌, ◌++◌, fold, length}
+use Rattle.std.specs.Prelude.{slice_index_or}
 use Rattle.ps_diagram.specs.declared.view.View.{View}
 use Rattle.ps_diagram.specs.declared.view.View.TheVariants.{Nothing, Leaf, Test}
 use Rattle.ps_diagram.specs.Letters.{assignment}
@@ -47,6 +50,21 @@ pub record Keeps (old new : Table) : Type 0 where
   pub propositions : new.propositions ≡ old.propositions
   pub held : (node : ℕ) → IsNode old node → IsNode new node
   pub same : (node : ℕ) → IsNode old node → tree_of new node ≡ tree_of old node
+
+-- The old nodes are kept, also by a call that fails. The node that the call makes is in the new table and has the
+-- property P.
+pub record MakesNode {E : Type 0} (old new : Table) (result : Result ℕ E) (P : ℕ → Type 0) : Type 0 where
+  pub keeps : Keeps old new
+  pub held : IfOk result (λ node. IsNode new node)
+  pub leaf : IfOk result P
+
+-- a call makes a node with the given leaf, or none, at each letter
+abbrev pub MakesDiagram : {E : Type 0} → Table → Table → Result ℕ E → (ℕ → Option ℕ) → Type 0
+MakesDiagram old new result leaf = MakesNode old new result (λ node. (letter : ℕ) → leaf_of new node letter ≡ leaf letter)
+
+-- a call makes a node whose tree has the property P
+abbrev pub MakesTree : {E : Type 0} → Table → Table → Result ℕ E → (Tree → Type 0) → Type 0
+MakesTree old new result P = MakesNode old new result (λ node. P (tree_of new node))
 
 -- the child nodes in the cell, as numbers, are less than `count`
 abbrev pub IsCellWithin : ℕ → View → Type 0

@@ -5,8 +5,8 @@ ghost use Rattle.indexmap.specs.IndexMap.{get};
 ghost use Rattle.ps_diagram.specs.Inner.Chosen.{IsPairOf, Meet};
 ghost use Rattle.ps_diagram.specs.Inner.Known.{KnowsPairs, pair_eq};
 ghost use Rattle.ps_diagram.specs.Pairs.{Adds, IsPaired, MeetAt};
-ghost use Rattle.ps_diagram.specs.Split.{IsConstant};
-ghost use Rattle.ps_diagram.specs.Table.{IsNode, Keeps, leaf_of, tree_of};
+ghost use Rattle.ps_diagram.specs.Split.{AreConstants};
+ghost use Rattle.ps_diagram.specs.Table.{IsNode, MakesNode, MakesTree, leaf_of, tree_of};
 
 use crate::memo::Memo;
 use crate::split::Split;
@@ -26,12 +26,10 @@ impl Store {
     ) -> Result<Node, AllocError>
         requires first { IsNode self.old first }
         requires second { IsNode self.old second }
-        ensures keeps { Keeps self.old self.new }
-        ensures adds { Adds (MeetAt self.old first second) pairs.old.keys pairs.new.keys }
-        ensures held { IfOk result (λ made. IsNode self.new made) }
-        ensures leaf { IfOk result
+        ensures made { MakesNode self.old self.new result
             (λ made. (letter : ℕ) → IsPaired pairs.new.keys (leaf_of self.old first letter)
             (leaf_of self.old second letter) (leaf_of self.new made letter)) }
+        ensures adds { Adds (MeetAt self.old first second) pairs.old.keys pairs.new.keys }
     {
         let mut known = Memo::new(self.allocator());
         self.paired(first, second, pairs, &mut known)
@@ -48,13 +46,10 @@ impl Store {
         requires first { IsNode self.old first }
         requires second { IsNode self.old second }
         requires known { KnowsPairs (IsPairOf pairs.old.keys) self.old (get pair_eq known.old.table) }
-        ensures keeps { Keeps self.old self.new }
+        ensures made { MakesTree self.old self.new result
+            (IsPairOf pairs.new.keys (tree_of self.old first) (tree_of self.old second)) }
         ensures adds { Adds (Meet (tree_of self.old first) (tree_of self.old second)) pairs.old.keys pairs.new.keys }
         ensures known { KnowsPairs (IsPairOf pairs.new.keys) self.new (get pair_eq known.new.table) }
-        ensures held { IfOk result (λ made. IsNode self.new made) }
-        ensures leaf { IfOk result
-            (λ made. IsPairOf pairs.new.keys (tree_of self.old first) (tree_of self.old second)
-            (tree_of self.new made)) }
     {
         if self.is_nothing(first) {
             return Ok(first);
@@ -88,16 +83,10 @@ impl Store {
         second: Node,
         pairs: &mut IndexSet<(u64, u64)>,
     ) -> Result<Node, AllocError>
-        requires first { IsNode self.old first }
-        requires second { IsNode self.old second }
-        requires first_constant { IsConstant (tree_of self.old first) }
-        requires second_constant { IsConstant (tree_of self.old second) }
-        ensures keeps { Keeps self.old self.new }
+        requires { AreConstants self.old first second }
+        ensures made { MakesTree self.old self.new result
+            (IsPairOf pairs.new.keys (tree_of self.old first) (tree_of self.old second)) }
         ensures adds { Adds (Meet (tree_of self.old first) (tree_of self.old second)) pairs.old.keys pairs.new.keys }
-        ensures held { IfOk result (λ made. IsNode self.new made) }
-        ensures leaf { IfOk result
-            (λ made. IsPairOf pairs.new.keys (tree_of self.old first) (tree_of self.old second)
-            (tree_of self.new made)) }
     {
         let Some(one) = self.eval(first, 0) else {
             return Ok(first);

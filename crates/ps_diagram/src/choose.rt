@@ -6,7 +6,7 @@ ghost use Rattle.ps_diagram.specs.Inner.Chosen.{IsChosen, IsCut, KnowsTriples};
 ghost use Rattle.ps_diagram.specs.Inner.Rests.{test_eq};
 ghost use Rattle.ps_diagram.specs.Leaves.{chosen};
 ghost use Rattle.ps_diagram.specs.Split.{root_of};
-ghost use Rattle.ps_diagram.specs.Table.{IsNode, Keeps, leaf_of, tree_of};
+ghost use Rattle.ps_diagram.specs.Table.{IsNode, MakesDiagram, MakesTree, leaf_of, tree_of};
 
 use crate::memo::Memo;
 use crate::split::Sides;
@@ -34,11 +34,9 @@ impl Store {
         requires truth { IsNode self.old truth }
         requires one { IsNode self.old one }
         requires other { IsNode self.old other }
-        ensures keeps { Keeps self.old self.new }
-        ensures held { IfOk result (λ made. IsNode self.new made) }
-        ensures leaf { IfOk result
-            (λ made. (letter : ℕ) → leaf_of self.new made letter ≡ chosen (leaf_of self.old truth letter)
-            (leaf_of self.old one letter) (leaf_of self.old other letter)) }
+        ensures { MakesDiagram self.old self.new result
+            (λ letter. chosen (leaf_of self.old truth letter) (leaf_of self.old one letter)
+            (leaf_of self.old other letter)) }
     {
         let mut known = Memo::new(self.allocator());
         self.chosen(truth, one, other, &mut known)
@@ -56,12 +54,9 @@ impl Store {
         requires one { IsNode self.old one }
         requires other { IsNode self.old other }
         requires known { KnowsTriples self.old (get test_eq known.old.table) }
-        ensures keeps { Keeps self.old self.new }
+        ensures made { MakesTree self.old self.new result
+            (IsChosen (tree_of self.old truth) (tree_of self.old one) (tree_of self.old other)) }
         ensures known { KnowsTriples self.new (get test_eq known.new.table) }
-        ensures held { IfOk result (λ made. IsNode self.new made) }
-        ensures leaf { IfOk result
-            (λ made. IsChosen (tree_of self.old truth) (tree_of self.old one) (tree_of self.old other)
-            (tree_of self.new made)) }
     {
         if one == other {
             return Ok(one);

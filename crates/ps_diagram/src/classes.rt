@@ -3,12 +3,13 @@
 ghost use Rattle.std.specs.Prelude.{◌≡◌, ◌≢◌, ℕ, ◌+◌, ◌<◌, Bool, AllPairs, IfOk, IsSome, Some, length, nat_eq};
 ghost use Rattle.indexmap.specs.IndexMap.{get};
 ghost use Rattle.ps_diagram.specs.Tree.{Tree, IsBlind, leaf_at};
-ghost use Rattle.ps_diagram.specs.Table.{IsNode, IsSoundTable, Keeps, tree_of};
+ghost use Rattle.ps_diagram.specs.Table.{IsNode, IsSoundTable, Keeps, MakesTree, tree_of};
 ghost use Rattle.ps_diagram.specs.Inner.Known.{Knows};
-ghost use Rattle.ps_diagram.specs.Split.{IsConstant};
+ghost use Rattle.ps_diagram.specs.Split.{AreConstants, IsConstant};
 ghost use Rattle.ps_diagram.specs.Classes.{AreClasses};
 ghost use Rattle.ps_diagram.specs.Inner.Numbered.{AreOf, AreOfLeaves, IsPlaced};
-ghost use Rattle.ps_diagram.specs.Inner.Rests.{IsDivided, IsDividedTest, IsTested, KnowsTests, LeadsToNodes, test_eq};
+ghost use Rattle.ps_diagram.specs.Inner.Rests.{AreLeading, IsDivided, IsDividedTest, IsLent, IsTested, KnowsTests};
+ghost use Rattle.ps_diagram.specs.Inner.Rests.{test_eq};
 
 use crate::memo::Memo;
 use crate::split::Split;
@@ -76,12 +77,8 @@ impl Store {
     /// A diagram over the propositions of `split` whose leaves are numbers of nodes: at a letter, the node that remains
     /// of the given one after the letter's values have been read.
     fn rests(&mut self, other: &Store, node: Node, split: u64) -> Result<Node, AllocError>
-        requires held { IsNode other.now node }
-        requires letters { self.old.propositions ≡ other.now.propositions }
-        ensures keeps { Keeps self.old self.new }
-        ensures held { IfOk result (λ made. IsNode self.new made) }
-        ensures leaf { IfOk result
-            (λ made. IsDivided self.new split (tree_of other.now node) (tree_of self.new made)) }
+        requires { IsLent self.old other.now node }
+        ensures { MakesTree self.old self.new result (IsDivided self.new split (tree_of other.now node)) }
     {
         if split.count_ones() <= FEW {
             return self.spread(other, node, split, 0, 0);
@@ -124,16 +121,12 @@ impl Store {
         known: &mut Memo<Node>,
         tests: &mut Memo<(u32, Node, Node)>,
     ) -> Result<Node, AllocError>
-        requires held { IsNode other.now node }
-        requires letters { self.old.propositions ≡ other.now.propositions }
+        requires lent { IsLent self.old other.now node }
         requires known { Knows (IsDivided self.old split) other.now self.old (get nat_eq known.old.table) }
         requires tests { KnowsTests self.old (get test_eq tests.old.table) }
-        ensures keeps { Keeps self.old self.new }
+        ensures made { MakesTree self.old self.new result (IsDivided self.new split (tree_of other.now node)) }
         ensures known { Knows (IsDivided self.new split) other.now self.new (get nat_eq known.new.table) }
         ensures tests { KnowsTests self.new (get test_eq tests.new.table) }
-        ensures held { IfOk result (λ made. IsNode self.new made) }
-        ensures leaf { IfOk result
-            (λ made. IsDivided self.new split (tree_of other.now node) (tree_of self.new made)) }
     {
         match other.cell(node) {
             View::Nothing => self.place_of_leaf(None),
@@ -159,10 +152,8 @@ impl Store {
     /// The diagram whose leaf at every letter is the number of the same node, which has the given leaf, or none, at
     /// every letter.
     fn place_of_leaf(&mut self, leaf: Option<u64>) -> Result<Node, AllocError>
-        ensures keeps { Keeps self.old self.new }
-        ensures held { IfOk result (λ made. IsNode self.new made) }
-        ensures leaf { IfOk result (λ made. (mask : ℕ) (tree : Tree) → ((f : ℕ → Bool) → leaf_at tree f ≡ leaf)
-            → IsDivided self.new mask tree (tree_of self.new made)) }
+        ensures { MakesTree self.old self.new result (λ made. (mask : ℕ) (tree : Tree) →
+            ((f : ℕ → Bool) → leaf_at tree f ≡ leaf) → IsDivided self.new mask tree made) }
     {
         let node = self.constant(leaf)?;
         self.intern(View::Leaf(node.place as u64))
@@ -177,20 +168,13 @@ impl Store {
         split: u64,
         tests: &mut Memo<(u32, Node, Node)>,
     ) -> Result<Node, AllocError>
-        requires named { proposition < self.old.propositions }
-        requires low_held { IsNode self.old low }
-        requires high_held { IsNode self.old high }
+        requires leading { AreLeading self.old proposition low high }
         requires low_later { IsBlind (proposition + 1) (tree_of self.old low) }
         requires high_later { IsBlind (proposition + 1) (tree_of self.old high) }
-        requires low_leads { LeadsToNodes self.old (proposition + 1) (tree_of self.old low) }
-        requires high_leads { LeadsToNodes self.old (proposition + 1) (tree_of self.old high) }
         requires tests { KnowsTests self.old (get test_eq tests.old.table) }
-        ensures keeps { Keeps self.old self.new }
+        ensures made { MakesTree self.old self.new result
+            (IsDividedTest self.new split proposition (tree_of self.old low) (tree_of self.old high)) }
         ensures tests { KnowsTests self.new (get test_eq tests.new.table) }
-        ensures held { IfOk result (λ made. IsNode self.new made) }
-        ensures leaf { IfOk result
-            (λ made. IsDividedTest self.new split proposition (tree_of self.old low) (tree_of self.old high)
-            (tree_of self.new made)) }
     {
         let _ = self.allocator();
         if split >> proposition & 1 == 1 {
@@ -208,18 +192,11 @@ impl Store {
         high: Node,
         tests: &mut Memo<(u32, Node, Node)>,
     ) -> Result<Node, AllocError>
-        requires named { proposition < self.old.propositions }
-        requires low_held { IsNode self.old low }
-        requires high_held { IsNode self.old high }
-        requires low_leads { LeadsToNodes self.old (proposition + 1) (tree_of self.old low) }
-        requires high_leads { LeadsToNodes self.old (proposition + 1) (tree_of self.old high) }
+        requires leading { AreLeading self.old proposition low high }
         requires tests { KnowsTests self.old (get test_eq tests.old.table) }
-        ensures keeps { Keeps self.old self.new }
+        ensures made { MakesTree self.old self.new result
+            (IsTested self.new proposition (tree_of self.old low) (tree_of self.old high)) }
         ensures tests { KnowsTests self.new (get test_eq tests.new.table) }
-        ensures held { IfOk result (λ made. IsNode self.new made) }
-        ensures leaf { IfOk result
-            (λ made. IsTested self.new proposition (tree_of self.old low) (tree_of self.old high)
-            (tree_of self.new made)) }
     {
         if low == high {
             return Ok(low);
@@ -245,18 +222,10 @@ impl Store {
 
     /// Like `tested`, but for two diagrams that test no proposition.
     fn tested_leaves(&mut self, proposition: u32, low: Node, high: Node) -> Result<Node, AllocError>
-        requires named { proposition < self.old.propositions }
-        requires low_held { IsNode self.old low }
-        requires high_held { IsNode self.old high }
-        requires low_constant { IsConstant (tree_of self.old low) }
-        requires high_constant { IsConstant (tree_of self.old high) }
-        requires low_leads { LeadsToNodes self.old (proposition + 1) (tree_of self.old low) }
-        requires high_leads { LeadsToNodes self.old (proposition + 1) (tree_of self.old high) }
-        ensures keeps { Keeps self.old self.new }
-        ensures held { IfOk result (λ made. IsNode self.new made) }
-        ensures leaf { IfOk result
-            (λ made. IsTested self.new proposition (tree_of self.old low) (tree_of self.old high)
-            (tree_of self.new made)) }
+        requires leading { AreLeading self.old proposition low high }
+        requires constant { AreConstants self.old low high }
+        ensures { MakesTree self.old self.new result
+            (IsTested self.new proposition (tree_of self.old low) (tree_of self.old high)) }
     {
         let one = self.node_at(low);
         let other = self.node_at(high);

@@ -3,9 +3,9 @@
 ghost use Rattle.std.specs.Prelude.{◌≡◌, ℕ, ◌+◌, ◌^◌, ◌<◌, ◌≤◌, IfOk, nat_eq};
 ghost use Rattle.indexmap.specs.IndexMap.{get};
 ghost use Rattle.ps_diagram.specs.Tree.{IsBlind};
-ghost use Rattle.ps_diagram.specs.Table.{IsNode, Keeps, tree_of};
+ghost use Rattle.ps_diagram.specs.Table.{MakesTree, tree_of};
 ghost use Rattle.ps_diagram.specs.Inner.Known.{Knows};
-ghost use Rattle.ps_diagram.specs.Inner.Rests.{IsCofactor, IsSpread};
+ghost use Rattle.ps_diagram.specs.Inner.Rests.{IsCofactor, IsLent, IsSpread};
 
 use crate::memo::Memo;
 use crate::store::Store;
@@ -24,15 +24,12 @@ impl Store {
         level: u32,
         letter: u64,
     ) -> Result<Node, AllocError>
-        requires held { IsNode other.now node }
-        requires letters { self.old.propositions ≡ other.now.propositions }
+        requires lent { IsLent self.old other.now node }
         requires within { level ≤ self.old.propositions }
         requires begun { letter < 2 ^ level }
-        ensures keeps { Keeps self.old self.new }
-        ensures held { IfOk result (λ made. IsNode self.new made) }
+        ensures made { MakesTree self.old self.new result
+            (IsSpread self.new split level letter (tree_of other.now node)) }
         ensures blind { IfOk result (λ made. IsBlind level (tree_of self.new made)) }
-        ensures leaf { IfOk result (λ made. IsSpread self.new split level letter (tree_of other.now node)
-            (tree_of self.new made)) }
     {
         let propositions = self.propositions();
         if level == propositions {
@@ -55,13 +52,10 @@ impl Store {
         split: u64,
         letter: u64,
     ) -> Result<Node, AllocError>
-        requires held { IsNode other.now node }
-        requires letters { self.old.propositions ≡ other.now.propositions }
-        ensures keeps { Keeps self.old self.new }
-        ensures held { IfOk result (λ made. IsNode self.new made) }
+        requires { IsLent self.old other.now node }
+        ensures made { MakesTree self.old self.new result
+            (IsSpread self.new split self.old.propositions letter (tree_of other.now node)) }
         ensures blind { IfOk result (λ made. (level : ℕ) → IsBlind level (tree_of self.new made)) }
-        ensures leaf { IfOk result (λ made. IsSpread self.new split self.old.propositions letter
-            (tree_of other.now node) (tree_of self.new made)) }
     {
         let _ = other.allocator();
         let mut known = Memo::new(self.allocator());
@@ -79,14 +73,10 @@ impl Store {
         letter: u64,
         known: &mut Memo<Node>,
     ) -> Result<Node, AllocError>
-        requires held { IsNode other.now node }
-        requires letters { self.old.propositions ≡ other.now.propositions }
+        requires lent { IsLent self.old other.now node }
         requires known { Knows (IsCofactor split letter) other.now self.old (get nat_eq known.old.table) }
-        ensures keeps { Keeps self.old self.new }
+        ensures made { MakesTree self.old self.new result (IsCofactor split letter (tree_of other.now node)) }
         ensures known { Knows (IsCofactor split letter) other.now self.new (get nat_eq known.new.table) }
-        ensures held { IfOk result (λ made. IsNode self.new made) }
-        ensures leaf { IfOk result
-            (λ made. IsCofactor split letter (tree_of other.now node) (tree_of self.new made)) }
     {
         match other.cell(node) {
             View::Nothing => self.constant(None),

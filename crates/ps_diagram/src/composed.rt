@@ -5,7 +5,7 @@ ghost use Rattle.indexmap.specs.IndexMap.{get};
 ghost use Rattle.ps_diagram.specs.Composing.{IsLetterOfTruths};
 ghost use Rattle.ps_diagram.specs.Inner.Composed.{IsComposed, IsOnlySide};
 ghost use Rattle.ps_diagram.specs.Inner.Known.{Knows};
-ghost use Rattle.ps_diagram.specs.Table.{IsNode, Keeps, leaf_of, tree_of};
+ghost use Rattle.ps_diagram.specs.Table.{IsNode, MakesNode, MakesTree, leaf_of, tree_of};
 
 use crate::memo::Memo;
 use crate::store::Store;
@@ -26,9 +26,8 @@ impl Store {
         requires held { IsNode other.now node }
         requires one_each { other.now.propositions ≤ length truths.now }
         requires truths { All (IsNode self.old) truths.now }
-        ensures keeps { Keeps self.old self.new }
-        ensures held { IfOk result (λ made. IsNode self.new made) }
-        ensures leaf { IfOk result (λ made. (letter whole : ℕ) → IsLetterOfTruths self.old truths.now letter whole →
+        ensures { MakesNode self.old self.new result
+            (λ made. (letter whole : ℕ) → IsLetterOfTruths self.old truths.now letter whole →
             leaf_of self.new made letter ≡ leaf_of other.now node whole) }
     {
         let mut known = Memo::new(self.allocator());
@@ -47,12 +46,9 @@ impl Store {
         requires one_each { other.now.propositions ≤ length truths.now }
         requires truths { All (IsNode self.old) truths.now }
         requires known { Knows (IsComposed self.old truths.now) other.now self.old (get nat_eq known.old.table) }
-        ensures keeps { Keeps self.old self.new }
+        ensures made { MakesTree self.old self.new result (IsComposed self.old truths.now (tree_of other.now node)) }
         ensures known { OnOk result
             (Knows (IsComposed self.new truths.now) other.now self.new (get nat_eq known.new.table)) }
-        ensures held { IfOk result (λ made. IsNode self.new made) }
-        ensures leaf { IfOk result
-            (λ made. IsComposed self.old truths.now (tree_of other.now node) (tree_of self.new made)) }
     {
         let (proposition, low, high) = match other.cell(node) {
             View::Nothing => return self.none(),

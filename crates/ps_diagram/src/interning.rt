@@ -1,7 +1,7 @@
 //! The cells of a store, one for each node, and the index (place) of each.
 
-ghost use Rattle.std.specs.Prelude.{◌≡◌, ◌<◌, [], IfOk, IfSome, OnErr, OnOk, Some, length, slice_get, slice_index_or};
-ghost use Rattle.ps_diagram.specs.Inner.Placed.{AddsCell};
+ghost use Rattle.std.specs.Prelude.{◌≡◌, ◌<◌, [], IfOk, IfSome, Some, length, slice_get, slice_index_or};
+ghost use Rattle.ps_diagram.specs.Inner.Placed.{PlacesCell};
 ghost use Rattle.ps_diagram.specs.declared.view.View.TheVariants.{Leaf, Nothing};
 
 use crate::view::View;
@@ -65,9 +65,7 @@ impl Cells {
 
     /// The index of a cell in the list. A cell that is not in the list is appended.
     pub(crate) fn place_of(&mut self, cell: View) -> Result<usize, AllocError>
-        ensures adds { OnOk result (AddsCell self.old cell self.new) }
-        ensures there { IfOk result (λ place. slice_get self.new place ≡ Some cell) }
-        ensures err { OnErr result (self.new ≡ self.old) }
+        ensures { PlacesCell self.old self.new cell result }
     {
         match cell {
             View::Leaf(leaf) => self.place_of_leaf(leaf),
@@ -77,9 +75,7 @@ impl Cells {
 
     /// The index of a leaf's cell in the list; a new cell is appended.
     fn place_of_leaf(&mut self, leaf: u64) -> Result<usize, AllocError>
-        ensures adds { OnOk result (AddsCell self.old (Leaf leaf) self.new) }
-        ensures there { IfOk result (λ place. slice_get self.new place ≡ Some (Leaf leaf)) }
-        ensures err { OnErr result (self.new ≡ self.old) }
+        ensures { PlacesCell self.old self.new (Leaf leaf) result }
     {
         if let Some(place) = self.known(leaf) {
             return Ok(place);
@@ -92,9 +88,7 @@ impl Cells {
 
     /// The index of a cell in the list, found by its hash; a new cell is appended.
     fn place_by_hash(&mut self, cell: View) -> Result<usize, AllocError>
-        ensures adds { OnOk result (AddsCell self.old cell self.new) }
-        ensures there { IfOk result (λ place. slice_get self.new place ≡ Some cell) }
-        ensures err { OnErr result (self.new ≡ self.old) }
+        ensures { PlacesCell self.old self.new cell result }
     {
         let (place, _) = self.list.insert_full(cell)?;
         Ok(place)

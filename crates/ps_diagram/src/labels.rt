@@ -3,7 +3,7 @@
 ghost use Rattle.std.specs.Prelude.{◌≡◌, ℕ, ◌<◌, All, Bool, List, IfOk, length};
 ghost use Rattle.ps_label.specs.Expression.{AreOverFrom, Expression, IsOver, expression};
 ghost use Rattle.ps_label.specs.Truth.{expressions, is_in, label_truth, truth};
-ghost use Rattle.ps_diagram.specs.Table.{IsNode, Keeps, leaf_of};
+ghost use Rattle.ps_diagram.specs.Table.{IsNode, Keeps, MakesDiagram, MakesNode, leaf_of};
 ghost use Rattle.ps_diagram.specs.Labels.{AreNodesOf, HaveTruths, IsOneOrNone, leaf_where, one_where};
 ghost use Rattle.ps_diagram.specs.Leaves.{either_leaf};
 ghost use Rattle.ps_diagram.specs.Inner.Unions.{IsTruth, first_leaf, leaves_of};
@@ -21,11 +21,8 @@ impl Store {
     pub fn of_label(&mut self, labels: &Labels, label: &Label) -> Result<Node, AllocError>
         requires aliases { AreOverFrom 0 self.old.propositions (expressions labels.now) }
         requires within { IsOver (length labels.now) self.old.propositions (expression label.now) }
-        ensures keeps { Keeps self.old self.new }
-        ensures held { IfOk result (λ node. IsNode self.new node) }
-        ensures leaf { IfOk result
-            (λ node. (letter : ℕ) → leaf_of self.new node letter ≡ one_where
-            (label_truth (expressions labels.now) letter (expression label.now))) }
+        ensures { MakesDiagram self.old self.new result
+            (λ letter. one_where (label_truth (expressions labels.now) letter (expression label.now))) }
     {
         let aliases = self.of_aliases(labels)?;
         self.of_label_by(&aliases, label)
@@ -49,9 +46,7 @@ impl Store {
     pub fn of_label_by(&mut self, aliases: &[Node], label: &Label) -> Result<Node, AllocError>
         requires aliases { (names : List Expression) × AreNodesOf self.old names aliases.now }
         requires within { IsOver (length aliases.now) self.old.propositions (expression label.now) }
-        ensures keeps { Keeps self.old self.new }
-        ensures held { IfOk result (λ node. IsNode self.new node) }
-        ensures leaf { IfOk result
+        ensures { MakesNode self.old self.new result
             (λ node. (names : List Expression) → AreNodesOf self.old names aliases.now → (letter : ℕ) →
             leaf_of self.new node letter ≡ one_where (label_truth names letter (expression label.now))) }
     {
@@ -72,9 +67,7 @@ impl Store {
     ) -> Result<Node, AllocError>
         requires aliases { (names : List Expression) × AreNodesOf self.old names aliases.now }
         requires within { IsOver (length aliases.now) self.old.propositions (expression label.now) }
-        ensures keeps { Keeps self.old self.new }
-        ensures held { IfOk result (λ node. IsNode self.new node) }
-        ensures leaf { IfOk result
+        ensures { MakesNode self.old self.new result
             (λ node. (names : List Expression) → AreNodesOf self.old names aliases.now → (letter : ℕ) →
             leaf_of self.new node letter ≡ leaf_where value (label_truth names letter (expression label.now))) }
     {
@@ -91,9 +84,7 @@ impl Store {
     fn truth_by(&mut self, aliases: &[Node], label: &Label) -> Result<Node, AllocError>
         requires aliases { (known : ℕ → List Bool) × HaveTruths self.old aliases.now known }
         requires within { IsOver (length aliases.now) self.old.propositions (expression label.now) }
-        ensures keeps { Keeps self.old self.new }
-        ensures held { IfOk result (λ node. IsNode self.new node) }
-        ensures leaf { IfOk result
+        ensures { MakesNode self.old self.new result
             (λ node. (known : ℕ → List Bool) → HaveTruths self.old aliases.now known → (letter : ℕ) →
             leaf_of self.new node letter ≡ one_where (truth (known letter) letter (expression label.now))) }
     {
@@ -129,10 +120,7 @@ impl Store {
     /// list is joined first, so each given node takes part in only logarithmically many joins.
     fn union_of(&mut self, nodes: &[Node]) -> Result<Node, AllocError>
         requires truths { All (IsTruth self.old) nodes.now }
-        ensures keeps { Keeps self.old self.new }
-        ensures held { IfOk result (λ node. IsNode self.new node) }
-        ensures leaf { IfOk result
-            (λ node. (letter : ℕ) → leaf_of self.new node letter ≡ first_leaf (leaves_of self.old nodes.now letter)) }
+        ensures { MakesDiagram self.old self.new result (λ letter. first_leaf (leaves_of self.old nodes.now letter)) }
     {
         let count = nodes.len();
         if count == 0 {
@@ -149,10 +137,7 @@ impl Store {
 
     /// The diagram of a constant truth value: the leaf 1 at every letter, or no leaf.
     fn of_truth(&mut self, value: bool) -> Result<Node, AllocError>
-        ensures keeps { Keeps self.old self.new }
-        ensures held { IfOk result (λ node. IsNode self.new node) }
-        ensures leaf { IfOk result
-            (λ node. (letter : ℕ) → leaf_of self.new node letter ≡ one_where value) }
+        ensures { MakesDiagram self.old self.new result (λ _. one_where value) }
     {
         if value { self.leaf(1) } else { self.none() }
     }
@@ -160,10 +145,7 @@ impl Store {
     /// The diagram that has the leaf 1 at letters at which the proposition is true, and no leaf elsewhere.
     pub fn of_proposition(&mut self, proposition: u32) -> Result<Node, AllocError>
         requires named { proposition < self.old.propositions }
-        ensures keeps { Keeps self.old self.new }
-        ensures held { IfOk result (λ node. IsNode self.new node) }
-        ensures leaf { IfOk result
-            (λ node. (letter : ℕ) → leaf_of self.new node letter ≡ one_where (is_in proposition letter)) }
+        ensures { MakesDiagram self.old self.new result (λ letter. one_where (is_in proposition letter)) }
     {
         let none = self.constant(None)?;
         let one = self.constant(Some(1))?;
@@ -176,11 +158,8 @@ impl Store {
         requires second { IsNode self.old second }
         requires first_truth { (letter : ℕ) → IsOneOrNone (leaf_of self.old first letter) }
         requires second_truth { (letter : ℕ) → IsOneOrNone (leaf_of self.old second letter) }
-        ensures keeps { Keeps self.old self.new }
-        ensures held { IfOk result (λ node. IsNode self.new node) }
-        ensures leaf { IfOk result
-            (λ node. (letter : ℕ) → leaf_of self.new node letter ≡ either_leaf (leaf_of self.old first letter)
-            (leaf_of self.old second letter)) }
+        ensures { MakesDiagram self.old self.new result
+            (λ letter. either_leaf (leaf_of self.old first letter) (leaf_of self.old second letter)) }
     {
         match self.overlay(first, second) {
             Ok(node) => Ok(node),

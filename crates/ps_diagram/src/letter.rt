@@ -2,7 +2,7 @@
 
 ghost use Rattle.std.specs.Prelude.{◌≡◌, ℕ, ◌^◌, ◌<◌, IfOk, nat_eq};
 ghost use Rattle.ps_diagram.specs.Labels.{one_where};
-ghost use Rattle.ps_diagram.specs.Table.{IsNode, Keeps, leaf_of};
+ghost use Rattle.ps_diagram.specs.Table.{MakesNode, leaf_of};
 
 use crate::store::Store;
 use crate::view::Node;
@@ -12,9 +12,7 @@ impl Store {
     /// The diagram that has the leaf 1 at the given letter, and no leaf elsewhere.
     pub fn of_letter(&mut self, letter: u64) -> Result<Node, AllocError>
         requires within { letter < 2 ^ self.old.propositions }
-        ensures keeps { Keeps self.old self.new }
-        ensures held { IfOk result (λ node. IsNode self.new node) }
-        ensures leaf { IfOk result
+        ensures { MakesNode self.old self.new result
             (λ node. (other : ℕ) → other < 2 ^ self.old.propositions →
             leaf_of self.new node other ≡ one_where (nat_eq other letter)) }
     {

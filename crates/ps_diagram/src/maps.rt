@@ -5,8 +5,8 @@ ghost use Rattle.std.specs.Prelude.{option_map, option_and_then, unwrap_or, slic
 ghost use Rattle.std.specs.Option.{option_copied};
 ghost use Rattle.indexmap.specs.IndexMap.{get, index_of};
 ghost use Rattle.ps_diagram.specs.Tree.{leaf_at};
-ghost use Rattle.ps_diagram.specs.Table.{IsNode, Keeps, leaf_of, tree_of};
-ghost use Rattle.ps_diagram.specs.Inner.Known.{IsMapped, Knows};
+ghost use Rattle.ps_diagram.specs.Table.{IsNode, MakesDiagram, MakesTree, leaf_of, tree_of};
+ghost use Rattle.ps_diagram.specs.Inner.Known.{IsChangeable, IsMapped, Knows};
 ghost use Rattle.ps_diagram.specs.Inner.Parts.{IsPart};
 
 use crate::memo::Memo;
@@ -139,11 +139,8 @@ impl Store {
     /// The diagram that has the leaf `value` at letters at which the node has a leaf.
     pub fn guard(&mut self, node: Node, value: u64) -> Result<Node, AllocError>
         requires held { IsNode self.old node }
-        ensures keeps { Keeps self.old self.new }
-        ensures held { IfOk result (λ made. IsNode self.new made) }
-        ensures leaf { IfOk result
-            (λ made. (letter : ℕ) → leaf_of self.new made letter ≡ option_map (λ _. value)
-            (leaf_of self.old node letter)) }
+        ensures { MakesDiagram self.old self.new result
+            (λ letter. option_map (λ _. value) (leaf_of self.old node letter)) }
     {
         self.mapped(None, node, &Guarded(value))
     }
@@ -151,11 +148,8 @@ impl Store {
     /// The diagram that has the node's leaves, and the leaf `value` at letters at which the node has none.
     pub fn fill(&mut self, node: Node, value: u64) -> Result<Node, AllocError>
         requires held { IsNode self.old node }
-        ensures keeps { Keeps self.old self.new }
-        ensures held { IfOk result (λ made. IsNode self.new made) }
-        ensures leaf { IfOk result
-            (λ made. (letter : ℕ) → leaf_of self.new made letter ≡ Some
-            (unwrap_or (leaf_of self.old node letter) value)) }
+        ensures { MakesDiagram self.old self.new result
+            (λ letter. Some (unwrap_or (leaf_of self.old node letter) value)) }
     {
         self.mapped(None, node, &Filled(value))
     }
@@ -165,11 +159,8 @@ impl Store {
         requires held { IsNode self.old node }
         requires within { (letter : ℕ) → letter < 2 ^ self.old.propositions →
             IfSome (leaf_of self.old node letter) (λ k. k < length values.now) }
-        ensures keeps { Keeps self.old self.new }
-        ensures held { IfOk result (λ made. IsNode self.new made) }
-        ensures leaf { IfOk result
-            (λ made. (letter : ℕ) → leaf_of self.new made letter ≡ option_map (λ k. slice_index values.now k)
-            (leaf_of self.old node letter)) }
+        ensures { MakesDiagram self.old self.new result
+            (λ letter. option_map (λ k. slice_index values.now k) (leaf_of self.old node letter)) }
     {
         let _ = self.allocator();
         self.mapped(None, node, &Relabelled(values))
@@ -181,11 +172,9 @@ impl Store {
         requires held { IsNode self.old node }
         requires within { (letter : ℕ) → letter < 2 ^ self.old.propositions →
             IfSome (leaf_of self.old node letter) (λ k. k < length values.now) }
-        ensures keeps { Keeps self.old self.new }
-        ensures held { IfOk result (λ made. IsNode self.new made) }
-        ensures leaf { IfOk result
-            (λ made. (letter : ℕ) → leaf_of self.new made letter ≡ Some
-            (unwrap_or (option_map (λ k. slice_index values.now k) (leaf_of self.old node letter)) other)) }
+        ensures { MakesDiagram self.old self.new result
+            (λ letter. Some (unwrap_or (option_map (λ k. slice_index values.now k) (leaf_of self.old node letter))
+            other)) }
     {
         let _ = self.allocator();
         self.mapped(None, node, &Replaced { values, other })
@@ -202,11 +191,8 @@ impl Store {
         requires few { other.now.propositions ≤ self.old.propositions }
         requires within { (letter : ℕ) → letter < 2 ^ other.now.propositions
             → IfSome (leaf_of other.now node letter) (λ k. k < length values.now) }
-        ensures keeps { Keeps self.old self.new }
-        ensures held { IfOk result (λ made. IsNode self.new made) }
-        ensures leaf { IfOk result
-            (λ made. (letter : ℕ) → leaf_of self.new made letter
-            ≡ option_map (λ k. slice_index values.now k) (leaf_of other.now node letter)) }
+        ensures { MakesDiagram self.old self.new result
+            (λ letter. option_map (λ k. slice_index values.now k) (leaf_of other.now node letter)) }
     {
         let _ = other.allocator();
         self.mapped(Some(other), node, &Relabelled(values))
@@ -215,10 +201,7 @@ impl Store {
     /// The diagram that has the leaf 1 at letters at which the node has none, and no leaf elsewhere.
     pub fn negated(&mut self, node: Node) -> Result<Node, AllocError>
         requires held { IsNode self.old node }
-        ensures keeps { Keeps self.old self.new }
-        ensures held { IfOk result (λ made. IsNode self.new made) }
-        ensures leaf { IfOk result
-            (λ made. (letter : ℕ) → leaf_of self.new made letter ≡ opposite (leaf_of self.old node letter)) }
+        ensures { MakesDiagram self.old self.new result (λ letter. opposite (leaf_of self.old node letter)) }
     {
         self.mapped(None, node, &Negated)
     }
@@ -230,11 +213,8 @@ impl Store {
         places: &IndexMap<u64, u64>,
     ) -> Result<Node, AllocError>
         requires held { IsNode self.old node }
-        ensures keeps { Keeps self.old self.new }
-        ensures held { IfOk result (λ made. IsNode self.new made) }
-        ensures leaf { IfOk result
-            (λ made. IsMapped (λ leaf. option_and_then (λ k. get nat_eq places.now k) leaf) (tree_of self.old node)
-            (tree_of self.new made)) }
+        ensures { MakesTree self.old self.new result
+            (IsMapped (λ leaf. option_and_then (λ k. get nat_eq places.now k) leaf) (tree_of self.old node)) }
     {
         self.mapped(None, node, &Placed(places))
     }
@@ -247,15 +227,9 @@ impl Store {
         node: Node,
         rule: &R,
     ) -> Result<Node, AllocError>
-        requires held { IsNode (unwrap_or (option_copied other) self.old) node }
-        requires few { (unwrap_or (option_copied other) self.old).propositions ≤ self.old.propositions }
-        requires fits { (f : ℕ → Bool)
-            → R.fits rule.now (leaf_at (tree_of (unwrap_or (option_copied other) self.old) node) f) }
-        ensures keeps { Keeps self.old self.new }
-        ensures held { IfOk result (λ made. IsNode self.new made) }
-        ensures leaf { IfOk result
-            (λ made. IsMapped (R.rule rule.now) (tree_of (unwrap_or (option_copied other.entry) self.old) node)
-            (tree_of self.new made)) }
+        requires { IsChangeable (R.fits rule.now) (unwrap_or (option_copied other) self.old) self.old node }
+        ensures { MakesTree self.old self.new result
+            (IsMapped (R.rule rule.now) (tree_of (unwrap_or (option_copied other.entry) self.old) node)) }
     {
         let mut known = Memo::new(self.allocator());
         self.mapped_by(other, node, rule, &mut known)
@@ -269,19 +243,13 @@ impl Store {
         rule: &R,
         known: &mut Memo<Node>,
     ) -> Result<Node, AllocError>
-        requires held { IsNode (unwrap_or (option_copied other) self.old) node }
-        requires few { (unwrap_or (option_copied other) self.old).propositions ≤ self.old.propositions }
-        requires fits { (f : ℕ → Bool)
-            → R.fits rule.now (leaf_at (tree_of (unwrap_or (option_copied other) self.old) node) f) }
+        requires fits { IsChangeable (R.fits rule.now) (unwrap_or (option_copied other) self.old) self.old node }
         requires known { Knows (IsMapped (R.rule rule.now)) (unwrap_or (option_copied other) self.old) self.old
             (get nat_eq known.old.table) }
-        ensures keeps { Keeps self.old self.new }
+        ensures made { MakesTree self.old self.new result
+            (IsMapped (R.rule rule.now) (tree_of (unwrap_or (option_copied other.entry) self.old) node)) }
         ensures known { Knows (IsMapped (R.rule rule.now)) (unwrap_or (option_copied other.entry) self.new) self.new
             (get nat_eq known.new.table) }
-        ensures held { IfOk result (λ made. IsNode self.new made) }
-        ensures leaf { IfOk result
-            (λ made. IsMapped (R.rule rule.now) (tree_of (unwrap_or (option_copied other.entry) self.old) node)
-            (tree_of self.new made)) }
     {
         match self.cell_of(other, node) {
             View::Nothing => self.constant(rule.changed(None)),
@@ -316,10 +284,7 @@ impl Store {
 
     /// The diagram that has the given leaf, or none, at every letter.
     pub(crate) fn constant(&mut self, leaf: Option<u64>) -> Result<Node, AllocError>
-        ensures keeps { Keeps self.old self.new }
-        ensures held { IfOk result (λ made. IsNode self.new made) }
-        ensures leaf { IfOk result
-            (λ made. (f : ℕ → Bool) → leaf_at (tree_of self.new made) f ≡ leaf) }
+        ensures { MakesTree self.old self.new result (λ tree. (f : ℕ → Bool) → leaf_at tree f ≡ leaf) }
     {
         match leaf {
             None => self.intern(View::Nothing),

@@ -2,8 +2,8 @@
 
 ghost use Rattle.std.specs.Prelude.{◌≡◌, ◌≢◌, ℕ, ◌+◌, ◌^◌, ◌<◌, IfOk, IfErr, OnOk, Some};
 ghost use Rattle.indexmap.specs.IndexMap.{get};
-ghost use Rattle.ps_diagram.specs.Table.{IsNode, Keeps, leaf_of, tree_of};
-ghost use Rattle.ps_diagram.specs.Split.{IsConstant};
+ghost use Rattle.ps_diagram.specs.Table.{IsNode, MakesDiagram, MakesTree, leaf_of, tree_of};
+ghost use Rattle.ps_diagram.specs.Split.{AreConstants};
 ghost use Rattle.ps_diagram.specs.Leaves.{AreCompatible, either_leaf};
 ghost use Rattle.ps_diagram.specs.Inner.Known.{IsClash, IsOverlay, KnowsPairs, pair_eq};
 ghost use Rattle.ps_diagram.specs.Clashes.{TellsClash};
@@ -24,11 +24,8 @@ impl Store {
     pub fn overlay(&mut self, first: Node, second: Node) -> Result<Node, OverlayError>
         requires first { IsNode self.old first }
         requires second { IsNode self.old second }
-        ensures keeps { Keeps self.old self.new }
-        ensures held { IfOk result (λ node. IsNode self.new node) }
-        ensures leaf { IfOk result
-            (λ node. (letter : ℕ) → leaf_of self.new node letter ≡ either_leaf (leaf_of self.old first letter)
-            (leaf_of self.old second letter)) }
+        ensures made { MakesDiagram self.old self.new result
+            (λ letter. either_leaf (leaf_of self.old first letter) (leaf_of self.old second letter)) }
         ensures alike { OnOk result ((letter : ℕ) → AreCompatible (leaf_of self.old first letter)
             (leaf_of self.old second letter)) }
         ensures clash { IfErr result (TellsClash self.old first second) }
@@ -47,11 +44,9 @@ impl Store {
         requires first { IsNode self.old first }
         requires second { IsNode self.old second }
         requires known { KnowsPairs IsOverlay self.old (get pair_eq known.old.table) }
-        ensures keeps { Keeps self.old self.new }
+        ensures made { MakesTree self.old self.new result
+            (IsOverlay (tree_of self.old first) (tree_of self.old second)) }
         ensures known { KnowsPairs IsOverlay self.new (get pair_eq known.new.table) }
-        ensures held { IfOk result (λ node. IsNode self.new node) }
-        ensures leaf { IfOk result
-            (λ node. IsOverlay (tree_of self.old first) (tree_of self.old second) (tree_of self.new node)) }
         ensures clash { IfErr result (IsClash (tree_of self.old first) (tree_of self.old second)) }
     {
         if self.is_nothing(first) {
@@ -80,10 +75,7 @@ impl Store {
 
     /// Like `overlaid`, but for two diagrams that test no proposition.
     fn overlaid_leaves(&self, first: Node, second: Node) -> Result<Node, OverlayError>
-        requires first { IsNode self.now first }
-        requires second { IsNode self.now second }
-        requires first_constant { IsConstant (tree_of self.now first) }
-        requires second_constant { IsConstant (tree_of self.now second) }
+        requires { AreConstants self.now first second }
         ensures held { IfOk result (λ node. IsNode self.now node) }
         ensures leaf { IfOk result
             (λ node. IsOverlay (tree_of self.now first) (tree_of self.now second) (tree_of self.now node)) }

@@ -4,7 +4,7 @@ ghost use Rattle.std.specs.Prelude.{◌≡◌, ◌&&◌, ℕ, ◌<◌, Bool, tru
 ghost use Rattle.ps_label.specs.Expression.{IsOver, expression, proposition};
 ghost use Rattle.ps_label.specs.Truth.{is_in, truth};
 ghost use Rattle.ps_diagram.specs.Labels.{leaf_where};
-ghost use Rattle.ps_diagram.specs.Table.{IsNode, Keeps, leaf_of};
+ghost use Rattle.ps_diagram.specs.Table.{IsNode, Keeps, MakesDiagram, leaf_of};
 ghost use Rattle.ps_diagram.specs.Inner.Products.{meets};
 
 use crate::store::Store;
@@ -95,10 +95,8 @@ impl Store {
 
     /// The diagram that has the leaf `value` at letters at which the product is true.
     fn of_product(&mut self, product: Product, value: u64) -> Result<Node, AllocError>
-        ensures keeps { Keeps self.old self.new }
-        ensures held { IfOk result (λ node. IsNode self.new node) }
-        ensures leaf { IfOk result (λ node. (letter : ℕ) →
-            leaf_of self.new node letter ≡ leaf_where value (meets self.old.propositions product letter)) }
+        ensures { MakesDiagram self.old self.new result
+            (λ letter. leaf_where value (meets self.old.propositions product letter)) }
     {
         let none = self.constant(None)?;
         let mut node = self.constant(Some(value))?;

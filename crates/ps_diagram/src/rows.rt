@@ -3,7 +3,7 @@
 
 ghost use Rattle.std.specs.Prelude.{◌≡◌, ℕ, ◌+◌, ◌%◌, ◌^◌, ◌<◌, ◌≤◌, List, IfOk, length, slice_get, slice_index_or};
 ghost use Rattle.ps_diagram.specs.Inner.Rows.{AreLeafNodes, IsRow, LeadsOn};
-ghost use Rattle.ps_diagram.specs.Table.{IsNode, Keeps, leaf_of};
+ghost use Rattle.ps_diagram.specs.Table.{Keeps, MakesDiagram};
 
 use crate::store::Store;
 use crate::view::Node;
@@ -13,11 +13,8 @@ impl Store {
     /// The diagram whose leaf at a letter is the list's entry at the index `letter` (letters are numbers). Letters past
     /// the end of the list have no leaf. Each entry of the list is read once.
     pub fn of_leaves(&mut self, leaves: &[u64]) -> Result<Node, AllocError>
-        ensures keeps { Keeps self.old self.new }
-        ensures held { IfOk result (λ node. IsNode self.new node) }
-        ensures leaf { IfOk result
-            (λ node. (letter : ℕ) → leaf_of self.new node letter ≡ slice_get leaves.now
-            (letter % 2 ^ self.old.propositions)) }
+        ensures { MakesDiagram self.old self.new result
+            (λ letter. slice_get leaves.now (letter % 2 ^ self.old.propositions)) }
     {
         let none = self.constant(None)?;
         let mut nodes = self.leaf_nodes(leaves)?;

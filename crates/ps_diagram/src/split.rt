@@ -28,7 +28,7 @@ pub(crate) struct Split {
 }
 
 impl Store {
-    ghost use Rattle.ps_diagram.specs.Split.{IsConstant, IsSides, IsSplit, root_of};
+    ghost use Rattle.ps_diagram.specs.Split.{AreConstants, IsSides, IsSplit, root_of};
 
     /// The first proposition that a node tests, or the number of propositions if it tests none.
     pub(crate) fn level(&self, node: Node) -> u32
@@ -78,7 +78,7 @@ impl Store {
         requires first { IsNode self.now first }
         requires second { IsNode self.now second }
         ensures { MatchOption result
-            (IsConstant (tree_of self.now first) × IsConstant (tree_of self.now second))
+            (AreConstants self.now first second)
             (λ s. IsSplit self.now first second s) }
     {
         let proposition = self.level(first).min(self.level(second));

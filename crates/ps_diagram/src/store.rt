@@ -4,7 +4,8 @@ ghost use Rattle.std.specs.Prelude.{◌≡◌, ◌↔◌, IsTrue, ℕ, ◌+◌, 
 ghost use Rattle.std.specs.Prelude.{Option, Some, None, cond};
 ghost use Rattle.ps_diagram.specs.Tree.{IsBlind, IsFrom, IsReduced, IsTestOf};
 ghost use Rattle.ps_diagram.specs.Inner.Parts.{IsPart};
-ghost use Rattle.ps_diagram.specs.Table.{Table, IsNode, IsSoundTable, IsCellWithin, Keeps, leaf_of, tree_of, tree_in};
+ghost use Rattle.ps_diagram.specs.Table.{Table, IsNode, IsSoundTable, IsCellWithin, MakesDiagram, MakesTree};
+ghost use Rattle.ps_diagram.specs.Table.{leaf_of, tree_of, tree_in};
 ghost use Rattle.ps_diagram.specs.Views.{Sees};
 ghost use Rattle.ps_diagram.specs.declared.view.View.TheVariants.{Nothing};
 
@@ -58,19 +59,14 @@ impl Store {
 
     /// The diagram that has the given leaf at every letter.
     pub fn leaf(&mut self, value: u64) -> Result<Node, AllocError>
-        ensures keeps { Keeps self.old self.new }
-        ensures held { IfOk result (λ node. IsNode self.new node) }
-        ensures leaf { IfOk result
-            (λ node. (letter : ℕ) → leaf_of self.new node letter ≡ Some value) }
+        ensures { MakesDiagram self.old self.new result (λ _. Some value) }
     {
         self.intern(View::Leaf(value))
     }
 
     /// The diagram without leaves.
     pub fn none(&mut self) -> Result<Node, AllocError>
-        ensures keeps { Keeps self.old self.new }
-        ensures held { IfOk result (λ node. IsNode self.new node) }
-        ensures leaf { IfOk result (λ node. (letter : ℕ) → leaf_of self.new node letter ≡ None) }
+        ensures { MakesDiagram self.old self.new result (λ _. None) }
     {
         self.intern(View::Nothing)
     }
@@ -159,10 +155,8 @@ impl Store {
         requires high_held { IsNode self.old high }
         requires low_later { IsBlind (proposition + 1) (tree_of self.old low) }
         requires high_later { IsBlind (proposition + 1) (tree_of self.old high) }
-        ensures keeps { Keeps self.old self.new }
-        ensures held { IfOk result (λ node. IsNode self.new node) }
-        ensures leaf { IfOk result
-            (λ node. IsTestOf proposition (tree_of self.old low) (tree_of self.old high) (tree_of self.new node)) }
+        ensures { MakesTree self.old self.new result
+            (IsTestOf proposition (tree_of self.old low) (tree_of self.old high)) }
     {
         let _ = &self.propositions;
         if low == high {
@@ -180,10 +174,7 @@ impl Store {
         requires within { IsCellWithin (length self.old.cells) cell }
         requires ordered { IsFrom 0 self.old.propositions (tree_in self.old.cells cell) }
         requires reduced { IsReduced (tree_in self.old.cells cell) }
-        ensures keeps { Keeps self.old self.new }
-        ensures held { IfOk result (λ node. IsNode self.new node) }
-        ensures tree { IfOk result
-            (λ node. tree_of self.new node ≡ tree_in self.old.cells cell) }
+        ensures { MakesTree self.old self.new result (λ tree. tree ≡ tree_in self.old.cells cell) }
     {
         let place = self.cells.place_of(cell)?;
         Ok(Node { place })

@@ -1,5 +1,5 @@
 -- The nodes that a memo table already has, and how each new diagram is related to the diagrams from which it is made.
-use Rattle.std.specs.Prelude.{◌≡◌, ◌≢◌, ℕ, Bool, ◌&&◌, nat_eq, Option, Some}
+use Rattle.std.specs.Prelude.{◌≡◌, ◌≢◌, ℕ, ◌≤◌, Bool, ◌&&◌, nat_eq, Option, Some}
 use Rattle.ps_diagram.specs.declared.fault.OverlayError.{OverlayError}
 use Rattle.ps_diagram.specs.declared.fault.OverlayError.TheVariants.{Clash, OutOfMemory}
 use Rattle.ps_diagram.specs.Leaves.{either_leaf, AreCompatible}
@@ -25,6 +25,12 @@ pair_eq a b = nat_eq a.0 b.0 && nat_eq a.1 b.1
 -- at each letter, the leaf of the second tree is the rule's result for the leaf of the first tree
 abbrev pub IsMapped : (Option ℕ → Option ℕ) → Tree → Tree → Type 0
 IsMapped rule t u = (f : ℕ → Bool) → leaf_at u f ≡ rule (leaf_at t f)
+
+-- the rule fits each leaf of the node of the first table, which has no more propositions than the second
+pub record IsChangeable (Fits : Option ℕ → Type 0) (s t : Table) (node : ℕ) : Type 0 where
+  pub held : IsNode s node
+  pub few : s.propositions ≤ t.propositions
+  pub fits : (f : ℕ → Bool) → Fits (leaf_at (tree_of s node) f)
 
 -- the first two trees never have different leaves at one letter, and the third tree has the leaves of both
 abbrev pub IsOverlay : Tree → Tree → Tree → Type 0

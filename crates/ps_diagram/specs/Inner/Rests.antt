@@ -1,10 +1,15 @@
 -- What remains of a diagram (the rest) after the propositions of a mask have been read. A second diagram leads each
 -- letter to the rest after this letter: its leaves are numbers of nodes.
-use Rattle.std.specs.Prelude.{◌≡◌, ℕ, ◌<◌, Bool, true, ◌&&◌, nat_eq, cond, Option, Some}
+use Rattle.std.specs.Prelude.{◌≡◌, ℕ, ◌+◌, ◌<◌, Bool, true, ◌&&◌, nat_eq, cond, Option, Some}
 use Rattle.ps_label.specs.Truth.{is_in}
 use Rattle.ps_diagram.specs.Letters.{assignment}
 use Rattle.ps_diagram.specs.Tree.{Tree, leaf_at, IsBlind}
 use Rattle.ps_diagram.specs.Table.{Table, IsNode, tree_of}
+
+-- the node is in another table over the same propositions
+pub record IsLent (t other : Table) (node : ℕ) : Type 0 where
+  pub held : IsNode other node
+  pub letters : t.propositions ≡ other.propositions
 
 -- the letter mixed of f and g: it has the values of f on the mask, and the values of g elsewhere
 abbrev pub mixed : ℕ → (ℕ → Bool) → (ℕ → Bool) → ℕ → Bool
@@ -38,6 +43,14 @@ IsPlace t level leaf = (node : ℕ) × (leaf ≡ Some node) × IsNode t node × 
 -- each leaf of the tree is the number of a node, which depends only on propositions from `level` on
 abbrev pub LeadsToNodes : Table → ℕ → Tree → Type 0
 LeadsToNodes t level d = (f : ℕ → Bool) → IsPlace t level (leaf_at d f)
+
+-- p is a proposition, and the leaves of two nodes are nodes that depend only on propositions after p
+pub record AreLeading (t : Table) (p low high : ℕ) : Type 0 where
+  pub named : p < t.propositions
+  pub low_held : IsNode t low
+  pub high_held : IsNode t high
+  pub low_leads : LeadsToNodes t (p + 1) (tree_of t low)
+  pub high_leads : LeadsToNodes t (p + 1) (tree_of t high)
 
 -- Three leaves are numbers of nodes. The third node has the leaf of the second at letters for which `test` is true, and
 -- the leaf of the first at other letters.

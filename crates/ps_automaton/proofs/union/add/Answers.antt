@@ -20,7 +20,7 @@ overlay-requires-clause-first c = search rules
 
 pub first_clash-requires-clause-ready : goal.first_clash-requires-clause-ready
 first_clash-requires-clause-ready c =
-    let keeps = keeps_both c.in_ok-letters.ensures.keeps c.overlay.ensures.keeps in
+    let keeps = keeps_both c.in_ok-letters.ensures.keeps c.overlay.ensures.made.keeps in
     kept_ready keeps c.requires.ready
 
 pub first_clash-requires-clause-clash : goal.first_clash-requires-clause-clash
@@ -37,7 +37,7 @@ first_clash-requires-clause-clash c =
 
 pub returns-in-Ok-clause-keeps : goal.returns-in-Ok-clause-keeps
 returns-in-Ok-clause-keeps c =
-    keeps_both c.in_ok-letters.ensures.keeps c.overlay.ensures.keeps
+    keeps_both c.in_ok-letters.ensures.keeps c.overlay.ensures.made.keeps
 
 pub returns-in-Ok-clause-union : goal.returns-in-Ok-clause-union
 returns-in-Ok-clause-union c =
@@ -46,7 +46,7 @@ returns-in-Ok-clause-union c =
     let placed = c.in_ok-target.ensures.placed in
     union_grown c.requires.ready.sound c.requires.ready.row at c.target_of.ensures c.place_of.new.self
     c.in_ok-target.target (placed_keeps placed) placed.stored (placed_is placed) keeps c.in_ok-letters.letters
-    c.requires.union c.in_ok-letters.ensures.shows c.in-Ok.ensures.held c.in-Ok.ensures.leaf c.in-Ok.ensures.alike
+    c.requires.union c.in_ok-letters.ensures.shows c.in-Ok.ensures.made.held c.in-Ok.ensures.made.leaf c.in-Ok.ensures.alike
 
 pub returns-in_ok-first_clash-in-Err-Clash-clause-refused : goal.returns-in_ok-first_clash-in-Err-Clash-clause-refused
 returns-in_ok-first_clash-in-Err-Clash-clause-refused c = search (rules, first_of_row)

@@ -1,3 +1,4 @@
+use Rattle.std.proofs.Common.{rules}
 use Rattle.ps_diagram.proofs.Cells.{adds_cell, leaves_kept}
 use Rattle.ps_diagram.proofs.Keys.{same_view, view_same}
 use Rattle.ps_diagram.specs.Inner.Placed.{AddsCell}
@@ -9,5 +10,5 @@ added c = adds_cell c.self.inside.list.keys c.args.cell _ same_view view_same c.
 pub invariant_of-self-2 : goal.invariant_of-self-2
 invariant_of-self-2 c = leaves_kept c.self.inside.leaves.items (added c) c.self.invariant
 
-pub returns-clause-adds : goal.returns-clause-adds
-returns-clause-adds c = rw c.self.view_is at (added c)
+pub returns : goal.returns
+returns c = record { adds = rw c.self.view_is at (added c); there = search rules; err = search rules }

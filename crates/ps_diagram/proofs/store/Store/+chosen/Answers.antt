@@ -1,22 +1,19 @@
 use Rattle.std.proofs.Common.{sym, rules}
 use Rattle.indexmap.specs.IndexMap.{get}
 use Rattle.ps_diagram.specs.Inner.Rests.{test_eq}
-use Rattle.ps_diagram.proofs.KnownLemmas.{keeps_trans}
-use Rattle.ps_diagram.proofs.Choosing.{chosen_sides, triples_kept, triples_more}
+use Rattle.ps_diagram.proofs.KnownLemmas.{keeps_three, keeps_trans}
+use Rattle.ps_diagram.proofs.Choosing.{chosen_sides, triples_kept, triples_put}
+use Rattle.ps_diagram.proofs.Making.{fails, gives}
 use Rattle.ps_diagram.proofs.store.Store.+chosen.Goals as goal
 
-pub returns-in-Some-clause-held : goal.returns-in-Some-clause-held
-returns-in-Some-clause-held t c =
-    (c.requires.known c.args.truth c.args.one c.args.other c.in-Some.made (sym c.in-Some.ensures)).3
-
-pub returns-in-Some-clause-leaf : goal.returns-in-Some-clause-leaf
-returns-in-Some-clause-leaf t c =
-    (c.requires.known c.args.truth c.args.one c.args.other c.in-Some.made (sym c.in-Some.ensures)).4
+pub returns-in-Some-clause-made : goal.returns-in-Some-clause-made
+returns-in-Some-clause-made t c =
+    let r = c.requires.known c.args.truth c.args.one c.args.other c.in-Some.made (sym c.in-Some.ensures) in gives r.3 r.4
 
 pub chosen-requires-2 : goal.chosen-requires-2
 chosen-requires-2 t c =
     let s = c.cut-proposition.ensures in
-    let k = c.chosen.ensures.keeps in (
+    let k = c.chosen.ensures.made.keeps in (
       search rules,
       (
         k.held _ s.truth_sides.high_held,
@@ -24,26 +21,28 @@ chosen-requires-2 t c =
       ),
     )
 
-pub returns-in_err-put-clause-keeps : goal.returns-in_err-put-clause-keeps
-returns-in_err-put-clause-keeps t c =
-    keeps_trans (keeps_trans c.chosen.ensures.keeps c.chosen-2.ensures.keeps) c.test.ensures.keeps
+pub returns-in_err-high-clause-made : goal.returns-in_err-high-clause-made
+returns-in_err-high-clause-made t c = fails (search (rules, keeps_trans)) (search rules)
+
+pub returns-in_err-made-clause-made : goal.returns-in_err-made-clause-made
+returns-in_err-made-clause-made t c = fails (search (rules, keeps_trans)) (search rules)
+
+pub returns-in_err-made-clause-known : goal.returns-in_err-made-clause-known
+returns-in_err-made-clause-known t c = search (rules, triples_kept)
+
+pub returns-in_err-put-clause-made : goal.returns-in_err-put-clause-made
+returns-in_err-put-clause-made t c = fails
+    (keeps_three c.chosen.ensures.made.keeps c.chosen-2.ensures.made.keeps c.test.ensures.keeps) (search rules)
 
 pub returns-in_err-put-clause-known : goal.returns-in_err-put-clause-known
 returns-in_err-put-clause-known t c = rw c.in_err-put.ensures.err
     (triples_kept (get test_eq c.chosen-2.new.known.table) c.test.ensures.keeps c.chosen-2.ensures.known)
 
-pub returns-clause-leaf : goal.returns-clause-leaf
-returns-clause-leaf t c =
-    let s = c.cut-proposition.ensures in
-    chosen_sides c.test.new.self c.chosen.ensures.keeps c.chosen-2.ensures.keeps _ _ s.truth_sides s.one_sides
-    s.other_sides c.in_ok-low.ensures.held c.in_ok-low.ensures.leaf c.in_ok-high.ensures.leaf c.in_ok-made.ensures.leaf
+pub returns-clause-made : goal.returns-clause-made
+returns-clause-made t c =
+    chosen_sides c.cut-proposition.ensures c.in_ok-low.ensures.made c.in_ok-high.ensures.made c.in_ok-made.ensures
 
 pub returns-clause-known : goal.returns-clause-known
-returns-clause-known t c =
-    let last = c.test.new.self in
-    let k = keeps_trans (keeps_trans c.chosen.ensures.keeps c.chosen-2.ensures.keeps) c.test.ensures.keeps in
-    triples_more last (get test_eq c.chosen-2.new.known.table) (get test_eq c.put.new.self.table)
-    c.put.ensures.put (triples_kept (get test_eq c.chosen-2.new.known.table) c.test.ensures.keeps
-    c.chosen-2.ensures.known) (k.held c.args.truth c.requires.truth) (k.held c.args.one c.requires.one)
-    (k.held c.args.other c.requires.other) c.in_ok-made.ensures.held
-    (rw (k.same _ c.requires.truth, k.same _ c.requires.one, k.same _ c.requires.other) (returns-clause-leaf t c))
+returns-clause-known t c = triples_put (get test_eq c.chosen-2.new.known.table) (get test_eq c.put.new.self.table)
+    c.put.ensures.put c.test.ensures.keeps c.chosen-2.ensures.known c.requires.truth c.requires.one c.requires.other
+    (returns-clause-made t c)

@@ -1,18 +1,14 @@
-use Rattle.std.proofs.Common.{sym, ℕ, true, false}
+use Rattle.std.proofs.Common.{sym, true, false, rules}
 use Rattle.indexmap.specs.IndexMap.{get}
-use Rattle.ps_diagram.specs.Table.{tree_of}
 use Rattle.ps_diagram.specs.Inner.Known.{IsOverlay, pair_eq}
-use Rattle.ps_diagram.proofs.KnownLemmas.{keeps_trans, pairs_kept, pairs_more}
+use Rattle.ps_diagram.proofs.KnownLemmas.{keeps_three, keeps_trans, pairs_kept, pairs_put}
 use Rattle.ps_diagram.proofs.Joining.{overlay_sides, clash_side, clash_passes}
+use Rattle.ps_diagram.proofs.Making.{fails, gives}
 use Rattle.ps_diagram.proofs.store.Store.+overlaid.Goals as goal
 
-pub returns-in-Some-clause-held : goal.returns-in-Some-clause-held
-returns-in-Some-clause-held t c =
-    (c.requires.known c.args.first c.args.second c.in-Some.node (sym c.in-Some.ensures)).2
-
-pub returns-in-Some-clause-leaf : goal.returns-in-Some-clause-leaf
-returns-in-Some-clause-leaf t c =
-    (c.requires.known c.args.first c.args.second c.in-Some.node (sym c.in-Some.ensures)).3
+pub returns-in-Some-clause-made : goal.returns-in-Some-clause-made
+returns-in-Some-clause-made t c =
+    let r = c.requires.known c.args.first c.args.second c.in-Some.node (sym c.in-Some.ensures) in gives r.2 r.3
 
 pub returns-in_err-low-clause-clash : goal.returns-in_err-low-clause-clash
 returns-in_err-low-clause-clash t c =
@@ -20,49 +16,35 @@ returns-in_err-low-clause-clash t c =
     clash_passes _ _ _ _ c.from_residual.ensures.1
     (clash_side s.first_sides s.second_sides false _ c.in_err-low.ensures.clash)
 
-pub returns-in_err-high-clause-keeps : goal.returns-in_err-high-clause-keeps
-returns-in_err-high-clause-keeps t c = keeps_trans c.overlaid.ensures.keeps c.overlaid-2.ensures.keeps
+pub returns-in_err-high-clause-made : goal.returns-in_err-high-clause-made
+returns-in_err-high-clause-made t c = fails (search (rules, keeps_trans)) (search rules)
 
 pub returns-in_err-high-clause-clash : goal.returns-in_err-high-clause-clash
 returns-in_err-high-clause-clash t c =
     let a = c.in-Some-split.ensures.first_sides in
     let b = c.in-Some-split.ensures.second_sides in
-    let k = c.overlaid.ensures.keeps in
+    let k = c.overlaid.ensures.made.keeps in
     clash_passes _ _ _ _ c.from_residual-in_err-high.ensures.1 (clash_side a b true c.in_err-high.field-0.0
     (rw (← k.same _ a.high_held, ← k.same _ b.high_held) c.in_err-high.ensures.clash))
 
-pub returns-in_err-node-clause-keeps : goal.returns-in_err-node-clause-keeps
-returns-in_err-node-clause-keeps t c =
-    keeps_trans (keeps_trans c.overlaid.ensures.keeps c.overlaid-2.ensures.keeps) c.test.ensures.keeps
+pub returns-in_err-node-clause-made : goal.returns-in_err-node-clause-made
+returns-in_err-node-clause-made t c = fails (search (rules, keeps_trans)) (search rules)
 
 pub returns-in_err-node-clause-known : goal.returns-in_err-node-clause-known
-returns-in_err-node-clause-known t c =
-    pairs_kept IsOverlay (get pair_eq c.overlaid-2.new.known.table) c.test.ensures.keeps c.overlaid-2.ensures.known
+returns-in_err-node-clause-known t c = search (rules, pairs_kept)
 
-pub returns-in_err-put-clause-keeps : goal.returns-in_err-put-clause-keeps
-returns-in_err-put-clause-keeps t c =
-    keeps_trans (keeps_trans c.overlaid.ensures.keeps c.overlaid-2.ensures.keeps) c.test.ensures.keeps
+pub returns-in_err-put-clause-made : goal.returns-in_err-put-clause-made
+returns-in_err-put-clause-made t c = fails
+    (keeps_three c.overlaid.ensures.made.keeps c.overlaid-2.ensures.made.keeps c.test.ensures.keeps) (search rules)
 
 pub returns-in_err-put-clause-known : goal.returns-in_err-put-clause-known
-returns-in_err-put-clause-known t c = rw c.in_err-put.ensures.err
-    (pairs_kept IsOverlay (get pair_eq c.overlaid-2.new.known.table) c.test.ensures.keeps c.overlaid-2.ensures.known)
+returns-in_err-put-clause-known t c = rw c.in_err-put.ensures.err (search (rules, pairs_kept))
 
-pub returns-clause-keeps : goal.returns-clause-keeps
-returns-clause-keeps t c =
-    keeps_trans (keeps_trans c.overlaid.ensures.keeps c.overlaid-2.ensures.keeps) c.test.ensures.keeps
-
-joins : (t : ℕ) (c : goal.In_ok-put t) → IsOverlay (tree_of c.args.self.now c.args.first)
-    (tree_of c.args.self.now c.args.second) (tree_of c.test.new.self c.in_ok-node.node)
-joins t c =
-    let s = c.in-Some-split.ensures in
-    overlay_sides c.test.new.self c.overlaid.ensures.keeps c.overlaid-2.ensures.keeps _ _ s.first_sides s.second_sides
-    c.in_ok-low.ensures.held c.in_ok-low.ensures.leaf c.in_ok-high.ensures.leaf c.in_ok-node.ensures.leaf
+pub returns-clause-made : goal.returns-clause-made
+returns-clause-made t c =
+    overlay_sides c.in-Some-split.ensures c.in_ok-low.ensures.made c.in_ok-high.ensures.made c.in_ok-node.ensures
 
 pub returns-clause-known : goal.returns-clause-known
-returns-clause-known t c =
-    let last = c.test.new.self in
-    let k = keeps_trans (keeps_trans c.overlaid.ensures.keeps c.overlaid-2.ensures.keeps) c.test.ensures.keeps in
-    pairs_more IsOverlay last (get pair_eq c.overlaid-2.new.known.table) (get pair_eq c.put.new.self.table)
-    c.put.ensures.put (pairs_kept IsOverlay (get pair_eq c.overlaid-2.new.known.table) c.test.ensures.keeps
-    c.overlaid-2.ensures.known) (k.held c.args.first c.requires.first) (k.held c.args.second c.requires.second)
-    c.in_ok-node.ensures.held (rw (k.same _ c.requires.first, k.same _ c.requires.second) (joins t c))
+returns-clause-known t c = pairs_put IsOverlay (get pair_eq c.overlaid-2.new.known.table)
+    (get pair_eq c.put.new.self.table) c.put.ensures.put c.test.ensures.keeps c.overlaid-2.ensures.known
+    c.requires.first c.requires.second (returns-clause-made t c)

@@ -1,8 +1,10 @@
 use Rattle.std.proofs.Common.{true, false, arith}
+use Rattle.std.proofs.lemmas.Grind.{common_steps}
 use Rattle.ps_label.specs.Expression.{expression}
 use Rattle.ps_label.specs.Truth.{truth}
 use Rattle.ps_label.proofs.OperandLists.{expression-Both, expression-Either}
 use Rattle.ps_diagram.proofs.KnownLemmas.{keeps_trans}
+use Rattle.ps_diagram.proofs.Making.{after}
 use Rattle.ps_diagram.proofs.Truths.{drop_is, opposite_of}
 use Rattle.ps_diagram.proofs.Unions.{no_operands, operands_more}
 use Rattle.ps_diagram.proofs.store.Store.+truth_by.Goals as goal
@@ -12,6 +14,16 @@ loop-operand-init t c = grind (arith, expression-Both, no_operands)
 
 pub loop-operand-2-init : goal.loop-operand-2-init
 loop-operand-2-init t c = grind (arith, expression-Either, no_operands)
+
+pub returns-in_ok-any-in-Both : goal.returns-in_ok-any-in-Both
+returns-in_ok-any-in-Both t c =
+    let any = c.in_ok-any-in-Both.ensures.leaf in
+    after (keeps_trans c.loop-operand.invariant.keeps c.union_of.ensures.keeps) c.negated-in-Both.ensures
+    (grind (arith, common_steps))
+
+pub returns-after-loop-operand-2 : goal.returns-after-loop-operand-2
+returns-after-loop-operand-2 t c =
+    after c.loop-operand-2.invariant.keeps c.union_of-in-Either.ensures (grind (arith, common_steps))
 
 pub loop-operand-preserved : goal.loop-operand-preserved
 loop-operand-preserved t c =

@@ -1,6 +1,7 @@
 use Rattle.std.proofs.Common.{rules, ◌∙◌}
-use Rattle.std.proofs.lemmas.Result.{IfOk-weaker}
+use Rattle.ps_diagram.proofs.KnownLemmas.{keeps_trans}
 use Rattle.ps_diagram.proofs.Unions.{back_kept, one_truth, union_halves, union_truth}
+use Rattle.ps_diagram.proofs.Making.{by-last}
 use Rattle.ps_diagram.proofs.store.Store.+union_of.Goals as goal
 
 pub union_of-requires-2 : goal.union_of-requires-2
@@ -16,8 +17,8 @@ either-requires-clause-second_truth t c = λ letter.
     let truth = union_truth c.union_of.new.self c.split_at.result.1.now letter (search (rules, back_kept)) in
     (truth.0, c.in_ok-other.ensures.leaf letter ∙ truth.1)
 
-pub returns-clause-leaf : goal.returns-clause-leaf
-returns-clause-leaf t c = IfOk-weaker c.either.result _ _ (λ node h letter. h letter
+pub returns : goal.returns
+returns t c = by-last (keeps_trans c.in_ok-one.ensures.keeps c.in_ok-other.ensures.keeps) (λ node h letter. h letter
     ∙ union_halves c.args.nodes.now _ c.in_ok-other.other c.split_at.ensures.front c.split_at.ensures.back
     c.in_ok-one.ensures.keeps c.in_ok-other.ensures.keeps c.in_ok-one.ensures.held c.requires.truths
-    c.in_ok-one.ensures.leaf letter (c.in_ok-other.ensures.leaf letter)) c.either.ensures.leaf
+    c.in_ok-one.ensures.leaf letter (c.in_ok-other.ensures.leaf letter)) c.either.ensures

@@ -21,10 +21,10 @@ pub invariant_of-self-2 : goal.invariant_of-self-2
 unfolding new
 invariant_of-self-2 c = (done c).sound
 
-pub returns-clause-keeps : goal.returns-clause-keeps
+pub returns : goal.returns
 unfolding old new
-returns-clause-keeps c = rw c.self.view_is at (done c).keeps
-
-pub returns-clause-tree : goal.returns-clause-tree
-unfolding old new
-returns-clause-tree c = (done c).tree ∙ ap (λ (t : Table). tree_in t.cells c.args.cell) c.self.view_is
+returns c = record {
+  keeps = rw c.self.view_is at (done c).keeps;
+  held = (done c).held;
+  leaf = (done c).tree ∙ ap (λ (t : Table). tree_in t.cells c.args.cell) c.self.view_is;
+}

@@ -1,7 +1,8 @@
-use Rattle.std.proofs.Common.{◌≡◌, ◌+◌, ◌-◌, ◌<◌, None, arith}
+use Rattle.std.proofs.Common.{◌≡◌, ◌+◌, ◌-◌, ◌<◌, None, arith, rules}
 use Rattle.ps_diagram.specs.Inner.Rows.{HasLeaf, LeadsOn}
 use Rattle.ps_diagram.proofs.Halving.{first_row, first_leads, has_leaf_kept}
 use Rattle.ps_diagram.proofs.KnownLemmas.{keeps_trans}
+use Rattle.ps_diagram.proofs.Making.{fails}
 use Rattle.ps_diagram.proofs.store.Store.of_leaves.Goals as goal
 
 pub loop-proposition-init : goal.loop-proposition-init
@@ -17,8 +18,8 @@ loop-proposition-init c =
       first_leads none nothing c.in_ok-nodes.ensures.nodes,
     )
 
-pub returns-in_err-nodes-2-clause-keeps : goal.returns-in_err-nodes-2-clause-keeps
-returns-in_err-nodes-2-clause-keeps c = keeps_trans c.loop-proposition.invariant.keeps c.halved.ensures.keeps
+pub returns-in_err-nodes-2 : goal.returns-in_err-nodes-2
+returns-in_err-nodes-2 c = fails (search (rules, keeps_trans)) (search rules)
 
 pub loop-proposition-preserved : goal.loop-proposition-preserved
 loop-proposition-preserved c =

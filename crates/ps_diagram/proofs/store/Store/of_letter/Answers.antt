@@ -48,9 +48,9 @@ loop-proposition-preserved c =
           (bit_false _ _ c.if-letter-proposition-eq1.false) c.in_ok-node-3.ensures.leaf;
     }
 
-pub returns-clause-leaf : goal.returns-clause-leaf
-returns-clause-leaf c =
+pub returns : goal.returns
+returns c =
     let l = c.loop-proposition in
     let v = l.invariant in
     let done : l.proposition ≡ 0 = omega arith in
-    alone_end c.requires.within v.keeps.propositions done v.alone
+    record { keeps = v.keeps; held = v.held; leaf = alone_end c.requires.within v.keeps.propositions done v.alone }

@@ -3,6 +3,6 @@ use Rattle.std.specs.Prelude.{IfSome}
 use Rattle.ps_diagram.proofs.Mapping.{by_numbers}
 use Rattle.ps_diagram.proofs.store.Store.relabel_from.Goals as goal
 
-pub mapped-requires-clause-fits : goal.mapped-requires-clause-fits
-mapped-requires-clause-fits c = by_numbers (λ leaf. IfSome leaf (λ k. k < length c.args.values.now))
-    c.allocator.ensures.sound c.requires.held c.requires.within
+pub mapped-requires : goal.mapped-requires
+mapped-requires c = by_numbers (λ leaf. IfSome leaf (λ k. k < length c.args.values.now)) c.allocator.ensures.sound
+    c.requires.held c.requires.few c.requires.within

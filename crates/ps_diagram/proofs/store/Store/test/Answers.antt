@@ -1,7 +1,8 @@
 use Rattle.std.proofs.Common.{sym, ◌∙◌}
-use Rattle.std.proofs.lemmas.Result.{IfOk-weaker}
 use Rattle.ps_diagram.specs.Table.{tree_of}
 use Rattle.ps_diagram.proofs.Canon.{Ready, ready}
+use Rattle.ps_diagram.proofs.Cells.{keeps_refl}
+use Rattle.ps_diagram.proofs.Making.{by-last}
 use Rattle.ps_diagram.proofs.store.Store.test.Goals as goal
 
 made_ready : (c : goal.After-intern-arg-1) → Ready c.args.self.now c.args.proposition c.args.low c.args.high
@@ -18,8 +19,4 @@ intern-requires c = record {
 
 pub returns : goal.returns
 unfolding tree_of
-returns c = record {
-  keeps = c.intern.ensures.keeps;
-  held = c.intern.ensures.held;
-  leaf = IfOk-weaker c.intern.result _ _ (λ node e f. rw e) c.intern.ensures.tree;
-}
+returns c = by-last (keeps_refl _) (λ node e f. rw e) c.intern.ensures
