@@ -11,12 +11,14 @@ use Rattle.ps_hoa.specs.Edges.{is_marked}
 use Rattle.ps_hoa.specs.Files.{EdgeData, RowData, FileData, at_letter, is_among}
 use Rattle.ps_hoa.specs.Sound.{AreAtLetters, AreBelow, AreLabelled, IsOfState}
 use Rattle.ps_hoa.specs.Sound.{IsSoundFile, IsSoundRow, IsStated}
-use Rattle.ps_hoa.specs.Views.{edge_data}
+use Rattle.ps_hoa.specs.Views.{edge_data, row_data}
 use Rattle.ps_hoa.specs.declared.file.Edge.{Edge}
 use Rattle.ps_hoa.proofs.Soundness.SoundLaws.{all_at, all_get, sound_edge}
+use Rattle.ps_diagram.specs.Table.{Table}
 use Rattle.ps_automaton.specs.Answers.{AreAlike}
-use Rattle.ps_automaton.specs.Inner.Drafts.{IsByLetters, IsFit}
+use Rattle.ps_automaton.specs.Inner.Drafts.{IsByLetters, IsFit, IsReady, IsReadyTo}
 use Rattle.ps_automaton.specs.Inner.Targets.{IsTargetOf}
+use Rattle.ps_automaton.specs.declared.guards.Guards.{Guards}
 use Rattle.ps_automaton.specs.declared.targets.Target.{Target}
 
 -- ## Guards
@@ -45,7 +47,7 @@ by_letters_of {file} {row} s {e} k at is = by_label row.label s.labelled
     by_label None (inr a) = a
 
 module _ {file : FileData} (sound : IsSoundFile file) {row : RowData} (row_sound : IsSoundRow file row) where
-  pub fits : (j : ℕ) {e : EdgeData} → slice_get row.edges j ≡ Some e → IsFit file e.guard
+  fits : (j : ℕ) {e : EdgeData} → slice_get row.edges j ≡ Some e → IsFit file e.guard
   fits j {e} at = grind (arith, sound_edge, labelled_letter)
 
   few_of : {ns : List ℕ} → AreBelow file.sets ns → All (λ set. set < 64) ns
@@ -86,3 +88,8 @@ target_of_alike {s} {t} a b alike =
 pub edge_at : (items : List Edge) (k : ℕ) {e : Edge} → k < length items → e ≡ get_or items k e →
     slice_get (map edge_data items) k ≡ Some (edge_data e)
 edge_at items k {e} within is = grind (arith, slice_get-map, slice_get_read)
+
+-- the letters of an edge of the row can be made
+pub ready_to : (j : ℕ) {t : Table} {g : Guards} {edge : Edge} → IsReady t g →
+    slice_get (row_data g.row.now).edges j ≡ Some (edge_data edge) → IsReadyTo t g edge
+ready_to j ready at = record { ready = ready; fit = fits ready.sound ready.row j at }

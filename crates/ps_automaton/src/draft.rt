@@ -7,10 +7,9 @@ ghost use Rattle.ps_diagram.specs.Table.{IsNode, Keeps, leaf_of};
 ghost use Rattle.ps_hoa.specs.Files.{FileData};
 ghost use Rattle.ps_hoa.specs.Sound.{IsSoundFile, IsSoundRow};
 ghost use Rattle.ps_hoa.specs.Views.{row_data};
-ghost use Rattle.ps_hoa.specs.Edges.{row_of};
-ghost use Rattle.ps_automaton.specs.Inner.Drafts.{AreLevels, ArePlaces, AreSteps, AreTargets, Extends, Grows};
+ghost use Rattle.ps_automaton.specs.Inner.Drafts.{ArePlaces, AreReady, AreSteps, AreTargets, Extends, Grows};
 ghost use Rattle.ps_automaton.specs.Inner.Drafts.{IsByLetters};
-ghost use Rattle.ps_automaton.specs.Inner.Drafts.{IsDraft, IsDraftFault, IsLabelNode, IsReady, IsRowFault};
+ghost use Rattle.ps_automaton.specs.Inner.Drafts.{IsDraft, IsDraftFault, IsLabelNode, IsRowFault, IsSource, MakesSteps};
 ghost use Rattle.ps_automaton.specs.Inner.Drafts.{IsStateFault};
 ghost use Rattle.ps_automaton.specs.Inner.Drafts.{IsStepsOf};
 ghost use Rattle.ps_automaton.specs.Inner.Views.{chain_data};
@@ -43,7 +42,6 @@ pub(crate) fn drafted(
     file: &HoaFile,
     levels: &Levels,
 ) -> Result<Draft, AutomatonFault>
-    requires levels { AreLevels levels.now }
     ensures draft { IfOk result (λ draft. IsDraft file.now (chain_data levels.now.chain) draft.pairs.steps.keys
         draft.pairs.store draft.nodes.items) }
     ensures refused { IfErr result (IsDraftFault file.now) }
@@ -72,7 +70,6 @@ fn opened(alloc: Global, file: &HoaFile) -> Result<Pairs, AllocError>
 
 /// The diagrams of the steps of all states, followed by the diagram of the sink.
 fn nodes_of(pairs: &mut Pairs, file: &HoaFile, levels: &Levels) -> Result<Vec<Node>, AutomatonFault>
-    requires levels { AreLevels levels.now }
     requires letters { pairs.old.store.propositions ≡ length file.now.names }
     requires steps { AreSteps file.now.states pairs.old.steps.keys }
     ensures draft { IfOk result (λ nodes. IsDraft file.now (chain_data levels.now.chain) pairs.new.steps.keys
@@ -92,10 +89,7 @@ fn nodes_of(pairs: &mut Pairs, file: &HoaFile, levels: &Levels) -> Result<Vec<No
 
 /// The diagrams of the steps of all states.
 fn nodes_of_states(pairs: &mut Pairs, source: &Source) -> Result<Vec<Node>, AutomatonFault>
-    requires levels { AreLevels source.now.levels.now }
-    requires letters { pairs.old.store.propositions ≡ length source.now.file.now.names }
-    requires aliases { AreNodesOf pairs.old.store source.now.file.now.aliases source.now.aliases.now }
-    requires steps { AreSteps source.now.file.now.states pairs.old.steps.keys }
+    requires { IsSource source.now pairs.old }
     ensures letters { OnOk result (pairs.new.store.propositions ≡ length source.now.file.now.names) }
     ensures steps { OnOk result (AreSteps source.now.file.now.states pairs.new.steps.keys) }
     ensures one_each { IfOk result (λ nodes. length nodes.items ≡ source.now.file.now.states) }
@@ -113,10 +107,7 @@ fn nodes_of_states(pairs: &mut Pairs, source: &Source) -> Result<Vec<Node>, Auto
 
 /// The diagram of a state's steps.
 fn state_node(pairs: &mut Pairs, source: &Source, state: u32) -> Result<Node, AutomatonFault>
-    requires levels { AreLevels source.now.levels.now }
-    requires letters { pairs.old.store.propositions ≡ length source.now.file.now.names }
-    requires aliases { AreNodesOf pairs.old.store source.now.file.now.aliases source.now.aliases.now }
-    requires steps { AreSteps source.now.file.now.states pairs.old.steps.keys }
+    requires { IsSource source.now pairs.old }
     ensures grows { OnOk result (Grows source.now.file.now.states pairs.old pairs.new) }
     ensures node { IfOk result (IsStepsOf source.now.file.now (chain_data source.now.levels.now.chain) state
         pairs.new.steps.keys pairs.new.store) }
@@ -152,12 +143,8 @@ fn label_node(store: &mut Store, source: &Source, row: &Row) -> Result<Option<No
 
 /// The diagram of the steps of the state to which a row belongs.
 fn row_node(pairs: &mut Pairs, levels: &Levels, guards: &Guards) -> Result<Node, AutomatonFault>
-    requires levels { AreLevels levels.now }
-    requires ready { IsReady pairs.old.store guards.now }
-    requires steps { AreSteps guards.now.file.now.states pairs.old.steps.keys }
-    ensures grows { OnOk result (Grows guards.now.file.now.states pairs.old pairs.new) }
-    ensures node { IfOk result (λ node. (q : ℕ) → row_of guards.now.file.now q ≡ Some (row_data guards.now.row.now)
-        → IsStepsOf guards.now.file.now (chain_data levels.now.chain) q pairs.new.steps.keys pairs.new.store node) }
+    requires { AreReady pairs.old guards.now }
+    ensures steps { MakesSteps guards.now levels.now pairs.old pairs.new result }
     ensures refused { IfErr result (IsRowFault guards.now.file.now (row_data guards.now.row.now)) }
 {
     if is_by_letters(guards.row) {
@@ -180,13 +167,9 @@ fn is_by_letters(row: &Row) -> bool
 
 /// The diagram of the steps of a state each of whose edges is taken at a single letter.
 fn node_by_letters(pairs: &mut Pairs, levels: &Levels, guards: &Guards) -> Result<Node, AllocError>
-    requires levels { AreLevels levels.now }
-    requires ready { IsReady pairs.old.store guards.now }
-    requires steps { AreSteps guards.now.file.now.states pairs.old.steps.keys }
+    requires pairs { AreReady pairs.old guards.now }
     requires by_letters { IsByLetters guards.now.file.now (row_data guards.now.row.now) }
-    ensures grows { OnOk result (Grows guards.now.file.now.states pairs.old pairs.new) }
-    ensures node { IfOk result (λ node. (q : ℕ) → row_of guards.now.file.now q ≡ Some (row_data guards.now.row.now)
-        → IsStepsOf guards.now.file.now (chain_data levels.now.chain) q pairs.new.steps.keys pairs.new.store node) }
+    ensures { MakesSteps guards.now levels.now pairs.old pairs.new result }
 {
     let targets = targets_of(pairs.alloc, guards)?;
     let places = places_of(pairs.alloc, &mut pairs.steps, levels, &targets)?;
@@ -213,12 +196,8 @@ fn node_by_labels(
     levels: &Levels,
     guards: &Guards,
 ) -> Result<Node, AutomatonFault>
-    requires levels { AreLevels levels.now }
-    requires ready { IsReady pairs.old.store guards.now }
-    requires steps { AreSteps guards.now.file.now.states pairs.old.steps.keys }
-    ensures grows { OnOk result (Grows guards.now.file.now.states pairs.old pairs.new) }
-    ensures node { IfOk result (λ node. (q : ℕ) → row_of guards.now.file.now q ≡ Some (row_data guards.now.row.now)
-        → IsStepsOf guards.now.file.now (chain_data levels.now.chain) q pairs.new.steps.keys pairs.new.store node) }
+    requires { AreReady pairs.old guards.now }
+    ensures steps { MakesSteps guards.now levels.now pairs.old pairs.new result }
     ensures refused { IfErr result (IsRowFault guards.now.file.now (row_data guards.now.row.now)) }
 {
     let union = joined(pairs.alloc, &mut pairs.store, guards)?;
@@ -228,7 +207,6 @@ fn node_by_labels(
 /// The diagram of a state's steps, made from the joined diagram of the state's edges, whose leaves are indices of
 /// targets. At a letter at which no edge of the state is taken, the step leads to the sink.
 fn node_of_union(pairs: &mut Pairs, levels: &Levels, union: &Union) -> Result<Node, AllocError>
-    requires levels { AreLevels levels.now }
     requires held { IsNode pairs.old.store union.now.node }
     requires within { (letter : ℕ) → letter < 2 ^ pairs.old.store.propositions →
         IfSome (leaf_of pairs.old.store union.now.node letter) (λ k. k < length union.now.targets) }
@@ -255,7 +233,6 @@ fn places_of(
     levels: &Levels,
     targets: &[Target],
 ) -> Result<Vec<u64>, AllocError>
-    requires levels { AreLevels levels.now }
     ensures extends { OnOk result (Extends steps.old.keys steps.new.keys) }
     ensures within { OnOk result ((states : ℕ) → ((k : ℕ) (target : Target) → slice_get targets.now k ≡ Some target →
         target.state ≤ states)

@@ -1,11 +1,11 @@
 //! The letters at which an edge is taken, as a decision diagram.
 
 ghost use Rattle.std.specs.Prelude.{◌≡◌, ◌↔◌, ℕ, ◌+◌, ◌<◌, ◌≤◌, IfOk, IsTrue, OnOk, Some, length, slice_get};
-ghost use Rattle.ps_diagram.specs.Table.{IsNode, Keeps};
+ghost use Rattle.ps_diagram.specs.Table.{IsNode, Keeps, MakesNode};
 ghost use Rattle.ps_hoa.specs.Files.{EdgeData};
 ghost use Rattle.ps_hoa.specs.Views.{edge_data, row_data};
 ghost use Rattle.ps_automaton.specs.Answers.{AreClashing};
-ghost use Rattle.ps_automaton.specs.Inner.Drafts.{IsFit, IsReady, Meet, ShowsEdge};
+ghost use Rattle.ps_automaton.specs.Inner.Drafts.{IsReadyAt, IsReadyTo, Meet, ShowsEdge};
 
 use crate::guards::Guards;
 use crate::targets::target_of;
@@ -15,11 +15,8 @@ use std::alloc::AllocError;
 
 /// The diagram of an edge, which has the leaf 1 at the letters at which the edge is taken, and no leaf elsewhere.
 pub(crate) fn taken(store: &mut Store, guards: &Guards, edge: &Edge) -> Result<Node, AllocError>
-    requires ready { IsReady store.old guards.now }
-    requires fit { IsFit guards.now.file.now (edge_data edge.now).guard }
-    ensures keeps { OnOk result (Keeps store.old store.new) }
-    ensures held { IfOk result (λ node. IsNode store.new node) }
-    ensures shows { IfOk result (λ node. ShowsEdge guards.now.file.now (row_data guards.now.row.now)
+    requires { IsReadyTo store.old guards.now edge.now }
+    ensures { MakesNode store.old store.new result (λ node. ShowsEdge guards.now.file.now (row_data guards.now.row.now)
         (edge_data edge.now) store.new node 1) }
 {
     match &edge.guard {
@@ -39,11 +36,8 @@ pub(crate) fn marked(
     edge: &Edge,
     value: u64,
 ) -> Result<Node, AllocError>
-    requires ready { IsReady store.old guards.now }
-    requires fit { IsFit guards.now.file.now (edge_data edge.now).guard }
-    ensures keeps { OnOk result (Keeps store.old store.new) }
-    ensures held { IfOk result (λ node. IsNode store.new node) }
-    ensures shows { IfOk result (λ node. ShowsEdge guards.now.file.now (row_data guards.now.row.now)
+    requires { IsReadyTo store.old guards.now edge.now }
+    ensures { MakesNode store.old store.new result (λ node. ShowsEdge guards.now.file.now (row_data guards.now.row.now)
         (edge_data edge.now) store.new node value) }
 {
     match &edge.guard {
@@ -77,8 +71,7 @@ pub(crate) fn first_clash(
     guards: &Guards,
     second: usize,
 ) -> Result<usize, AllocError>
-    requires ready { IsReady store.old guards.now }
-    requires within { second < length guards.now.row.now.edges.items }
+    requires ready { IsReadyAt store.old guards.now second }
     requires clash { (first : ℕ) × AreClashing guards.now.file.now (row_data guards.now.row.now) first second }
     ensures clashing { IfOk result (λ first. AreClashing guards.now.file.now (row_data guards.now.row.now) first
         second) }
@@ -102,9 +95,8 @@ fn clashes(
     second: usize,
     later: Node,
 ) -> Result<bool, AllocError>
-    requires ready { IsReady store.old guards.now }
+    requires ready { IsReadyAt store.old guards.now second }
     requires earlier { first < second }
-    requires within { second < length guards.now.row.now.edges.items }
     requires held { IsNode store.old later }
     requires shows { (edge : EdgeData) → slice_get (row_data guards.now.row.now).edges second ≡ Some edge →
         ShowsEdge guards.now.file.now (row_data guards.now.row.now) edge store.old later 1 }

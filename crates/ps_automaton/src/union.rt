@@ -3,7 +3,7 @@
 ghost use Rattle.std.specs.Prelude.{◌≡◌, ◌+◌, ◌<◌, IfErr, IfOk, OnOk, length};
 ghost use Rattle.ps_diagram.specs.Table.{IsNode, Keeps};
 ghost use Rattle.ps_hoa.specs.Views.{row_data};
-ghost use Rattle.ps_automaton.specs.Inner.Drafts.{IsReady, IsRowFault, IsUnion};
+ghost use Rattle.ps_automaton.specs.Inner.Drafts.{IsJoining, IsReady, IsRowFault, IsUnion, Joins};
 
 use crate::fault::AutomatonFault;
 use crate::guards::Guards;
@@ -45,13 +45,8 @@ pub(crate) fn joined(
 
 /// Joins all edges of the state, one after the other.
 fn add_all(store: &mut Store, guards: &Guards, union: &mut Union) -> Result<(), AutomatonFault>
-    requires ready { IsReady store.old guards.now }
-    requires union { IsUnion guards.now.file.now (row_data guards.now.row.now) 0 union.old.targets store.old
-        union.old.node }
-    ensures keeps { OnOk result (Keeps store.old store.new) }
-    ensures union { OnOk result (IsUnion guards.now.file.now (row_data guards.now.row.now)
-        (length guards.now.row.now.edges.items) union.new.targets store.new union.new.node) }
-    ensures refused { IfErr result (IsRowFault guards.now.file.now (row_data guards.now.row.now)) }
+    requires { IsJoining guards.now 0 store.old union.old }
+    ensures { Joins guards.now (length guards.now.row.now.edges.items) store.old store.new union.new result }
 {
     for place in 0..guards.row.edges.len() {
         add(store, guards, place, union)?;
@@ -66,14 +61,9 @@ fn add(
     place: usize,
     union: &mut Union,
 ) -> Result<(), AutomatonFault>
-    requires ready { IsReady store.old guards.now }
     requires within { place < length guards.now.row.now.edges.items }
-    requires union { IsUnion guards.now.file.now (row_data guards.now.row.now) place union.old.targets store.old
-        union.old.node }
-    ensures keeps { OnOk result (Keeps store.old store.new) }
-    ensures union { OnOk result (IsUnion guards.now.file.now (row_data guards.now.row.now) (place + 1) union.new.targets
-        store.new union.new.node) }
-    ensures refused { IfErr result (IsRowFault guards.now.file.now (row_data guards.now.row.now)) }
+    requires joining { IsJoining guards.now place store.old union.old }
+    ensures { Joins guards.now (place + 1) store.old store.new union.new result }
 {
     let edge = &guards.row.edges[place];
     let target = union.targets.place_of(target_of(guards.row, edge))?;

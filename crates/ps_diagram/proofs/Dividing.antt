@@ -7,8 +7,8 @@ use Rattle.ps_diagram.specs.Tree.{Tree, final, leaf_at, IsBlind, IsTestOf}
 use Rattle.ps_diagram.specs.Table.{Table, IsNode, IsSoundTable, Keeps, MakesTree, tree_of}
 use Rattle.ps_diagram.specs.Split.{IsSides, IsSplit}
 use Rattle.ps_diagram.specs.Inner.Known.{Knows}
-use Rattle.ps_diagram.specs.Inner.Rests.{AreLeading, IsPlace, mixed, IsDivided, LeadsToNodes, AreTested, IsTested, IsDividedTest}
-use Rattle.ps_diagram.specs.Inner.Rests.{KnowsTests, test_eq}
+use Rattle.ps_diagram.specs.Inner.Rests.{mixed, AreLeading, AreTested, IsDivided, IsDividedTest, IsPlace, IsTested}
+use Rattle.ps_diagram.specs.Inner.Rests.{KnowsTests, LeadsToNodes, test_eq}
 use Rattle.ps_diagram.proofs.Canon.{same_cond}
 use Rattle.ps_diagram.proofs.Cells.{bool_cases, keeps_refl}
 use Rattle.ps_diagram.proofs.Keys.{and_both}

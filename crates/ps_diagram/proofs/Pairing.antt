@@ -1,5 +1,6 @@
 -- Diagrams whose leaves are the indices of pairs of two diagrams' leaves.
-use Rattle.std.proofs.Common.{◌≡◌, ℕ, Bool, true, false, cond, List, Option, None, Ok, Some, ◌∙◌, sym, ap, inl, inr, rules}
+use Rattle.std.proofs.Common.{◌≡◌, ℕ, Bool, true, false, cond, List, Ok, Option, None, Some, ◌∙◌, sym, ap, inl, inr}
+use Rattle.std.proofs.Common.{rules}
 use Rattle.std.specs.Bool.{Decides}
 use Rattle.std.proofs.lemmas.Bool.{eq-eqb}
 use Rattle.std.specs.List.{IsDistinct}

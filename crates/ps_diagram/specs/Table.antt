@@ -60,7 +60,8 @@ pub record MakesNode {E : Type 0} (old new : Table) (result : Result ℕ E) (P :
 
 -- a call makes a node with the given leaf, or none, at each letter
 abbrev pub MakesDiagram : {E : Type 0} → Table → Table → Result ℕ E → (ℕ → Option ℕ) → Type 0
-MakesDiagram old new result leaf = MakesNode old new result (λ node. (letter : ℕ) → leaf_of new node letter ≡ leaf letter)
+MakesDiagram old new result leaf =
+    MakesNode old new result (λ node. (letter : ℕ) → leaf_of new node letter ≡ leaf letter)
 
 -- a call makes a node whose tree has the property P
 abbrev pub MakesTree : {E : Type 0} → Table → Table → Result ℕ E → (Tree → Type 0) → Type 0

@@ -6,18 +6,18 @@
 --   that is taken
 -- - `IsStepsOf file chain q steps t node`: at each letter, the node's leaf is the index of the step from the state q
 use Rattle.std.specs.Prelude.{◌≡◌, ℕ, ◌^◌, ◌<◌, ◌≤◌, ◌⊎◌, Bool, List, length, None, Some, Option, IsSomeAnd, slice_get}
-use Rattle.std.specs.Prelude.{slice_index, ◌+◌}
+use Rattle.std.specs.Prelude.{slice_index, ◌+◌, IfErr, IfOk, OnOk, Result}
 use Rattle.ps_label.specs.Expression.{Expression}
 use Rattle.ps_label.specs.Truth.{is_in, label_truth}
 use Rattle.ps_diagram.specs.Labels.{AreNodesOf, one_where}
 use Rattle.ps_diagram.specs.Table.{Table, IsNode, Keeps, leaf_of}
 use Rattle.ps_hoa.specs.Files.{GuardData, EdgeData, RowData, FileData, stated, of_state, at_letter}
-use Rattle.ps_hoa.specs.Edges.{Goes, IsTaken}
+use Rattle.ps_hoa.specs.Edges.{Goes, IsTaken, row_of}
+use Rattle.ps_hoa.specs.declared.file.Edge.{Edge}
 use Rattle.ps_hoa.specs.Sound.{AreAtLetters, IsLabelOf, IsSoundFile, IsSoundRow}
-use Rattle.ps_hoa.specs.Views.{row_data}
+use Rattle.ps_hoa.specs.Views.{edge_data, row_data}
 use Rattle.ps_automaton.specs.Answers.{AreClashing, Clash, IsFirstClash}
 use Rattle.ps_automaton.specs.Chains.{Chain, level}
-use Rattle.ps_automaton.specs.Inner.Numbering.{AreSetsBelow, IsTable}
 use Rattle.ps_automaton.specs.Inner.Targets.{IsTargetOf}
 use Rattle.ps_automaton.specs.Inner.Views.{chain_data}
 use Rattle.ps_automaton.specs.declared.fault.AutomatonFault.{AutomatonFault}
@@ -26,8 +26,10 @@ use Rattle.ps_automaton.specs.declared.fault.AutomatonFault.TheVariants.{OutOfMe
 use Rattle.ps_automaton.specs.declared.guards.Guards.{Guards}
 use Rattle.ps_automaton.specs.declared.levels.Levels.{Levels}
 use Rattle.ps_automaton.specs.declared.pairs.Pairs.{Pairs}
+use Rattle.ps_automaton.specs.declared.pairs.Source.{Source}
 use Rattle.ps_automaton.specs.declared.step.Step.{Step}
 use Rattle.ps_automaton.specs.declared.targets.Target.{Target}
+use Rattle.ps_automaton.specs.declared.union.Union.{Union}
 
 -- ## Guards
 
@@ -45,12 +47,22 @@ pub record IsReady (t : Table) (g : Guards) : Type 0 where
   pub aliases : AreNodesOf t g.file.now.aliases g.aliases.now
   pub label : IsLabelNode t g.file.now (row_data g.row.now).label g.label
 
+-- the diagrams for the guards are in the table, and the index is that of an edge of the row
+pub record IsReadyAt (t : Table) (g : Guards) (place : ℕ) : Type 0 where
+  pub ready : IsReady t g
+  pub within : place < length g.row.now.edges.items
+
 -- an edge's own label uses only propositions and aliases of the file; the single letter of an implicit label is a
 -- letter over the file's propositions
 abbrev pub IsFit : FileData → GuardData → Type 0
 IsFit file (stated e) = IsLabelOf file e
 IsFit file of_state = Unit {0}
 IsFit file (at_letter letter) = letter < 2 ^ length file.names
+
+-- the diagrams for the guards are in the table, and the guard of the edge is valid
+pub record IsReadyTo (t : Table) (g : Guards) (edge : Edge) : Type 0 where
+  pub ready : IsReady t g
+  pub fit : IsFit g.file.now (edge_data edge).guard
 
 abbrev pub IsWhere : Option ℕ → ℕ → Type 0 → Type 0
 IsWhere leaf value P = ((leaf ≡ Some value) × P) ⊎ ((leaf ≡ None) × (P → ⊥))
@@ -96,6 +108,11 @@ pub record IsUnion (file : FileData) (row : RowData) (count : ℕ) (targets : Li
     pub held : IsNode t node
     pub joined : AreJoined file row count targets (leaf_of t node)
 
+-- the first `count` edges of a row are joined, and the diagrams for its guards are in the table
+pub record IsJoining (g : Guards) (count : ℕ) (t : Table) (u : Union) : Type 0 where
+  pub ready : IsReady t g
+  pub union : IsUnion g.file.now (row_data g.row.now) count u.targets t u.node
+
 -- each edge in a state's row is taken at exactly one letter, whose number is the index of the edge
 abbrev pub IsByLetters : FileData → RowData → Type 0
 IsByLetters file row = AreAtLetters 0 row.edges × (length row.edges ≡ 2 ^ length file.names)
@@ -117,11 +134,14 @@ IsRowFault file row NonParity = ⊥
 IsRowFault file row (Nondeterministic q first second) = (q ≡ row.state) × IsFirstOfRow file row first second
 IsRowFault file row OutOfMemory = Unit {0}
 
--- ## Steps
+-- the first `count` edges of a row have been joined, or the row is refused
+pub record Joins {X : Type 0} (g : Guards) (count : ℕ) (old new : Table) (u : Union)
+    (result : Result X AutomatonFault) : Type 0 where
+  pub keeps : OnOk result (Keeps old new)
+  pub union : OnOk result (IsUnion g.file.now (row_data g.row.now) count u.targets new u.node)
+  pub refused : IfErr result (IsRowFault g.file.now (row_data g.row.now))
 
-pub record AreLevels (l : Levels) : Type 0 where
-  pub few : AreSetsBelow 64 (chain_data l.chain).links
-  pub table : IsTable (chain_data l.chain) l.numbers.base l.numbers.by_set
+-- ## Steps
 
 -- each step of the old list has the same index in the new list
 abbrev pub Extends : List Step → List Step → Type 0
@@ -177,6 +197,23 @@ pub record Grows (states : ℕ) (old new : Pairs) : Type 0 where
   pub keeps : Keeps old.store new.store
   pub extends : Extends old.steps.keys new.steps.keys
   pub steps : AreSteps states new.steps.keys
+
+-- the steps of a row's state can be made
+pub record AreReady (pairs : Pairs) (g : Guards) : Type 0 where
+  pub ready : IsReady pairs.store g
+  pub steps : AreSteps g.file.now.states pairs.steps.keys
+
+-- the steps of the state of a row are made
+pub record MakesSteps {E : Type 0} (g : Guards) (levels : Levels) (old new : Pairs) (result : Result ℕ E) : Type 0 where
+  pub grows : OnOk result (Grows g.file.now.states old new)
+  pub node : IfOk result (λ node. (q : ℕ) → row_of g.file.now q ≡ Some (row_data g.row.now) → IsStepsOf g.file.now
+      (chain_data levels.chain) q new.steps.keys new.store node)
+
+-- the steps of a file's states can be made
+pub record IsSource (s : Source) (pairs : Pairs) : Type 0 where
+  pub letters : pairs.store.propositions ≡ length s.file.now.names
+  pub aliases : AreNodesOf pairs.store s.file.now.aliases s.aliases.now
+  pub steps : AreSteps s.file.now.states pairs.steps.keys
 
 pub record IsDraft (file : FileData) (chain : Chain) (steps : List Step) (t : Table) (nodes : List ℕ) : Type 0 where
   pub letters : t.propositions ≡ length file.names

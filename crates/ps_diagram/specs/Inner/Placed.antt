@@ -1,5 +1,6 @@
 -- Looking up the index of a cell.
-use Rattle.std.specs.Prelude.{◌≡◌, ◌^◌, ◌-◌, ◌<◌, ℕ, ◌⊎◌, IfOk, List, [], ◌∷◌, ◌++◌, OnErr, OnOk, Result, Some, slice_get}
+use Rattle.std.specs.Prelude.{◌≡◌, ◌^◌, ◌-◌, ◌<◌, ℕ, ◌⊎◌, IfOk, List, [], ◌∷◌, ◌++◌, OnErr, OnOk, Result, Some}
+use Rattle.std.specs.Prelude.{slice_get}
 use Rattle.ps_diagram.specs.declared.view.View.{View}
 use Rattle.ps_diagram.specs.declared.view.View.TheVariants.{Leaf}
 

@@ -26,8 +26,9 @@ few_sets c =
 pub table_of-numbers-requires : goal.table_of-numbers-requires
 table_of-numbers-requires c = few_sets (goal.at.table_of-numbers-requires c).In-Some
 
-pub drafted-requires : goal.drafted-requires
-drafted-requires c = grind (arith, few_sets)
+pub invariant_of-drafted : goal.invariant_of-drafted
+invariant_of-drafted c =
+    record { few = few_sets (goal.at.invariant_of-drafted c).In-Some; table = c.table_of-numbers.ensures }
 
 pub returns-clause-refused : goal.returns-clause-refused
 returns-clause-refused c =

@@ -16,19 +16,16 @@ node_of_union-requires-clause-within c = λ letter small.
     let letters = c.in_ok-union.ensures.keeps.propositions ∙ c.requires.ready.letters in
     leaf_within c.in_ok-union.ensures.union letter (rw letters at small)
 
-pub returns-clause-grows : goal.returns-clause-grows
-returns-clause-grows c = grind (
-  arith,
-  keeps_both c.in_ok-union.ensures.keeps c.in_ok-node_of_union.ensures.keeps,
-  all_steps (goal.at.returns-clause-grows c).In_ok-node_of_union,
-)
-
-pub returns-clause-node : goal.returns-clause-node
-returns-clause-node c = λ q of_state.
+pub returns-clause-steps : goal.returns-clause-steps
+returns-clause-steps c =
     let row = row_data c.args.guards.now.row.now in
     let made = c.in_ok-node_of_union.ensures in
     let all_edges : length c.args.guards.now.row.now.edges.items ≡ length row.edges = grind (arith, length-map) in
     let union = subst (λ n. IsUnion c.args.guards.now.file.now row n c.in_ok-union.union.targets c.joined.new.store
     c.in_ok-union.union.node) all_edges c.in_ok-union.ensures.union in
-    steps_of_row c.requires.ready.sound c.requires.ready.row c.requires.levels.few union.joined
-    (grind (arith, all_steps)) made.leaf.1 q of_state c.node_of_union.new.pairs.store made.held made.leaf.2
+    let steps = all_steps (goal.at.returns-clause-steps c).In_ok-node_of_union in
+    record {
+      grows = grind (arith, keeps_both c.in_ok-union.ensures.keeps made.keeps, steps);
+      node = λ q of_state. steps_of_row c.requires.ready.sound c.requires.ready.row c.args.levels.now.few union.joined
+          steps made.leaf.1 q of_state c.node_of_union.new.pairs.store made.held made.leaf.2;
+    }

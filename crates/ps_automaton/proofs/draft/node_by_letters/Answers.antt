@@ -11,23 +11,24 @@ use Rattle.ps_automaton.proofs.draft.node_by_letters.Goals.{In_ok-places}
 
 all_steps : (c : In_ok-places) → AreSteps c.args.guards.now.file.now.states c.places_of.new.steps.keys
 all_steps c =
-    let joined = joined_by_letters c.requires.ready.row c.requires.by_letters c.in_ok-targets.ensures in
-    c.in_ok-places.ensures.within c.args.guards.now.file.now.states (λ k target e. grind arith) c.requires.steps
+    let joined = joined_by_letters c.requires.pairs.ready.row c.requires.by_letters c.in_ok-targets.ensures in
+    c.in_ok-places.ensures.within c.args.guards.now.file.now.states (λ k target e. grind arith) c.requires.pairs.steps
 
-pub returns-clause-grows : goal.returns-clause-grows
-returns-clause-grows c = grind (arith, all_steps)
-
-pub returns-clause-node : goal.returns-clause-node
-returns-clause-node c = λ q of_state.
+pub returns : goal.returns
+returns c =
+    let ready = c.requires.pairs.ready in
     let chain = chain_data c.args.levels.now.chain in
     let targets = c.in_ok-targets.targets.items in
     let places = c.in_ok-places.places.items in
     let steps = c.places_of.new.steps.keys in
     let n = length c.args.guards.now.file.now.names in
-    let joined = joined_by_letters c.requires.ready.row c.requires.by_letters c.in_ok-targets.ensures in
+    let joined = joined_by_letters c.requires.pairs.ready.row c.requires.by_letters c.in_ok-targets.ensures in
     let are_places : ArePlaces chain targets steps places = grind arith in
     let within : (letter : ℕ) → letter % 2 ^ n < length places = grind (arith, pow_pos n) in
     let leaf : (letter : ℕ) → leaf_of c.of_leaves.new.self c.in_ok-node.node letter ≡ Some
     (get_or places (letter % 2 ^ n) 0) = grind (arith, slice_get-get_or) in
-    steps_of_row c.requires.ready.sound c.requires.ready.row c.requires.levels.few joined (grind (arith, all_steps))
-    are_places q of_state c.of_leaves.new.self c.in_ok-node.ensures.held leaf
+    record {
+      grows = grind (arith, all_steps);
+      node = λ q of_state. steps_of_row ready.sound ready.row c.args.levels.now.few joined
+          (grind (arith, all_steps)) are_places q of_state c.of_leaves.new.self c.in_ok-node.ensures.held leaf;
+    }

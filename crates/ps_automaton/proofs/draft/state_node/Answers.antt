@@ -11,8 +11,8 @@ pub label_node-requires-clause-row : goal.label_node-requires-clause-row
 label_node-requires-clause-row c = (row_of_state c.args.source.now.file.now c.row.ensures.well_formed c.args.state
     (row_data c.in-Some.row.now) (sym c.in-Some.ensures.value)).0
 
-pub row_node-requires-clause-ready : goal.row_node-requires-clause-ready
-row_node-requires-clause-ready c = grind (
+pub row_node-requires : goal.row_node-requires
+row_node-requires c = grind (
   arith,
   row_of_state c.args.source.now.file.now c.row.ensures.well_formed
       c.args.state (row_data c.in-Some.row.now) (sym c.in-Some.ensures.value),

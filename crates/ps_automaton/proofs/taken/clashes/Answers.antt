@@ -3,20 +3,21 @@ use Rattle.std.proofs.lemmas.Result.{on_ok_weaker}
 use Rattle.ps_hoa.specs.Views.{edge_data, row_data}
 use Rattle.ps_automaton.specs.Answers.{AreAlike}
 use Rattle.ps_automaton.specs.Inner.Targets.{IsTargetOf}
-use Rattle.ps_automaton.proofs.Fitting.{fits, edge_at, edge_marks_few, alike_of_target, target_of_alike}
+use Rattle.ps_automaton.proofs.Fitting.{ready_to, edge_at, edge_marks_few, alike_of_target, target_of_alike}
 use Rattle.ps_automaton.proofs.Meeting.{keeps_both, kept_shows}
 use Rattle.ps_automaton.proofs.taken.clashes.Goals as goal
 
 pub target_of-requires-clause-edge : goal.target_of-requires-clause-edge
-target_of-requires-clause-edge c = edge_marks_few c.requires.ready.sound c.requires.ready.row c.args.first
+target_of-requires-clause-edge c = edge_marks_few c.requires.ready.ready.sound c.requires.ready.ready.row c.args.first
     (edge_at c.args.guards.now.row.now.edges.items c.args.first (omega arith) c.index-edge.ensures)
 
 pub target_of-requires-2-clause-edge : goal.target_of-requires-2-clause-edge
-target_of-requires-2-clause-edge c = edge_marks_few c.requires.ready.sound c.requires.ready.row c.args.second
-    (edge_at c.args.guards.now.row.now.edges.items c.args.second (omega arith) c.index.ensures)
+target_of-requires-2-clause-edge c =
+    let at = edge_at c.args.guards.now.row.now.edges.items c.args.second (omega arith) c.index.ensures in
+    edge_marks_few c.requires.ready.ready.sound c.requires.ready.ready.row c.args.second at
 
-pub taken-requires-clause-fit : goal.taken-requires-clause-fit
-taken-requires-clause-fit c = fits c.requires.ready.sound c.requires.ready.row c.args.first
+pub taken-requires : goal.taken-requires
+taken-requires c = ready_to c.args.first c.requires.ready.ready
     (edge_at c.args.guards.now.row.now.edges.items c.args.first (omega arith) c.index-edge.ensures)
 
 pub returns-then-eq-clause-clashing : goal.returns-then-eq-clause-clashing
@@ -29,7 +30,7 @@ returns-then-eq-clause-clashing c =
     let other_is = subst (IsTargetOf row other) same c.target_of-2.ensures in
     grind (
       arith,
-      alike_of_target c.requires.ready.sound c.requires.ready.row c.args.first c.args.second at_one at_other
+      alike_of_target c.requires.ready.ready.sound c.requires.ready.ready.row c.args.first c.args.second at_one at_other
           c.target_of.ensures other_is,
     )
 
@@ -47,7 +48,7 @@ returns-clause-clashing c =
     let at_one = edge_at c.args.guards.now.row.now.edges.items c.args.first (omega arith) c.index-edge.ensures in
     let at_other = edge_at c.args.guards.now.row.now.edges.items c.args.second (omega arith) c.index.ensures in
     let keeps = c.in_ok-earlier.ensures.keeps in
-    let letters : t.propositions ≡ length file.names = keeps.propositions ∙ c.requires.ready.letters in
+    let letters : t.propositions ≡ length file.names = keeps.propositions ∙ c.requires.ready.ready.letters in
     let shows_other = kept_shows file row other 1 keeps c.requires.held (c.requires.shows other at_other) in
     let differ : AreAlike row one other → ⊥ = λ alike.
     let same = target_of_alike c.target_of.ensures c.target_of-2.ensures alike in

@@ -1,13 +1,13 @@
 use Rattle.std.proofs.Common.{inl, inr, arith}
 use Rattle.std.proofs.lemmas.Bool.{cases_lt}
 use Rattle.ps_text.proofs.Simple.{same_some}
-use Rattle.ps_automaton.proofs.Fitting.{fits, edge_at}
+use Rattle.ps_automaton.proofs.Fitting.{ready_to, edge_at}
 use Rattle.ps_automaton.proofs.Meeting.{keeps_both, kept_shows}
 use Rattle.ps_automaton.proofs.Ready.{kept_ready}
 use Rattle.ps_automaton.proofs.taken.first_clash.Goals as goal
 
-pub taken-requires-clause-fit : goal.taken-requires-clause-fit
-taken-requires-clause-fit c = fits c.requires.ready.sound c.requires.ready.row c.args.second
+pub taken-requires : goal.taken-requires
+taken-requires c = ready_to c.args.second c.requires.ready.ready
     (edge_at c.args.guards.now.row.now.edges.items c.args.second (omega arith) c.index.ensures)
 
 pub clashes-requires-clause-ready : goal.clashes-requires-clause-ready

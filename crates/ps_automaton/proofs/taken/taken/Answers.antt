@@ -4,6 +4,7 @@ use Rattle.ps_hoa.specs.Files.{of_state}
 use Rattle.ps_hoa.specs.Views.{row_data}
 use Rattle.ps_diagram.specs.Table.{IsNode, leaf_of}
 use Rattle.ps_automaton.specs.Inner.Drafts.{IsWhere}
+use Rattle.ps_diagram.proofs.Making.{gives}
 use Rattle.ps_automaton.proofs.Meeting.{label_shows}
 use Rattle.ps_automaton.proofs.taken.taken.Goals as goal
 
@@ -12,8 +13,5 @@ shown : (c : goal.In-Some) → IsNode c.args.store.now c.in-Some.node ×
     (IsEnabled c.args.guards.now.file.now.aliases (row_data c.args.guards.now.row.now).label of_state letter))
 shown c = grind (arith, label_shows)
 
-pub returns-in-Some-clause-held : goal.returns-in-Some-clause-held
-returns-in-Some-clause-held c = (shown c).0
-
-pub returns-in-Some-clause-shows : goal.returns-in-Some-clause-shows
-returns-in-Some-clause-shows c = grind (arith, shown)
+pub returns-in-Some : goal.returns-in-Some
+returns-in-Some c = gives (shown c).0 (grind (arith, shown))

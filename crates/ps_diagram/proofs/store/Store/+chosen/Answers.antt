@@ -8,7 +8,8 @@ use Rattle.ps_diagram.proofs.store.Store.+chosen.Goals as goal
 
 pub returns-in-Some-clause-made : goal.returns-in-Some-clause-made
 returns-in-Some-clause-made t c =
-    let r = c.requires.known c.args.truth c.args.one c.args.other c.in-Some.made (sym c.in-Some.ensures) in gives r.3 r.4
+    let r = c.requires.known c.args.truth c.args.one c.args.other c.in-Some.made (sym c.in-Some.ensures) in
+    gives r.3 r.4
 
 pub chosen-requires-2 : goal.chosen-requires-2
 chosen-requires-2 t c =

@@ -27,8 +27,9 @@ returns-in_err-high-clause-adds t c =
 pub test-requires-clause-low_later : goal.test-requires-clause-low_later
 test-requires-clause-low_later t c =
     let s = c.in-Some-split.ensures in
-    rw (c.paired-2.ensures.made.keeps.same _ c.in_ok-low.ensures.made.held) (pair_blind _ c.as_slice.ensures.unique _ _ _ _
-    (pair_of_more c.paired-2.ensures.adds _ _ _ c.in_ok-low.ensures.made.leaf) s.first_sides.low_later
+    let low = c.in_ok-low.ensures.made in
+    rw (c.paired-2.ensures.made.keeps.same _ low.held) (pair_blind _ c.as_slice.ensures.unique _ _ _ _
+    (pair_of_more c.paired-2.ensures.adds _ _ _ low.leaf) s.first_sides.low_later
     s.second_sides.low_later)
 
 pub test-requires-clause-high_later : goal.test-requires-clause-high_later
@@ -37,8 +38,8 @@ test-requires-clause-high_later t c =
     let b = c.in-Some-split.ensures.second_sides in
     let k = c.paired.ensures.made.keeps in
     let later = IsBlind (c.in-Some-split.split.proposition + 1) in
-    pair_blind _ c.as_slice.ensures.unique _ _ _ _ c.in_ok-high.ensures.made.leaf (kept later k a.high_held a.high_later)
-    (kept later k b.high_held b.high_later)
+    pair_blind _ c.as_slice.ensures.unique _ _ _ _ c.in_ok-high.ensures.made.leaf
+    (kept later k a.high_held a.high_later) (kept later k b.high_held b.high_later)
 
 pub returns-in_err-made-clause-made : goal.returns-in_err-made-clause-made
 returns-in_err-made-clause-made t c = fails (search (rules, keeps_trans)) (search rules)
