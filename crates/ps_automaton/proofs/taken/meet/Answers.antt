@@ -1,10 +1,9 @@
-use Rattle.std.proofs.Common.{refl}
+use Rattle.std.proofs.Common.{refl, rules}
 use Rattle.ps_automaton.proofs.Meeting.{guarded_meet, keeps_both}
 use Rattle.ps_automaton.proofs.taken.meet.Goals as goal
 
 pub returns-in-Err-Clash-clause-keeps : goal.returns-in-Err-Clash-clause-keeps
-returns-in-Err-Clash-clause-keeps c =
-    keeps_both (keeps_both c.guard.ensures.keeps c.guard-2.ensures.keeps) c.overlay.ensures.made.keeps
+returns-in-Err-Clash-clause-keeps c = search (rules, keeps_both)
 
 pub returns-in-Err-Clash-clause-meet : goal.returns-in-Err-Clash-clause-meet
 returns-in-Err-Clash-clause-meet c =

@@ -21,8 +21,7 @@ overlay-requires-clause-first c = search rules
 
 pub first_clash-requires-clause-ready : goal.first_clash-requires-clause-ready
 first_clash-requires-clause-ready c =
-    let keeps = keeps_both c.in_ok-letters.ensures.keeps c.overlay.ensures.made.keeps in
-    kept_ready keeps (record { ready = c.requires.joining.ready; within = c.requires.within })
+    kept_ready (keeps_both c.in_ok-letters.ensures.keeps c.overlay.ensures.made.keeps) (search rules)
 
 pub first_clash-requires-clause-clash : goal.first_clash-requires-clause-clash
 first_clash-requires-clause-clash c =
