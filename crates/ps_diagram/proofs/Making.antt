@@ -1,8 +1,9 @@
--- What a call that makes a node gives at its exits.
---     fails      a call before the last one fails
---     gives      a node of the table is returned
---     after, by-last      the last call makes the node
---     by-sides      two nodes are made, and then a node from them
+-- What a call that makes a node gives (`MakesNode`) at each of its exits.
+--
+-- - `fails`: an earlier step of the call failed
+-- - `gives`: the result is a node that the table had
+-- - `after`, `by-last`: the last step makes the node
+-- - `by-sides`: two nodes are made first, and the result is made from them
 use Rattle.std.proofs.Common.{ℕ, IfOk, Ok, Result}
 use Rattle.std.specs.Result.{IsErr}
 use Rattle.std.proofs.lemmas.Result.{IfOk-from_err, IfOk-weaker}
