@@ -5,11 +5,6 @@ use Rattle.ps_automaton.specs.Inner.Drafts.{AreSteps, IsUnion}
 use Rattle.ps_automaton.proofs.Meeting.{keeps_both}
 use Rattle.ps_automaton.proofs.RowSteps.{leaf_within, steps_of_row}
 use Rattle.ps_automaton.proofs.draft.node_by_labels.Goals as goal
-use Rattle.ps_automaton.proofs.draft.node_by_labels.Goals.{In_ok-node_of_union}
-
-all_steps : (c : In_ok-node_of_union) → AreSteps c.args.guards.now.file.now.states c.node_of_union.new.pairs.steps.keys
-all_steps c = c.in_ok-node_of_union.ensures.within c.args.guards.now.file.now.states
-    (λ k target e. let h = c.in_ok-union.ensures.union.joined.within k target e in omega (arith, h)) c.requires.steps
 
 pub node_of_union-requires-clause-within : goal.node_of_union-requires-clause-within
 node_of_union-requires-clause-within c = λ letter small.
@@ -23,7 +18,9 @@ returns-clause-steps c =
     let all_edges : length c.args.guards.now.row.now.edges.items ≡ length row.edges = grind (arith, length-map) in
     let union = subst (λ n. IsUnion c.args.guards.now.file.now row n c.in_ok-union.union.targets c.joined.new.store
     c.in_ok-union.union.node) all_edges c.in_ok-union.ensures.union in
-    let steps = all_steps (goal.at.returns-clause-steps c).In_ok-node_of_union in
+    let steps : AreSteps c.args.guards.now.file.now.states c.node_of_union.new.pairs.steps.keys =
+    made.within c.args.guards.now.file.now.states
+    (λ k target e. let h = union.joined.within k target e in omega (arith, h)) c.requires.steps in
     record {
       grows = grind (arith, keeps_both c.in_ok-union.ensures.keeps made.keeps, steps);
       node = λ q of_state. steps_of_row c.requires.ready.sound c.requires.ready.row c.args.levels.now.few union.joined

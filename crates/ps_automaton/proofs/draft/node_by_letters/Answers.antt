@@ -7,12 +7,6 @@ use Rattle.ps_automaton.specs.Inner.Views.{chain_data}
 use Rattle.ps_automaton.proofs.LetterRows.{joined_by_letters}
 use Rattle.ps_automaton.proofs.RowSteps.{steps_of_row}
 use Rattle.ps_automaton.proofs.draft.node_by_letters.Goals as goal
-use Rattle.ps_automaton.proofs.draft.node_by_letters.Goals.{In_ok-places}
-
-all_steps : (c : In_ok-places) → AreSteps c.args.guards.now.file.now.states c.places_of.new.steps.keys
-all_steps c =
-    let joined = joined_by_letters c.requires.pairs.ready.row c.requires.by_letters c.in_ok-targets.ensures in
-    c.in_ok-places.ensures.within c.args.guards.now.file.now.states (λ k target e. grind arith) c.requires.pairs.steps
 
 pub returns : goal.returns
 returns c =
@@ -22,13 +16,15 @@ returns c =
     let places = c.in_ok-places.places.items in
     let steps = c.places_of.new.steps.keys in
     let n = length c.args.guards.now.file.now.names in
-    let joined = joined_by_letters c.requires.pairs.ready.row c.requires.by_letters c.in_ok-targets.ensures in
+    let joined = joined_by_letters ready.row c.requires.by_letters c.in_ok-targets.ensures in
+    let all_steps : AreSteps c.args.guards.now.file.now.states steps =
+    c.in_ok-places.ensures.within c.args.guards.now.file.now.states (λ k target e. grind arith) c.requires.pairs.steps in
     let are_places : ArePlaces chain targets steps places = grind arith in
     let within : (letter : ℕ) → letter % 2 ^ n < length places = grind (arith, pow_pos n) in
     let leaf : (letter : ℕ) → leaf_of c.of_leaves.new.self c.in_ok-node.node letter ≡ Some
     (get_or places (letter % 2 ^ n) 0) = grind (arith, slice_get-get_or) in
     record {
-      grows = grind (arith, all_steps);
+      grows = grind arith;
       node = λ q of_state. steps_of_row ready.sound ready.row c.args.levels.now.few joined
-          (grind (arith, all_steps)) are_places q of_state c.of_leaves.new.self c.in_ok-node.ensures.held leaf;
+          all_steps are_places q of_state c.of_leaves.new.self c.in_ok-node.ensures.held leaf;
     }
