@@ -1,9 +1,9 @@
-use Rattle.std.proofs.Common.{true, false, arith}
+use Rattle.std.proofs.Common.{true, false, arith, rules}
 use Rattle.std.proofs.lemmas.Grind.{common_steps}
 use Rattle.ps_label.specs.Expression.{expression}
 use Rattle.ps_label.specs.Truth.{truth}
 use Rattle.ps_label.proofs.OperandLists.{expression-Both, expression-Either}
-use Rattle.ps_diagram.proofs.KnownLemmas.{keeps_trans}
+use Rattle.ps_diagram.proofs.KnownLemmas.{keeps_three, keeps_trans}
 use Rattle.ps_diagram.proofs.Making.{after}
 use Rattle.ps_diagram.proofs.Truths.{drop_is, opposite_of}
 use Rattle.ps_diagram.proofs.Unions.{no_operands, operands_more}
@@ -17,9 +17,10 @@ loop-operand-2-init t c = grind (arith, expression-Either, no_operands)
 
 pub returns-in_ok-any-in-Both : goal.returns-in_ok-any-in-Both
 returns-in_ok-any-in-Both t c =
-    let any = c.in_ok-any-in-Both.ensures.leaf in
-    after (keeps_trans c.loop-operand.invariant.keeps c.union_of.ensures.keeps) c.negated-in-Both.ensures
-    (grind (arith, common_steps))
+    let any = c.in_ok-any-in-Both.ensures in
+    let held = any.held in
+    let leaf = any.leaf in
+    record { keeps = search (rules, keeps_three); held = search rules; leaf = grind (arith, common_steps) }
 
 pub returns-after-loop-operand-2 : goal.returns-after-loop-operand-2
 returns-after-loop-operand-2 t c =
