@@ -1,9 +1,9 @@
 use Rattle.std.proofs.Common.{rules}
-use Rattle.std.proofs.lemmas.List.Sums.{sum_by-take-drop}
+use Rattle.ps_game.proofs.Groups.{group_summed, group_fits}
 use Rattle.ps_game.proofs.words.count_set.Goals as goal
 
-pub overflow_add-result : goal.overflow_add-result
-overflow_add-result c = search (rules, sum_by-take-drop)
+pub loop-group-preserved : goal.loop-group-preserved
+loop-group-preserved c = search (rules, group_summed)
 
-pub returns-clause-counted : goal.returns-clause-counted
-returns-clause-counted c = search (rules, sum_by-take-drop)
+pub overflow_add-count-in-loop-group : goal.overflow_add-count-in-loop-group
+overflow_add-count-in-loop-group c = search (rules, group_fits)

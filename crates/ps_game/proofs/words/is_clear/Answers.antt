@@ -1,6 +1,6 @@
 use Rattle.std.proofs.Common.{rules}
 use Rattle.ps_game.proofs.Groups.{group_clear, clear_group}
-use Rattle.ps_game.proofs.words.are_groups_clear.Goals as goal
+use Rattle.ps_game.proofs.words.is_clear.Goals as goal
 
 pub loop-group-preserved : goal.loop-group-preserved
 loop-group-preserved c = search (rules, group_clear)

@@ -2,7 +2,7 @@ use Rattle.std.proofs.Common.{◌*◌, arith}
 use Rattle.std.specs.Simd.Lanes.{chunk}
 use Rattle.std.proofs.lemmas.Simd.{get_or-chunk, length-chunk}
 use Rattle.ps_game.proofs.Groups.{group_combined}
-use Rattle.ps_game.proofs.words.unite_groups.Goals as goal
+use Rattle.ps_game.proofs.words.unite.Goals as goal
 
 pub loop-group-preserved : goal.loop-group-preserved
 loop-group-preserved c =

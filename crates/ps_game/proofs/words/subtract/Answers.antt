@@ -4,7 +4,7 @@ use Rattle.std.specs.Simd.Lanes.{chunk}
 use Rattle.std.proofs.lemmas.List.{get_or-map, length-map}
 use Rattle.std.proofs.lemmas.Simd.{get_or-chunk, length-chunk}
 use Rattle.ps_game.proofs.Groups.{group_combined}
-use Rattle.ps_game.proofs.words.subtract_groups.Goals as goal
+use Rattle.ps_game.proofs.words.subtract.Goals as goal
 
 pub loop-group-preserved : goal.loop-group-preserved
 loop-group-preserved c =
