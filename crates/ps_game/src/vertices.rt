@@ -254,31 +254,16 @@ const FEW: usize = 8;
 fn are_different(numbers: &[usize]) -> bool
     ensures { OnTrue result (AllPairs (λ x y. x ≢ y) numbers.now) }
 {
-    if numbers.len() <= FEW {
-        have_no_repeat(numbers)
-    } else {
-        are_rising(numbers)
+    if numbers.len() > FEW {
+        for next in 1..numbers.len() {
+            if numbers[next] <= numbers[next - 1] {
+                return false;
+            }
+        }
+        return true;
     }
-}
-
-/// Whether no number occurs twice in a list, by comparing each number with all earlier ones.
-fn have_no_repeat(numbers: &[usize]) -> bool
-    ensures { OnTrue result (AllPairs (λ x y. x ≢ y) numbers.now) }
-{
     for place in 0..numbers.len() {
         if numbers[..place].contains(&numbers[place]) {
-            return false;
-        }
-    }
-    true
-}
-
-/// Whether the list is strictly ascending.
-fn are_rising(numbers: &[usize]) -> bool
-    ensures { OnTrue result (AllPairs (λ x y. x ≢ y) numbers.now) }
-{
-    for place in 1..numbers.len() {
-        if numbers[place] <= numbers[place - 1] {
             return false;
         }
     }
