@@ -5,7 +5,7 @@ ghost use Rattle.std.specs.Prelude.{◌≡◌, ◌<◌, ◌≤◌, ◌+◌, ◌�
 ghost use Rattle.std.specs.Prelude.{length, find, nat_le, take, map};
 ghost use Rattle.std.specs.List.{All};
 ghost use Rattle.ps_game.specs.Games.{ParityGame, VertexData, IsGame, vertex_count};
-ghost use Rattle.ps_game.specs.Drafts.{with_vertex, with_edge, distinct, vertex_without_repeats, without_repeats};
+ghost use Rattle.ps_game.specs.Drafts.{with_vertex, with_edge, distinct, without_repeats};
 ghost use Rattle.ps_game.specs.Drafts.{NoneBare, IsFirstBare, IsFirstUnknown, NoneUnknown};
 
 use crate::faults::GameFault;
@@ -214,19 +214,10 @@ fn drop_repeats(vertices: &mut [Vertex], seen: &mut [usize])
     ensures { vertices.new ≡ without_repeats vertices.old }
 {
     for number in 0..vertices.len() {
-        drop_repeats_at(&mut vertices[number], seen, number + 1);
+        let vertex = &mut vertices[number];
+        let kept = keep_first_places(&mut vertex.successors, seen, number + 1);
+        vertex.successors.truncate(kept);
     }
-}
-
-/// Drops the repeated successors of a vertex. No entry of `seen` is the vertex's stamp yet.
-fn drop_repeats_at(vertex: &mut Vertex, seen: &mut [usize], stamp: usize)
-    requires known { All (λ successor. successor < length seen.old) vertex.old.successors }
-    requires fresh { All (λ earlier. earlier < stamp) seen.old }
-    ensures dropped { vertex.new ≡ vertex_without_repeats vertex.old }
-    ensures stamped { All (λ earlier. earlier ≤ stamp) seen.new }
-{
-    let kept = keep_first_places(&mut vertex.successors, seen, stamp);
-    vertex.successors.truncate(kept);
 }
 
 /// Moves the first occurrence of each number to the front, in order, and returns the number of distinct numbers. A
