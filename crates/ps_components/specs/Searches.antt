@@ -2,11 +2,12 @@
 -- - `IsSound`: the lists of the search satisfy its invariant.
 -- - `EndsAt` and `HasNext`: the search is sound, its last segment begins at the given index, and the given link is
 --   followed next.
+-- - `IsReachedNext`: the given vertex can be appended to the search path.
 -- - `IsIdle` and `IsFresh`: the search is sound and its search path is empty; for `IsFresh`, no vertex was seen
 --   either.
 -- - `Visits`, `Runs`, `Advances`, `Enters`, `Merges`, `Takes`: what the methods of the search do.
 use Rattle.std.specs.Prelude.{◌≡◌, ℕ, ◌-◌, ◌<◌, ◌≤◌, List, [], ◌∷◌, ◌++◌, length, slice_get, slice_set, Some, All}
-use Rattle.ps_components.specs.Graphs.{Digraph}
+use Rattle.ps_components.specs.Graphs.{Digraph, Way, Link}
 use Rattle.ps_components.specs.Searching.{IsSoundSearch, IsSoundBut, IsSettled, KeepsStatuses, ChangesReached, HasMet}
 use Rattle.ps_components.specs.Searching.{turns}
 use Rattle.ps_components.specs.declared.statuses.Status.TheVariants.{Unseen, Active}
@@ -33,6 +34,12 @@ pub record EndsAt (g : Digraph) (bound : ℕ) (s : Search) : Type 0 where
 pub record HasNext (g : Digraph) (pending : Pending) (s : Search) : Type 0 where
   pub sound : IsSound g s
   pub last : slice_get s.pending.items (length s.pending.items - 1) ≡ Some pending
+
+-- the vertex `item` was not seen yet, and all vertices on the search path can reach it
+pub record IsReachedNext (g : Digraph) (item : ℕ) (s : Search) : Type 0 where
+  pub within : item < g.count
+  pub unseen : slice_get s.statuses item ≡ Some Unseen
+  pub lead : (p v : ℕ) → slice_get s.active.items p ≡ Some v → Way (Link g) v item
 
 -- the search path is empty, so nothing is left to do
 pub record IsIdle (g : Digraph) (s : Search) : Type 0 where

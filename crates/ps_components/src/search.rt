@@ -4,10 +4,10 @@
 
 ghost use Rattle.std.specs.Prelude.{◌≡◌, ℕ, ◌<◌, ◌≤◌, ◌++◌, ◌∷◌, [], ◌-◌, All, length, slice_get, slice_set, Some};
 ghost use Rattle.std.specs.Prelude.{OnOk, IfOk, ◌^◌};
-ghost use Rattle.ps_components.specs.Graphs.{Way, Link};
+ghost use Rattle.ps_components.specs.Graphs.{Link};
 ghost use Rattle.ps_components.specs.Searching.{IsSettled, IsCutAt, AreListed, close_all, waits};
 ghost use Rattle.ps_components.specs.Searches.{IsSound, IsSoundButFor, IsIdle, IsFresh, HasVisited, Visits, Runs};
-ghost use Rattle.ps_components.specs.Searches.{EndsAt, HasNext, Advances, Enters, Merges, Takes};
+ghost use Rattle.ps_components.specs.Searches.{EndsAt, HasNext, IsReachedNext, Advances, Enters, Merges, Takes};
 ghost use Rattle.ps_components.specs.declared.search.Pending.{Pending};
 
 use crate::graph::Graph;
@@ -79,7 +79,10 @@ impl Search {
         ensures { OnOk result (HasVisited (G.graph graph.now) roots.now self.new) }
     {
         self.renew(graph)?;
-        self.visit_each(graph, roots)
+        for &root in roots {
+            self.visit(graph, root)?;
+        }
+        Ok(())
     }
 
     /// Resets the statuses of all visited vertices, which `order` lists, and prepares the search for another graph.
@@ -94,18 +97,6 @@ impl Search {
         self.bounds.clear();
         self.pending.clear();
         self.order.clear();
-        Ok(())
-    }
-
-    /// Visits the given roots and all vertices reachable from the roots. Fails if out of memory.
-    fn visit_each<G: Graph>(&mut self, graph: &G, roots: &[usize]) -> Result<(), AllocError>
-        requires within { All (λ v. v < (G.graph graph.now).count) roots.now }
-        requires fresh { IsFresh (G.graph graph.now) self.old }
-        ensures { OnOk result (HasVisited (G.graph graph.now) roots.now self.new) }
-    {
-        for &root in roots {
-            self.visit(graph, root)?;
-        }
         Ok(())
     }
 
@@ -160,10 +151,7 @@ impl Search {
     /// Removes the last pending link, and appends the link's unseen target to the search path. Fails if out of memory.
     fn follow<G: Graph>(&mut self, graph: &G, pending: Pending) -> Result<(), AllocError>
         requires next { HasNext (G.graph graph.now) pending self.old }
-        requires within { pending.to < (G.graph graph.now).count }
-        requires unseen { slice_get self.old.statuses pending.to ≡ Some Status.Unseen }
-        requires reached { (p v : ℕ) → slice_get self.old.active.items p ≡ Some v →
-            Way (Link (G.graph graph.now)) v pending.to }
+        requires reached { IsReachedNext (G.graph graph.now) pending.to self.old }
         ensures { OnOk result (Enters (G.graph graph.now) pending.to self.old self.new) }
     {
         self.pending.pop();
@@ -173,10 +161,7 @@ impl Search {
     /// Appends an unseen vertex, which all vertices on the search path can reach, to the search path. Fails if out of
     /// memory.
     fn enter<G: Graph>(&mut self, graph: &G, item: usize) -> Result<(), AllocError>
-        requires within { item < (G.graph graph.now).count }
-        requires unseen { slice_get self.old.statuses item ≡ Some Status.Unseen }
-        requires reached { (p v : ℕ) → slice_get self.old.active.items p ≡ Some v →
-            Way (Link (G.graph graph.now)) v item }
+        requires reached { IsReachedNext (G.graph graph.now) item self.old }
         requires sound { IsSoundButFor (G.graph graph.now) item self.old }
         ensures { OnOk result (Enters (G.graph graph.now) item self.old self.new) }
     {

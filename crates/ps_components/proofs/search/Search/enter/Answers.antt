@@ -7,7 +7,7 @@ returns g c =
     let r = c.requires in
     grind (
       arith,
-      sound-entered r.sound r.within r.unseen r.reached,
-      fewer-entered r.sound r.within r.unseen r.reached,
-      kept-entered r.sound r.within r.unseen r.reached,
+      sound-entered r.sound r.reached.within r.reached.unseen r.reached.lead,
+      fewer-entered r.sound r.reached.within r.reached.unseen r.reached.lead,
+      kept-entered r.sound r.reached.within r.reached.unseen r.reached.lead,
     )

@@ -10,15 +10,12 @@ use Rattle.ps_components.proofs.search.Search.step.Goals as goal
 pub at-requires : goal.at-requires
 at-requires g c = pending_within c.requires.sound (sym (rw c.deref.ensures.value at c.in-Some.ensures.value))
 
-pub follow-requires-clause-within : goal.follow-requires-clause-within
-follow-requires-clause-within g c =
-    grind (arith, pending_within c.requires.sound (sym (rw c.deref.ensures.value at c.in-Some.ensures.value)))
-
-pub follow-requires-clause-unseen : goal.follow-requires-clause-unseen
-follow-requires-clause-unseen g c = c.at.ensures ∙ ap Some c.in-Unseen.is
-
 pub follow-requires-clause-reached : goal.follow-requires-clause-reached
-follow-requires-clause-reached g c = all_lead c.requires.sound (grind arith) c.requires.last c.if-pending-bound.false
+follow-requires-clause-reached g c = record {
+  within = grind (arith, pending_within c.requires.sound (sym (rw c.deref.ensures.value at c.in-Some.ensures.value)));
+  unseen = c.at.ensures ∙ ap Some c.in-Unseen.is;
+  lead = all_lead c.requires.sound (grind arith) c.requires.last c.if-pending-bound.false;
+}
 
 pub merge-requires-clause-within : goal.merge-requires-clause-within
 merge-requires-clause-within g c =

@@ -2,7 +2,7 @@ use Rattle.std.proofs.Common.{◌≡◌, ℕ, ◌<◌, slice_get, Some}
 use Rattle.ps_components.specs.declared.statuses.Status.TheVariants.{Unseen, Closed}
 use Rattle.ps_components.specs.Graphs.{IsReached}
 use Rattle.ps_components.specs.Searches.{IsIdle}
-use Rattle.ps_components.proofs.search.Search.visit_each.Given as goal
+use Rattle.ps_components.proofs.search.Search.again.Given as goal
 
 abbrev pub invariant-loop-root : goal.invariant-loop-root
 invariant-loop-root g l = record {

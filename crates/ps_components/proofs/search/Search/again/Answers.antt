@@ -3,7 +3,7 @@ use Rattle.std.proofs.Common.{arith, rules, ◌∙◌, inl, inr, sym}
 use Rattle.std.proofs.lemmas.Option.{slice_get-get_or, get_or_from_slice_get}
 use Rattle.std.proofs.lemmas.Bool.{cases_lt}
 use Rattle.ps_components.proofs.Reaching.{reached-root}
-use Rattle.ps_components.proofs.search.Search.visit_each.Goals as goal
+use Rattle.ps_components.proofs.search.Search.again.Goals as goal
 
 pub loop-root-preserved : goal.loop-root-preserved
 loop-root-preserved g c =
