@@ -1,6 +1,6 @@
 //! Topological orders of the vertices of a graph, in which each vertex follows all vertices to which it has a link.
 
-ghost use Rattle.std.specs.Prelude.{◌≡◌, ℕ, ◌<◌, ◌↔◌, IfOk, IfSome, IfNone, IsTrue};
+ghost use Rattle.std.specs.Prelude.{ℕ, ◌<◌, IfOk, IfSome, IfNone};
 ghost use Rattle.ps_components.specs.ComponentLists.{AreComponents, AreAllMet};
 ghost use Rattle.ps_components.specs.Orders.{IsArrangement, IsKnot};
 
@@ -38,28 +38,15 @@ fn first_knot<G: Graph>(graph: &G, components: &Components) -> Option<usize>
     ensures first { IfSome result (λ i. (j : ℕ) → j < i → ¬ IsKnot (G.graph graph.now) components.now j) }
 {
     for item in 0..graph.count() {
-        if is_knot(graph, components, item) {
-            return Some(item);
-        }
-    }
-    None
-}
-
-/// Whether a vertex has a link into its own component.
-fn is_knot<G: Graph>(graph: &G, components: &Components, item: usize) -> bool
-    requires item { item < (G.graph graph.now).count }
-    requires components { AreComponents (G.graph graph.now) components.now }
-    requires met { AreAllMet (G.graph graph.now) components.now }
-    ensures { IsTrue result ↔ IsKnot (G.graph graph.now) components.now item }
-{
-    let here = components.number(item);
-    for place in 0..graph.degree(item) {
-        if let Some(to) = graph.target(item, place) {
-            let there = components.number(to);
-            if there == here {
-                return true;
+        let here = components.number(item);
+        for place in 0..graph.degree(item) {
+            if let Some(to) = graph.target(item, place) {
+                let there = components.number(to);
+                if there == here {
+                    return Some(item);
+                }
             }
         }
     }
-    false
+    None
 }
