@@ -1,9 +1,9 @@
 //! Paths between two vertices, found by breadth-first search and listed from the end back to the start.
 
-ghost use Rattle.std.specs.Prelude.{◌≡◌, ℕ, ◌+◌, ◌<◌, ◌≤◌, length, slice_get, true, Some, OnOk, IfOk, IfSome, IfNone};
+ghost use Rattle.std.specs.Prelude.{◌≡◌, ℕ, ◌+◌, ◌<◌, ◌≤◌, length, slice_get, Some, OnOk, IfOk, IfSome, IfNone};
 ghost use Rattle.ps_components.specs.Graphs.{SameOrWay, Link};
 ghost use Rattle.ps_components.specs.Trails.{IsTrail};
-ghost use Rattle.ps_components.specs.Inner.Spreading.{IsSpread, ComeBack, AreApart, KeepsSteps, KeepsSeen, unseen};
+ghost use Rattle.ps_components.specs.Inner.Spreading.{IsSpread, Reaches, ComeBack, AreApart, KeepsSteps, unseen};
 ghost use Rattle.ps_components.specs.declared.trail.Step.{Step};
 
 use crate::graph::Graph;
@@ -91,12 +91,8 @@ impl Spread {
         requires linked { (s : Step) × (slice_get self.old.steps.items place ≡ Some s) ×
             Link (G.graph graph.now) s.item to }
         requires spread { IsSpread (G.graph graph.now) self.old.seen.items self.old.steps.items place }
-        ensures spread { OnOk result (IsSpread (G.graph graph.now) self.new.seen.items self.new.steps.items place) }
-        ensures kept { OnOk result (KeepsSteps self.old.steps.items self.new.steps.items) }
-        ensures seen { OnOk result (KeepsSeen self.old.seen.items self.new.seen.items) }
-        ensures reached { OnOk result (slice_get self.new.seen.items to ≡ Some true) }
-        ensures fewer { OnOk result (unseen self.new.seen.items + length self.new.steps.items ≤ unseen
-            self.old.seen.items + length self.old.steps.items) }
+        ensures { OnOk result (Reaches (G.graph graph.now) to place self.old.seen.items self.old.steps.items
+            self.new.seen.items self.new.steps.items) }
     {
         if !self.seen[to] {
             self.seen[to] = true;

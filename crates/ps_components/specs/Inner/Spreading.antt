@@ -1,5 +1,5 @@
 -- The invariants of the breadth-first search for a path between two vertices.
-use Rattle.std.specs.Prelude.{◌≡◌, ℕ, ◌<◌, List, [], ◌∷◌, length, slice_get, Bool, true, false, Some, suc}
+use Rattle.std.specs.Prelude.{◌≡◌, ℕ, ◌+◌, ◌<◌, ◌≤◌, List, [], ◌∷◌, length, slice_get, Bool, true, false, Some, suc}
 use Rattle.ps_components.specs.Graphs.{Digraph, Link, LinksStayWithin}
 use Rattle.ps_components.specs.declared.trail.Step.{Step}
 
@@ -39,3 +39,13 @@ abbrev pub unseen : List Bool → ℕ
 unseen [] = 0
 unseen (true ∷ bs) = unseen bs
 unseen (false ∷ bs) = suc (unseen bs)
+
+-- the vertex `to` is among the seen vertices, each of which has a step; the old steps are the first of the new ones,
+-- and at most as many steps were made as vertices were newly seen
+pub record Reaches (g : Digraph) (to place : ℕ) (old_seen : List Bool) (old_steps : List Step) (seen : List Bool)
+    (steps : List Step) : Type 0 where
+  pub spread : IsSpread g seen steps place
+  pub kept : KeepsSteps old_steps steps
+  pub seen_kept : KeepsSeen old_seen seen
+  pub reached : slice_get seen to ≡ Some true
+  pub fewer : unseen seen + length steps ≤ unseen old_seen + length old_steps

@@ -11,10 +11,10 @@ returns-in_ok-push g c =
     rw c.in_ok-push.ensures.items (record {
       spread = reach-spread r.spread c.args.to new r.linked.1 r.linked.2;
       kept = keeps-steps r.spread c.args.to new;
-      seen = keeps-seen r.spread c.args.to new;
+      seen_kept = keeps-seen r.spread c.args.to new;
       reached = slice_get-set_same c.args.self.now.seen.items c.args.to true r.to;
       fewer = omega (arith, fewer-unseen r.spread c.args.to new);
     })
 
-pub returns-else-not-index-clause-reached : goal.returns-else-not-index-clause-reached
-returns-else-not-index-clause-reached g c = search (rules, slice_get_read)
+pub returns-else-not-index : goal.returns-else-not-index
+returns-else-not-index g c = search (rules, slice_get_read)
