@@ -14,7 +14,7 @@ ghost use Rattle.ps_zielonka.specs.Inner.Boards.{IsBoardOf, OnlyMoves, HasTurn};
 
 use crate::attraction::Attraction;
 use crate::frame::Frame;
-use crate::level::Level;
+use crate::level::{Level, PlacedLevel};
 use ps_attractor::{Adjacency, Tables};
 use ps_game::{Arena, Numbers, Player, Width};
 use std::alloc::{AllocError, Global};
@@ -92,55 +92,55 @@ impl<W: Width> Board<W> {
         &mut self,
         edges: &Adjacency<'_, A, W>,
         frame: &Frame,
-        level: Level,
+        placed: PlacedLevel,
     ) -> bool
         requires fits { IsBoardOf (A.game edges.now.arena.now) self.old }
         requires end { frame.now.top ≤ length self.old.tables.trail }
-        requires placed { code_of level < code_of Level.Unplaced }
         ensures moved { OnlyMoves (A.game edges.now.arena.now) self.old self.new
             (StandsBetween self.old.tables frame.now.turn frame.now.top) }
         ensures kept { IsTrue result → (v : ℕ) → StandsBetween self.old.tables frame.now.turn frame.now.top v →
-            IsKeptAt (A.game edges.now.arena.now) self.new.tables self.old.winner.items (code_of level) frame.now.player
+            IsKeptAt (A.game edges.now.arena.now) self.new.tables self.old.winner.items (code_of placed.level)
+            frame.now.player
             (1 - frame.now.player) v }
         ensures lost { result ≡ false → (v : ℕ) × StandsBetween self.old.tables frame.now.turn frame.now.top v ×
-            IsLostAt (A.game edges.now.arena.now) self.old.tables self.old.winner.items (code_of level) frame.now.player
+            IsLostAt (A.game edges.now.arena.now) self.old.tables self.old.winner.items (code_of placed.level)
+            frame.now.player
             (1 - frame.now.player) v }
     {
         for place in frame.turn..frame.top {
             let vertex = self.tables.vertex_at(place);
-            if !self.keeps(edges, frame.player, level, vertex) {
+            if !self.keeps(edges, frame.player, placed, vertex) {
                 return false;
             }
         }
         true
     }
 
-    /// Whether the player keeps a vertex. A vertex of the player must have a successor of a higher level than `level`
+    /// Whether the player keeps a vertex. A vertex of the player must have a successor of a higher level than `placed`
     /// that the player won; a vertex of the opponent must have no such successor that the opponent won. Writes the move
     /// at a vertex that the player owns and keeps.
     fn keeps<A: Arena>(
         &mut self,
         edges: &Adjacency<'_, A, W>,
         player: Player,
-        level: Level,
+        placed: PlacedLevel,
         vertex: usize,
     ) -> bool
         requires fits { IsBoardOf (A.game edges.now.arena.now) self.old }
         requires vertex { vertex < vertex_count (A.game edges.now.arena.now) }
-        requires placed { code_of level < code_of Level.Unplaced }
         ensures moved { OnlyMoves (A.game edges.now.arena.now) self.old self.new (λ v. v ≡ vertex) }
         ensures kept { IsTrue result →
-            IsKeptAt (A.game edges.now.arena.now) self.new.tables self.old.winner.items (code_of level)
+            IsKeptAt (A.game edges.now.arena.now) self.new.tables self.old.winner.items (code_of placed.level)
             player (1 - player) vertex }
         ensures lost { result ≡ false → IsLostAt (A.game edges.now.arena.now) self.old.tables self.old.winner.items
-            (code_of level) player (1 - player) vertex }
+            (code_of placed.level) player (1 - player) vertex }
     {
         if !player.owns(edges.arena, vertex) {
             return self
-                .won_successor(edges, vertex, level, player.opponent())
+                .won_successor(edges, vertex, placed, player.opponent())
                 .is_none();
         }
-        match self.won_successor(edges, vertex, level, player) {
+        match self.won_successor(edges, vertex, placed, player) {
             Some(successor) => {
                 self.tables.choose(vertex, successor);
                 true
@@ -149,26 +149,27 @@ impl<W: Width> Board<W> {
         }
     }
 
-    /// The first successor of a vertex that has a higher level than `level` and is won by the player, or `None`.
+    /// The first successor of a vertex that has a higher level than `placed` and is won by the player, or `None`.
     fn won_successor<A: Arena>(
         &self,
         edges: &Adjacency<'_, A, W>,
         vertex: usize,
-        level: Level,
+        placed: PlacedLevel,
         player: Player,
     ) -> Option<usize>
         requires fits { IsBoardOf (A.game edges.now.arena.now) self.now }
         requires vertex { vertex < vertex_count (A.game edges.now.arena.now) }
-        requires placed { code_of level < code_of Level.Unplaced }
         ensures some { IfSome result
-            (IsWonStep (A.game edges.now.arena.now) self.now.tables self.now.winner.items (code_of level)
+            (IsWonStep (A.game edges.now.arena.now) self.now.tables self.now.winner.items (code_of placed.level)
             player vertex) }
         ensures none { IfNone result ((w : ℕ) → HasEdge (A.game edges.now.arena.now) vertex w →
-            code_of level < level_of self.now.tables w → slice_index self.now.winner.items w ≢ player) }
+            code_of placed.level < level_of self.now.tables w → slice_index self.now.winner.items w ≢ player) }
     {
         for number in 0..edges.arena.degree(vertex) {
             let successor = edges.arena.successor(vertex, number);
-            if self.tables.level(successor) > level.code() && self.winner[successor] == player {
+            if self.tables.level(successor) > placed.level.code()
+                && self.winner[successor] == player
+            {
                 return Some(successor);
             }
         }
@@ -177,13 +178,13 @@ impl<W: Width> Board<W> {
 
     /// Removes the vertices at index `turn` and later from the trail. A vertex that the player won gets the level
     /// `Unplaced`; any other vertex is appended to the trail again, with the given level. Fails if out of memory.
-    pub fn reopen(&mut self, frame: &Frame, level: Level) -> Result<(), AllocError>
+    pub fn reopen(&mut self, frame: &Frame, placed: PlacedLevel) -> Result<(), AllocError>
         requires turn { HasTurn self.old.tables W.LIMIT frame.now.turn }
         requires winners { length self.old.winner.items ≡ length self.old.tables.level }
-        requires placed { code_of level < code_of Level.Unplaced }
-        requires fits_width { code_of level < W.LIMIT }
+        requires fits_width { code_of placed.level < W.LIMIT }
         ensures winner { self.new.winner.items ≡ self.old.winner.items }
-        ensures reopened { OnOk result (IsReopened self.old.winner.items frame.now.player (code_of level) frame.now.turn
+        ensures reopened { OnOk result
+            (IsReopened self.old.winner.items frame.now.player (code_of placed.level) frame.now.turn
             (StandsFrom self.old.tables frame.now.turn) self.old.tables self.new.tables) }
     {
         self.take_off(frame.turn)?;
@@ -192,7 +193,7 @@ impl<W: Width> Board<W> {
             if self.winner[vertex] == frame.player {
                 self.tables.set_level(vertex, Level::Unplaced.code());
             } else {
-                self.tables.place(vertex, level.code())?;
+                self.tables.place(vertex, placed.level.code())?;
             }
         }
         Ok(())

@@ -1,6 +1,7 @@
 //! The state of a vertex in the nested recursive calls of the solver.
 
-ghost use Rattle.std.specs.Prelude.{◌≡◌, ◌≤◌};
+ghost use Rattle.std.specs.Prelude.{◌≡◌, ◌<◌, ◌≤◌};
+ghost use Rattle.ps_zielonka.specs.declared.level.TheConstants.{UNPLACED};
 ghost use Rattle.ps_zielonka.specs.Inner.Levels.{code_of};
 
 /// The code of the level `Unplaced`.
@@ -36,4 +37,12 @@ impl Level {
             Level::Unplaced => UNPLACED,
         }
     }
+}
+
+/// The level of a vertex that was decided or attracted.
+#[derive(Clone, Copy)]
+pub struct PlacedLevel {
+    /// Any level but `Unplaced`.
+    pub level: Level,
+    ghost placed: { code_of level < UNPLACED },
 }

@@ -10,7 +10,7 @@ ghost use Rattle.ps_zielonka.specs.Inner.Nests.{IsNest, IsLostAt, StandsBetween}
 use crate::attraction::Attraction;
 use crate::board::Board;
 use crate::frame::Frame;
-use crate::level::Level;
+use crate::level::{Level, PlacedLevel};
 use crate::order::{falling_order, first_unplaced, place_tops};
 use ps_attractor::{Adjacency, Tables};
 use ps_game::{Arena, Numbers, Player, Width};
@@ -161,11 +161,13 @@ impl<W: Width> Nest<W> {
             return Ok(());
         };
         let depth = self.frames.len();
-        let level = Level::Decided { depth };
-        if self.board.is_kept(edges, &frame, level) {
+        let placed = PlacedLevel {
+            level: Level::Decided { depth },
+        };
+        if self.board.is_kept(edges, &frame, placed) {
             Ok(())
         } else {
-            self.go_on(edges, frame, level)
+            self.go_on(edges, frame, placed)
         }
     }
 
@@ -176,22 +178,23 @@ impl<W: Width> Nest<W> {
         &mut self,
         edges: &Adjacency<'_, A, W>,
         frame: Frame,
-        level: Level,
+        placed: PlacedLevel,
     ) -> Result<(), AllocError>
         requires nest { IsNest (A.game edges.now.arena.now) self.old.board.tables self.old.board.winner.items
             self.old.order (self.old.frames.items ++ frame ∷ []) self.old.cursor true }
-        requires level { level ≡ Level.Decided (length self.old.frames.items) }
+        requires level { placed.level ≡ Level.Decided (length self.old.frames.items) }
         requires lost { (v : ℕ) × StandsBetween self.old.board.tables frame.turn frame.top v ×
-            IsLostAt (A.game edges.now.arena.now) self.old.board.tables self.old.board.winner.items (code_of level)
+            IsLostAt (A.game edges.now.arena.now) self.old.board.tables self.old.board.winner.items
+            (code_of placed.level)
             frame.player
             (1 - frame.player) v }
         ensures { OnOk result (IsResumed (A.game edges.now.arena.now) self.old self.new) }
     {
-        self.board.reopen(&frame, level)?;
+        self.board.reopen(&frame, placed)?;
         let attraction = Attraction {
             player: frame.player.opponent(),
             begin: frame.turn,
-            level,
+            level: placed.level,
         };
         self.board.attract(edges, &attraction)?;
         self.work = work_behind(self.work, &self.board.tables, frame.turn);

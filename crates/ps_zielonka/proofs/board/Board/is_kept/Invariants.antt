@@ -9,7 +9,7 @@ invariant-loop-place g l = record {
   moves : OnlyMoves (g.A.Arena.game l.edges.arena.now) l.initial.self l.self
       (StandsBetween l.initial.self.tables l.frame.turn l.frame.top);
   kept : (v : ℕ) → StandsBetween l.initial.self.tables l.frame.turn l.place v
-      → IsKeptAt (g.A.Arena.game l.edges.arena.now) l.self.tables l.initial.self.winner.items (code_of l.level)
+      → IsKeptAt (g.A.Arena.game l.edges.arena.now) l.self.tables l.initial.self.winner.items (code_of l.placed.level)
       l.frame.player
       (1 - l.frame.player) v;
 }

@@ -24,12 +24,12 @@ returns g c =
     let aim : Aim = record {
       player = c.opponent.result;
       begin = frame.turn;
-      level = code_of c.args.level;
+      level = code_of c.args.placed.level;
       free = UNPLACED;
     } in
-    let is_level : code_of c.args.level ≡ 2 * length frames + 1 = ap code_of c.requires.level in
+    let is_level : code_of c.args.placed.level ≡ 2 * length frames + 1 = ap code_of c.requires.level in
     let is_aim : aim ≡ on_aim (2 * length frames) frame = cc (c.opponent.ensures, is_level) in
-    let reached : Reached (g.A.Arena.game c.args.edges.now.arena.now) (code_of c.args.level) aim frame
+    let reached : Reached (g.A.Arena.game c.args.edges.now.arena.now) (code_of c.args.placed.level) aim frame
     c.args.self.now.board.tables c.reopen.new.self.tables c.attract.new.self.tables c.args.self.now.board.winner.items
     c.attract.new.self.winner.items = record {
       reopened = c.in_ok-reopen.ensures.reopened;
