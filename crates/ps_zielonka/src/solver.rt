@@ -46,7 +46,9 @@ pub fn regions_in<A: Arena, W: Width>(
         SolvesGame (A.game arena.now) counts.new.depth answer.0 answer.1 answer.2) }
     ensures raises { counts.new.raises ≡ counts.old.raises }
 {
-    let nest = solved_nest::<A, W>(alloc, arena)?;
+    let edges = Adjacency::<A, W>::of(alloc, arena)?;
+    let mut nest = Nest::new(alloc, &edges)?;
+    nest.solve(&edges, None)?;
     answer_by(alloc, arena, &mut counts.depth, &nest)
 }
 
@@ -93,17 +95,6 @@ fn answer_within<A: Arena, W: Width>(
     }
     let answer = answer_by(alloc, arena, depth, &nest)?;
     Ok(Some(answer))
-}
-
-/// The final state of the solver, in which the winner of each vertex is decided. Fails if out of memory.
-fn solved_nest<A: Arena, W: Width>(alloc: Global, arena: &A) -> Result<Nest<W>, AllocError>
-    requires { HasRoom (A.game arena.now) W.LIMIT }
-    ensures { IfOk result (IsDone (A.game arena.now)) }
-{
-    let edges = Adjacency::<A, W>::of(alloc, arena)?;
-    let mut nest = Nest::new(alloc, &edges)?;
-    nest.solve(&edges, None)?;
-    Ok(nest)
 }
 
 /// The region and the two strategies in the final state of the solver. The maximal number of pending calls is written
