@@ -1,18 +1,14 @@
 -- The search for the roots of a priority, which are the vertices of this priority to which a link of `low_graph` leads.
 use Rattle.std.proofs.Common.{◌≡◌, ℕ, ◌+◌, ◌<◌, ◌≤◌, ◌∙◌, List, [], ◌∷◌, ◌++◌, length, inl, inr, sym, ap, arith, rules}
-use Rattle.std.proofs.Common.{Some}
+use Rattle.std.proofs.Common.{Option, None, Some, IfSome}
 use Rattle.std.specs.Prelude.{slice_index, slice_get}
 use Rattle.std.proofs.lemmas.Bool.{cases_eq}
 use Rattle.ps_components.specs.Graphs.{Link}
 use Rattle.ps_components.proofs.Places.{slice_get-append_left, slice_get-push, slice_get-push_cases}
 use Rattle.ps_measure.specs.Inner.Columns.{AreRoots}
-use Rattle.ps_measure.specs.Inner.Groups.{IsGroup}
+use Rattle.ps_measure.specs.Inner.Groups.{IsGroup, candidates_in, candidate_in}
 use Rattle.ps_measure.specs.Inner.Remaining.{StarData, star_graph, LowData, low_graph, low_weight}
 use Rattle.ps_measure.proofs.RemainingEdges.{heavy_inside, heavy_level}
-
--- the target of link k of the vertex v in a stored graph
-abbrev pub member : StarData → ℕ → ℕ → ℕ
-member star v k = slice_index star.targets (slice_index star.starts v + k)
 
 -- the list has exactly the roots that are among the first n candidates
 pub record RootsAmong (low : LowData) (members : ℕ → ℕ) (roots : List ℕ) (n : ℕ) : Type 0 where
@@ -43,26 +39,21 @@ roots_skip {low} {members} {n = n} {v} is none so_far = record {
   ];
 }
 
--- all roots are found if all vertices of the priority's group are tried
-pub roots_all : {low : LowData} {members : StarData} {place : ℕ} {roots : List ℕ} {n : ℕ} →
-    (star_graph members).degree place ≤ n → ((w v : ℕ) → Link (low_graph low) w v → v < low.star.count) →
-    IsGroup members place low → RootsAmong low (member members place) roots n →
+-- all roots are found if all vertices of the priority's group are tried, or, without groups, all vertices of the graph
+pub roots_all : {low : LowData} (members : Option StarData) (place : ℕ) {roots : List ℕ} {n : ℕ} →
+    candidates_in members low.star.count place ≤ n → ((w v : ℕ) → Link (low_graph low) w v → v < low.star.count) →
+    IfSome members (λ group. IsGroup group place low) → RootsAmong low (candidate_in members place) roots n →
     AreRoots (low_graph low) (low_weight low) roots
-roots_all {low} {members} {place} {roots} all within group so_far = record {
+roots_all None place all within group so_far = record {
+  sound = so_far.sound;
+  complete = λ w v link. so_far.complete w v (omega (arith, within w v link, all)) link;
+}
+roots_all {low} (Some members) place all within group so_far = record {
   sound = so_far.sound;
   complete = λ w v link heavy.
       (let found = group.complete v (within w v link) (heavy_inside low v heavy) (heavy_level low v heavy) in
-      let is : v ≡ member members place found.place = cc (found.target) in
+      let is : v ≡ candidate_in (Some members) place found.place = cc (found.target) in
       rw is (so_far.complete w found.place (omega (arith, found.at, all)) (rw is at link) (rw is at heavy)));
-}
-
--- all roots are found if all vertices of the graph are tried
-pub roots_everywhere : {low : LowData} {roots : List ℕ} {n : ℕ} → low.star.count ≤ n →
-    ((w v : ℕ) → Link (low_graph low) w v → v < low.star.count) → RootsAmong low (λ k. k) roots n →
-    AreRoots (low_graph low) (low_weight low) roots
-roots_everywhere all within so_far = record {
-  sound = so_far.sound;
-  complete = λ w v link. so_far.complete w v (omega (arith, within w v link, all)) link;
 }
 
 -- the members of a priority's group are vertices of the graph

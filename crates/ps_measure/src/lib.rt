@@ -30,6 +30,7 @@ mod count_cells;
 mod fault;
 mod groups;
 mod laws;
+mod layer;
 mod link_cells;
 mod low;
 mod measuring;

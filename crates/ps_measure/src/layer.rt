@@ -1,0 +1,89 @@
+//! The search for the vertices of one priority at which the computation of its counts begins.
+
+ghost use Rattle.std.specs.Prelude.{◌≡◌, ℕ, ◌<◌, ◌≤◌, ◌↔◌, IfOk, IsTrue, slice_index};
+ghost use Rattle.ps_components.specs.Graphs.{Link};
+ghost use Rattle.ps_measure.specs.Inner.Columns.{AreRoots};
+ghost use Rattle.ps_measure.specs.Inner.Groups.{candidates_in, candidate_in};
+ghost use Rattle.ps_measure.specs.Inner.Remaining.{low_graph, low_weight};
+
+use crate::groups::Groups;
+use crate::low::Low;
+use ps_components::Graph;
+use std::alloc::{AllocError, Global};
+use std::marker::Model;
+
+/// What the roots of one priority are searched in: the remaining edges, the reversed edges between vertices of at most
+/// this priority, the vertices grouped by priority, and the index of this priority.
+#[derive(Drop)]
+pub(crate) struct Layer<'a, G: Graph> {
+    pub(crate) graph: &'a G,
+    pub(crate) low: &'a Low<'a>,
+    pub(crate) groups: &'a Groups,
+    pub(crate) place: usize,
+}
+
+impl<'a, G: Graph> Model for Layer<'a, G> {
+    ghost use Rattle.ps_measure.specs.Inner.Groups.{LayerData, IsLayer};
+
+    ghost Value = { LayerData };
+
+    ghost view = { λ l. record { low = l.low.now; members = l.groups.now.members; place = l.place } };
+
+    ghost invariant = { λ l. IsLayer (G.graph l.graph.now)
+        (record { low = l.low.now; members = l.groups.now.members; place = l.place }) };
+}
+
+impl<'a, G: Graph> Layer<'a, G> {
+    /// The vertices of the priority from which an edge leads to a vertex of the same or a smaller priority.
+    pub(crate) fn roots(&self, alloc: Global) -> Result<Vec<usize>, AllocError>
+        ensures { IfOk result (λ roots. AreRoots (low_graph self.now.low) (low_weight self.now.low) roots.items) }
+    {
+        let _vertices = self.low.count();
+        let mut roots = Vec::new(alloc);
+        for number in 0..self.candidates() {
+            let vertex = self.candidate(number);
+            if self.low.weight(vertex) == 1 && self.leads_down(vertex) {
+                roots.push(vertex)?;
+            }
+        }
+        Ok(roots)
+    }
+
+    /// The number of vertices among which the roots are searched: those of the priority's group, or else all.
+    fn candidates(&self) -> usize
+        ensures { result ≡ candidates_in self.now.members self.now.low.star.count self.now.place }
+    {
+        match &self.groups.members {
+            Some(members) => members.degree(self.place),
+            None => self.low.count(),
+        }
+    }
+
+    /// A vertex among those in which the roots are searched.
+    fn candidate(&self, number: usize) -> usize
+        requires { number < candidates_in self.now.members self.now.low.star.count self.now.place }
+        ensures is { result ≡ candidate_in self.now.members self.now.place number }
+        ensures within { result < self.now.low.star.count }
+    {
+        match &self.groups.members {
+            Some(members) => members.target(self.place, number),
+            None => number,
+        }
+    }
+
+    /// Whether an edge leads from a vertex to a vertex whose priority is at most that of the layer.
+    fn leads_down(&self, vertex: usize) -> bool
+        requires vertex { vertex < self.now.low.star.count }
+        requires level { slice_index self.now.low.levels vertex ≤ self.now.low.priority }
+        ensures { IsTrue result ↔ (w : ℕ) × Link (low_graph self.now.low) w vertex }
+    {
+        for place in 0..self.graph.degree(vertex) {
+            if let Some(to) = self.graph.target(vertex, place) {
+                if self.low.is_low(to) {
+                    return true;
+                }
+            }
+        }
+        false
+    }
+}
