@@ -15,11 +15,54 @@ pub(crate) struct PlacedCount {
     pub(crate) count: u64,
 }
 
+/// Stored counts, by ascending index.
+#[derive(Clone, Copy, Debug)]
+pub(crate) struct Stored<'a> {
+    pub(crate) list: &'a [PlacedCount],
+    ghost rising: { AreRising list.now },
+}
+
+impl<'a> Stored<'a> {
+    /// The number of stored counts whose index is less than `place`. The search begins after the first `hint` stored
+    /// counts, or at the first stored count if the result is less than `hint`.
+    fn first_from(&self, hint: usize, place: usize) -> usize
+        ensures { IsFirstFrom self.now.list.now place result }
+    {
+        let placed = self.list;
+        let mut number = if self.is_before(hint, place) { hint } else { 0 };
+        while number < placed.len() && placed[number].place < place {
+            number += 1;
+        }
+        number
+    }
+
+    /// Whether the first `number` stored counts all have indices less than `place`.
+    fn is_before(&self, number: usize, place: usize) -> bool
+        ensures { OnTrue result (AreBefore self.now.list.now place number) }
+    {
+        let placed = self.list;
+        number == 0 || number <= placed.len() && placed[number - 1].place < place
+    }
+
+    /// The count at an index, given the number of stored counts with smaller indices.
+    fn count_in(&self, place: usize, number: usize) -> u64
+        requires { IsFirstFrom self.now.list.now place number }
+        ensures { result ≡ count_at self.now.list.now place }
+    {
+        let placed = self.list;
+        if number < placed.len() && placed[number].place == place {
+            placed[number].count
+        } else {
+            0
+        }
+    }
+}
+
 /// The counts of an entry, one for each priority that opposes its winner.
 #[derive(Debug, Drop)]
 pub struct Row<'a> {
     pub(crate) width: usize,
-    pub(crate) placed: &'a [PlacedCount],
+    pub(crate) placed: Stored<'a>,
 }
 
 impl<'a> Model for Row<'a> {
@@ -28,9 +71,9 @@ impl<'a> Model for Row<'a> {
 
     ghost Value = { List ℕ };
 
-    ghost view = { λ row. dense_row row.width row.placed.now };
+    ghost view = { λ row. dense_row row.width row.placed.list.now };
 
-    ghost invariant = { λ row. IsRow row.width row.placed.now };
+    ghost invariant = { λ row. IsRow row.width row.placed.list.now };
 }
 
 impl<'a> Row<'a> {
@@ -53,8 +96,8 @@ impl<'a> Row<'a> {
         requires { place < length self.now }
         ensures { result ≡ slice_index self.now place }
     {
-        let number = first_from(self.placed, 0, place);
-        count_in(self.placed, place, number)
+        let number = self.placed.first_from(0, place);
+        self.placed.count_in(place, number)
     }
 
     /// Replaces the contents of a list by the entry's counts. Fails if out of memory.
@@ -62,8 +105,8 @@ impl<'a> Row<'a> {
         ensures { OnOk result (list.new.items ≡ self.now) }
     {
         list.clear();
-        for number in 0..self.placed.len() {
-            let PlacedCount { place, count } = self.placed[number];
+        for number in 0..self.placed.list.len() {
+            let PlacedCount { place, count } = self.placed.list[number];
             list.resize(place, 0)?;
             list.push(count)?;
         }
@@ -77,54 +120,16 @@ impl<'a> Row<'a> {
         ensures none { IfNone result (AreAtMost self.now other.now from (length self.now)) }
         ensures some { IfSome result (IsFirstAbove self.now other.now from) }
     {
-        let mut number = first_from(self.placed, 0, from);
+        let mut number = self.placed.first_from(0, from);
         let mut others = 0;
-        while number < self.placed.len() {
-            let PlacedCount { place, count } = self.placed[number];
-            others = first_from(other.placed, others, place);
-            if count > count_in(other.placed, place, others) {
+        while number < self.placed.list.len() {
+            let PlacedCount { place, count } = self.placed.list[number];
+            others = other.placed.first_from(others, place);
+            if count > other.placed.count_in(place, others) {
                 return Some(place);
             }
             number += 1;
         }
         None
-    }
-}
-
-/// The number of stored counts whose index is less than `place`. The search begins after the first `hint` stored
-/// counts, or at the first stored count if the result is less than `hint`.
-fn first_from(placed: &[PlacedCount], hint: usize, place: usize) -> usize
-    requires { AreRising placed.now }
-    ensures { IsFirstFrom placed.now place result }
-{
-    let mut number = if is_before(placed, hint, place) {
-        hint
-    } else {
-        0
-    };
-    while number < placed.len() && placed[number].place < place {
-        number += 1;
-    }
-    number
-}
-
-/// Whether the first `number` stored counts all have indices less than `place`.
-fn is_before(placed: &[PlacedCount], number: usize, place: usize) -> bool
-    requires { AreRising placed.now }
-    ensures { OnTrue result (AreBefore placed.now place number) }
-{
-    number == 0 || number <= placed.len() && placed[number - 1].place < place
-}
-
-/// The count at an index, given the number of stored counts with smaller indices.
-fn count_in(placed: &[PlacedCount], place: usize, number: usize) -> u64
-    requires rising { AreRising placed.now }
-    requires number { IsFirstFrom placed.now place number }
-    ensures { result ≡ count_at placed.now place }
-{
-    if number < placed.len() && placed[number].place == place {
-        placed[number].count
-    } else {
-        0
     }
 }

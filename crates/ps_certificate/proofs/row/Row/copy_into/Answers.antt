@@ -13,5 +13,5 @@ returns c =
       arith,
       resized list width _ c.loop-number.list.ok.0 c.loop-number.invariant.long,
       filled_end width
-          c.self.inside.placed.now list c.loop-number.number c.loop-number.invariant c.loop-number-test.false,
+          c.self.inside.placed.list.now list c.loop-number.number c.loop-number.invariant c.loop-number-test.false,
     )

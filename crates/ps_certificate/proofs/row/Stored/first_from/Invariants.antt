@@ -1,6 +1,6 @@
 use Rattle.std.proofs.Common.{◌-◌, length}
 use Rattle.ps_certificate.specs.Sparse.{AreBefore}
-use Rattle.ps_certificate.proofs.row.first_from.Given as goal
+use Rattle.ps_certificate.proofs.row.Stored.first_from.Given as goal
 
 abbrev pub invariant-loop-number : goal.invariant-loop-number
 invariant-loop-number l = AreBefore l.placed l.place l.number
