@@ -3,9 +3,9 @@
 ghost use Rattle.std.specs.Prelude.{◌≡◌, ℕ, ◌<◌, length, nat_lt, IfOk, OnOk, IfNone, IfSome};
 ghost use Rattle.std.specs.Bool.{OnFalse, OnTrue};
 ghost use Rattle.ps_components.specs.Graphs.{Digraph, Link};
-ghost use Rattle.ps_components.specs.ComponentLists.{AreComponents, AreMet};
+ghost use Rattle.ps_components.specs.ComponentLists.{AreComponents};
 ghost use Rattle.ps_measure.specs.Inner.Remaining.{low_graph, low_weight};
-ghost use Rattle.ps_measure.specs.Inner.Columns.{AreRoots, AreRaised, IsCounting, IsTurn, IsRaised, IsPassed};
+ghost use Rattle.ps_measure.specs.Inner.Columns.{AreRoots, IsCounting, IsTurn, IsRaised, IsPassed};
 ghost use Rattle.ps_measure.specs.Inner.Columns.{ArePassedFrom, IsLost, AreLeast, value_of};
 ghost use Rattle.ps_measure.specs.Inner.Outcomes.{IsClosing};
 ghost use Rattle.ps_measure.specs.Inner.Filling.{IsBlank};
@@ -34,8 +34,9 @@ impl Column {
         }
     }
 
-    /// Computes the least counts for the priority of `low`. If no counts keep the rule of counts (`KeepsRule`), returns
-    /// a link that leads to a vertex of this priority and lies on a cycle.
+    /// Computes the least counts for the priority of `low`, from the components of the vertices reachable from the
+    /// roots. The initial value is 1 for the components of roots, and 0 for all others. If no counts keep the rule of
+    /// counts (`KeepsRule`), returns a link that leads to a vertex of this priority and lies on a cycle.
     pub(crate) fn work_out(
         &mut self,
         low: &Low,
@@ -48,19 +49,6 @@ impl Column {
         ensures lost { IfOk result (λ lost. IfSome lost (λ link. IsClosing (low_graph low.now) (low_weight low.now)
             link.0 link.1)) }
     {
-        self.begin(low, roots)?;
-        Ok(self.settle(low))
-    }
-
-    /// Computes the components of the vertices reachable from the roots. The initial value is 1 for the components of
-    /// roots, and 0 for all others.
-    fn begin(&mut self, low: &Low, roots: &[usize]) -> Result<(), AllocError>
-        requires { AreRoots (low_graph low.now) (low_weight low.now) roots.now }
-        ensures counting { OnOk result (IsCounting (low_graph low.now) (low_weight low.now) self.new.components
-            self.new.values.items) }
-        ensures met { OnOk result (AreMet (low_graph low.now) roots.now self.new.components) }
-        ensures raised { OnOk result (AreRaised self.new.components self.new.values.items roots.now) }
-    {
         let _vertices = low.count();
         self.components.renew(low, roots)?;
         self.values.clear();
@@ -70,7 +58,7 @@ impl Column {
                 self.values[number] = 1;
             }
         }
-        Ok(())
+        Ok(self.settle(low))
     }
 
     /// The count that was computed for a vertex.
