@@ -71,25 +71,12 @@ impl Search {
         self.order.clear();
     }
 
-    /// Starts a new search, which visits the given roots and all vertices reachable from the roots. Fails if out of
-    /// memory.
+    /// Starts a new search, which visits the given roots and all vertices reachable from the roots. The statuses of the
+    /// vertices that were visited before, which `order` lists, are reset first. Fails if out of memory.
     pub fn again<G: Graph>(&mut self, graph: &G, roots: &[usize]) -> Result<(), AllocError>
         requires listed { AreListed self.old.statuses self.old.order.items }
         requires within { All (λ v. v < (G.graph graph.now).count) roots.now }
         ensures { OnOk result (HasVisited (G.graph graph.now) roots.now self.new) }
-    {
-        self.renew(graph)?;
-        for &root in roots {
-            self.visit(graph, root)?;
-        }
-        Ok(())
-    }
-
-    /// Resets the statuses of all visited vertices, which `order` lists, and prepares the search for another graph.
-    /// Fails if out of memory.
-    fn renew<G: Graph>(&mut self, graph: &G) -> Result<(), AllocError>
-        requires { AreListed self.old.statuses self.old.order.items }
-        ensures { OnOk result (IsFresh (G.graph graph.now) self.new) }
     {
         reset(&mut self.statuses, &self.order);
         self.statuses.resize(graph.count())?;
@@ -97,6 +84,9 @@ impl Search {
         self.bounds.clear();
         self.pending.clear();
         self.order.clear();
+        for &root in roots {
+            self.visit(graph, root)?;
+        }
         Ok(())
     }
 
