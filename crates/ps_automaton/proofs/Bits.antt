@@ -1,9 +1,11 @@
 -- A set of numbers, stored as the bits of one number.
 use Rattle.std.proofs.Common.{◌≡◌, ℕ, ◌+◌, ◌*◌, ◌^◌, ◌%◌, ◌<◌, List}
-use Rattle.std.proofs.Common.{◌∷◌, length, drop, get_or, arith, add-one, drop-cons, bit_or}
-use Rattle.std.specs.Prelude.{◌||◌, nat_eq}
+use Rattle.std.proofs.Common.{◌∷◌, length, drop, get_or, arith, add-one, drop-cons, bit_and, bit_or}
+use Rattle.std.proofs.Common.{w64, refl}
+use Rattle.std.specs.Int.{bit_not}
+use Rattle.std.specs.Prelude.{◌||◌, ◌&&◌, nat_eq, not}
 use Rattle.std.proofs.lemmas.Nat.{one_shl}
-use Rattle.std.proofs.lemmas.Nat.Bits.{bit_at_or, bit_at-lt, bit_at-pow_same, bit_at-pow_other}
+use Rattle.std.proofs.lemmas.Nat.Bits.{bit_at_or, bit_at_and, bit_at_not, bit_at-lt, bit_at-pow_same, bit_at-pow_other}
 use Rattle.ps_label.specs.Truth.{is_in}
 use Rattle.ps_hoa.specs.Files.{is_among}
 
@@ -13,8 +15,18 @@ in_or p a b = grind (arith, bit_at_or a b p, bit_at-lt a p, bit_at-lt b p)
 pub same_bit : (x y : ℕ) → x < 2 → y < 2 → nat_eq x 1 ≡ nat_eq y 1 → x ≡ y
 same_bit x y a b e = grind arith
 
-in_power : (p m : ℕ) → is_in p (2 ^ m) ≡ nat_eq p m
+pub in_power : (p m : ℕ) → is_in p (2 ^ m) ≡ nat_eq p m
 in_power p m = grind (arith, bit_at-pow_same m, bit_at-pow_other m p)
+
+pub in_and : (p a b : ℕ) → is_in p (bit_and a b) ≡ (is_in p a && is_in p b)
+in_and p a b = grind (arith, bit_at_and a b p, bit_at-lt a p, bit_at-lt b p)
+
+pub in_not : (p a : ℕ) → a < 2 ^ 64 → p < 64 → is_in p (bit_not w64 a) ≡ not (is_in p a)
+in_not p a fits small = grind (arith, bit_at_not w64 a p fits small, bit_at-lt a p)
+
+-- a set to which the number m is added
+pub in_with : (p set m : ℕ) → m < 64 → is_in p (bit_or set (1 * 2 ^ m % 2 ^ 64)) ≡ (is_in p set || nat_eq p m)
+in_with p set m small = rw (one_shl m 64 small, in_or p set (2 ^ m), in_power p m) refl
 
 pub one_set_more : (set mask m : ℕ) (rest : List ℕ) → m < 64 →
     (is_in set (bit_or mask (1 * 2 ^ m % 2 ^ 64)) || is_among set rest) ≡ (is_in set mask || is_among set (m ∷ rest))

@@ -47,7 +47,7 @@ by_letters_of {file} {row} s {e} k at is = by_label row.label s.labelled
     by_label None (inr a) = a
 
 module _ {file : FileData} (sound : IsSoundFile file) {row : RowData} (row_sound : IsSoundRow file row) where
-  fits : (j : ℕ) {e : EdgeData} → slice_get row.edges j ≡ Some e → IsFit file e.guard
+  pub fits : (j : ℕ) {e : EdgeData} → slice_get row.edges j ≡ Some e → IsFit file e.guard
   fits j {e} at = grind (arith, sound_edge, labelled_letter)
 
   few_of : {ns : List ℕ} → AreBelow file.sets ns → All (λ set. set < 64) ns

@@ -29,6 +29,23 @@ pub targets_more : {row : RowData} (targets : List Target) {more : List Target} 
 targets_more {row} targets {more} {count} {edge} {target} size is at is_target have k e within there =
     grind (arith, cases_lt, at_left, same_some, at_end)
 
+-- the edge at an index
+edge_at_place : (edges : List EdgeData) (place : ℕ) → place < length edges →
+    (edge : EdgeData) × (slice_get edges place ≡ Some edge)
+edge_at_place edges place within =
+    let d : EdgeData = record { guard = of_state; target = 0; marks = [] } in
+    (get_or edges place d, slice_get-get_or edges place d within)
+
+-- each target leads to a state of the file
+pub states_within : {file : FileData} {row : RowData} → IsSoundRow file row → {targets : List Target} →
+    AreTargets row targets → (place : ℕ) (target : Target) → slice_get targets place ≡ Some target →
+    target.state < file.states
+states_within {file} {row} row_sound {targets} a place target e =
+    let size = a.one_each in
+    let low = slice_get_within targets place target e in
+    let edge = edge_at_place row.edges place (omega (arith, low, size)) in
+    grind (arith, same_some, sound_edge)
+
 -- ## The row
 
 module _ {file : FileData} {row : RowData} (row_sound : IsSoundRow file row) (by : IsByLetters file row) where
@@ -55,11 +72,7 @@ module _ {file : FileData} {row : RowData} (row_sound : IsSoundRow file row) (by
     there = grind (arith, letter_of_place, mod-eq_of_lt);
     from = λ letter place small _.
         let size = by.1 in
-        let edge = edge_there letter (omega (arith, small, size)) in
+        let edge = edge_at_place row.edges letter (omega (arith, small, size)) in
         grind (arith, open_at_place);
-    within = λ place target e.
-        let size = a.one_each in
-        let low = slice_get_within targets place target e in
-        let edge = edge_there place (omega (arith, low, size)) in
-        grind (arith, same_some, sound_edge);
+    within = states_within row_sound a;
   }

@@ -21,3 +21,5 @@ pub mod OneRefusal
 pub mod Deciding
 pub mod Existing
 pub mod LetterRows
+pub mod LetterSets
+pub mod FirstEdges

@@ -2,6 +2,7 @@
 
 pub mod Drafts
 pub mod Gathering
+pub mod LetterSets
 pub mod Numbering
 pub mod Places
 pub mod Returning

@@ -1,22 +1,26 @@
 //! The steps of all states of an automaton, stored as decision diagrams.
 
 ghost use Rattle.std.specs.Prelude.{◌≡◌, ℕ, ◌+◌, ◌^◌, ◌<◌, ◌≤◌, List, IfErr, IfOk, IfSome, IsTrue, OnOk, Some, length};
-ghost use Rattle.std.specs.Prelude.{option_map, slice_get, slice_index, unwrap_or};
+ghost use Rattle.std.specs.Prelude.{◌%◌, All, IfNone, option_map, slice_get, slice_index, unwrap_or};
 ghost use Rattle.ps_diagram.specs.Labels.{AreNodesOf};
 ghost use Rattle.ps_diagram.specs.Table.{IsNode, Keeps, leaf_of};
 ghost use Rattle.ps_hoa.specs.Files.{FileData};
 ghost use Rattle.ps_hoa.specs.Sound.{IsSoundFile, IsSoundRow};
+ghost use Rattle.ps_hoa.specs.Edges.{row_of};
 ghost use Rattle.ps_hoa.specs.Views.{row_data};
 ghost use Rattle.ps_automaton.specs.Inner.Drafts.{ArePlaces, AreReady, AreSteps, AreTargets, Extends, Grows};
 ghost use Rattle.ps_automaton.specs.Inner.Drafts.{IsByLetters};
 ghost use Rattle.ps_automaton.specs.Inner.Drafts.{IsDraft, IsDraftFault, IsLabelNode, IsRowFault, IsSource, MakesSteps};
 ghost use Rattle.ps_automaton.specs.Inner.Drafts.{IsStateFault};
 ghost use Rattle.ps_automaton.specs.Inner.Drafts.{IsStepsOf};
+ghost use Rattle.ps_automaton.specs.Inner.LetterSets.{AreLetterSets, edge_at, entry_for};
 ghost use Rattle.ps_automaton.specs.Inner.Views.{chain_data};
 ghost use Rattle.ps_automaton.specs.declared.targets.Target.{Target};
 
 use crate::fault::AutomatonFault;
 use crate::guards::Guards;
+use crate::letter_rows::{edges_by_letter, leaves_of};
+use crate::letter_sets::LetterSets;
 use crate::levels::Levels;
 use crate::pairs::{Pairs, Source};
 use crate::step::Step;
@@ -77,10 +81,12 @@ fn nodes_of(pairs: &mut Pairs, file: &HoaFile, levels: &Levels) -> Result<Vec<No
     ensures refused { IfErr result (IsDraftFault file.now) }
 {
     let aliases = pairs.store.of_aliases(file.aliases())?;
+    let sets = LetterSets::of(pairs.alloc, file)?;
     let source = Source {
         file,
         levels,
         aliases: &aliases,
+        sets: &sets,
     };
     let mut nodes = nodes_of_states(pairs, &source)?;
     nodes.push(pairs.store.leaf(0)?)?;
@@ -123,7 +129,7 @@ fn state_node(pairs: &mut Pairs, source: &Source, state: u32) -> Result<Node, Au
         aliases: source.aliases,
         label,
     };
-    row_node(pairs, source.levels, &guards)
+    row_node(pairs, source.levels, &guards, source.sets)
 }
 
 /// The diagram of a row's label, if the row has a label.
@@ -142,16 +148,26 @@ fn label_node(store: &mut Store, source: &Source, row: &Row) -> Result<Option<No
 }
 
 /// The diagram of the steps of the state to which a row belongs.
-fn row_node(pairs: &mut Pairs, levels: &Levels, guards: &Guards) -> Result<Node, AutomatonFault>
-    requires { AreReady pairs.old guards.now }
+fn row_node(
+    pairs: &mut Pairs,
+    levels: &Levels,
+    guards: &Guards,
+    sets: &Option<LetterSets>,
+) -> Result<Node, AutomatonFault>
+    requires pairs { AreReady pairs.old guards.now }
+    requires sets { IfSome sets.now (AreLetterSets guards.now.file.now) }
     ensures steps { MakesSteps guards.now levels.now pairs.old pairs.new result }
     ensures refused { IfErr result (IsRowFault guards.now.file.now (row_data guards.now.row.now)) }
 {
     if is_by_letters(guards.row) {
-        Ok(node_by_letters(pairs, levels, guards)?)
-    } else {
-        node_by_labels(pairs, levels, guards)
+        return Ok(node_by_letters(pairs, levels, guards)?);
     }
+    if let Some(sets) = sets
+        && let Some(node) = node_by_sets(pairs, levels, guards, sets)?
+    {
+        return Ok(node);
+    }
+    node_by_labels(pairs, levels, guards)
 }
 
 /// Whether each edge in a state's row is taken at a single letter, whose number is the index of the edge.
@@ -174,6 +190,57 @@ fn node_by_letters(pairs: &mut Pairs, levels: &Levels, guards: &Guards) -> Resul
     let targets = targets_of(pairs.alloc, guards)?;
     let places = places_of(pairs.alloc, &mut pairs.steps, levels, &targets)?;
     let node = pairs.store.of_leaves(&places)?;
+    Ok(node)
+}
+
+/// The diagram of the steps of a state, made letter by letter. The result is None, and nothing has changed, only if two
+/// edges with different targets are taken at one letter.
+fn node_by_sets(
+    pairs: &mut Pairs,
+    levels: &Levels,
+    guards: &Guards,
+    sets: &LetterSets,
+) -> Result<Option<Node>, AllocError>
+    requires pairs { AreReady pairs.old guards.now }
+    requires sets { AreLetterSets guards.now.file.now sets.now }
+    ensures grows { OnOk result (Grows guards.now.file.now.states pairs.old pairs.new) }
+    ensures none { IfOk result (λ made. IfNone made (pairs.new ≡ pairs.old)) }
+    ensures node { IfOk result (λ made. IfSome made (λ node. (q : ℕ) →
+        row_of guards.now.file.now q ≡ Some (row_data guards.now.row.now)
+        → IsStepsOf guards.now.file.now (chain_data levels.now.chain) q pairs.new.steps.keys pairs.new.store node)) }
+{
+    let targets = targets_of(pairs.alloc, guards)?;
+    let Some(edges) = edges_by_letter(pairs.alloc, sets, guards.file, guards.row, &targets)? else {
+        return Ok(None);
+    };
+    let node = node_of_edges(pairs, levels, &targets, &edges)?;
+    Ok(Some(node))
+}
+
+/// The diagram whose leaf at a letter is the index of the step to the target of the edge that the list `edges` has for
+/// this letter. If the list has no edge for a letter, the leaf is 0, the index of the step to the sink.
+fn node_of_edges(
+    pairs: &mut Pairs,
+    levels: &Levels,
+    targets: &[Target],
+    edges: &[Option<usize>],
+) -> Result<Node, AllocError>
+    requires firsts { All (λ edge. IfSome edge (λ first. first < length targets.now)) edges.now }
+    requires letters { length edges.now ≡ 2 ^ pairs.old.store.propositions }
+    ensures keeps { OnOk result (Keeps pairs.old.store pairs.new.store) }
+    ensures extends { OnOk result (Extends pairs.old.steps.keys pairs.new.steps.keys) }
+    ensures within { OnOk result ((states : ℕ) → ((k : ℕ) (target : Target) →
+        slice_get targets.now k ≡ Some target → target.state ≤ states)
+        → AreSteps states pairs.old.steps.keys → AreSteps states pairs.new.steps.keys) }
+    ensures held { IfOk result (λ node. IsNode pairs.new.store node) }
+    ensures leaf { IfOk result (λ node. (places : List ℕ) × ArePlaces (chain_data levels.now.chain) targets.now
+        pairs.new.steps.keys places
+        × ((letter : ℕ) → leaf_of pairs.new.store node letter ≡ Some
+        (entry_for places (edge_at edges.now (letter % 2 ^ pairs.old.store.propositions))))) }
+{
+    let places = places_of(pairs.alloc, &mut pairs.steps, levels, targets)?;
+    let leaves = leaves_of(pairs.alloc, edges, &places)?;
+    let node = pairs.store.of_leaves(&leaves)?;
     Ok(node)
 }
 

@@ -34,6 +34,8 @@ mod draft;
 mod fault;
 mod guards;
 mod laws;
+mod letter_rows;
+mod letter_sets;
 mod levels;
 mod numbers;
 mod pairs;

@@ -45,7 +45,7 @@ fn base_number(base: bool) -> u64
 }
 
 /// Whether an acceptance set is in a bit mask.
-fn is_in(set: usize, sets: u64) -> bool
+pub(crate) fn is_in(set: usize, sets: u64) -> bool
     requires { set < 64 }
     ensures { result ≡ labels.is_in set sets }
 {

@@ -1,5 +1,6 @@
 //! The decision diagrams of states while they are built, and the steps whose indices are the leaves.
 
+use crate::letter_sets::LetterSets;
 use crate::levels::Levels;
 use crate::step::Step;
 use indexmap::IndexSet;
@@ -27,4 +28,6 @@ pub(crate) struct Source<'a> {
     pub levels: &'a Levels,
     /// A diagram for each alias.
     pub aliases: &'a [Node],
+    /// The sets of letters at which propositions and aliases are true, if there are few propositions.
+    pub sets: &'a Option<LetterSets>,
 }

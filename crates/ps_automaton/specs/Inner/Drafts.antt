@@ -6,7 +6,7 @@
 --   that is taken
 -- - `IsStepsOf file chain q steps t node`: at each letter, the node's leaf is the index of the step from the state q
 use Rattle.std.specs.Prelude.{◌≡◌, ℕ, ◌^◌, ◌<◌, ◌≤◌, ◌⊎◌, Bool, List, length, None, Some, Option, IsSomeAnd, slice_get}
-use Rattle.std.specs.Prelude.{slice_index, ◌+◌, IfErr, IfOk, OnOk, Result}
+use Rattle.std.specs.Prelude.{slice_index, ◌+◌, IfErr, IfOk, IfSome, OnOk, Result}
 use Rattle.ps_label.specs.Expression.{Expression}
 use Rattle.ps_label.specs.Truth.{is_in, label_truth}
 use Rattle.ps_diagram.specs.Labels.{AreNodesOf, one_where}
@@ -18,6 +18,7 @@ use Rattle.ps_hoa.specs.Sound.{AreAtLetters, IsLabelOf, IsSoundFile, IsSoundRow}
 use Rattle.ps_hoa.specs.Views.{edge_data, row_data}
 use Rattle.ps_automaton.specs.Answers.{AreClashing, Clash, IsFirstClash}
 use Rattle.ps_automaton.specs.Chains.{Chain, level}
+use Rattle.ps_automaton.specs.Inner.LetterSets.{AreLetterSets}
 use Rattle.ps_automaton.specs.Inner.Targets.{IsTargetOf}
 use Rattle.ps_automaton.specs.Inner.Views.{chain_data}
 use Rattle.ps_automaton.specs.declared.fault.AutomatonFault.{AutomatonFault}
@@ -213,6 +214,7 @@ pub record MakesSteps {E : Type 0} (g : Guards) (levels : Levels) (old new : Pai
 pub record IsSource (s : Source) (pairs : Pairs) : Type 0 where
   pub letters : pairs.store.propositions ≡ length s.file.now.names
   pub aliases : AreNodesOf pairs.store s.file.now.aliases s.aliases.now
+  pub sets : IfSome s.sets.now (AreLetterSets s.file.now)
   pub steps : AreSteps s.file.now.states pairs.steps.keys
 
 pub record IsDraft (file : FileData) (chain : Chain) (steps : List Step) (t : Table) (nodes : List ℕ) : Type 0 where

@@ -1,0 +1,131 @@
+-- Sets of letters: how a set changes as letters and labels are added.
+use Rattle.std.proofs.Common.{◌≡◌, ℕ, ◌+◌, ◌*◌, ◌^◌, ◌%◌, ◌<◌, ◌≤◌, inl, inr, Bool, true, false, cond}
+use Rattle.std.proofs.Common.{arith, bit_and, bit_or, refl, List, ◌∷◌, drop, ap, length, get_or, add-one, drop-cons}
+use Rattle.std.proofs.Common.{◌++◌, [], ◌∙◌, length-append}
+use Rattle.std.proofs.lemmas.List.{get_or_append_left, get_or_push, map-append}
+use Rattle.std.specs.Prelude.{◌||◌, ◌&&◌}
+use Rattle.std.proofs.lemmas.Bool.{cases_lt}
+use Rattle.std.proofs.lemmas.Nat.Bits.{bit_at_ones, bit_at-zero}
+use Rattle.std.specs.Prelude.{IsTrue, ◌↔◌}
+use Rattle.std.proofs.lemmas.Nat.{one_shl}
+use Rattle.std.proofs.Math.Nat.{pow-le-pow_right}
+use Rattle.ps_hoa.specs.Files.{FileData}
+use Rattle.ps_label.specs.Expression.{Expression, expression, operands_in, more}
+use Rattle.ps_label.specs.Truth.{all_true, any_true, expressions, is_in, label_truth, truth, truths_behind}
+use Rattle.ps_label.specs.declared.label.Label.{Label}
+use Rattle.ps_automaton.specs.Inner.LetterSets.{AreLetterSets, ArePropositionSets, membership}
+use Rattle.ps_automaton.specs.declared.letter_sets.LetterSets.{LetterSets}
+use Rattle.ps_automaton.proofs.Bits.{in_and, in_or, in_power, in_with}
+
+-- ## The letters at which a proposition is true
+
+-- the first `letter` letters were visited: those at which proposition p is true are in the set
+pub record AreVisited (p letter set : ℕ) : Type 0 where
+  pub visited : (k : ℕ) → k < letter → is_in k set ≡ is_in p k
+  pub others : (k : ℕ) → letter ≤ k → is_in k set ≡ false
+
+pub letter_with : {p letter set next : ℕ} → letter < 64 → next ≡ bit_or set (1 * 2 ^ letter % 2 ^ 64) →
+    is_in p letter ≡ true → AreVisited p letter set → AreVisited p (letter + 1) next
+letter_with {p} {letter} {set} {next} small is there was = record {
+  visited = λ k within. rw (is, in_with k set letter small) (elim (cases_lt k letter) [
+    | inl low ↦ (let old = was.visited k low in grind arith)
+    | inr high ↦ (let old = was.others k high in let same : k ≡ letter = omega arith in rw same (grind arith))
+  ]);
+  others = λ k high. rw (is, in_with k set letter small) (let old = was.others k (omega arith) in grind arith);
+}
+
+pub letter_without : {p letter set : ℕ} → is_in p letter ≡ false → AreVisited p letter set →
+    AreVisited p (letter + 1) set
+letter_without {p} {letter} {set} there was = record {
+  visited = λ k within. elim (cases_lt k letter) [
+    | inl low ↦ was.visited k low
+    | inr high ↦ (let old = was.others k high in let same : k ≡ letter = omega arith in rw same (grind arith))
+  ];
+  others = λ k high. was.others k (omega arith);
+}
+
+-- ## The letters at which a label is true
+
+-- the set without letters, and the set of all letters below 64
+pub in_none : (k : ℕ) → is_in k 0 ≡ false
+in_none k = grind (arith, bit_at-zero k)
+
+pub in_all : (k : ℕ) → k < 64 → is_in k 18446744073709551615 ≡ true
+in_all k small = let one = bit_at_ones 64 k small in grind (arith, one)
+
+pub from_drop : (items : List Label) (k : ℕ) {item : Label} (d : Label) → k < length items → item ≡ get_or items k d →
+    drop k items ≡ item ∷ drop (k + 1) items
+from_drop items k {item} d within is = rw (is, add-one) (drop-cons items k d within)
+
+module _ (known : List Bool) (letter set operand_set : ℕ) (items : List Label) (k : ℕ) {item : Label}
+    (from : drop k items ≡ item ∷ drop (k + 1) items)
+    (same : is_in letter operand_set ≡ truth known letter (expression item)) where
+  from_item : operands_in (expressions (drop k items)) ≡
+      more (expression item) (operands_in (expressions (drop (k + 1) items)))
+  from_item = ap (λ (ls : List Label). operands_in (expressions ls)) from
+
+  -- one more operand of a conjunction joins the set
+  pub all_with : cond (is_in letter (bit_and set operand_set))
+      (all_true known letter (operands_in (expressions (drop (k + 1) items)))) false ≡ cond (is_in letter set)
+      (all_true known letter (operands_in (expressions (drop k items)))) false
+  all_with = rw (from_item, in_and letter set operand_set, same)
+      (both (is_in letter set) (truth known letter (expression item)) _)
+    where
+      both : (a b c : Bool) → cond (a && b) c false ≡ cond a (cond b c false) false
+      both true b c = refl
+      both false b c = refl
+
+  -- one more operand of a disjunction joins the set
+  pub any_with : cond (is_in letter (bit_or set operand_set)) true
+      (any_true known letter (operands_in (expressions (drop (k + 1) items)))) ≡ cond (is_in letter set) true
+      (any_true known letter (operands_in (expressions (drop k items))))
+  any_with = rw (from_item, in_or letter set operand_set, same)
+      (either (is_in letter set) (truth known letter (expression item)) _)
+    where
+      either : (a b c : Bool) → cond (a || b) true c ≡ cond a true (cond b true c)
+      either true b c = refl
+      either false b c = refl
+
+-- ## The sets of propositions and aliases
+
+pub proposition_with : (sets : List ℕ) (set : ℕ) → ArePropositionSets sets →
+    ((letter : ℕ) → letter < 64 → is_in letter set ≡ is_in (length sets) letter) →
+    ArePropositionSets (sets ++ set ∷ [])
+proposition_with sets set were is p letter within small = elim (cases_lt p (length sets)) [
+  | inl low ↦ ap (is_in letter) (get_or_append_left sets (set ∷ []) 0 p low) ∙ were p letter low small
+  | inr high ↦ (
+      let longer = length-append sets (set ∷ []) in
+      let last : length sets ≡ p = omega (arith, within, longer) in
+      ap (is_in letter) (get_or_push sets set 0 p last) ∙ is letter small ∙ ap (λ n. is_in n letter) last)
+]
+
+pub alias_with : (letter : ℕ) (sets : List ℕ) (set : ℕ) (items : List Label) (k : ℕ) {item : Label} →
+    drop k items ≡ item ∷ drop (k + 1) items →
+    is_in letter set ≡ truth (membership letter sets) letter (expression item) →
+    truths_behind (membership letter (sets ++ set ∷ [])) letter (expressions (drop (k + 1) items)) ≡
+    truths_behind (membership letter sets) letter (expressions (drop k items))
+alias_with letter sets set items k {item} from same =
+    rw (from, map-append (λ set. is_in letter set) sets (set ∷ []), same) refl
+
+-- ## The letters at which an edge is taken
+
+pub letter_below : {file : FileData} {sets : LetterSets} → AreLetterSets file sets → (letter : ℕ) →
+    letter < 2 ^ length file.names → letter < 64
+letter_below {file} a letter small =
+    let few : 2 ^ length file.names ≤ 2 ^ 6 = pow-le-pow_right (omega arith) a.few in
+    omega (arith, small, few)
+
+-- a set of the letters at which a label is true, computed from the sets of the aliases
+pub label_in : {file : FileData} {sets : LetterSets} → AreLetterSets file sets → (letter set : ℕ) (e : Expression) →
+    letter < 2 ^ length file.names →
+    ((letter : ℕ) → letter < 64 → is_in letter set ≡ truth (membership letter sets.aliases.items) letter e) →
+    IsTrue (is_in letter set) ↔ IsTrue (label_truth file.aliases letter e)
+unfolding label_truth
+label_in a letter set e small is =
+    let below = letter_below a letter small in
+    let same = is letter below ∙ ap (λ (known : List Bool). truth known letter e) (a.aliases letter below) in
+    (λ h. rw same at h, λ h. rw same h)
+
+-- a set with only the letter k
+pub letter_in : (letter k : ℕ) → k < 64 → IsTrue (is_in letter (1 * 2 ^ k % 2 ^ 64)) ↔ (letter ≡ k)
+letter_in letter k small = rw (one_shl k 64 small, in_power letter k) (grind arith, grind arith)

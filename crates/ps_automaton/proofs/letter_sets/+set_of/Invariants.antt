@@ -1,0 +1,27 @@
+use Rattle.std.proofs.Common.{◌≡◌, ◌<◌, ℕ, cond, true, false, length, drop}
+use Rattle.ps_label.specs.Expression.{expression, operands_in, AreOver}
+use Rattle.ps_label.specs.Truth.{expressions, is_in, truth, all_true, any_true}
+use Rattle.ps_automaton.specs.Inner.LetterSets.{membership}
+use Rattle.ps_automaton.proofs.letter_sets.+set_of.Given as goal
+
+abbrev pub decreases-set_of : goal.decreases-set_of
+decreases-set_of l = goal.size-set_of l
+
+-- the set and the remaining operands determine the truth of the label
+abbrev pub invariant-loop-operand : goal.invariant-loop-operand
+invariant-loop-operand l = record {
+  decides : (letter : ℕ) → letter < 64 → cond (is_in letter l.set) (all_true (membership letter l.aliases) letter
+      (operands_in (expressions (drop l.operand-index l.operand-items)))) false ≡ truth (membership letter l.aliases)
+      letter (expression l.label);
+  within : AreOver (length l.aliases) (length l.propositions) (operands_in (expressions
+      (drop l.operand-index l.operand-items)));
+}
+
+abbrev pub invariant-loop-operand-2 : goal.invariant-loop-operand-2
+invariant-loop-operand-2 l = record {
+  decides : (letter : ℕ) → letter < 64 → cond (is_in letter l.set) true (any_true (membership letter l.aliases) letter
+      (operands_in (expressions (drop l.operand-index l.operand-items)))) ≡ truth (membership letter l.aliases)
+      letter (expression l.label);
+  within : AreOver (length l.aliases) (length l.propositions) (operands_in (expressions
+      (drop l.operand-index l.operand-items)));
+}

@@ -1,0 +1,14 @@
+use Rattle.std.proofs.Common.{◌≡◌, ◌<◌, ℕ, length, drop}
+use Rattle.ps_label.specs.Expression.{AreOverFrom}
+use Rattle.ps_label.specs.Truth.{alias_truths, expressions, truths_behind}
+use Rattle.ps_automaton.specs.Inner.LetterSets.{membership}
+use Rattle.ps_automaton.proofs.letter_sets.sets_of_aliases.Given as goal
+
+-- evaluating the remaining aliases completes the table of truths
+abbrev pub invariant-loop-alias : goal.invariant-loop-alias
+invariant-loop-alias l = record {
+  one_each : length l.sets.items ≡ l.alias-index;
+  known : (letter : ℕ) → letter < 64 → truths_behind (membership letter l.sets.items) letter
+      (expressions (drop l.alias-index l.alias-items)) ≡ alias_truths (expressions l.labels) letter;
+  ordered : AreOverFrom l.alias-index (length l.propositions) (expressions (drop l.alias-index l.alias-items));
+}

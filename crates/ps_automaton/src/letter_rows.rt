@@ -1,0 +1,104 @@
+//! For each letter, the first edge of a row that is taken at the letter.
+
+ghost use Rattle.std.specs.Prelude.{◌≡◌, ℕ, ◌^◌, ◌<◌, ◌≤◌, All, IfOk, IfSome, IsTrue, None, length, map};
+ghost use Rattle.ps_hoa.specs.Sound.{IsSoundFile, IsSoundRow};
+ghost use Rattle.ps_hoa.specs.Views.{row_data};
+ghost use Rattle.ps_label.specs.Truth.{is_in};
+ghost use Rattle.ps_automaton.specs.Inner.Drafts.{AreJoined, AreTargets};
+ghost use Rattle.ps_automaton.specs.Inner.LetterSets.{AreLetterSets, IsAdded, edge_at, entry_for};
+
+use crate::letter_sets::LetterSets;
+use crate::numbers::is_in;
+use crate::targets::Target;
+use ps_hoa::{HoaFile, Row};
+use std::alloc::{AllocError, Global};
+
+/// For each letter, the index of the first edge of a row that is taken there, if there is one. The result is None only
+/// if two edges with different targets are taken at one letter. Fails if out of memory.
+pub(crate) fn edges_by_letter(
+    alloc: Global,
+    sets: &LetterSets,
+    file: &HoaFile,
+    row: &Row,
+    targets: &[Target],
+) -> Result<Option<Vec<Option<usize>>>, AllocError>
+    requires sets { AreLetterSets file.now sets.now }
+    requires file { IsSoundFile file.now }
+    requires row { IsSoundRow file.now (row_data row.now) }
+    requires targets { AreTargets (row_data row.now) targets.now }
+    ensures letters { IfOk result (λ found. IfSome found
+        (λ edges. length edges.items ≡ 2 ^ length file.now.names)) }
+    ensures firsts { IfOk result (λ found. IfSome found
+        (λ edges. All (λ edge. IfSome edge (λ first. first < length targets.now)) edges.items)) }
+    ensures joined { IfOk result (λ found. IfSome found
+        (λ edges. AreJoined file.now (row_data row.now) (length (row_data row.now).edges) targets.now
+        (edge_at edges.items))) }
+{
+    let mut edges = no_edges(alloc, 1 << file.names().len())?;
+    for place in 0..row.edges.len() {
+        let set = sets.of_edge(file, row, &row.edges[place]);
+        if !add(&mut edges, set, place, targets) {
+            return Ok(None);
+        }
+    }
+    Ok(Some(edges))
+}
+
+/// A list without an edge for so many letters. Fails if out of memory.
+fn no_edges(alloc: Global, letters: usize) -> Result<Vec<Option<usize>>, AllocError>
+    ensures letters { IfOk result (λ edges. length edges.items ≡ letters) }
+    ensures none { IfOk result (λ edges. (letter : ℕ) → edge_at edges.items letter ≡ None) }
+{
+    let mut edges = Vec::new(alloc);
+    for _ in 0..letters {
+        edges.push(None)?;
+    }
+    Ok(edges)
+}
+
+/// Adds the edge with the index `place` at the letters of a set. Returns whether no earlier edge with another target is
+/// taken there.
+fn add(edges: &mut [Option<usize>], set: u64, place: usize, targets: &[Target]) -> bool
+    requires few { length edges.old ≤ 64 }
+    requires within { place < length targets.now }
+    requires firsts { All (λ edge. IfSome edge (λ first. first < length targets.now)) edges.old }
+    ensures letters { length edges.new ≡ length edges.old }
+    ensures added { IsTrue result → (letter : ℕ) → letter < length edges.old →
+        IsAdded targets.now place (is_in letter set) (edge_at edges.old letter) (edge_at edges.new letter) }
+{
+    for letter in 0..edges.len() {
+        if !is_in(letter, set) {
+            continue;
+        }
+        match edges[letter] {
+            None => edges[letter] = Some(place),
+            Some(first) => {
+                if targets[first] != targets[place] {
+                    return false;
+                }
+            }
+        }
+    }
+    true
+}
+
+/// For each letter, the entry of the list `places` for the first edge that is taken there, or 0 without an edge. Fails
+/// if out of memory.
+pub(crate) fn leaves_of(
+    alloc: Global,
+    edges: &[Option<usize>],
+    places: &[u64],
+) -> Result<Vec<u64>, AllocError>
+    requires { All (λ edge. IfSome edge (λ first. first < length places.now)) edges.now }
+    ensures { IfOk result (λ leaves. leaves.items ≡ map (entry_for places.now) edges.now) }
+{
+    let mut leaves = Vec::new(alloc);
+    for edge in edges {
+        let leaf = match edge {
+            Some(first) => places[*first],
+            None => 0,
+        };
+        leaves.push(leaf)?;
+    }
+    Ok(leaves)
+}
