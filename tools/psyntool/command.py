@@ -68,8 +68,8 @@ SHORT = {"-h": "--help", "-V": "--version"}
 
 @dataclass(frozen=True)
 class Command:
-    """A command: its name, its description, what it reads in order (kinds of files, or names of other words), and the
-    function that runs it.
+    """A command: its name, its description, what it reads in order (the kind of each file, and a name for each other
+    word), and the function that runs it.
 
     The flags in `flags` are passed to the program; the flags in `own` are handled by the tool. `behind` maps a flag to
     the kind of one more file that the command reads if the flag is given. `instead` maps a flag to optional files that
@@ -93,7 +93,7 @@ class Command:
         return (*self.flags, *self.own)
 
     def kinds(self, given):
-        """The kinds of files, or the other words, that the command reads with the given flags."""
+        """What the command reads with the given flags: the kind of each file, and a name for each other word."""
         other = next((kinds for name, kinds in self.instead.items() if name in given), None)
         return other or (*self.reads, *(kind for name, kind in self.behind.items() if name in given))
 

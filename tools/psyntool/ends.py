@@ -5,7 +5,7 @@ A run may also end with `Unreadable` or an `OSError`; any other exception is a b
 
 FAULT = 1
 REFUSED = 2
-# For a process that a signal killed, a shell reports this number plus the signal's number.
+# For a process that a signal killed, a shell reports the exit status 128 plus the signal's number.
 BY_SIGNAL = 128
 
 

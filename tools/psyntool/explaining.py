@@ -9,10 +9,11 @@ from psyntool.marking import placed
 from psyntool.program import MOST_BYTES
 from psyntool.texts import Unreadable, automaton, circuit, labels
 
-# The numbers of faults with special explanations. Fault 25 (the input could not be read) means here that the input is
-# too long, because the tool feeds the program.
+# The numbers of the faults that the tool explains in a way of their own. Fault 25 (the input could not be read) means
+# here that the input is too long, because the tool itself passes the input to the program.
 READ_FAULT, OTHER_GAME, SYMBOLS = 25, 54, 72
-# Longer texts are not parsed here, because parsing them in Python would take longer than the program's own run.
+# A text of more bytes than this is not parsed to explain a fault, because parsing it in Python would take longer than
+# the program's own run.
 LONGEST = 1 << 21
 # A fault of a certificate can also be found in a solution.
 SPEAKS_TOO = {Kind.CERTIFICATE: Kind.SOLUTION}
@@ -88,7 +89,7 @@ def byte_place(text, place):
 
 
 def clashing_edges(behind, _request, texts):
-    """The two edges of a state that share a letter, and such a letter."""
+    """Two edges of a state that share a letter, and a letter that they share."""
     state, first, second = map(int, re.findall(r"\d+", behind))
     read = automaton.read(texts[0].string)
     edges = dict(enumerate(read.edges.get(state, ())))
@@ -103,8 +104,8 @@ def clashing_edges(behind, _request, texts):
 
 
 def wrong_symbols(_behind, request, texts):
-    """Which of the automaton's proposition names are missing among the circuit's symbols, and which symbols are no such
-    names."""
+    """Which of the automaton's proposition names are missing among the circuit's symbols, and which symbols are not
+    names of propositions."""
     read, judged = automaton.read(texts[0].string), circuit.read(texts[1].string)
     names = [[name for _, name in owned] for owned in read.owners()]
     inputs, outputs = reversed(names) if request.has(ENV) else names

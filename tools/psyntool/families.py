@@ -60,8 +60,8 @@ def random(n):
 
 
 def jurdzinski(n):
-    """Modelled on Jurdzinski's games, on which lifting measures one by one is slow: n rows of 2n + 1 vertices, each row
-    with two priorities of its own."""
+    """n rows of 2n + 1 vertices, each row with two priorities of its own. The games are modelled on Jurdzinski's, on
+    which solvers that lift the measure of one vertex at a time are slow."""
     width = 2 * n + 1
     rows = []
     for row in range(n):
@@ -82,13 +82,14 @@ def ladder(n):
 
 
 def ladder2(n):
-    """The games of `ladder` with two priorities exchanged in each rung, and other owners."""
+    """The games of the family `ladder`, except that two priorities are exchanged in each rung, and that the owners
+    differ."""
     return rungs(n, (0, 1, 0, 1, 1), (None, None, 3, 4, 5))
 
 
 def rungs(n, owners, priorities):
-    """Rungs of five vertices. Each edge is given by the index of its target in the target's rung, and by how many rungs
-    further on that rung is."""
+    """A game that consists of n rungs of five vertices each. Each edge is given by two numbers: the index of the target
+    within its rung, and how many rungs after the edge's own rung the target's rung is."""
     edges = ([(1, 0)], [(0, 0), (2, 1)], [(1, 0), (3, 0)], [(4, 0), (3, -1)], [(1, 1), (3, 0)])
     rows = []
     for rung in range(n):

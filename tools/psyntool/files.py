@@ -33,7 +33,7 @@ class Text:
         return kind_of(self.bytes)
 
     def place_in_file(self, offset):
-        """The offset in the file of the byte at an offset of the text."""
+        """The offset that a byte has in the file, given its offset in the text."""
         at = bisect.bisect_right([start for start, _ in self.shifts], offset) - 1
         return min(offset + self.shifts[at][1], len(self.original))
 

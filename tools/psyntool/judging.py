@@ -85,8 +85,8 @@ def escape(behind, texts):
 
 
 def other_game(offset, texts):
-    """Explains that a solution is not one of this game: the wrong vertex id at the offset or, if there is no id, the
-    vertices without an entry."""
+    """Explains that a solution does not belong to this game: the wrong vertex id at the offset or, if there is no id,
+    the vertices without an entry."""
     case = case_of(texts)
     found = re.compile(rb"0*(\d{1,20})").match(texts[1].bytes, offset)
     if not found:

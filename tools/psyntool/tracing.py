@@ -31,7 +31,8 @@ def steps(read, letters):
 
 
 def trace(texts, stem, lap):
-    """A table of the steps of the stem and of one lap; the texts are an automaton, a circuit and a stimulus."""
+    """A table of the steps on a lasso: on the stem, and on one lap (the repeated part). The texts are an automaton, a
+    circuit and a stimulus."""
     if stem + lap > LONGEST:
         return f"the run has {stem + lap} steps until it comes again, and is not shown\n"
     read = automaton.read(texts[0].string)

@@ -1,6 +1,7 @@
 #!/usr/bin/env python3
-"""A solver that makes mistakes: erring.py GAME SOLUTION winner|move|half. It gives the first vertex to the wrong
-player, makes other moves inside each player's region, or leaves out the second half of the vertices."""
+"""A solver that makes mistakes: erring.py GAME SOLUTION winner|move|half. By its last argument, the solver gives the
+first vertex to the wrong player (winner), makes other moves inside each player's region (move), or leaves out the
+second half of the vertices (half)."""
 import sys
 
 import improving

@@ -2,7 +2,8 @@
 its crate, and is in the right folder.
 
 The gate tries the edits in crates/*/must-fail, which are the wrong bodies listed in NAMED. All other edits are in
-crates/*/more-edits. Each has a row in docs/EDITS.tsv, in which `tools/try-edits` records the verdict.
+crates/*/more-edits. Each edit in crates/*/more-edits has a row in docs/EDITS.tsv, in which `tools/try-edits` records
+the verdict.
 """
 import glob
 import importlib.machinery
@@ -14,8 +15,8 @@ from unittest import mock
 
 from upkeep.sweeps import TOOLS, TOP
 
-# The edits (wrong function bodies) that matter most to psyn's promises. The gate proves each crate that has one of them
-# once more, to try its edits.
+# The edits (wrong function bodies) that matter most to psyn's promises. To try these edits, the gate proves each crate
+# that has one of them once more.
 NAMED = (
     "always_not_certified",
     "always_too_large",
@@ -46,7 +47,8 @@ VERDICTS = {"refused", "refused by a name", "to be tried"}
 
 
 def edits_in(folder):
-    """The crate and the name of each edit in the folders with this name."""
+    """For each edit in a crate's folder of the given name (`must-fail` or `more-edits`), the crate and the name of the
+    edit."""
     paths = sorted(glob.glob(os.path.join(TOP, "crates", "*", folder, "*")))
     return [(path.split(os.sep)[-3], os.path.basename(path).removesuffix(".edit")) for path in paths]
 

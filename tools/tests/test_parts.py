@@ -125,7 +125,8 @@ class Meaning(unittest.TestCase):
         self.assertGreater(min(wanted.count(True), wanted.count(False)), LASSOS // 5)
 
 
-# Words and verdicts for each stored part: a letter has a digit for each proposition, and the lap is in parentheses.
+# Words and verdicts for each stored part: a letter has a digit for each proposition, and the lap (the repeated part of
+# a lasso) is in parentheses.
 WORDS = {
     "always": {"(1)": True, "1 0 (1)": False},
     "never-together": {"(10 01 00)": True, "00 11 (00)": False},

@@ -215,8 +215,8 @@ def places_of(body):
 
 
 def put_parts(tokens, at, put, put_all):
-    """Adds to the found expressions the components of a tuple, or the expression in parentheses, and the expressions in
-    these."""
+    """Adds to the found expressions the components of a tuple, or the expression in parentheses, and all expressions
+    inside what it adds."""
     end, first, parts = closing(tokens, at), at + 1, []
     while first < end:
         behind = end_of(tokens, first, (",",))

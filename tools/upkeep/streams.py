@@ -13,7 +13,7 @@ def run(program, shim, path, number, way, others=None):
     """The program's output and exit status, and a letter for each of its calls: r or w, in upper case if the call was
     disturbed.
 
-    With `others`, each other call moves at most one byte.
+    With `others`, each call that is not disturbed moves at most one byte.
     """
     with open(path, "rb") as text, tempfile.TemporaryFile() as calls:
         told = {"SPOILED_CALL": str(number), "SPOILED_HOW": way, "SPOILED_TELLS": str(calls.fileno())}
@@ -48,8 +48,8 @@ def sweep(program, shim, path, expected):
     calls and the answer."""
     spoiled, wrong = 0, []
     for way in WAYS:
-        # Each call is disturbed in turn, up to a number that no call of the run has. For the way `one`, number 0
-        # disturbs every call of a run.
+        # Each call of the run is disturbed in turn; with the last number no call is disturbed. In the way `one`, the
+        # number 0 means that every call is disturbed.
         numbers = [0] if way == "one" else []
         calls = run(program, shim, path, 0, "not")[1]
         numbers += range(1, len(calls) + 2)

@@ -1,5 +1,5 @@
-"""What the two sweeps share, which let one allocation, read or write of a run fail: their inputs, the program, and the
-C library that LD_PRELOAD loads."""
+"""What the tools share that let one allocation, read or write of a run fail (sweeps): their inputs, the program, and
+the C library that LD_PRELOAD loads."""
 import concurrent.futures
 import contextlib
 import os

@@ -1,5 +1,5 @@
-"""`judge`: whether another solver's solution of a game is right; with --picture, draws a cycle that the player loses
-who wins it by the solution."""
+"""`judge`: whether another solver's solution of a game is right; with --picture, draws a lost cycle: the solution says
+that a player wins its vertices, but the player loses the cycle."""
 from psyntool import asking, files, judging, program
 from psyntool.command import PICTURE, of_the_program
 

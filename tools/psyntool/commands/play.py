@@ -30,8 +30,8 @@ def run(request):
 
 
 def automatic(play):
-    """Plays to the end, and takes in each step the choice with the greatest counts, which should delay the user's loss
-    longest."""
+    """Plays to the end. In each step it takes the choice with the greatest counts in the certificate, which should
+    delay the user's loss longest."""
     while not play.is_over:
         if len(play.steps) == LONGEST:
             raise Refused(f"the play has {LONGEST:,} steps and no end")
@@ -81,8 +81,8 @@ def letter_of(play, choices, line):
 
 
 def judged(play, text):
-    """The program's answer whether the automaton accepts the word of the play. An error is raised unless this answer
-    means that the circuit's player wins."""
+    """The program's answer to the question whether the automaton accepts the word of the play. An error is raised
+    unless the program's answer means that the circuit's player wins."""
     flags = [ENV.name] if play.board.winner == 1 else []
     given = " ".join(["lasso", *flags]) + f"\n{text}%%\n"
     answer = program.ask(given.encode("utf-8", "surrogateescape") + play.circuit.text + b"%%\n" + play.stimulus().encode())

@@ -12,8 +12,8 @@ WANTED = "show draws a game, a game and its certificate or solution, with both t
 
 
 def parts_of(text):
-    """The texts in a file, each with its kind. Of an answer of `synth`, only the last two are taken: the game and its
-    certificate."""
+    """The texts in a file, each with its kind. Of the texts in an answer of `synth`, only the last two are taken: the
+    game and its certificate."""
     if text.kind is not Kind.ANSWER:
         return [(text.kind, text.string)]
     parts = report.read(text.string).parts

@@ -1,5 +1,6 @@
-"""`verify`: whether the automaton accepts each lasso trace of a controller's circuit, or none of an environment's; if
-not, a stimulus that shows this, and the run on it step by step."""
+"""`verify`: whether the automaton accepts each lasso trace of a controller's circuit, or no lasso trace of an
+environment's circuit. If the circuit loses, the output has a stimulus on which it loses, and the run on this stimulus
+step by step."""
 import os
 
 from psyntool import asking, console, files, outputs, program, tracing
@@ -37,7 +38,8 @@ def run(request):
 
 
 def wave_of(text, read):
-    """A VCD text of what the circuit does on the stem, and on laps until the latches at the start of a lap repeat."""
+    """A VCD text of what the circuit does on a lasso stimulus: on the stem, and then on laps (repetitions of the
+    repeated part) until the latches at the start of a lap repeat."""
     return vcd.wave(circuit.read(text.string), wave.until_it_comes_again([text], read).text, len(read.stem))
 
 

@@ -1,4 +1,4 @@
-"""`version`: which psyn this is."""
+"""`version`: prints psyn's version, its commit, and the kit with which it was proved."""
 from psyntool import console, releases
 from psyntool.command import Command
 

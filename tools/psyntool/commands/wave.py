@@ -1,5 +1,5 @@
-"""`wave`: what a circuit does, as a VCD file for a wave viewer. A lasso is written as its stem, and laps until the
-latches repeat."""
+"""`wave`: what a circuit does, as a VCD file for a wave viewer. A lasso is written as its stem, and then as laps
+(repetitions of its repeated part) until the latches repeat."""
 from psyntool import asking, console, program
 from psyntool.command import Command
 from psyntool.ends import Refused
@@ -31,7 +31,8 @@ def simulated(texts, letters):
 
 
 def until_it_comes_again(texts, given):
-    """What the circuit does on the stem and on laps, until a lap begins with the same latches as an earlier one."""
+    """What the circuit does on a lasso: on the stem, and on laps (repetitions of the repeated part) until a lap begins
+    with the same latches as an earlier lap."""
     laps = 1
     while True:
         answer = simulated(texts, given.letters(len(given.stem) + laps * len(given.lap) + 1))

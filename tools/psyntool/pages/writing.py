@@ -20,8 +20,8 @@ VERDICTS = (
 
 
 def page(title, board, texts):
-    """The HTML page for a play against a circuit. It offers the given texts, each a title, a file name and bytes, for
-    saving."""
+    """The HTML page for a play against a circuit. The page has a link that saves each of the given texts; a text is
+    given by a title, a file name and bytes."""
     pictures = {"automaton": drawing.of_automaton(board), "game": drawing.of_game(board)}
     known = {**contents.of(board), "pictures": {name: picture.graph for name, picture in pictures.items()}}
     script = f"{asset('rules.js')}{asset('page.js')}"

@@ -54,8 +54,8 @@ def core_of(asking):
 
 
 def shrunk(parts, stays):
-    """Parts with which the answer is the same as with all, and of which none can be left out. Long runs of parts are
-    left out first, where the answer stays the same, and then shorter ones."""
+    """Parts with which the answer is the same as with all parts, and none of which can be left out. Long runs of parts
+    are left out first, where the answer stays the same, and then shorter runs."""
     parts, size = tuple(parts), max(1, len(parts) // 2)
     while size:
         place = 0

@@ -17,7 +17,8 @@ class Diagrams:
 
     def __init__(self, names=None):
         self.names = names
-        # for each diagram: its proposition (for a leaf a greater number than any), and its two children or its value
+        # for each node: its proposition and its two children; for each leaf: a number greater than any proposition, and
+        # its value
         self.propositions, self.lows, self.highs = [], [], []
         self.known = {}
         self.texts = {}
@@ -86,7 +87,7 @@ class Diagrams:
         return self.value(one)
 
     def fixed(self, one, letter, known):
-        """The diagram that is left after some propositions are fixed as the letter says."""
+        """The diagram that is left after the given letter has fixed the truth of some propositions."""
         found = known.get(one)
         if found is None:
             if self.is_leaf(one):
@@ -100,7 +101,7 @@ class Diagrams:
         return found
 
     def values(self, one):
-        """The values of the diagram, in the order of the first letter that has each."""
+        """The values of the diagram, in the order of the first letters at which they occur."""
         found, seen, waiting = {}, set(), [one]
         while waiting:
             now = waiting.pop()

@@ -14,10 +14,12 @@ from psyntool.parts import part
 from psyntool.texts import Unreadable, automaton, hoa
 
 MOST_PROPOSITIONS = 64
-# The number of strings in a header item `part:`: the side, the title, the sentence and the text of a part.
+# The number of strings in a header item `part:`: whether the part is assumed or guaranteed, its title, its sentence and
+# its text.
 WORDS_OF_AN_ITEM = 4
 FLAGS = {flag.name: flag for flag in OF_PARTS}
-# An empty circuit and an empty stimulus: the program reports a fault of the automaton before any of theirs.
+# An empty circuit and an empty stimulus: the program reports a fault of the automaton before any fault of these two
+# texts.
 NO_CIRCUIT = b"aag 0 0 0 0 0\n%%\n-\n"
 # The header item that is inserted into a part that does not say who controls its propositions.
 OWNERS = b"controllable-AP: "

@@ -5,7 +5,7 @@ from collections import Counter
 
 from psyntool.ends import Refused
 
-# Without the two limits, `dot` can take minutes for a graph with edge labels.
+# Without the limits `nslimit` and `nslimit1`, `dot` can take minutes for a graph with edge labels.
 FONT = "  graph [fontname=Helvetica, nslimit=2, nslimit1=2]; node [fontname=Helvetica]; edge [fontname=Helvetica];"
 WIDTH = 28
 # A picture with more vertices than this is unreadable, and `dot` takes minutes for it.
@@ -40,7 +40,7 @@ def wrapped(text, ends, width=WIDTH):
 
 
 def levels(begins, successors):
-    """Everything that can be reached, each with the smallest number of steps to it."""
+    """Everything that can be reached, and for each vertex the smallest number of steps to it."""
     found, now, steps = dict.fromkeys(begins, 0), list(begins), 0
     while now:
         steps += 1
@@ -50,7 +50,7 @@ def levels(begins, successors):
 
 
 def most_steps(found):
-    """The greatest number of steps that reach few enough vertices for a picture."""
+    """The greatest number of steps in which so few vertices can be reached that they fit in a picture."""
     counts, total = Counter(found.values()), 0
     for steps in sorted(counts):
         total += counts[steps]

@@ -203,5 +203,6 @@ class Drawing:
 
 def picture(game, certificate=None, automaton=None, reach=None, cycle=()):
     """Vertices of player 0 are diamonds, those of player 1 boxes. With a certificate or a solution, regions are
-    coloured and winning moves are bold. The edges of a given cycle are blue, and the picture shows its surroundings."""
+    coloured and winning moves are bold. If a cycle is given, its edges are blue, and the picture shows the surroundings
+    of the cycle."""
     return "\n".join([*Drawing(game, certificate, automaton, reach, cycle).lines(), ""])

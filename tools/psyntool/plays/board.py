@@ -123,8 +123,8 @@ class Board:
                     yield Choice(one, letter, self.set_text(said, letter), after.state, after.priority, self.counts(one), broken)
 
     def ends(self, state):
-        """A decision diagram with, for each letter, the state and priority to which it leads in a state; for a letter
-        without an edge, those of the game's sink."""
+        """A decision diagram that gives, for each letter, the state and the priority to which the letter leads from the
+        given state. For a letter without an edge, it gives those of the game's sink."""
         whole = self.diagrams.leaf((None, 1))
         for edge in self.automaton.edges.get(state, ()):
             taken, ends = self.diagrams.of_label(edge.label, self.aliases), (edge.target, self.automaton.chain.priority(edge.marks))
@@ -149,8 +149,8 @@ class Board:
         return whole
 
     def longest(self, choices):
-        """The choice that should delay the user's loss longest: that of the greatest counts in the certificate, and
-        then of the smallest vertex."""
+        """The choice that should delay the user's loss longest: it leads to the vertex with the greatest counts in the
+        certificate and, of several such vertices, to the smallest."""
         return max(choices, key=lambda choice: (choice.counts, -choice.vertex))
 
 
@@ -262,7 +262,8 @@ class Play:
             self.look()
 
     def stimulus(self):
-        """The user's letters as a lasso stimulus; its lap is the loop or, without a loop, the last letter."""
+        """The user's letters as a lasso stimulus, whose lap (repeated part) is the loop of the play or, without a loop,
+        the last letter."""
         lines = self.lines
         lap = len(lines) - 1 if self.loop is None else self.loop
         return "".join(f"{line}\n" for line in [*lines[:lap], "-", *lines[lap:]])

@@ -8,9 +8,9 @@ from dataclasses import dataclass
 
 @dataclass(frozen=True)
 class Chain:
-    """A chain: a list of links, each of which is an acceptance set and whether meeting the set infinitely often
-    accepts. The first link whose set is met infinitely often decides; if there is none, `base` says whether the run is
-    accepted."""
+    """A chain: a list of links. A link is an acceptance set, and a flag that states whether the run is accepted if it
+    meets the set infinitely often. The first link whose set is met infinitely often decides; if there is none, `base`
+    says whether the run is accepted."""
 
     links: tuple
     base: bool

@@ -82,7 +82,8 @@ class Reader:
         return found
 
     def formula(self, atom):
-        """A formula of !, &, | and parentheses (also an operator) in postfix form; `atom` parses the atoms."""
+        """Parses a formula of !, &, | and parentheses into postfix form, in which an operator also marks what was in
+        parentheses; `atom` parses the atoms."""
         output, waiting, wants_atom = [], [], True
         while True:
             sign = self.now

@@ -6,8 +6,8 @@ from psyntool.texts import Unreadable
 
 @dataclass(frozen=True)
 class Stimulus:
-    """A stimulus: the letters of the stem, and those of the lap, which repeats for ever. A plain stimulus has only a
-    stem, and its lap is None."""
+    """A stimulus: the letters of the stem, and those of the lap, which repeats for ever. A plain stimulus, which is no
+    lasso, has only a stem, and its lap is None."""
 
     stem: tuple
     lap: tuple | None
