@@ -3,7 +3,7 @@
 tools/check_certificate.py GAME CERTIFICATE
 
 The script prints `valid` (exit status 0) or the certificate's first flaw, worded as by `psyn check` (status 1). If a
-text is malformed, it prints the reason on standard error (status 2).
+text is malformed, the script prints the reason on standard error (status 2).
 """
 import re
 import sys

@@ -1,5 +1,5 @@
-"""The commands of the program by name, with their flags and the kinds of texts that they read. They are stored in the
-file program.toml."""
+"""The commands of the program by name, with their flags and the kinds of texts that they read. The commands are stored
+in the file program.toml."""
 import os
 import tomllib
 from dataclasses import dataclass

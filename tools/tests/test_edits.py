@@ -15,8 +15,8 @@ from unittest import mock
 
 from upkeep.sweeps import TOOLS, TOP
 
-# The edits (wrong function bodies) that matter most to psyn's promises. To try these edits, the gate proves each crate
-# that has one of them once more.
+# The edits (wrong function bodies) that matter most to psyn's promises. To try the edits in must-fail, the gate proves
+# each crate that has one once more.
 NAMED = (
     "always_not_certified",
     "always_too_large",

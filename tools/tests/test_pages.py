@@ -339,7 +339,8 @@ class InChromium(OnFiles):
         table = [re.split("  +", line) for line in said.split("\n") if re.match(r"\d|the loop begins", line)]
         self.assertEqual(self.rows(document), table)
         self.assertIn("step 7 breaks the guarantee register", re.search(r'<p class="end">(.*?)</p>', document, re.S)[1])
-        # the address restores a play; the keys are those of `play`; another letter can be chosen by its propositions
+        # the page's address restores a play; the page has the keys of `tools/psyn play`; a letter can also be chosen by
+        # its propositions
         keys = "".join(f'document.getElementById("play").dispatchEvent(new KeyboardEvent("keydown", {{ key: "{key}" }}));' for key in "aab2")
         document = self.pressed(page, "#moves=0,0", keys)
         self.assertEqual(self.address(document), "0,0,0,1")

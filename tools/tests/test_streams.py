@@ -55,7 +55,8 @@ class Sweeps(unittest.TestCase):
             subprocess.run(["cc", "-o", program, source], check=True)
             spoiled, wrong = streams.sweep(program, shim, text, ANSWER)
         ways = [(way, number) for way, number, _, _ in wrong]
-        # The program makes three reads and a write: it treats a failed read as the end, and repeats an interrupted one.
+        # The program makes three reads and a write: it treats a failed read as the end of the input, and repeats an
+        # interrupted read.
         self.assertEqual(ways, [(way, number) for way in ("fails", "interrupted") for number in (1, 2, 3, 4)] + [("one", 0), ("one", 4), ("none", 4)])
         self.assertEqual(spoiled, 4 + 4 + 5 + 1)
 

@@ -86,7 +86,7 @@ def specification_of(board):
 
 
 def proved_of(board):
-    """What is proved, in three sentences with links to the clauses, and the prover that proved it."""
+    """The statement of what is proved, in three sentences with links to the clauses, and the name of the prover."""
     links = {name: f'<a href="#clause-{name}"><code>{name}</code></a>' for name in CLAUSES}
     release = releases.here()
     said = [

@@ -124,7 +124,7 @@ class Board:
 
     def ends(self, state):
         """A decision diagram that gives, for each letter, the state and the priority to which the letter leads from the
-        given state. For a letter without an edge, it gives those of the game's sink."""
+        given state. For a letter without an edge, the diagram gives the state and the priority of the game's sink."""
         whole = self.diagrams.leaf((None, 1))
         for edge in self.automaton.edges.get(state, ()):
             taken, ends = self.diagrams.of_label(edge.label, self.aliases), (edge.target, self.automaton.chain.priority(edge.marks))
