@@ -64,7 +64,7 @@ def lines():
 
 
 def read_some(most):
-    """Reads at most `most` bytes that standard input has now; returns no bytes at its end."""
+    """Reads at most `most` bytes that standard input has now; returns no bytes at the end of the input."""
     try:
         return os.read(INPUT, most)
     except OSError as error:

@@ -1,12 +1,12 @@
 #!/usr/bin/env python3
-"""A parity game solver that shares no code with psyn: improving.py GAME SOLUTION. It uses strategy improvement, once
-for each player.
+"""A parity game solver that shares no code with psyn: improving.py GAME SOLUTION. The solver uses strategy improvement,
+once for each player.
 
 A priority outweighs all lower ones on a play; it counts for the player of its parity, and against the other player. The
 player's strategy may stop the play at each of the player's vertices, and stops everywhere at first. A play that stops
 is worth the sum of the weights of its priorities. As long as a vertex of the player has an edge to a vertex of greater
-value than its move, this edge becomes the move. When no edge improves the strategy, the player wins from the vertices
-from which no play stops or is lost.
+value than the target of its move, this edge becomes the move. When no edge improves the strategy, the player wins from
+the vertices from which no play stops or is lost.
 """
 import re
 import sys

@@ -1,8 +1,8 @@
 """Makes the tables of functions in docs/PROVED.md, from the tables of each `lib.rt` and from the names of the
 functions' clauses.
 
-A table is between the lines `<!-- calls of CRATE -->` and `<!-- end -->`. A row has the functions of a row of `lib.rt`,
-the description there, and the names of the functions' clauses. A clause without a name is not listed.
+A table is between the lines `<!-- calls of CRATE -->` and `<!-- end -->`. A row has the functions and the description
+of a row of `lib.rt`, and the names of the functions' clauses. A clause without a name is not listed.
 """
 import glob
 import os

@@ -38,8 +38,8 @@ class Core:
 
 
 def core_of(asking):
-    """The core of a specification, a minimal set of parts that decides whether there is a controller. It is checked
-    that the answer is the same with only these parts, and changes without any one of them."""
+    """The core of a specification, a minimal set of parts that decides whether there is a controller. The function
+    checks that the answer is the same with only the parts of the core, and changes if any one of them is left out."""
     of = asking.specification
     has_controller = asking.has_controller(of.assumptions, of.guarantees)
 
