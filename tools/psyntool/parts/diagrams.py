@@ -47,8 +47,8 @@ class Diagrams:
         return self.lows[leaf]
 
     def sides(self, one, proposition):
-        """The diagram if a proposition is false, and if it is true; the proposition is not greater than the diagram's
-        own."""
+        """The diagram that is left if a proposition is false, and the one if it is true; the proposition is not greater
+        than the diagram's own."""
         return (self.lows[one], self.highs[one]) if self.propositions[one] == proposition else (one, one)
 
     def joined(self, first, second, function, known):
@@ -177,8 +177,8 @@ def one_of(first, second):
 
 
 def either(name, low, high):
-    """A label for: the proposition is false and `low` holds, or it is true and `high` holds. None is the label that
-    never holds."""
+    """A label that holds if the proposition is false and `low` holds, or if it is true and `high` holds. None is the
+    label that never holds."""
     if low is None or high is None:
         sign, (text, binds) = (name, high) if low is None else (f"!{name}", low)
         return (sign, "") if text == "t" else (f"{sign} & {nested(text, binds, '&')}", "&")

@@ -176,7 +176,7 @@ class Run:
 
 
 def run(moves, steps):
-    """Runs the automaton of a part on the letters of a play."""
+    """Runs the automaton of a part on the letters that were played."""
     state, met = moves.start, []
     for place, step in enumerate(steps):
         true = {number for number, truth in step.letter.items() if truth}
@@ -210,7 +210,7 @@ class Circuit:
 
 
 class Play:
-    """A play: the steps so far, and its present state."""
+    """An interactive play: the steps that were played, and the present state."""
 
     def __init__(self, board, text):
         self.board, self.circuit, self.steps = board, Circuit(board, text), []

@@ -1,4 +1,5 @@
-"""Reads the files of a play: PREFIX.aag, PREFIX.pg and PREFIX.cert, which psyn printed, and the specification."""
+"""Reads the files of an interactive play (`tools/psyn play`): PREFIX.aag, PREFIX.pg and PREFIX.cert, which psyn
+printed, and the specification."""
 from dataclasses import dataclass
 
 from psyntool.ends import Refused
@@ -34,7 +35,7 @@ def given(request):
 
 
 def board_of(text, *printed):
-    """The `Board` of a play, made of the texts of an automaton, a circuit, a game and a certificate."""
+    """The `Board` of an interactive play, made of the texts of an automaton, a circuit, a game and a certificate."""
     read = automaton.read(text)
     these = game.read(printed[1]), certificate.read(printed[2]), circuit.read(printed[0])
     return Board(read, *these, specification.kept(read))

@@ -1,4 +1,4 @@
-"""What the user is told about a play: its present state, the choices, and how it ended."""
+"""What the user is told about an interactive play: its present state, the choices, and how it ended."""
 from psyntool.plays.board import run
 
 
