@@ -58,7 +58,7 @@ multiple m (p ∷ ps) (b ∷ bits) a = multiple_more m p b ps bits (a.from 0 (om
 no_bits : (q : ℕ) → is_in q 0 ≡ false
 no_bits q = ap (λ n. nat_eq n 1) (bit_at_above 0 0 q (omega arith) (omega arith))
 
--- lemmas about the sum of 2^p (or 0) and a multiple of a greater power of 2
+-- the bits of a sum of 2^p (or 0) and a multiple of a greater power of 2
 pub positive : (n : ℕ) → 0 < 2 ^ n
 positive zero = omega arith
 positive (suc n) = omega (arith, pow-suc 2 n, positive n)

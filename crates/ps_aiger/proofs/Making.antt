@@ -1,9 +1,11 @@
--- What a function that builds the gates of a literal returns, at each of its exits.
--- - `fails`: an earlier call fails, and reports too many variables only if the literal needs too many
--- - `gives`: the wanted literal is a literal over existing gates, so no gate is added
--- - `as-made`, `by-choice`: the function's last call builds the literal: as that of an equal function, or as the choice
---   (a multiplexer) between two literals
--- - `test-split`, `test-chosen`: the gates of a decision diagram's node that tests the proposition of an input
+-- At each of its exits, a function that builds the gates of a literal satisfies the contract `MakesLiteral`.
+-- - `fails`: the exit after an earlier call that failed; if the call reports too many variables, the literal needs too
+--   many variables, too
+-- - `gives`: the exit if the gates of the wanted literal exist already, so that no gate is added
+-- - `as-made`, `by-choice`: the exits at which the last call builds the literal: as the literal of an equal function
+--   (`as-made`), or as the choice between two literals, a multiplexer (`by-choice`)
+-- - `test-split`, `test-chosen`: if a diagram node tests an input, its literal is a choice by this input between the
+--   literals of the node's two children
 use Rattle.std.proofs.Common.{◌≡◌, ◌∙◌, ℕ, ◌+◌, ◌*◌, Bool, Err, IsErrAnd, List, Ok, Result, Some, ap, slice_get, subst, sym}
 use Rattle.std.proofs.Common.{rules}
 use Rattle.std.proofs.lemmas.Result.{IfOk-weaker}

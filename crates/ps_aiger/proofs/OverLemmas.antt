@@ -149,8 +149,8 @@ pub inputs-again : (m : MachineData) (w : Wanted) (node : ℕ) (d e : Drafted) �
 unfolding node_made
 inputs-again m w node d e x = over-again (range_with_len 1 (length m.inputs)) _ d e x
 
--- the bit w of the machine's row with the index in a leaf of the diagram; the bit of the default row if there is no
--- leaf
+-- a leaf of a diagram has the index of a row of the machine's table: this is the bit w of that row, or of the default
+-- row if there is no leaf
 abbrev bit_at : MachineData → Wanted → Option ℕ → Bool
 bit_at m w leaf = wanted_bit w (row_at_leaf m (unwrap_or leaf (length m.rows)))
 
@@ -191,8 +191,8 @@ settled (p ∷ ps) (x ∷ a) (y ∷ b) q ea eb h = elim (cases_eq p q) [
       ∙ sym (ap (λ t. cond t y (bit_for ps b q)) (no_test p q ne))
 ]
 
--- if a diagram node depends only on propositions after p, which is the input with the index `place`, the row to which
--- the node leads depends only on inputs after this index
+-- let p be the proposition of the input with the index `place`; if a diagram node depends only on propositions after p,
+-- its row depends only on inputs after this input
 node_behind : (m : MachineData) (w : Wanted) (node p place : ℕ) → IsMachine (behaviour m) →
     slice_get m.inputs place ≡ Some p → HeedsBehind m.store node p → (n : ℕ) → n ≡ length m.inputs →
     IsBehind n place (λ bits. wanted_bit w (row_by m node (letter_over m.inputs bits)))

@@ -9,7 +9,8 @@ use Rattle.ps_aiger.specs.Encoded.{letter_over, memory_of_code}
 use Rattle.ps_aiger.specs.Wires.{StepBit, code_made, next_wires, output_wires, wired}
 use Rattle.ps_aiger.proofs.OverLemmas.{over-same}
 
--- each number in the latches is the code of a memory state, or stands for memory state 0
+-- whatever number the latches hold, it stands for an existing memory state: for the one with this code or, without such
+-- a memory state, for memory state 0
 pub memory_within : (b : Behaviour) (code : ℕ) → 0 < b.memories → memory_of_code b code < b.memories
 memory_within b code some = grind (arith, bool_cases, ltb-true)
 

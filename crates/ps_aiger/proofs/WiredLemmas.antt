@@ -95,7 +95,8 @@ code-halves m w latches code d some fits =
 
 -- ## One function after another
 
--- the literals that were built already, followed by those of `rest`, which are built for the remaining bits of the step
+-- the literals that were built already, followed by the literals in `rest`, which are built for the remaining bits of
+-- the machine's step
 abbrev pub behind : List ℕ → Wired → Wired
 behind literals rest = record { draft = rest.draft; literals = literals ++ rest.literals }
 

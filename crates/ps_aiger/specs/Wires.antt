@@ -3,8 +3,8 @@
 -- - `next_bit b j, output_bit b p`: a bit of the machine's step, by memory state and input letter
 -- - `code_made b f latches code d`: the literal of the bit f of the machine's step, for memory states with the codes
 --   `code` to `code` + 2^latches - 1
--- - `next_wires, output_wires b latches`: the literals of the latches' next values, and the literals of the outputs,
---   whose gates are built after those
+-- - `next_wires, output_wires b latches`: the literals of the latches' next values, and the literals of the outputs;
+--   the gates of the outputs are built last
 -- - `IsWired b c`: the circuit c has the literals and gates that these definitions build for the machine b, in the same
 --   order
 -- - `IsOutOfLiterals b`: the gates that are built for the machine b need too many variables, so that it has no circuit
@@ -48,7 +48,7 @@ output_bit b p memory x = is_in p (b.plays memory x)
 
 -- The literal of the bit f of the machine's step, for the memory states whose codes are `code` plus a number less than
 -- 2^latches. If `latches` is 0, the bit is a function of the inputs; otherwise the highest of the given latches chooses
--- between the literals for two halves of the memory states.
+-- between two literals, one for each half of these memory states.
 unfoldable pub code_made : Behaviour → StepBit → ℕ → ℕ → Drafted → Made
 code_made b f zero code d =
     over_variables (range_with_len 1 (length b.inputs)) (λ bits. f (memory_of_code b code) (letter_over b.inputs bits))

@@ -44,8 +44,8 @@ pub(crate) fn literal_of(
 }
 
 /// The literal of the bit `wanted` of the machine's step, for the memory states whose codes are `code` plus a number
-/// less than 2^`latches`. The literal depends on the lowest `latches` latches; the bits of `code` stand for the values
-/// of the others.
+/// less than 2^`latches`. The literal depends on the lowest `latches` latches; for each other latch, a bit of `code`
+/// stands for its value.
 fn over_latches(
     builder: &mut Builder,
     machine: &Machine,
@@ -123,7 +123,8 @@ fn over_inputs(
     }
 }
 
-/// The constant literal (0 or 1) of the bit `wanted` in the machine's row with the index that a leaf of a diagram has.
+/// The bit `wanted` of a row of the machine, as a constant literal (0 or 1); a leaf of a diagram has the index of this
+/// row.
 fn constant(machine: &Machine, wanted: Wanted, leaf: u64) -> Literal
     ensures { result ≡ (if wanted_bit wanted (row_at_leaf machine.now leaf) then 1 else 0) }
 {

@@ -15,9 +15,9 @@
 //! | `circuit_has_literals` | a machine whose gates need too many variables has no circuit |
 //! | `circuit_is_there` | every other machine has a circuit |
 //!
-//! The latches hold the number of a memory state in binary. Each output and each next value of a latch is a literal
-//! that is built from the machine's decision diagrams, node by node, as a choice by the proposition that the node
-//! tests. A gate that exists already is not built again.
+//! The latches hold the number of a memory state in binary. Each output, and each next value of a latch, is a literal
+//! that is built from the machine's decision diagrams: each node of a diagram becomes a choice by the proposition that
+//! the node tests. A gate that exists already is not built again.
 #![tactic(auto)]
 
 mod encoding;

@@ -1,16 +1,16 @@
 -- The bits of a machine's step as functions of latches and inputs, and how their literals are built. (For private
 -- functions.)
--- - `Wanted, wanted_bit w row`: one bit of a row of the machine: of the number of the next memory state, or of the
---   output letter
--- - `node_made m w node d`: the gates of d and those for the bit w of the machine's row to which a diagram node leads,
---   and the literal of this bit
--- - `IsLiteralOf m w d node literal, KnowsMade m w d known`: d has the gates of a node's literal; d has the gates of
---   each literal in the table `known`
+-- - `Wanted, wanted_bit w row`: one bit of a row of the machine's table: a bit of the next memory state's number, or a
+--   bit of the output letter
+-- - `node_made m w node d`: a literal, and the gates of d with the literal's gates added; the literal's value is the
+--   bit w of the machine's row to which the diagram node leads
+-- - `IsLiteralOf m w d node literal, KnowsMade m w d known`: d already has the gates of one diagram node's literal
+--   (`IsLiteralOf`), or of all literals in the table `known` (`KnowsMade`)
 -- - `code_wanted m w latches code d`: the literal of the bit w of the machine's step, for memory states with the codes
 --   `code` to `code` + 2^latches - 1
 -- - `bits_wired m latches ws d`: the literals of the bits `ws` of the machine's step, built one after another
--- - `MakesLiteral, MakesLiterals old new result all`: the contract of a function that builds the gates of `all` and
---   returns its literal, or its literals
+-- - `MakesLiteral, MakesLiterals old new result all`: the contract of a function that builds the gates in `all`, and
+--   returns the literal (or the list of literals) in `all`
 use Rattle.std.specs.Prelude.{◌≡◌, ℕ, Bool, Err, IfOk, List, length, map, Option, Result, Some, Vec}
 use Rattle.std.specs.Global.{Global}
 use Rattle.std.specs.List.{range_with_len}
@@ -37,8 +37,8 @@ wanted_bit (Output p) row = is_in p row.letter
 abbrev pub row_by : MachineData → ℕ → ℕ → Row
 row_by m node x = row_at_leaf m (unwrap_or (leaf_of m.store node x) (length m.rows))
 
--- the gates of d and those for the bit w of the machine's row to which a diagram node leads, and the literal of this
--- bit, which depends on the input letter
+-- a literal, and the gates of d with the literal's gates added; at each input letter, the literal's value is the bit w
+-- of the machine's row to which the diagram node leads
 unfoldable pub node_made : MachineData → Wanted → ℕ → Drafted → Made
 node_made m w node d =
     over_variables (range_with_len 1 (length m.inputs)) (λ bits.
@@ -63,16 +63,16 @@ code_wanted m w latches code d = code_made (behaviour m) (bit_wanted (behaviour 
 abbrev pub bits_wired : MachineData → ℕ → List Wanted → Drafted → Wired
 bits_wired m latches ws d = wired (behaviour m) latches (map (bit_wanted (behaviour m)) ws) d
 
--- the existing gates remain; the result is the literal of `all`, or a fault because `all` has too many variables or
--- memory ran out
+-- the existing gates remain; the function returns the literal in `all`, or fails, because the gates in `all` need too
+-- many variables or memory ran out
 pub record MakesLiteral (old new : Drafted) (result : Result ℕ EncodeFault) (all : Made) : Type 0 where
   pub extends : Extends old new
   pub held : IfOk result (IsHeld new)
   pub made : IfOk result (λ literal. all ≡ record { draft = new; literal = literal })
   pub too_large : result ≡ Err CircuitTooLarge → HasTooMany all.draft
 
--- the existing gates remain; the result is the literals of `all`, or a fault because `all` has too many variables or
--- memory ran out
+-- the existing gates remain; the function returns the literals in `all`, or fails, because the gates in `all` need too
+-- many variables or memory ran out
 pub record MakesLiterals (old new : Drafted) (result : Result (Vec ℕ Global) EncodeFault) (all : Wired) : Type 0 where
   pub extends : Extends old new
   pub made : IfOk result (λ literals. all ≡ record { draft = new; literals = literals.items })
