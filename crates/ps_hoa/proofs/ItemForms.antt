@@ -1,7 +1,8 @@
 -- Properties of the arguments that follow the names of header items. Each kind of header item has a section in this
 -- file, and a case in `form`.
--- - `IsForm h part`: the properties of the arguments of an item, if the earlier items gave the values h
--- - `form h item`: the arguments of each kind of item have these properties
+-- - `IsForm h part`: the grammar `part` of an item's arguments has the properties that the proofs need, if the earlier
+--   items gave the values h
+-- - `form h item`: the arguments of each kind of item satisfy `IsForm`
 -- - `judge_item`: it is decidable which errors the name of an item has
 -- - `joint_..`, `.._loop`, `.._begins`, `.._serves`: lemmas for the functions that parse the arguments
 use Rattle.std.proofs.Common.{arith, rules, ◌≡◌, ◌<◌, true, Bool, ℕ, List, [], length, Some, refl, sym, ap, ◌∙◌}

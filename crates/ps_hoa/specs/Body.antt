@@ -146,8 +146,8 @@ IsBadPlainTarget states before row n f =
 abbrev pub plain_target : HeaderData → ℕ → RowData → Part Sign ℕ HoaCause
 plain_target h before row = barred (one int_in (BadIn (IsBadPlainTarget h.states before row))) IsAlternating
 
--- the letters at which an edge without a label is taken (its guard): those of its state's label, or the letter with the
--- edge's index
+-- the guard of an edge without a label, that is, the letters at which the edge is taken: the letters of its state's
+-- label, or the single letter that equals the edge's index
 abbrev pub plain_guard : RowData → GuardData
 plain_guard row = elim row.label [ Some e ↦ of_state | None ↦ at_letter (length row.edges) ]
 
@@ -191,7 +191,7 @@ abbrev pub has_row : ℕ → List RowData → Bool
 has_row n [] = false
 has_row n (row ∷ rows) = if nat_eq n row.state then true else has_row n rows
 
--- an `INT` that is not the number of a state, or is the state of an earlier row
+-- an `INT` that is not the number of a state, or is the number of a state that has a row already
 abbrev pub IsBadRow : HeaderData → BodyData → ℕ → HoaCause → Type 0
 IsBadRow h body n f = IsBadState h.states n f ⊎ ((has_row n body.rows ≡ true) × (f ≡ causes.StateTwice))
 

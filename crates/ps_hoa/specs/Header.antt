@@ -7,7 +7,7 @@
 -- - `HeaderData`: the values that the items so far give
 -- - `header_data`: the values of a stored header
 -- - `item_in s`: the header item whose name is the token s
--- - `behind_name h item`: the arguments of this item, if the earlier items gave the values h
+-- - `behind_name h item`: the grammar of an item's arguments, if the earlier items gave the values h
 -- - `item h`: one more item, after items that gave the values h
 -- - `header`: all items, and `--BODY--`
 use Rattle.std.specs.Prelude.{◌≡◌, ◌≢◌, ℕ, ◌<◌, ◌≤◌, ◌⊎◌, ◌||◌, Bool, true, false, List, [], ◌∷◌, ◌++◌, length, drop}
@@ -154,7 +154,7 @@ item_value kind text = None
 abbrev pub item_in : Sign → Option Item
 item_in s = item_value s.kind s.text
 
--- the name of a header item is an error by itself only if it is a second `Start:`
+-- the only header item whose name can be an error is `Start:`, if the header already has a start state
 abbrev pub IsWrongItem : HeaderData → Item → HoaCause → Type 0
 IsWrongItem h items.Start f = (h.start ≢ None) × (f ≡ causes.Start)
 IsWrongItem h item f = ⊥

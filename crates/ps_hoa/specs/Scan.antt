@@ -33,7 +33,7 @@ plus k None = None
 plus k (Some n) = Some (k + n)
 
 -- The number of bytes up to the end of the comment that the given bytes continue. The comment is nested in `depth`
--- further comments. With `skip`, the first byte is the second byte of a `/*` or a `*/`.
+-- further comments. If `skip` is true, the first byte is the second byte of a `/*` or a `*/`.
 unfoldable pub comment_len : List ℕ → Bool → ℕ → Option ℕ
 comment_len [] skip depth = None
 comment_len (b ∷ bs) true depth = one_more (comment_len bs false depth)

@@ -2,7 +2,8 @@
 -- - `file`: the header and the body, as one part
 -- - `IsBehindBlanks bytes blanks rest`: `rest` is what follows all blanks and comments
 -- - `ReadsFile bytes answer`: the answer is the meaning of a text without an error, or the first error
--- - `IsFileAnswer view bytes result`: the result of the parser
+-- - `IsFileAnswer view bytes result`: the parser may return `result` for the text: its meaning, its first error, or out
+--   of memory
 use Rattle.std.specs.Prelude.{◌≡◌, ◌≢◌, ℕ, ◌+◌, ◌<◌, ◌≤◌, ◌||◌, Bool, true, List, [], ◌++◌, length, codes, nat_eq, None}
 use Rattle.std.specs.Prelude.{Some, Result, Ok, Err}
 use Rattle.std.specs.Option.{unwrap_or}
@@ -90,8 +91,8 @@ abbrev pub IsFaultOf : List ℕ → HoaFault → Type 0
 IsFaultOf bytes (faults.Text cause offset) = ReadsFile bytes (at_offset cause offset)
 IsFaultOf bytes faults.OutOfMemory = Unit {0}
 
--- the result of the parser: the meaning or the first error of the text, or out of memory; `view` gives the meaning of a
--- stored value
+-- the parser may return this result: the meaning or the first error of the text, or out of memory; `view` gives the
+-- meaning of a stored value
 abbrev pub IsFileAnswer : {X : Type 0} → (X → FileData) → List ℕ → Result X HoaFault → Type 0
 IsFileAnswer view bytes (Ok x) = ReadsFile bytes (Ok (view x))
 IsFileAnswer view bytes (Err fault) = IsFaultOf bytes fault

@@ -3,9 +3,11 @@
 -- - `IsComment text`: `/* .. */`, with comments of its own inside
 -- - `IsBlankRun text`: blanks and comments
 -- - `IsName text`: a letter or `_`, followed by letters, digits, `_` and `-`
--- - `IsLongestToken kind text rest`: a token of the kind, before `rest`, is the longest token that can begin here
--- - `IsToken kind text rest`: like `IsLongestToken`, or an unclosed comment, or a byte that begins no token
--- - `AreTokens at bytes pieces`: the tokens of `bytes`, with blanks between them; `at` is the offset of the bytes
+-- - `IsLongestToken kind text rest`: `text`, which `rest` follows, is a token of the kind, and is as long as possible
+-- - `IsToken kind text rest`: `text` is a longest token of the kind, or the `/*` of an unclosed comment, or a single
+--   byte that begins no token
+-- - `AreTokens at bytes pieces`: `bytes` consist of the tokens `pieces`, with blanks between them; `at` is the offset
+--   of the first byte
 -- - `in_context history pieces`: the tokens, in which repeated names and tokens after `--END--` have kinds of their own
 use Rattle.std.specs.Prelude.{◌≡◌, ℕ, suc, ◌+◌, ◌<◌, ◌⊎◌, ◌≢◌, ◌||◌, Bool, true, false, List, [], ◌∷◌, ◌++◌, length}
 use Rattle.std.specs.Prelude.{codes, if◌then◌else◌, nat_eq, get_or, set, Option, None, Some}

@@ -1,4 +1,4 @@
-//! The opening of an HOA text: its length, `HOA:` and the version.
+//! The checks at the beginning of an HOA text: its length, `HOA:` and the version.
 
 ghost use Rattle.std.specs.Prelude.{◌≡◌, ◌≤◌, length, IfOk, IfErr, IfSome, Result, Err, Ok};
 ghost use Rattle.std.specs.List.{prefix_len};

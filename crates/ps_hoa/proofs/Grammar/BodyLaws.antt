@@ -1,9 +1,11 @@
--- Which tokens can begin and continue the sets, labels and edges of a body (`Laws`). No token can both continue one
--- part of them and begin the next (`Joint`). For states, see proofs/Grammar/StateLaws.
--- - `laws_marks`, `..`, `laws_edge`: the laws of the body's sets, labels and edges
--- - `joint_braces`, `joint_sets`: `Joint` for `{`, the numbers and `}`
--- - `joint_bracket`, `joint_label`: `Joint` for `[`, a label and `]`
--- - `joint_edge_label`, `joint_edge_target`, `joint_edge_marks`, `joint_plain_marks`: `Joint` for the parts of an edge
+-- Proofs of `Laws` for the acceptance sets, labels and edges of a body: which tokens can begin them, and which can
+-- continue them. `Joint` states of two parts in a row that no token can both continue the first part and begin the
+-- second. For states, see proofs/Grammar/StateLaws.
+-- - `laws_marks`, `..`, `laws_edge`: proofs of `Laws` for the body's acceptance sets, labels and edges
+-- - `joint_braces`, `joint_sets`: `Joint` for neighbours among `{`, the numbers of the sets, and `}`
+-- - `joint_bracket`, `joint_label`: `Joint` for neighbours among `[`, a label, and `]`
+-- - `joint_edge_label`, `joint_edge_target`, `joint_edge_marks`, `joint_plain_marks`: `Joint` for neighbouring parts of
+--   an edge
 use Rattle.std.proofs.Common.{arith, ℕ, Bool, List, [], Option, None, refl, ap}
 use Rattle.ps_label.specs.Expression.{Expression}
 use Rattle.ps_text.specs.Parts.{Part, give, one, then_by, many, mapped, barred}
@@ -37,8 +39,8 @@ use Rattle.ps_hoa.proofs.Grammar.TokenLaws.{laws_alternating}
 abbrev pub lengthens_edge : Kind → Bool
 lengthens_edge = union is_and is_left_brace
 
--- where the number of a target, a set or a state is expected, no token but an `INT` is accepted, or has one of the
--- errors in `Bad`
+-- where the number of a target, a set or a state is expected, only an `INT` is accepted, and only an `INT` can have an
+-- error in `Bad`
 pub laws_target_number : (Bad : ℕ → HoaCause → Type 0) → Tight (one int_in (BadIn Bad)) is_int
 laws_target_number Bad = laws_value is_int Int [] _ refl (λ _. refl) (λ t f b. b.1)
 

@@ -1,4 +1,4 @@
--- Which tokens can begin and continue an acceptance condition (`Laws`).
+-- Proofs of `Laws` for acceptance conditions: which tokens can begin a condition, and which can continue one.
 use Rattle.std.proofs.Common.{◌≡◌, ℕ, Bool, true, false, List, [], codes, refl, arith}
 use Rattle.std.proofs.lemmas.Slice.Eq.{bytes_eq-Decides}
 use Rattle.ps_text.specs.Parts.{Part, NoBad, one, then_by}

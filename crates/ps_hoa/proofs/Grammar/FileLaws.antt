@@ -1,5 +1,6 @@
--- Which tokens can begin and continue the whole of a text after the version, its header and its body (`Laws`).
--- - `laws_file`: the laws of the whole text
+-- Proof of `Laws` for all of a text after its version, that is, for header and body: which tokens can begin it, and
+-- which can continue it.
+-- - `laws_file`: the proof of `Laws`
 -- - `joint_file`: no token can both continue the header and begin the body (`Joint`)
 use Rattle.ps_text.specs.Parts.{mapped}
 use Rattle.ps_text.proofs.Combined.{joint_tight}

@@ -1,8 +1,9 @@
 -- The parts of a header that consist of a single token.
 -- - `reads_token`: a function whose result is right for the next token meets the contract of parsing a single token
--- - `signs_expect`, `..`, `signs_body`: the grammar accepts some token, and the end of the text is neither accepted nor
---   an error
--- - `takes_refused`, `takes_bad`: the result for a token that is not allowed here, and for a token with an error
+-- - `signs_expect`, `..`, `signs_body`: each grammar of a single token accepts some token, and the end of the text is
+--   neither accepted nor an error
+-- - `takes_refused`, `takes_bad`: the contract `Takes` holds for the fault of a token that is not allowed here, and for
+--   the fault of a token with an error
 use Rattle.std.proofs.Common.{◌≡◌, ℕ, ◌≤◌, Bool, cond, List, [], codes, Option, None, Some, Result, Err}
 use Rattle.std.proofs.Common.{refl, sym, ap, inl, inr, arith}
 use Rattle.ps_text.specs.Answers.{Piece, Stream}
@@ -43,7 +44,7 @@ signs : {V : Type 0} {take : Sign → Option V} {Bad : Sign → HoaCause → Typ
     ((f : HoaCause) → Bad (record { kind = Finish; text = [] }) f → ⊥) → IsOfSigns take Bad
 signs kind text v e n g = record { sign = record { kind = kind; text = text }; value = v; taken = e; end = n; good = g }
 
--- a test for one kind of token accepts some token and rejects the end of the text, if the kind is not `Finish`
+-- a test for one kind of token, other than `Finish`, accepts some token and rejects the end of the text
 pub signs_expect : (test : Kind → Bool) (kind : Kind) → IsTestOf test kind → (kind ≡ Finish → ⊥) →
     IsOfSigns (expect_in test) NoBad
 signs_expect test kind is differs = signs kind [] tt (ap (λ (b : Bool). cond b (Some tt) None) is.0)

@@ -1,10 +1,10 @@
--- Which tokens can begin and continue operands and rows of operands with connectives between them (`Laws`). The first
--- token of an operand tells its form.
--- - `laws_not`, `..`, `laws_right`: the laws of single tokens
--- - `laws_both`, `laws_rows`, `laws_nested`: the laws of rows of operands, and of rows in parentheses
--- - `laws_negation`, `laws_holding`, `laws_operand`: the laws of an operand after `!`, of one that contains another,
---   and of any
--- - `joint_bar`: `Joint` for the check of the nesting depth and an operand that contains no other
+-- Proofs of `Laws` for single operands, and for rows of operands with connectives between them: which tokens can begin
+-- them, and which can continue them. The first token of an operand tells its form.
+-- - `laws_not`, `..`, `laws_right`: proofs of `Laws` for single tokens
+-- - `laws_both`, `laws_rows`, `laws_nested`: proofs of `Laws` for rows of operands, and for rows in parentheses
+-- - `laws_negation`, `laws_holding`, `laws_operand`: proofs of `Laws` for `!` with its operand, for an operand that
+--   contains another operand, and for any operand
+-- - `joint_bar`: `Joint` for the check of the nesting depth and the operand after it, which contains no other operand
 use Rattle.std.proofs.Common.{rules, arith, ◌≡◌, ℕ, zero, suc, Bool, true, List, Option, None, Some, refl}
 use Rattle.ps_text.specs.Parts.{Part, then_by}
 use Rattle.ps_text.proofs.Barred.{laws_barred}
@@ -24,8 +24,8 @@ use Rattle.ps_hoa.specs.declared.tokens.Kind.TheVariants.{Not, And, Or as OrSign
 use Rattle.ps_hoa.proofs.Grammar.KindSets.{union, within, within_both, apart, plain, laws_expect}
 use Rattle.ps_hoa.proofs.Grammar.OperandLaws.{Odd, Of, nothing_apart, laws_behind, laws_held, laws_row, Known, Tight}
 
--- the kinds of tokens that begin an operand which contains another operand, that begin any operand, and that stand
--- between operands
+-- three sets of kinds of tokens: `nests` has those that begin an operand which contains another operand, `is_start`
+-- those that begin any operand, and `is_connective` those between operands
 abbrev pub nests : Kind → Bool
 nests = union is_not is_left
 

@@ -1,6 +1,7 @@
 -- The search for an item name in the table of item names.
 -- - `rows_of`: the rows of the table
--- - `found`, `passed`, `ended`: the next row has the name, has another name, or does not exist
+-- - `found`, `passed`, `ended`: the search when the next row of the table has the name, has another name, or does not
+--   exist
 use Rattle.std.proofs.Common.{◌≡◌, ℕ, ◌+◌, ◌<◌, ◌≤◌, true, false, List, map, drop, length, get_or, Bor}
 use Rattle.std.proofs.Common.{Option, None, Some, ◌∷◌, suc, drop-cons, add-one, refl, ap, ◌∙◌}
 use Rattle.std.proofs.lemmas.List.{drop_all}

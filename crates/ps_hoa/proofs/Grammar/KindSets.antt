@@ -1,6 +1,7 @@
 -- Lemmas about sets of kinds of tokens, and proofs that grammars of a single token satisfy `Laws`. Each lemma about
 -- sets has a premise `Each`, which `refl` proves by trying all kinds of tokens.
--- - `within`, `within_both`, `apart`: a set, or two sets, are within another set; two sets have no common kind
+-- - `within`, `within_both`, `apart`: one set is a subset of another, two sets are subsets of a third, or two sets have
+--   no kind in common
 -- - `test_of`: a set has exactly one kind
 -- - `plain`: no kind of the set is an error by itself
 -- - `laws_sign`: the laws of a token whose kind is in a set
@@ -49,7 +50,7 @@ at p [] n l e = absurd (omega (arith, l))
 at p (k ∷ ks) zero l e = (and_parts (p k) (all p ks) e).0
 at p (k ∷ ks) (suc n) l e = at p ks n (omega (arith, l)) (and_parts (p k) (all p ks) e).1
 
--- the index of a kind in `kinds` is its tag, the number of the variant
+-- a kind's index in the list `kinds` is its tag, which is the number of its variant
 place : (k : Kind) → (tag_of the_type k < length kinds) × (get_or kinds (tag_of the_type k) Finish ≡ k)
 place k = grind arith
 
@@ -86,8 +87,8 @@ test_of p kind is e = (
 
 -- ## One symbol
 
--- if the kind of a token is in the set, the token is no error by itself, whatever its bytes; otherwise `take` gives it
--- no value
+-- no token of a kind in the set is an error by itself, whatever its bytes; `take` gives no value to a token of any
+-- other kind
 abbrev pub AreSigns : {V : Type 0} → (Kind → Bool) → (Sign → Option V) → Type 0
 AreSigns p take = (text : List ℕ) → Each (λ k. cond (p k) (not (is_some (own_cause k text)))
     (not (is_some (take (record { kind = k; text = text })))))

@@ -1,4 +1,4 @@
--- Which tokens can begin and continue a label (`Laws`).
+-- Proofs of `Laws` for labels: which tokens can begin a label, and which can continue one.
 use Rattle.std.proofs.Common.{◌≡◌, ℕ, true, List, [], refl, arith}
 use Rattle.ps_label.specs.Expression.{Expression}
 use Rattle.ps_text.proofs.Laws.{Laws}

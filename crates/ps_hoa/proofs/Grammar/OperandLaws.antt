@@ -1,12 +1,13 @@
--- Which tokens can begin and continue single tokens, operands in parentheses, and rows of operands (`Laws`). The second
--- half of this file is about the loop that parses operands with connectives between them: its invariant, and each way
--- in which the parsing function can return.
+-- Proofs of `Laws` for single tokens, operands in parentheses, and rows of operands: which tokens can begin them, and
+-- which can continue them. The second half of this file is about the loop that parses operands with connectives between
+-- them: its invariant, and each way in which the parsing function can return.
 -- - `Known`, `Tight`: the laws of a grammar, stated with sets of kinds of tokens
--- - `laws_behind`, `laws_held`, `laws_row`: the laws of a part after a token, of a part before `)`, and of a row of
---   operands
--- - `joint_expect`, `joint_closed`, `joint_operands`: `Joint` for a token, a part before `)`, and the first operand,
---   each with what follows it
--- - `row_fails`, `row_alone`, `row_begins`, `row_goes_on`, `row_stops`, `row_ends`: the loop goes on, fails or ends
+-- - `laws_behind`, `laws_held`, `laws_row`: proofs of `Laws` for a token and the part after it, for a part and the `)`
+--   after it, and for a row of operands
+-- - `joint_expect`, `joint_closed`, `joint_operands`: `Joint` for a token and the part after it, for a part and the `)`
+--   after it, and for the first operand and the further operands
+-- - `row_fails`, `row_alone`, `row_begins`, `row_goes_on`, `row_stops`, `row_ends`: the loop over the operands goes on,
+--   stops at an error, or ends
 use Rattle.std.proofs.Common.{arith, ◌≡◌, Bool, true, false, cond, List, Option, None, Some, inl}
 use Rattle.ps_text.specs.Answers.{Stream, Found, next_of, signs}
 use Rattle.ps_text.specs.Parts.{Part, then_by, many, mapped}
@@ -60,7 +61,7 @@ taken_expect test sign v e = was_true (test sign.kind) v e
 pub nothing_apart : (A : Sign → Type 0) → Apart Nothing A
 nothing_apart A t h k = h
 
--- the grammar of one token followed by another grammar, and a grammar followed by `)`
+-- two grammars in a row: a token and any grammar after it, or any grammar and the token `)` after it
 module _ {V : Type 0} (test : Kind → Bool) {P : Part Sign V HoaCause} {First More : Sign → Type 0}
     (m : Tight (expect test) test) where
   pub joint_expect : {Null : Type 0} → Laws Odd P First More Null → Joint (expect test) (λ _. P)

@@ -1,7 +1,9 @@
--- Which tokens can begin and continue a state and the whole body (`Laws`). No token can both continue one part of them
--- and begin the next (`Joint`).
--- - `laws_state`, `laws_states`, `laws_ended`, `laws_body`: the laws of one state, of all states, and of the body
--- - `joint_state`, `joint_state_label`, `joint_number`, `joint_name`, `joint_marks`: `Joint` for the parts of a state
+-- Proofs of `Laws` for a state and for the whole body: which tokens can begin them, and which can continue them. No
+-- token can both continue one part of them and begin the next (`Joint`).
+-- - `laws_state`, `laws_states`, `laws_ended`, `laws_body`: proofs of `Laws` for one state, for all states, and for the
+--   body
+-- - `joint_state`, `joint_state_label`, `joint_number`, `joint_name`, `joint_marks`: `Joint` for neighbouring parts of
+--   a state
 -- - `joint_body`: `Joint` for the states and `--END--`
 use Rattle.std.proofs.Common.{rules, arith, ◌≡◌, ℕ, Bool, List, [], codes, Option, Some, refl}
 use Rattle.ps_label.specs.Expression.{Expression}
@@ -28,8 +30,8 @@ use Rattle.ps_hoa.proofs.Grammar.TokenLaws.{header_apart, is_string, some_there,
 use Rattle.ps_hoa.proofs.Grammar.BodyLaws.{lengthens_edge, laws_target_number, laws_marks, laws_state_label, laws_edge}
 use Rattle.ps_hoa.proofs.Grammar.BodyLaws.{edge_apart}
 
--- the kinds of tokens that begin the acceptance sets or edges of a state, that begin its name, sets or edges, and that
--- can continue a state
+-- three sets of kinds of tokens: those that begin a state's acceptance sets or edges (`begins_marks`), those that begin
+-- its name, sets or edges (`begins_name`), and those that can continue a state (`lengthens_state`)
 abbrev begins_marks : Kind → Bool
 begins_marks = union is_left_brace begins_edge
 
@@ -63,7 +65,7 @@ module _ (h : HeaderData) (b : BodyData) where
   laws_state_begins = laws_first (record { kind = Header; text = codes "State:" }) tt refl
       (λ t k. plain_named (codes "State:") refl t k.1) (λ t k. k) (λ t k. (tt, some_there (state_value t) k.1.0))
 
-  -- the grammars of what remains of a state: from its edges on, from its acceptance sets on, and from its name on
+  -- three grammars for the remainder of a state: from its edges on, from its acceptance sets on, or from its name on
   module _ (label : Option Expression) (n : ℕ) where
     abbrev from_edges : List ℕ → Part Sign BodyData HoaCause
     from_edges ns = mapped (with_row b) (edges h b.edges (empty_row n label ns))

@@ -1,7 +1,8 @@
--- Which tokens are the names, numbers, strings and aliases of a header (`Laws`).
+-- Proofs of `Laws` for the names, numbers, strings and aliases of a header: which tokens are allowed there.
 -- - `Named name`: the tokens of the kind `Header` that consist of this name
--- - `laws_item_name`, `laws_int`, `laws_string`, `laws_proposition_name`, `laws_new_alias`: the laws of single tokens
--- - `laws_alternating`: a token that `&` must not follow
+-- - `laws_item_name`, `laws_int`, `laws_string`, `laws_proposition_name`, `laws_new_alias`: proofs of `Laws` for single
+--   tokens
+-- - `laws_alternating`: the proof of `Laws` for a token after which `&` is an error
 -- - `item_header`: a token that names a header item has the kind `Header`
 use Rattle.std.proofs.Common.{arith, ◌≡◌, ℕ, ◌||◌, Bool, true, false, cond, List, [], codes, Option, None, Some}
 use Rattle.std.proofs.Common.{is_some, refl, sym, ap, ◌∙◌, rules}
@@ -58,8 +59,8 @@ header_apart test e t h k = false_true (sym e ∙ ap test (sym h) ∙ k)
 pub some_there : (o : Option (Unit {0})) → (o ≡ None → ⊥) → o ≡ Some tt
 some_there o h = grind arith
 
--- whether a name begins with a capital letter and is not defined by the grammar, as `is_unknown_capital` (specs/Causes)
--- tells it
+-- whether a name begins with a capital letter and is not defined by the grammar; this is the definition
+-- `is_unknown_capital` of specs/Causes, unfolded
 abbrev pub is_unknown : List ℕ → Bool
 is_unknown name = cond (is_spelled name) false (begins_capital name)
 

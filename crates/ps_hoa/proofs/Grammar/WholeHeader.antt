@@ -1,9 +1,10 @@
--- Which tokens can begin and continue a header item and the whole header (`Laws`).
--- - `joint_item`, `joint_header`: no token can both continue an item's name and begin its arguments, or continue the
---   items and be `--BODY--` (`Joint`)
+-- Proofs of `Laws` for a header item and for the whole header: which tokens can begin them, and which can continue
+-- them.
+-- - `joint_item`, `joint_header`: `Joint` for an item's name and its arguments, and for the items and `--BODY--`: no
+--   token can both continue the first part and begin the second
 -- - `item_begins`, `item_elsewhere`: the next token begins an item, or does not
 -- - `item_loop`: the properties of an item that the loop over the items needs
--- - `laws_header`: the laws of the header
+-- - `laws_header`: the proof of `Laws` for the header
 use Rattle.std.proofs.Common.{◌≡◌, [], true, false, is_some, refl, ap, sym, ◌∙◌}
 use Rattle.ps_text.specs.Answers.{Stream, next_of as there_of}
 use Rattle.ps_text.specs.Parts.{many}

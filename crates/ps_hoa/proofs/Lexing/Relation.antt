@@ -1,8 +1,8 @@
 -- The scan over the bytes of a text finds the only list of tokens that `AreTokens` allows for these bytes, and such a
 -- list exists.
 -- - `only_lex`, `some_tokens`: the list is unique, and exists
--- - `no_blanks`, `more_blanks`, `no_blank_begins`: the bytes between two offsets are blanks and comments, or none
---   begins there
+-- - `no_blanks`, `more_blanks`, `no_blank_begins`: the bytes between two offsets are blanks and comments (`no_blanks`,
+--   `more_blanks`), or no blank or comment begins at the given bytes (`no_blank_begins`)
 use Rattle.std.proofs.Common.{rules, ◌≡◌, ℕ, suc, zero, ◌+◌, ◌<◌, ◌≤◌, false, List, [], ◌∷◌, ◌++◌, length, take, drop}
 use Rattle.std.proofs.Common.{subst, refl, ap, sym, ◌∙◌, arith, length-append, length-drop, append_assoc, append-nil}
 use Rattle.std.proofs.Common.{inl, inr}

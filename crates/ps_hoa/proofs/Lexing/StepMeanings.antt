@@ -1,7 +1,7 @@
 -- Each step of the scan is sound: it skips a blank or a comment, or finds the longest token that begins at its offset.
 -- - `sound`: the step at any bytes is sound
 -- - `begins_is`: the bytes begin with a given word
--- - `skip_within`, `found_within`: a step stays within the bytes, and moves forward unless there are none
+-- - `skip_within`, `found_within`: a step stays within the bytes, and moves forward unless there are no bytes
 use Rattle.std.proofs.Common.{◌≡◌, ℕ, suc, zero, ◌+◌, ◌<◌, ◌≤◌, ◌&&◌, Bool, true, false, cond, List, [], ◌∷◌, ◌++◌}
 use Rattle.std.proofs.Common.{length, take, drop, subst, length-take, refl, ap, sym, ◌∙◌, arith, inl, inr, rules}
 use Rattle.std.specs.Prelude.{Option, None, Some, codes, nat_eq}
@@ -97,7 +97,7 @@ number_sound b bs e =
     let r = run_sound is_digit bs in
     search (rules, length-prefix_len, cond_sound, and_true, ltb-true, eqb-true)
 
--- a prefix of the bytes is extended by the byte that follows it
+-- the prefix of k + 1 bytes is the prefix of k bytes, followed by the next byte
 take_head : (k : ℕ) (bs : List ℕ) (c : ℕ) → 0 < c → head_or_zero (drop k bs) ≡ c →
     (take (suc k) bs ≡ take k bs ++ c ∷ []) × (suc k ≤ length bs)
 take_head zero [] c some e = absurd (omega arith)

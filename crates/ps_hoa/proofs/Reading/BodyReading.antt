@@ -4,7 +4,8 @@
 -- - `target_reads`, `target_fails`, `target_alternates`: a target is parsed, has an error, or is followed by `&`
 -- - `edge_begins`, `bracket_serves`, `int_serves`: an edge begins with `[` or an `INT`, and has a label exactly if it
 --   begins with `[`
--- - `braces_serve`, `no_braces_serve`: the next token is the `{` of acceptance sets, or the edge or state names none
+-- - `braces_serve`, `no_braces_serve`: the next token is the `{` of acceptance sets, or is not `{`, so that the edge or
+--   state names no acceptance set
 -- - `pushed_edge`: the edges of a row after an edge is appended
 use Rattle.std.proofs.Common.{◌⊎◌, ◌++◌, map, ◌≡◌, true, inl, ℕ, List, [], ◌∷◌, Option, Some, Ok, Err, refl, sym, inr}
 use Rattle.std.proofs.Common.{ap, ◌∙◌, rules}

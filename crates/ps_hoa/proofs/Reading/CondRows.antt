@@ -1,4 +1,4 @@
--- The operands of a condition are the values of the entries of its `Vec`.
+-- The operands of an acceptance condition are the abstract values of the entries of the `Vec` that stores them.
 use Rattle.std.proofs.Common.{◌≡◌, List, map, refl, ap, ◌∙◌}
 use Rattle.std.specs.declared.vec.Vec.{Vec}
 use Rattle.std.specs.declared.alloc.Global.{Global}

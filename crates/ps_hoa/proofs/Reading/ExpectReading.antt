@@ -1,11 +1,12 @@
--- Lemmas for the functions that read single tokens, and parts in parentheses.
+-- Lemmas for two kinds of functions: those that read a single token, and those that parse a part in parentheses.
 -- - `Tests test kind`: the given kind is the only one that passes the test
--- - `sign_begins`, `avoids_kind`: the next token begins a text of the grammar of one token; the next token is not in a
---   set
+-- - `sign_begins`, `avoids_kind`: the next token begins a text of the grammar of one token (`sign_begins`), or is not
+--   in a set of tokens (`avoids_kind`)
 -- - `expect_read`, `expect_begins`, `expect_elsewhere`: a next token of the expected kind is parsed, and begins the
---   grammar; one of another kind is not in the set
+--   grammar; a next token of another kind does not pass the test for the expected kind
 -- - `tests_not`, `..`, `tests_string`: only tokens of one kind pass each of these tests
--- - `inner_reads`, `inner_fails`, `inner_stays_open`: the results for a part in parentheses, after its `(`
+-- - `inner_reads`, `inner_fails`, `inner_stays_open`: the results of parsing a part in parentheses, after the `(` was
+--   parsed
 use Rattle.std.proofs.Common.{◌≡◌, ◌≤◌, Bool, true, cond, length, Option, None, Some, Ok, refl, sym, ap, subst, ◌∙◌}
 use Rattle.std.proofs.Common.{inl, rules}
 use Rattle.ps_text.specs.Answers.{Stream, next_of as there_of}

@@ -1,20 +1,22 @@
 -- Lemmas about the ways in which a parsing function of HOA texts can return.
--- - `Serves old P Q`: from `old` on, if P is parsed, so is Q, with the same value; if P stops at an error, Q stops at
---   the same error
--- - `serves_as`, `itself`, `serves_both`: `Serves` follows from the next token; holds for a part and itself; is
---   transitive
+-- - `Serves old P Q`: each result of parsing P from `old` on, be it a value or an error, is also a result of parsing Q
+-- - `serves_as`, `itself`, `serves_both`: `Serves` holds if `Stands` holds for the two parts at the next token; it
+--   holds for a part and itself; it is transitive
 -- - `serves_meets`: a result that meets the contract of P also meets that of Q
 -- - `Leads P old Q now`: if Q, read from `now`, stops at an error, then P, read from `old`, stops at the same error
--- - `here`, `first`: `Leads` holds for a part and itself, and for two parts in a row and the first of them
--- - `behind`: if the first of two parts in a row was parsed, both together lead to what the second part leads to
--- - `under`: a part whose value is mapped leads to the part itself
--- - `instead`: if each result of P is also a result of Q, then Q leads to what P leads to
--- - `exit`: at a `?`: the function returns the error that was found
+-- - `here`, `first`: `Leads` holds for a part and itself; it also holds if P is a sequence of two parts, and Q is the
+--   first of them
+-- - `behind`: if the first of two parts in a row was parsed, an error that stops the second part also stops the two
+--   parts together
+-- - `under`: an error that stops a part also stops the same part with its value mapped
+-- - `instead`: if each result of P is also a result of Q (`Serves`), and `Leads` holds for P and another part, then
+--   `Leads` holds for Q and that part
+-- - `exit`: the exit of a `?`, at which the function returns the error that was found
 -- - `entered`: a token that begins the first of two parts in a row begins both together
 -- - `value_is`: the parsed part has this value
 -- - `Loop item`: the laws of the items of a loop
 -- - `loop_more`, `loop_fails`, `loop_ends`, `loop_shrinks`: the loop goes on after an item, stops at an item with an
---   error, ends; each item leaves fewer tokens
+--   error, or ends; each item leaves fewer tokens
 use Rattle.std.proofs.Common.{arith, ◌≡◌, ◌<◌, length, Option, Result, IsErrAnd}
 use Rattle.ps_text.specs.Answers.{Stream, Found, next_of as there_of}
 use Rattle.ps_text.specs.Parts.{Part, then_by, mapped, many}

@@ -1,7 +1,8 @@
 -- Lemmas for the functions that parse operands with connectives between them: rows of operands, and the forms of an
 -- operand.
 -- - `operand_row`: the hypotheses of the lemmas about rows of operands hold
--- - `leaf_serves`, `too_deep`: an operand that contains no other operand, and an operand that is nested too deep
+-- - `leaf_serves`, `too_deep`: the results for an operand that contains no other operand, and for an operand that is
+--   nested too deep
 -- - `not_reads`, `not_fails`: the results for an operand after `!`
 -- - `paren_reads`, `paren_fails`, `paren_stays_open`: the results for an operand in parentheses
 use Rattle.std.proofs.Common.{◌≡◌, ℕ, zero, suc, ◌-◌, true, false, List, Option, None, Some, is_some, IfSome, refl}
@@ -40,7 +41,7 @@ use Rattle.ps_hoa.proofs.Reading.ExpectReading.{expect_elsewhere, inner_fails, i
 use Rattle.ps_hoa.proofs.Reading.NextSign.{next_there, next_same}
 use Rattle.ps_hoa.proofs.Reading.RowReading.{Row}
 
--- the tokens that can continue what stands on one side of the connective
+-- the tokens that can continue a text on one side of the connective: no token for `&`, and the token `&` for `|`
 abbrev pub Behind : Connective → Sign → Type 0
 Behind connectives.And = Nothing
 Behind connectives.Or = AndMore

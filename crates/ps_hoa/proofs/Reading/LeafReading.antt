@@ -1,7 +1,8 @@
--- Lemmas for the functions that parse the leaves of labels and of acceptance conditions, and sets.
+-- Lemmas for the functions that parse acceptance sets, leaves of labels, and leaves of acceptance conditions.
 -- - `leaf_signs`: a leaf of a label is a single token
--- - `visit_unopened`, `visit_fails`, `visit_stays_open`, `visit_reads`: the results after `Inf` or `Fin`
--- - `constant_serves`: an operand without `Inf` and `Fin` is a constant
+-- - `visit_unopened`, `visit_fails`, `visit_stays_open`, `visit_reads`: the results of parsing what follows `Inf` or
+--   `Fin`
+-- - `constant_serves`: an operand that does not begin with `Inf` or `Fin` is a constant
 -- - `complement_meets`, `set_serves`: a set is parsed, with or without `!` before it
 use Rattle.std.proofs.Common.{◌≡◌, Bool, true, false, [], codes, None, Some, Result, Ok, refl, arith}
 use Rattle.ps_text.specs.Answers.{Stream, signs, next_of as there_of}

@@ -1,7 +1,7 @@
 -- The next token, as the tokenizer sees it and as the grammar sees it.
 -- - `next_there`: unless the text ends here, the tokenizer's next token is the next symbol that the grammar sees
 -- - `next_same`: the next symbol that the grammar sees is the tokenizer's next token
--- - `start_there`: the next token is at the offset at which an error there is reported
+-- - `start_there`: an error at the next token is reported at the offset of this token
 use Rattle.std.proofs.Common.{arith, ◌≡◌, Some}
 use Rattle.ps_text.specs.Answers.{Stream, next_of as next_sign, offset_of}
 use Rattle.ps_text.proofs.Simple.{none_is_some, same_some}

@@ -1,4 +1,5 @@
--- The opening of an HOA text, `HOA:` and the version, and how it determines the text's meaning or first error.
+-- An HOA text opens with `HOA:` and its version. A wrong opening is the text's first error; after a right opening, the
+-- remaining tokens determine the text's meaning or first error.
 use Rattle.std.proofs.Common.{Bool, ◌≡◌, ℕ, ◌+◌, ◌-◌, ◌≤◌, true, false, List, ◌++◌, length, take, drop, ap, sym, subst}
 use Rattle.std.proofs.Common.{◌∙◌, arith, length-drop, rules}
 use Rattle.std.specs.Prelude.{codes, Result}

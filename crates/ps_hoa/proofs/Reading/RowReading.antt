@@ -1,9 +1,10 @@
 -- The loop that parses operands with a connective between them.
 -- - `IsRow sign operand old vs now`: the operands with the values `vs` were parsed from `old` to `now`
 -- - `Row sign operand`: the hypotheses of the lemmas about rows of operands
--- - `first_fails`, `first_alone`: the first operand fails, or is the only operand
+-- - `first_fails`, `first_alone`: the result if the first operand has an error, and the result if it is the only
+--   operand
 -- - `row_starts`, `row_more`, `row_shrinks`: the invariant of the loop holds, and its measure falls
--- - `row_fails`, `row_done`: a later operand fails; the end of the loop
+-- - `row_fails`, `row_done`: the result if a later operand has an error, and the result when the loop ends
 use Rattle.std.proofs.Common.{◌≡◌, ℕ, ◌+◌, ◌<◌, Bool, true, List, [], ◌∷◌, ◌++◌, length, map, refl, sym, ap, subst, ◌∙◌}
 use Rattle.std.proofs.Common.{arith, length-append, rules}
 use Rattle.std.proofs.lemmas.List.{map-append}

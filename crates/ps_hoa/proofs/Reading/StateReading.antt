@@ -4,7 +4,8 @@
 -- - `label_serves`, `no_label_serves`: the state has a label, or has none
 -- - `name_serves`, `no_name_serves`: the state has a name, or has none
 -- - `edges_serve`: parsing further edges of equal rows, after equally many edges, gives equal results
--- - `state_loop`, `edge_loop`, `set_loop`: what the loops over states, edges and sets need
+-- - `state_loop`, `edge_loop`, `set_loop`: the properties of states, edges and sets that the loops over them need
+--   (`Loop`)
 use Rattle.std.proofs.Common.{arith, ◌≡◌, true, false, List, [], Option, None, Some, is_some, refl, sym, ap, ◌∙◌, rules}
 use Rattle.std.specs.Prelude.{codes, ℕ}
 use Rattle.ps_text.specs.Answers.{Stream, next_of as there_of}

@@ -1,4 +1,4 @@
--- The slots of the numbers that `controllable-AP:` lists. Each slot keeps one number.
+-- Each number that `controllable-AP:` lists belongs to a slot, and only one number is kept for each slot.
 -- - `different_kept`: the kept numbers differ from each other
 use Rattle.std.proofs.Common.{◌≡◌, ℕ, false, List, [], ◌∷◌, refl, rules}
 use Rattle.std.specs.Prelude.{nat_eq}

@@ -1,6 +1,6 @@
 -- Properties of the states and edges of a parsed body.
 -- - `edges_within`: after the edges of a state are parsed, its row still belongs to it, and the limit on edges is kept
--- - `keeps_body`: each parsed body has these properties
+-- - `keeps_body`: the states and edges of each parsed body have the properties that this file proves
 use Rattle.std.proofs.Common.{◌≡◌, ℕ, suc, ◌+◌, ◌-◌, ◌<◌, ◌≤◌, ◌⊎◌, false, List, [], ◌∷◌, ◌++◌, length, Option, None}
 use Rattle.std.proofs.Common.{Some, refl, sym, ap, subst, inl, inr, ◌∙◌, arith, length-append, rules}
 use Rattle.std.specs.Option.{IfSome}

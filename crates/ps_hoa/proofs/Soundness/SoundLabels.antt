@@ -42,7 +42,7 @@ abbrev mutual
 pub below : {count p : ℕ} → (count ≤ p → ⊥) → p < count
 below s = omega arith
 
--- a label over earlier aliases is sound if it uses no proposition that does not exist
+-- a label over earlier aliases is sound if all propositions in it exist
 mutual
   pub label_from : (count names : ℕ) (e : Expression) → NamesBelow names e → (SpeaksBeyond count e → ⊥) →
       IsOver names count e

@@ -41,7 +41,8 @@ labels_last : (before : ℕ) (row : RowData) → before + length row.edges < edg
     OfRow before row n g → cause_number Labels ≤ cause_number g
 labels_last before row room n g h = grind arith
 
--- the code's test for too many edges is right: `is_full` if the text has as many edges as allowed, `has_room` if fewer
+-- if the code's test for too many edges is true, the text has as many edges as allowed (`is_full`); if it is false, the
+-- text has fewer (`has_room`)
 module _ (edges : List Edge) {count len : ℕ} (is : count ≡ length edges) (told : len ≡ count) (before : ℕ) where
   is_full : {room : ℕ} → room ≡ 1048576 - before → room ≤ len → edge_limit ≤ before + length (map edge_data edges)
   is_full e h = omega (arith, length-map edges edge_data)

@@ -7,7 +7,7 @@ use Rattle.ps_hoa.proofs.flaws.+speaks_beyond.Given as goal
 abbrev pub decreases-speaks_beyond : goal.decreases-speaks_beyond
 decreases-speaks_beyond l = goal.size-speaks_beyond l
 
--- the condition contains a set that does not exist exactly if one of the remaining operands does
+-- the condition contains a set that does not exist exactly if one of the remaining operands contains such a set
 abbrev pub invariant-loop-operand : goal.invariant-loop-operand
 invariant-loop-operand l =
     SomeSpeaksBeyond l.count (operands_in (expressions (drop l.operand-index l.operand-items))) ↔ SpeaksBeyond l.count
