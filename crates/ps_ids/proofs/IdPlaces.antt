@@ -59,8 +59,8 @@ near_at first ids near far id place is above e =
     let at = is.near_sound (own_place first id) place e in
     (at.0, at.1 ∙ omega arith)
 
--- if an id's index is not its distance from `first`, and the table does not record it, the tree has exactly this index;
--- the tree has none if the number is not an id
+-- if an id's index is not its distance from `first`, and is not in the table, the tree has exactly this index; for a
+-- number that is not an id, the tree has no index
 pub position_by_table : (first : ℕ) (ids near : List ℕ) (far : ℕ → Option ℕ) (id : ℕ) → IsIdTable first ids near far →
     ((first ≤ id) → slice_index near (own_place first id) ≡ 0) → (IsAt ids (own_place first id) id → ⊥) →
     far id ≡ position (is_id id) ids
@@ -88,8 +88,8 @@ some_position p ids = go (position p ids) refl
         ap is_some e ∙ sym (list_any-from_Any p ids (i, get_or ids i 0, at.0, get_or_default_zero ids i _ at.0, at.1))
     go None e = search (rules, some_none, position_at, cases_lt, list_any_none, fails_before_first)
 
--- after a new id is added at the end of the list and its index is recorded, each id's index is still recorded, and no
--- wrong index
+-- after a new id is added at the end of the list and its index is recorded, the index of each id is still recorded, and
+-- no wrong index is recorded
 pub table_push : (first : ℕ) (ids ids' near near' : List ℕ) (old new : ℕ → Option ℕ) (id place : ℕ) →
     IsIdTable first ids near old → place ≡ length ids → KeepsPlace first near near' old new id place →
     (Contains ids id → ⊥) → ids' ≡ ids ++ id ∷ [] → IsIdTable first ids' near' new
