@@ -10,8 +10,8 @@ use Rattle.ps_label.specs.Expression.{more, IsOver, AreOver, AreOverFrom, AreOrd
 use Rattle.ps_label.specs.declared.label.Label.{Label}
 use Rattle.ps_label.specs.Truth.{expressions, truth, all_true, any_true, truths_behind, alias_truths, AreTruths}
 
--- the truth of an expression does not change if the table of the aliases' truths, which has all aliases of the
--- expression, is extended
+-- if a table of the aliases' truths has all aliases of an expression, extending the table does not change the truth of
+-- the expression
 mutual
   pub truth-front : (known more_known : List Bool) (letter : ℕ) (e : Expression) → IsOver (length known) 64 e →
       truth (known ++ more_known) letter e ≡ truth known letter e
