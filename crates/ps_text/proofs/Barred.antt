@@ -5,7 +5,8 @@
 --   parsed
 -- - `fault_barred`: the first fault of P is also the first fault of `barred P Bad`
 -- - `fault_bar`: if P is parsed, and `Bad` states an error at the symbol after the parsed text, this is the first fault
--- - `reads_barred`, `stops_barred`, `stops_bar`: the results of a parsing function in these three cases
+-- - `reads_barred`, `stops_barred`, `stops_bar`: the results of a parsing function if P is parsed and no error of `Bad`
+--   follows, if P has a fault, and if an error of `Bad` follows P
 use Rattle.std.proofs.Common.{◌≡◌, ◌+◌, ◌≤◌, ◌⊎◌, List, [], ◌∷◌, ◌++◌, length, Option, Some, sym, ap, subst, inl}
 use Rattle.std.proofs.Common.{inr, ⊎_elim, ◌∙◌, append_assoc, arith, rules}
 use Rattle.ps_text.specs.Answers.{Begins, Stream, Found, first_of, next_of, offset_of}
@@ -17,7 +18,7 @@ use Rattle.ps_text.proofs.InPlace.{stops_at, read_quiet, quiet_at, fault_begins,
 use Rattle.ps_text.proofs.Joined.{text_begins}
 use Rattle.ps_text.proofs.Exits.{stops_as}
 
--- a symbol for which `Bad` states an error, after a text of P with some value
+-- a symbol for which `Bad` states an error if it follows a text with some value
 abbrev pub Bar : {T V F : Type 0} → (V → T → F → Type 0) → T → Type 0
 Bar {T} {V} {F} Bad t = (v : V) × (f : F) × Bad v t f
 

@@ -1,15 +1,16 @@
 -- What a parsing function may return for a choice between two grammars, and for repeated items (a loop). The module
 -- MeetsLemmas restates each of these lemmas for the contract `Meets`, which maps the value that the function returns.
 -- - `Stands there P Q`: at the next symbol `there`, parsing P has the same result as parsing Q
--- - `left_entered`, `right_entered`: `either` has the result of the alternative that the next symbol begins, or of
---   which it is an error
+-- - `left_entered`, `right_entered`: `either` has the result of one alternative if the next symbol begins this
+--   alternative, or is an error of it
 -- - `left_otherwise`, `right_otherwise`: `either` has the result of one alternative if the next symbol does not begin
 --   the other one, which has no empty text
 -- - `item_entered`: if the next symbol begins an item, `many` has the result of an item followed by `many`
 -- - `reads_as, stops_as_well, meets_as`: if `Stands` holds for P and Q, a result of parsing P is also a result of
 --   parsing Q
--- - `many_ends`, `many_reads`, `many_fails`: `many` ends if no item begins, continues after an item, or fails in one
--- - `times_reads`, `times_fails`: `times` continues after an item, or fails in an item
+-- - `many_ends`, `many_reads`, `many_fails`: `many` ends if no item begins, continues after an item, or stops at an
+--   error of an item
+-- - `times_reads`, `times_fails`: `times` continues after an item, or stops at an error of an item
 -- - `carries_many`, `carries_times`: the invariant `Carries` of a loop over items still holds after an item was parsed
 -- - `reads_shrinks`: parsing a nonempty text leaves fewer unread pieces; their number is the measure by which a loop
 --   ends

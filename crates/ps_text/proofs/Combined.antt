@@ -1,13 +1,14 @@
 -- Combined grammars satisfy the laws (`Laws`), with smaller sets of symbols than the general lemmas give.
--- - `both_within`, `wider_first`, `wider_more`: the union of two sets is within a third set if both are; the sets First
---   and More may be replaced by larger ones
+-- - `both_within`, `wider_first`, `wider_more`: the union of two sets is within a third set if each of the two is; the
+--   sets First and More may be replaced by larger ones
 -- - `laws_first`: the laws of a grammar of one symbol, if a given set has each symbol that is accepted or is an error
 -- - `laws_forms`: a choice between two grammars without an empty text satisfies the laws
 -- - `laws_option`: an optional grammar, whose texts no symbol continues, satisfies the laws
 -- - `laws_all`, `laws_times_all`: any number, or a given number, of items that no symbol continues satisfies the laws
 -- - `laws_last`: a grammar whose texts no symbol continues, after a grammar that may have an empty text, satisfies the
 --   laws
--- - `joint_tight`: two grammars in a row satisfy `Joint`, if no symbol continues a text of the first
+-- - `joint_tight`: if no symbol continues a text of the first of two grammars in a row, it is clear where the second
+--   begins (`Joint`)
 use Rattle.std.proofs.Common.{◌≡◌, ℕ, Option, Some, inl, inr, rules}
 use Rattle.ps_text.specs.Parts.{Part, give, one, then_by, either, times, many}
 use Rattle.ps_text.proofs.Laws.{Laws, Joint, Nothing, Or, Within, Apart, weaker}

@@ -66,8 +66,8 @@ some_sign : {T : Type 0} (front : List T) (t : T) → (u : T) × (first_of (fron
 some_sign [] t = (t, refl)
 some_sign (s ∷ front) t = (s, refl)
 
--- If W has all texts and errors of P, and its other ones are of Q, then W has only texts and errors of P at each symbol
--- with which Q does not begin.
+-- Let W have all texts and errors of P, and apart from these only texts and errors of Q. If Q does not begin with the
+-- next symbol, then W has only the texts and errors of P there.
 covers_one : {T V F : Type 0} {odd : T → Type 0} {P Q : Part T V F} {First More : T → Type 0} {Null : Type 0}
     (W : Part T V F) (l : Laws odd Q First More Null) (there : Option T) → Avoids First there → ((text : List T)
     (v : V) → P.IsText text v → W.IsText text v) → ((front : List T) (t : T) (f : F) → P.IsCause front t f → W.IsCause
@@ -97,8 +97,8 @@ module _ {T V F : Type 0} {odd : T → Type 0} (P Q : Part T V F) {First More : 
   covers_right l there a = covers_one (either P Q) l there a (λ _ _ h. inr h) (λ _ _ _ c. inr c)
       (λ _ _ h. swapped h) (λ _ _ _ c. swapped c)
 
--- if a text of P can be continued to a text of Q, or is followed by an error of Q, then it is empty: P and Q begin with
--- different symbols
+-- a text of P that begins a text of Q, or that an error of Q follows, is empty, because P and Q begin with different
+-- symbols
 module _ {T V F : Type 0} {odd : T → Type 0} {P Q : Part T V F} {F1 M1 F2 M2 : T → Type 0} {N1 N2 : Type 0}
     (l : Laws odd P F1 M1 N1) (r : Laws odd Q F2 M2 N2) (apart : Apart F1 F2) where
   text_across : (text more : List T) (t : T) (v w : V) → P.IsText text v → Q.IsText (text ++ t ∷ more) w → When N1 F2 t

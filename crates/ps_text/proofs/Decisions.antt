@@ -1,12 +1,12 @@
 -- Decision procedures that find the error with the smallest number at a symbol, or show that there is no error.
--- - `Decided A`: a decision whether A holds: a proof of A, or a proof that A does not hold
+-- - `Decided A`: either a proof that A holds, or a proof that A does not hold
 -- - `decide_not`, `decide_as`, `decide_both`, `decide_one`: combinations of decidable facts are decidable
 -- - `decide_true`, `decide_none`: the result of a test, and whether an option is None, are decidable
 -- - `decide_below`, `decide_in`: the order of two numbers, and whether a list has a number, are decidable
--- - `judge_none`, `judge_cause`, `judge_one`, `judge_as`: the error with the smallest number, if there is no error; at
---   most one error; two sets of errors; or an equal set of errors
--- - `judge_if`, `judge_also`: the error with the smallest number, if the errors are those of an optional value, or
---   apply only if a fact holds
+-- - `judge_none`, `judge_cause`, `judge_one`, `judge_as`: the search for the error with the smallest number in a set of
+--   errors that is empty, has at most one error, is the union of two sets, or equals another set
+-- - `judge_if`, `judge_also`: the search for the error with the smallest number, if the errors are those of an optional
+--   value, or if they occur only when a fact holds
 use Rattle.std.proofs.Common.{◌≡◌, ℕ, suc, ◌≤◌, ◌⊎◌, Bool, true, List, [], ◌∷◌, length, get_or, refl, sym}
 use Rattle.std.proofs.Common.{inl, rules, inr, Option, None, Some, arith}
 use Rattle.std.specs.Prelude.{IfSome}

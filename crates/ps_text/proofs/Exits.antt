@@ -13,13 +13,13 @@
 -- - `carries_start`, `carries_then`, `carries_reads`, `carries_stops`: the invariant `Carries` of a parsing loop holds
 --   at the start and after a grammar was parsed; the loop's exits
 --
--- For successive calls, nest `reads_then`; j is the `Joint` of the two grammars that are parsed one after the other
--- (proofs/Laws.antt). In `exits`, s states what the error reports (`Stops`), and c, which is
+-- For successive calls, nest `reads_then`; j is a proof of `Joint` (proofs/Laws.antt) for the two grammars that are
+-- parsed one after the other. In `exits`, s states what the error reports (`Stops`), and c, which is
 -- `c.from_residual.ensures.1`, states that the result is this error. For example, the following calls parse the grammar
 -- `line = then_by number (λ n. mapped (λ _. n) semicolon)`:
 --         let n = number(tokens)?; semicolon(tokens)?; Ok(n)
 --
--- With the joint j of the two grammars, their proof is:
+-- If j proves `Joint` for the two grammars, the proof for these calls is:
 --         returns-in_err-n c = exits found causes view line _ _ _ _
 --             (stops_first causes j _ _ c.in_err-n.ensures) c.from_residual.ensures.1
 --         returns c = reads_then j c.in_ok-n.ensures (reads_mapped _ c.in_ok-semicolon.ensures)
@@ -55,7 +55,7 @@ pub stops_as : {T A B F : Type 0} (causes : Causes T F) (P : Part T A F) (Q : Pa
     IsFault causes Q (signs old.pieces) f rest) → (o : Option (Found F)) → Stops causes P old o → Stops causes Q old o
 stops_as causes P Q old h o s = search rules
 
--- a failed parse of P after some pieces is a failed parse of Q, if each fault of P there is a fault of Q
+-- a failed parse of P after some pieces is a failed parse of Q, if each fault of P after these pieces is a fault of Q
 pub stops_later : {T A B F : Type 0} (causes : Causes T F) (P : Part T A F) (Q : Part T B F) (old mid : Stream T) →
     IsSuffix old mid → ((f : F) (rest : List T) → IsFault causes P (signs mid.pieces) f rest →
     IsFault causes Q (signs old.pieces) f rest) → (o : Option (Found F)) → Stops causes P mid o → Stops causes Q old o

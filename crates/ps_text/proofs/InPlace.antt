@@ -3,12 +3,12 @@
 --   and `NoCauseAt` exactly if this symbol is no error
 -- - `read_quiet`: after a grammar was parsed, the symbol after the parsed text is not an error of the grammar
 -- - `fault_begins`: the symbols before a first fault begin a text of the grammar
--- - `fault_from`: the first fault of P is the first fault of R, if R has no error before it, and no text or error there
---   that P does not have
--- - `Covers there P Q`: Q has all texts and errors of P, and only those that begin with a symbol other than `there`
---   besides
--- - `read_as`, `fault_as`: if `Covers` holds for P and Q, a result of parsing P is one of parsing Q, and so is a first
---   fault
+-- - `fault_from`: the first fault of P is also the first fault of R, if R has no error before it, and if R has no text
+--   or error at this place that P lacks
+-- - `Covers there P Q`: Q has all texts and errors of P; each further text or error of Q begins with a symbol other
+--   than `there`
+-- - `read_as`, `fault_as`: if `Covers` holds for P and Q, each result of parsing P is a result of parsing Q, and the
+--   first fault of P is the first fault of Q
 -- - `after P left`: the remainder of P after the symbols `left`
 -- - `read_after`, `fault_after`: a result of parsing the remainder of P is a result of parsing P, if P has no error in
 --   the symbols before it
@@ -40,7 +40,8 @@ pub read_quiet : {T V F : Type 0} {P : Part T V F} {all rest : List T} {v : V} �
     NoCauseAt P p.text (first_of rest)
 read_quiet {P = P} {rest = rest} p = search (rules, quiet_by, head_of)
 
--- the symbols before the first fault begin a text of the grammar, if the symbols before each of the grammar's errors do
+-- the symbols before the first fault begin a text of the grammar, if the symbols before each error of the grammar begin
+-- a text of it
 pub fault_begins : {T V F : Type 0} {P : Part T V F} {causes : Causes T F} {all rest : List T} {f : F} →
     ((front : List T) (t : T) (f : F) → P.IsCause front t f → Begins P.IsText front) →
     (p : IsFault causes P all f rest) → Begins P.IsText p.front

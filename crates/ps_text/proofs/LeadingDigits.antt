@@ -14,7 +14,8 @@ use Rattle.ps_text.specs.Digits.{decimal_value}
 abbrev pub value_after : ℕ → List ℕ → ℕ
 value_after n digits = number_from_digits_after 10 n (map (λ b. b - 48) digits)
 
--- `value` is the number of the first `digits` digits: extended by the unread digits, it gives the number of all digits
+-- `value` is the number that the first `digits` digits denote: if the unread digits are appended to it, it becomes the
+-- number that all digits denote
 pub record IsReadTo (text : List ℕ) (value digits : ℕ) : Type 0 where
   pub counted : digits + prefix_len is_ascii_digit (drop digits text) ≡ prefix_len is_ascii_digit text
   pub made : value_after value (take_while is_ascii_digit (drop digits text)) ≡ decimal_value

@@ -1,8 +1,8 @@
 -- For each list of symbols, each grammar has an outcome: a text is parsed, or the first fault is found. The proof is by
--- recursion on how the grammar is composed. Only at single symbols is there something to decide: which error has the
--- smallest number (Judged).
--- - `has_give`, `..`, `has_barred`: a grammar made by the combinator `give`, .., `barred` has an outcome for each list
---   of symbols
+-- recursion on how the grammar is composed. Only at a single symbol there is something to decide: which of the symbol's
+-- errors has the smallest number (Judged).
+-- - `has_give`, `..`, `has_barred`: one lemma for each combinator: a grammar that the combinator makes has an outcome
+--   for each list of symbols
 -- - `entered_or_broken`: the next symbol begins a grammar without an empty text, or the grammar rejects the symbol
 -- - `has_refusal`: if the next symbol does not begin the grammar, which has no empty text, the outcome is a fault at
 --   this symbol
@@ -119,8 +119,8 @@ module _ {T F : Type 0} (causes : Causes T F) where
       Avoids (λ t. Enters P (Some t)) there
   avoids P there b t x e = enters_broken P there (subst (Enters P) (sym x) e) b
 
-  -- `either P Q` has an outcome for each list of symbols, if P and Q have, P has no empty text, and both begin with
-  -- different symbols
+  -- `either P Q` has an outcome for each list of symbols, if P and Q have outcomes, P has no empty text, and P and Q
+  -- begin with different symbols
   pub has_either : {V : Type 0} {odd : T → Type 0} {P Q : Part T V F} {F1 M1 F2 M2 : T → Type 0} {N2 : Type 0} →
       Laws odd P F1 M1 ⊥ → Laws odd Q F2 M2 N2 → Apart F1 F2 → HasOutcomes causes P → HasOutcomes causes Q →
       HasOutcomes causes (either P Q)

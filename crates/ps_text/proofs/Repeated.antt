@@ -1,4 +1,5 @@
--- `times` and `many`. No item is empty, and no symbol both continues an item and begins an item.
+-- `times` and `many`. The lemmas about these two combinators assume that no item is empty, and that no symbol both
+-- continues an item and begins an item.
 -- - `laws_times`, `laws_many`: the grammars of repeated items satisfy the laws; their texts begin with symbols of the
 --   item's set First, and continue with those of More or First
 -- - `covers_item`: apart from the empty text, `many` has the texts and errors of an item followed by `many`
@@ -7,8 +8,8 @@
 -- - `read_item`: if an item is parsed, and then `many` is parsed from its end, then `many` is parsed from the item's
 --   start
 --
--- `many` satisfies the laws because `upto n`, the grammar of up to n items, does: each text and each error of `many` is
--- one of `upto n` for some n.
+-- `many` satisfies the laws because `upto n`, the grammar of up to n items, satisfies them: each text and each error of
+-- `many` is one of `upto n` for some n.
 use Rattle.std.proofs.Common.{rules, ◌≡◌, ℕ, zero, suc, ◌+◌, ◌<◌, ◌≤◌, List, [], ◌∷◌, ◌++◌, length, Option, Some, refl}
 use Rattle.std.proofs.Common.{sym, ap, inl, inr, ⊎_elim, arith}
 use Rattle.ps_text.specs.Answers.{first_of}

@@ -1,11 +1,11 @@
--- The combinators `give`, `one` and `mapped`: that they satisfy the laws (`Laws`), when they are parsed, and when they
--- fail. Also the laws of `then_by`.
+-- Grammars made by the combinators `give`, `one` and `mapped`: they satisfy the laws (`Laws`), and the lemmas state
+-- when they are parsed and when they fail. Grammars made by `then_by` satisfy the laws, too.
 -- - `laws_give`, `laws_one`, `laws_mapped`, `laws_then`: a grammar made by each of these combinators satisfies the laws
 -- - `refused`: the fault of a grammar without an empty text, if the next symbol does not begin the grammar
 -- - `read_give`: the grammar `give v` is parsed without taking a symbol
 -- - `taken_byte`: the symbol that is taken for a byte is this byte
--- - `read_one`, `bad_one`, `refused_one`: the result of parsing one symbol that is accepted; that is an error; that is
---   not allowed, or missing because the text ends
+-- - `read_one`, `bad_one`, `refused_one`: the result of parsing one symbol, if the symbol is accepted, if it is an
+--   error, and if it is not allowed or the text ends
 -- - `read_mapped`, `fault_mapped`: if P is parsed, `mapped h P` is parsed; the first fault of P is that of `mapped h P`
 use Rattle.std.proofs.Common.{◌≡◌, ◌≤◌, List, [], ◌∷◌, ◌++◌, Option, None, Some, refl, sym, ap, subst, inl, inr}
 use Rattle.std.proofs.Common.{◌⊎◌, ◌∙◌, ℕ, append_assoc, arith, rules}
@@ -43,7 +43,8 @@ pub single_split : {T : Type 0} (front rest : List T) (t s : T) → front ++ t �
 single_split [] rest t s e = (refl, same_head t s rest [] e, same_tail t s rest [] e)
 single_split (u ∷ front) rest t s e = absurd (nil_is_cons t rest (sym (append_nil_right front (t ∷ rest) cc)))
 
--- if the next symbol does not begin P, which has no empty text, P has a fault at this symbol: that it is not allowed
+-- if the next symbol does not begin P, which has no empty text, P has a fault at this symbol, namely that the symbol is
+-- not allowed
 pub refused : {T V F : Type 0} {odd : T → Type 0} {P : Part T V F} {First More : T → Type 0} →
     Laws odd P First More ⊥ → (causes : Causes T F) (all : List T) →
     ((t : T) → first_of all ≡ Some t → First t → ⊥) → IsFault causes P all (refusal_of causes (first_of all)) all

@@ -1,6 +1,7 @@
--- A list that is split in two ways: the two first halves are equal, or one of them continues where the other ends.
--- - `Compared`, `compared`: two splits of a list compared: the first is at an earlier position, at the same, or at a
---   later one
+-- If a list is split into two parts in two ways, the two first parts are equal, or the longer one begins with the
+-- shorter one.
+-- - `Compared`, `compared`: of two splits of a list, the first is at an earlier position than the second, at the same
+--   position, or at a later one
 -- - `Placed`, `placed`: a symbol of a list that is split in two is in the first half, or after it
 -- - `inside_of`: a symbol at a smaller index than the first half's length is in the first half
 -- - `all_taken_all`: if a list has at most v entries, a fact about its first v entries holds for all of its entries

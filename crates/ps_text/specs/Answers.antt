@@ -1,6 +1,6 @@
 -- The answer to a text, for every format: the meaning of the text, or its first error.
--- - `Piece`, `Stream`: a symbol of a text with its offset; a whole text as a list of such pieces, and the offset of its
---   end
+-- - `Piece`, `Stream`: a piece is a symbol of a text with its offset; a stream is a text as the list of its pieces,
+--   with the offset of its end
 -- - `Begins IsText front`: some text of the grammar begins with the symbols `front`
 -- - `NoneGoesOn IsText front there`: no text begins with `front` and the symbol `there`; if no symbol follows, `front`
 --   is not a text

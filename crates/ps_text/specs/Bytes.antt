@@ -1,6 +1,6 @@
 -- Texts whose symbols are single bytes: their symbols, and the grammars of bytes and of runs of bytes.
 -- - `stream_at at bytes`: a symbol for each byte, as a stream whose first symbol is at the offset `at`
--- - `stream_of text`: the symbols of a text, with a newline added to its last line if that has none
+-- - `stream_of text`: the symbols of a text, with a newline added to the last line if this line has none
 -- - `byte_causes number syntax`: the record `Causes` for a format in which no byte is an error wherever it occurs
 -- - `byte b, word bytes`: the grammars of the single byte b, and of the given bytes in order
 -- - `run p see Bad`: the grammar of the longest run of bytes that pass p, with at least one byte
@@ -80,8 +80,8 @@ pub record IsByteRun {V : Type 0} (p : ℕ → Bool) (see : ℕ → List ℕ →
   pub all : AllOf p (bytes_of text)
   pub value : v ≡ see (first_at text) (bytes_of text)
 
--- `see` computes the value of a run from the run's offset and its bytes. Bad states which errors a run can have; such
--- an error is reported at the run's first byte, whatever follows.
+-- `see` computes the value of a run from the run's offset and its bytes. Bad states which errors a run can have; an
+-- error of a run is reported at the run's first byte, whatever follows the run.
 abbrev pub run : {V C : Type 0} → (ℕ → Bool) → (ℕ → List ℕ → V) → (List ℕ → C → Type 0) → Part Seen V C
 run p see Bad = record { IsText = IsByteRun p see; IsCause = λ front s f. (front ≡ []) × IsBadRun p Bad s f }
 

@@ -1,5 +1,6 @@
 -- A cursor over bytes as clauses see it: the symbols that are still unread.
--- - `next_byte stream, stream_offset stream`: the next byte that is unread; its offset, or the offset of the text's end
+-- - `next_byte stream, stream_offset stream`: the next unread byte; the offset of this byte or, if no byte is unread,
+--   of the text's end
 -- - `IsAhead stream`: each symbol of the stream has, besides its byte, the list of all bytes after it
 -- - `Passes p old new run`: the cursor moved past `run`, the longest run of bytes that pass p, which may be empty
 use Rattle.std.specs.Prelude.{◌≡◌, ℕ, ◌+◌, Bool, true, false, List, [], ◌∷◌, ◌++◌, length, Option, ◌==◌}

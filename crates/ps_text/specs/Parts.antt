@@ -3,8 +3,8 @@
 -- - `Part`: a grammar with its errors: which lists of symbols are texts, which value each has, and which errors a
 --   symbol can have after which symbols
 -- - `Causes`: the numbers of a format's errors, and the errors that come from no single grammar
--- - `IsWrong causes part`: what is an error in a text of a format with this grammar; it is passed to `Answers` as
---   IsCause
+-- - `IsWrong causes part`: the errors that occur in the texts of a format with this grammar; the relation is passed to
+--   `Answers` as IsCause
 -- - `IsRead part all v rest`: the grammar was parsed at the start of `all`, and `rest` is left
 -- - `IsFault causes part all f rest`: the grammar has its first fault in `all`, and `rest` begins there
 --
@@ -38,8 +38,8 @@ pub record Part (T V F : Type 0) : Type 1 where
   pub IsText : List T → V → Type 0
   pub IsCause : List T → T → F → Type 0
 
--- `number` numbers the errors. `own t` is the error that the symbol t is wherever it occurs, if it is one. `syntax` is
--- the error for any other symbol, or for an end of the text, that the grammar does not allow.
+-- `number` numbers the errors. If a symbol t is an error wherever it occurs, `own t` is this error. `syntax` is the
+-- error for any other symbol, or for an end of the text, that the grammar does not allow.
 pub record Causes (T F : Type 0) : Type 0 where
   pub number : F → ℕ
   pub own : T → Option F
@@ -50,8 +50,8 @@ abbrev pub refusal_of : {T F : Type 0} → Causes T F → Option T → F
 refusal_of causes None = causes.syntax
 refusal_of causes (Some t) = unwrap_or (causes.own t) causes.syntax
 
--- After the symbols `front`, f is an error at the next symbol or at the end. It is stated by IsCause, or it is the
--- error that the symbol is wherever it occurs, or that it is not allowed.
+-- After the symbols `front`, f is an error at the next symbol or at the end. IsCause states f, or the symbol is the
+-- error f wherever it occurs, or f is the error that the symbol or the end is not allowed.
 pub data IsWrong {T V F : Type 0} (causes : Causes T F) (part : Part T V F) (front : List T) (there : Option T)
     (f : F) : Type 0 where
   by_part : (t : T) → there ≡ Some t → part.IsCause front t f → IsWrong causes part front there f
@@ -118,14 +118,14 @@ pub record IsFault {T V F : Type 0} (causes : Causes T F) (part : Part T V F) (a
 abbrev pub give : {T V F : Type 0} → V → Part T V F
 give v = record { IsText = λ text x. (text ≡ []) × (x ≡ v); IsCause = λ _ _ _. ⊥ }
 
--- a symbol can have an error that `Bad` states whether `take` accepts the symbol or not
+-- `Bad` can state an error for every symbol, also for a symbol that `take` accepts
 abbrev pub one : {T V F : Type 0} → (T → Option V) → (T → F → Type 0) → Part T V F
 one {T} take Bad = record {
   IsText = λ text v. (t : T) × (text ≡ t ∷ []) × (take t ≡ Some v);
   IsCause = λ front t f. (front ≡ []) × Bad t f;
 }
 
--- the argument of `one` by which no symbol has an error
+-- as the argument `Bad` of `one`: no symbol has an error
 abbrev pub NoBad : {T F : Type 0} → T → F → Type 0
 NoBad _ _ = ⊥
 

@@ -55,8 +55,8 @@ abbrev pub Meets : {T V F X E : Type 0} → (E → Option (Found F)) → Causes 
 Meets found causes view part old (Ok x) new = Reads part old (view x) new
 Meets found causes view part old (Err e) new = Stops causes part old (found e)
 
--- Ok with the value of the text that was parsed, or Err with the first fault of the grammar, or with None if the
--- program is out of memory
+-- the result is Ok with the value of the text that was parsed, Err with the first fault of the grammar, or Err with
+-- None if the program is out of memory
 abbrev pub Parses : {T V F : Type 0} → Causes T F → Part T V F → Stream T → Result V (Option (Found F)) →
     Stream T → Type 0
 Parses causes part old (Ok v) new = Reads part old v new

@@ -1,12 +1,12 @@
--- Grammars over bytes that satisfy the laws (`Laws`) and have an outcome for each list of symbols; how combinators keep
--- both.
--- - `Lawful number syntax part First More Null`: the grammar satisfies the laws with these sets, and has an outcome for
---   each list of symbols
+-- Grammars over bytes that satisfy the laws (`Laws`) and have an outcome for each list of symbols. Combinators make
+-- such grammars of such grammars.
+-- - `Lawful number syntax part First More Null`: the grammar satisfies the laws with the sets First and More and the
+--   condition Null, and has an outcome for each list of symbols
 -- - `Chain number syntax P Q First More Null`: the grammars P and Q in a row satisfy `Joint`, and `then_by P Q`
 --   satisfies `Lawful`
 -- - `larger`: `Lawful` still holds with larger sets of symbols
--- - `chained`, `next`, `tight`: `Chain` for any two grammars; for two without an empty text; if no symbol continues a
---   text of the first
+-- - `chained`, `next`, `tight`: `Chain` holds for any two grammars, for two grammars without an empty text, and for two
+--   grammars where no symbol continues a text of the first
 -- - `given`, `mapped_by`, `either_of`, `or_nothing`, `many_by`, `many_of`, `one_sign`, `run_by`: `Lawful` holds for
 --   grammars made by the other combinators
 -- - `byte_of`, `word_of`, `chain_word`: `Lawful` holds for the grammars of a byte and of a word

@@ -2,9 +2,10 @@
 -- - `Left number syntax whole start left now`: each result of parsing the grammar `left` from `now` is a result of
 --   parsing `whole` from `start`
 -- - `unread`, `past`: at the start, the whole grammar is still to be parsed; after the first of two grammars was
---   parsed, the second one
+--   parsed, the second one is still to be parsed
 -- - `stops_at`, `exits_at`: the next grammar fails, and its error is returned
--- - `stops_last`, `exits_last`, `reads_last`: the results if one grammar is left, to whose value a function is applied
+-- - `stops_last`, `exits_last`, `reads_last`: the results if only one grammar is left, and a function is applied to its
+--   value
 -- - `branch`: if the next symbol decides for one of several alternatives, only this alternative is left
 -- - `word_left`, `word_read`: a word is parsed byte by byte
 use Rattle.std.proofs.Common.{◌≡◌, ℕ, ◌+◌, ◌<◌, ◌≤◌, List, ◌∷◌, length, get_or, drop, Option, Result, Ok, Err, IsErrAnd}

@@ -1,4 +1,5 @@
--- Grammars of runs of bytes: that they satisfy the laws (`Laws`), when they are parsed, and when they fail.
+-- Grammars of runs of bytes satisfy the laws (`Laws`). A run without an error is parsed; a run with an error, or
+-- without any byte, is a fault.
 -- - `laws_run`: a run begins and continues with bytes that pass
 -- - `bad_is`: an error that the grammar has at the first symbol of a run is an error of this whole run
 -- - `run_read`: a run without an error is parsed, if the byte after it does not pass the test

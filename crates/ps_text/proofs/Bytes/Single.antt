@@ -1,11 +1,11 @@
--- Grammars of single bytes: that they satisfy the laws (`Laws`) and have outcomes, when they are parsed, and when they
--- fail.
--- - `Odd`: the empty set of symbols, as no byte is an error wherever it occurs
--- - `At b, Any`: the symbols with the byte b; all symbols
--- - `stops_here`: the result of parsing, if the next symbol does not begin the grammar
+-- The grammar of a single byte satisfies the laws (`Laws`), and has an outcome for each list of symbols. It is parsed
+-- if the byte is the next one; otherwise it fails.
+-- - `Odd`: the symbols that are errors wherever they occur; for texts of bytes, this set is empty
+-- - `At b, Any`: the set of the symbols with the byte b, and the set of all symbols
+-- - `stops_here`: if the next symbol does not begin the grammar, parsing stops at this symbol with the error `syntax`
 -- - `byte_reads`, `byte_stops`: the result of parsing the grammar of a byte, if the next byte is this byte, and if it
 --   is not
--- - `avoids`, `enters_byte`: the grammar of a byte begins at the next symbol exactly if this has the byte
+-- - `avoids`, `enters_byte`: the grammar of a byte begins at the next symbol exactly if this symbol has the byte
 -- - `refuted`: if a test fails, a statement that implies the test is false
 use Rattle.std.proofs.Common.{◌≡◌, ℕ, Bool, true, false, cond, [], Option, Some, None, refl, sym, ap, subst, ◌∙◌, rules}
 use Rattle.std.specs.Option.{option_map}
