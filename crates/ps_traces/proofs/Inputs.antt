@@ -1,4 +1,5 @@
--- When a circuit reads a stem and then a lap again and again, its latch values recur.
+-- When a circuit reads a lasso of input letters, that is, a stem and then a lap that repeats for ever, its latch values
+-- recur.
 use Rattle.std.proofs.Common.{◌≡◌, ℕ, zero, suc, ◌^◌, ◌<◌, Bool, List, [], ◌++◌, length, refl, arith, rules}
 use Rattle.std.proofs.Math.Nat.{mul-le-mul_right}
 use Rattle.std.proofs.lemmas.List.{length-map, map-append}
@@ -24,7 +25,8 @@ module _ (c : CircuitData) (one : HasOneValues c) (stem lap : List (List Bool)) 
   lap_run : (h : Held) → Run c h.bits lap
   lap_run h = run c one h.bits lap h.held lap_wide
 
-  -- the latch values after the circuit read the stem and a given number of laps
+  -- the latch values after the circuit read the stem of a lasso, and then its repeated part (the lap) a given number of
+  -- times
   abbrev behind : ℕ → Held
   behind zero = record { bits = stem_run.last; held = stem_run.wide }
   behind (suc laps) = record { bits = (lap_run (behind laps)).last; held = (lap_run (behind laps)).wide }

@@ -46,8 +46,8 @@ bit_of_sum (suc p) x y h =
     let rest = bit_of_sum p (x / 2) (y / 2) (rest_apart x y h) in
     rw (bit_at-suc (x + y) p, bit_at-suc x p, bit_at-suc y p, half) rest
 
--- if no bit is set in both of two numbers, and a bit is not set in one of them, their sum has this bit of the other
--- number
+-- let no bit be set in both of two numbers; if one of the numbers lacks a bit, their sum has this bit exactly if the
+-- other number has it
 pub in_sum_left : (p x y : ℕ) → AreApart x y → is_in p y ≡ false → is_in p (x + y) ≡ is_in p x
 in_sum_left p x y h off = grind (arith, bit_at-lt y p, bit_of_sum p x y h)
 

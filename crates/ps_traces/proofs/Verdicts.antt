@@ -1,7 +1,7 @@
--- There is a verdict on each stimulus, which is a stem and a lap of input letters: whether an automaton accepts the
--- circuit's trace on it. The circuit has the inputs and outputs of its role. The circuit reads laps until its latch
--- values recur. When the letters between two occurrences of the same latch values are repeated, the automaton's states
--- recur.
+-- A stimulus is a lasso of input letters: a stem, and a lap that repeats for ever. There is a verdict on each stimulus:
+-- an automaton accepts the circuit's trace on the stimulus, or does not accept it. The circuit has the inputs and
+-- outputs of its role. The circuit reads the lap again and again, until its latch values recur. When the letters
+-- between two occurrences of the same latch values are repeated, the automaton's states recur.
 use Rattle.std.proofs.Common.{◌≡◌, ◌∙◌, ℕ, zero, suc, ◌+◌, ◌-◌, ◌*◌, ◌^◌, ◌<◌, ◌≤◌, ◌⊎◌, ◌↔◌, inl, inr, Bool, List, []}
 use Rattle.std.proofs.Common.{◌∷◌, ◌++◌, length, get_or, take, drop, IsTrue, Some, refl, sym, ap, arith, length-drop}
 use Rattle.std.proofs.Common.{rules, ◌≢◌}

@@ -160,7 +160,7 @@ module _ (m : Behaviour) (is : IsMachine m) where
       whole_size : length (stem ++ lap) ≡ length moments
       whole_size = length_letters m.names c moments (stem ++ lap) are_letters
 
-      -- the machine's memory state is the same after the stem and after the lap
+      -- after the stem of a lasso, and after its repeated part (the lap), the machine has the same memory state
       returns : memory_at (length stem) ≡ memory_at (length (stem ++ lap))
       returns =
           let here : get_or (latches_along moments word.trace.back) (length word.stem_moments) [] ≡ word.trace.back =

@@ -1,7 +1,9 @@
 -- Every periodic input of a circuit, which is a stem and then a lap for ever, extends to a lasso trace of the circuit.
 -- - `inputs_of moments`: the inputs of each step
--- - `GoesOnInLasso c stem lap`: a lasso trace reads the stem and some laps, and then repeats some laps
--- - `EachInputGoesOn c`: each stem and non-empty lap of letters with one bit for each input extends to a lasso trace
+-- - `GoesOnInLasso c stem lap`: some lasso trace first reads the stem and one or more repetitions of the lap, and then
+--   repeats one or more repetitions of the lap for ever
+-- - `EachInputGoesOn c`: each stem, with a non-empty lap that repeats after it, extends to a lasso trace, if each
+--   letter has one bit for each input
 use Rattle.std.specs.Prelude.{◌≡◌, ℕ, ◌<◌, Bool, List, ◌++◌, length, map, All}
 use Rattle.ps_circuit.specs.Circuits.{CircuitData}
 use Rattle.ps_circuit.specs.Values.{Moment}

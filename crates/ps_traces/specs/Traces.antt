@@ -1,5 +1,6 @@
 -- Lasso traces of a circuit, which return to earlier values of the latches, and their words.
--- - `IsLassoTrace c stem lap`: a trace of the stem and then the lap, with the same latches before and after the lap
+-- - `IsLassoTrace c stem lap`: the stem and then the lap, the part that repeats, are a trace; the latches are the same
+--   before and after the lap
 -- - `IsLassoWord names c stem lap`: the lists of letters `stem` and `lap` are the word of a lasso trace of the circuit
 -- - `AllAccepted file c, NoneAccepted file c`: the automaton accepts each lasso word of the circuit, or none
 use Rattle.std.specs.Prelude.{ℕ, ◌<◌, Bool, List, length}

@@ -52,8 +52,9 @@ pub fn every_trace_has_letters()
         HasSymbols role file.names file.controllable c → HasLetters file.names c moments }
 {}
 
-/// There is a verdict on each stem and non-empty lap whose letters have one bit for each input, for a file that was
-/// parsed and that psyn admits, and a circuit of a role.
+/// There is a verdict on each stimulus: a stem, and a non-empty lap that repeats, of letters with one bit for each
+/// input. The law is about files that were parsed and that psyn admits, and about circuits with the inputs and outputs
+/// of a role.
 pub fn verdict_is_there()
     ensures { (role : Role) (file : FileData) (c : CircuitData) (stem lap : List (List Bool)) → IsSoundFile file →
         IsAdmitted file → IsCircuit c →
@@ -66,7 +67,7 @@ pub fn verdict_is_there()
 
 /// The outputs of a circuit are called in time if its player moves second, or if they depend only on the latches.
 /// Outputs that are in time at all latch values are in time at the latch values that traces reach. The laws about joint
-/// traces require no more.
+/// traces require only that outputs are in time at latch values that traces reach.
 pub fn in_time_where_reached()
     ensures { (order : Order) (role : Role) (c : CircuitData) → IsInTime order role c →
         IsInTimeWhereReached order role c }
@@ -146,8 +147,7 @@ pub fn certified_circuit_answers()
     circuit_has_one_values();
 }
 
-/// The same as `certified_circuit_answers`, but for the game of a file, whichever automaton of the file the game is
-/// made from.
+/// The law states what `certified_circuit_answers` states, but for a game that is made from any automaton of the file.
 pub fn certified_circuit_of_file_answers()
     ensures { (order : Order) (file : FileData) (game : NamedGameData) (is_game : IsGameOfFile order file game)
         (certificate : CertificateData) (m : Behaviour) (c : CircuitData) → Fits game.game certificate →
