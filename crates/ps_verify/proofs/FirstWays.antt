@@ -1,8 +1,8 @@
 -- Paths from vertex 0, found from a table that has, for each vertex, the first vertex with an edge to it.
--- - `lowered_none`, `lowered_here`, `lowered_kept`: `HasLowered` holds before a successor of the vertex is handled, and
---   still holds after one more is handled
--- - `firsts_none`, `firsts_more`: `AreFirsts` holds before a vertex is handled, and still holds after one more is
---   handled
+-- - `lowered_none`, `lowered_here`, `lowered_kept`: `HasLowered` holds before any successor of the vertex is handled,
+--   and still holds after each further successor is handled
+-- - `firsts_none`, `firsts_more`: `AreFirsts` holds before any vertex is handled, and still holds after each further
+--   vertex is handled
 -- - `fall`: the entry of each vertex except 0 in the table is an earlier vertex
 -- - `way_is`: if each vertex of a list is the table's entry of the vertex after it, the list is a path
 use Rattle.std.proofs.Common.{◌≡◌, ℕ, ◌+◌, ◌-◌, ◌<◌, ◌≤◌, ◌⊎◌, inl, inr, List, length, get_or, set, refl, sym}

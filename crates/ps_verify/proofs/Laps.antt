@@ -1,9 +1,10 @@
--- A lasso trace closes a cycle of the product: some repetitions of the lap lead from a vertex back to it.
--- - `reached`: the vertex of the product that the trace reaches after the stem and some laps
--- - `laps_fall`: a vertex's count for a priority does not rise along laps, and falls if it is the greatest priority on
---   the laps
--- - `loop`: some laps lead from a vertex back to it, and no counts for the greatest priority on these laps satisfy the
---   rules of a certificate
+-- A lasso trace closes a cycle of the product: some repetitions of its repeated part (laps) lead from a vertex back to
+-- it.
+-- - `reached`: the vertex of the product that a lasso trace reaches after its stem and a given number of laps
+-- - `laps_fall`: along laps of a lasso trace, a vertex's count for a priority does not rise, and it falls if this is
+--   the greatest priority on these laps
+-- - `loop`: some laps of a lasso trace lead from a vertex back to it; no counts (no progress measure) for the greatest
+--   priority on these laps of the lasso satisfy the rules of a certificate
 use Rattle.std.proofs.Common.{◌≡◌, ℕ, zero, suc, ◌+◌, ◌-◌, ◌<◌, ◌≤◌, inr, max, Bool, List, length, refl, sym}
 use Rattle.std.proofs.Common.{ap, subst, ◌∙◌, arith, Some, add-zero}
 use Rattle.std.specs.Prelude.{slice_get}
@@ -56,17 +57,20 @@ module _ {owner : ℕ} {names : List (List ℕ)} {auto : Auto} {c : CircuitData}
         state = to.state ∙ ap (λ q. state_behind auto q lap) here.state;
       }
 
-  -- the greatest priority of the automaton's edges that are taken in `laps` laps, after `from` earlier laps
+  -- the greatest priority of the automaton's edges that are taken in `laps` laps (repetitions of the lasso's repeated
+  -- part), after `from` earlier laps
   abbrev greatest_behind : ℕ → ℕ → ℕ
   greatest_behind from laps = greatest_of_laps auto (state_after auto start lap from) lap laps
 
-  -- with one more lap, the greatest priority is the maximum of that on the earlier laps and that on the new lap
+  -- with one more lap (repetition of the lasso's repeated part), the greatest priority is the maximum of two: the
+  -- greatest priority on the earlier laps, and the greatest on the new lap
   greatest_more : (from laps : ℕ) → greatest_behind from (suc laps) ≡ max (greatest_behind from laps)
       (greatest_along auto (reached (from + laps)).vertex.state lap)
   greatest_more from laps = ap (λ q. max (greatest_behind from laps) (greatest_along auto q lap))
       (sym (laps_together auto start lap from laps) ∙ sym (reached (from + laps)).state)
 
-  -- the priority of the product's vertex after the laps is at most the greatest priority on the laps
+  -- the product's vertex after one or more laps of the lasso has at most the greatest priority that occurs on these
+  -- laps
   entered : (from laps : ℕ) → (reached (from + suc laps)).vertex.priority ≤ greatest_behind from (suc laps)
   entered from laps = rw add-suc ((lap_from (from + laps) (reached (from + laps))).entered
       (greatest_behind from (suc laps)) (omega (arith, greatest_more from laps)) (inr some))
@@ -106,13 +110,14 @@ module _ {owner : ℕ} {names : List (List ℕ)} {auto : Auto} {c : CircuitData}
           );
         })
 
-  -- one or more repetitions of the lap lead from a vertex back to it
+  -- one or more repetitions of the lasso's repeated part (the lap) lead from a vertex back to it
   pub record Loop : Type 0 where
     pub before : ℕ
     pub laps : ℕ
     pub some_laps : 0 < laps
     pub returns : state_after auto start lap (before + laps) ≡ state_after auto start lap before
-    -- no counts (no progress measure) for the greatest priority on these laps satisfy the rules of a certificate
+    -- no counts (no progress measure) for the greatest priority on these laps of the lasso satisfy the rules of a
+    -- certificate
     pub none : HasCounts p.game (greatest_of_laps auto (state_after auto start lap before) lap laps) → ⊥
 
   module _ (before more : ℕ) (same : (reached (before + suc more)).place ≡ (reached before).place) where

@@ -1,7 +1,7 @@
 -- If the circuit reads the lap of a stimulus along a cycle of the product, and the circuit's player loses a play that
 -- repeats this cycle, the stimulus is a counterexample.
--- - `losing`: a stimulus is a counterexample, if its stem is read on a path to a cycle that the circuit's player loses,
---   and its lap along the cycle
+-- - `losing`: a stimulus is a counterexample, if the circuit reads its stem on a path to a cycle that the circuit's
+--   player loses, and its lap, the part that repeats, along this cycle
 use Rattle.std.proofs.Common.{◌≡◌, ℕ, ◌%◌, ◌<◌, ◌↔◌, max, Bool, IsTrue, List, []}
 use Rattle.std.proofs.Common.{◌∷◌, ◌++◌, length, map, get_or, Some, refl, ap, subst, ◌∙◌}
 use Rattle.std.proofs.Common.{arith}

@@ -1,5 +1,5 @@
--- A circuit either wins or loses, but not both: from a stimulus with the wrong verdict, a word of a lasso trace follows
--- which the automaton wrongly accepts or rejects.
+-- A circuit either wins or loses, but not both: a stimulus with the wrong verdict gives a lasso trace whose word the
+-- automaton wrongly accepts or rejects.
 -- - `parted`: a trace and its letters can be divided at an index
 -- - `apart`: a circuit does not both win and lose
 -- - `wins`: a circuit wins if no stimulus is a counterexample

@@ -2,7 +2,8 @@
 -- reads.
 -- - `Follows`: along a path of the product, the steps of the circuit (`moments`) from the latches of the path's first
 --   vertex, and their letters
--- - `follow`: if the edges of a path read the given inputs, such steps and letters exist
+-- - `follow`: if the circuit reads the given inputs along the edges of a path, there are steps and letters for which
+--   `Follows` holds
 use Rattle.std.proofs.Common.{rules, ◌≡◌, ℕ, suc, ◌+◌, ◌<◌, Bool, List, [], ◌∷◌, length, map, get_or, refl}
 use Rattle.std.proofs.Common.{arith, Some}
 use Rattle.std.specs.Prelude.{slice_get}

@@ -37,8 +37,8 @@ module _ (role : Role) {file : FileData} {chain : Chain} {auto : Auto} {c : Circ
     (is_chain : chain_of file.condition ≡ Some chain) (is_auto : IsAutoOf file chain auto)
     (product : IsProductOf (other_player (asked_of role)) file.names auto c p)
     (wins : WinsLoops p.game (asked_of role)) where
-  -- the greatest priority on the repeated laps has the parity by which the circuit's player wins, and decides whether
-  -- the word is accepted
+  -- the greatest priority on the part of the lasso that repeats has the parity by which the circuit's player wins, and
+  -- decides whether the word is accepted
   record IsDecided (stem lap : List ℕ) : Type 0 where
     top : ℕ
     won : top % 2 ≢ other_player (asked_of role)

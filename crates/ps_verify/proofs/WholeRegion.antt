@@ -1,5 +1,5 @@
--- If the player owns no vertex, counts for the region of all vertices are counts for the game, and a cycle that the
--- player loses in this region is one of the game.
+-- Let the player own no vertex of a game. Counts (a progress measure) for the region of all vertices are then counts
+-- for the game, and a cycle that the player loses in this region is a cycle of the game.
 -- - `wins_loops`: for each priority of the opponent's parity, there are counts that satisfy the rules of a certificate
 -- - `lost_round`: a lost cycle of the region, followed by its first vertex, is a path of the game, and its greatest
 --   priority has the opponent's parity

@@ -1,6 +1,7 @@
 -- Whether a circuit wins follows from which of its words are accepted.
 -- - `refuted`: if a word has the wrong verdict, the inputs that its trace reads are a counterexample
--- - `winning_by`: a controller wins if all its words are accepted, an environment if none is
+-- - `winning_by`: a controller's circuit wins if all words of its lasso traces are accepted; an environment's circuit
+--   wins if none of them is accepted
 use Rattle.std.proofs.Common.{◌≡◌, ℕ, zero, suc, ◌+◌, ◌*◌, ◌<◌, ◌↔◌, Bool, IsTrue, List, [], ◌∷◌, ◌++◌, length}
 use Rattle.std.proofs.Common.{get_or}
 use Rattle.std.proofs.Common.{take_at, refl, sym, ap, subst, ◌∙◌, arith}

@@ -1,6 +1,6 @@
 -- What it means that a circuit wins for an automaton, as controller or as environment, and what a counterexample is.
--- - `IsWinning order role file c`: the automaton accepts all lasso traces of the circuit of a controller, or none of an
---   environment's circuit
+-- - `IsWinning order role file c`: the automaton accepts all lasso traces of a controller's circuit, or no lasso trace
+--   of an environment's circuit
 -- - `IsLosing order role file c s`: the automaton rejects the trace of a controller's circuit on the stimulus s, or
 --   accepts that of an environment's circuit
 -- - `IsJudgement order role file c judgement`: the judgement is right: the circuit wins, or the judgement's stimulus is

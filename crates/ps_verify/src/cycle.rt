@@ -32,7 +32,7 @@ pub(crate) fn lost_cycle(
     }
 }
 
-/// The same cycle, rotated so that it begins with its smallest vertex.
+/// The given cycle, rotated so that it begins with its smallest vertex.
 fn turned(mut cycle: Vec<usize>) -> Vec<usize>
     requires { 0 < length cycle.items }
     ensures { IsTurned cycle.items result.items }

@@ -2,7 +2,7 @@
 
 use ps_simulate::Stimulus;
 
-/// Whether a circuit wins: the automaton accepts each lasso trace of a controller, or none of an environment.
+/// Whether a circuit wins: the automaton accepts each lasso trace of a controller, or no lasso trace of an environment.
 #[derive(Debug, Drop)]
 pub enum Judgement {
     /// The circuit wins: the automaton accepts all of its lasso traces, if it is a controller, or none, if it is an

@@ -1,5 +1,5 @@
-//! Decides whether an automaton accepts each lasso trace of a controller, or none of an environment; if not, gives a
-//! counterexample.
+//! Decides whether an automaton accepts each lasso trace of a controller, or no lasso trace of an environment; if not,
+//! gives a counterexample.
 //!
 //! [`verified`] uses no solver. The call builds the product of the circuit and the automaton, in which all vertices
 //! belong to the opponent of the circuit's player, and looks for a cycle that the circuit's player loses.

@@ -1,8 +1,8 @@
 -- The inputs that the circuit reads along paths of the product of a circuit and an automaton.
 -- - `ReadsEdge p v w inputs`: in a step along the edge from v to w, the circuit reads these inputs
 -- - `ReadsPath p path letters`: the letters are the inputs of steps along the path, one for each edge
--- - `IsToldOf player p judgement`: either `Wins`, and the player wins all loops of the product; or a stimulus that the
---   circuit reads on a path to a lost cycle, and along it
+-- - `IsToldOf player p judgement`: the judgement is `Wins`, and the player wins all loops of the product; or the
+--   circuit reads the stem of the judgement's stimulus on a path to a lost cycle, and the lap along this cycle
 use Rattle.std.specs.Prelude.{◌≡◌, ℕ, ◌+◌, ◌<◌, Bool, List, [], length, slice_get, slice_index, slice_index_or, Some}
 use Rattle.ps_game.specs.Games.{successors_of}
 use Rattle.ps_product.specs.Products.{ProductData, inputs_at}
@@ -22,7 +22,8 @@ pub record ReadsPath (p : ProductData) (path : List ℕ) (letters : List (List B
   pub each : (k : ℕ) → k < length letters → ReadsEdge p (slice_index path k) (slice_index path (k + 1))
       (slice_index_or letters k [])
 
--- the circuit reads the stem on a path to a cycle of the product that the player loses, and the lap along the cycle
+-- the circuit reads the stem of a lasso on a path to a cycle of the product that the player loses, and the lap, the
+-- part that repeats, along this cycle
 pub record ReadsRound (player : ℕ) (p : ProductData) (s : StimulusData) : Type 0 where
   pub cycle : List ℕ
   pub lost : IsLostRound p.game player cycle
