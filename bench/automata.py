@@ -3,16 +3,16 @@
 
   bench/automata.py [--program PROGRAM]
 
-psyn has no command that only builds an automaton. So a program of a few lines (SOURCE) is built in a temporary folder,
-on copies of the crates with the libraries that earlier checks left in their folders out/. The program reads an HOA
-text, builds its automaton, and prints the state after one step, or the fault. --program names a program that was built
-before. Texts of 4,096 to 65,535 states with 16 edges each are made in these ways:
+psyn has no command that only builds an automaton. So the script builds a program of a few lines (SOURCE) in a temporary
+folder. The program uses copies of the crates, with the libraries that earlier checks built in the crates' folders out/.
+The program reads an HOA text, builds its automaton, and prints the state after one step, or the fault. --program names
+a program that was built before. Texts of 4,096 to 65,535 states with 16 edges each are made in these ways:
     implicit   an edge for each letter over 4 propositions
     labels     the same edges with labels; each label is an alias for one letter
     colours    the same, and each edge is in up to three of the 32 sets of a chain condition
     overlap    as labels, but the last two edges of the last state share a letter (fault 21)
-For each run the time is printed, and its growth divided by the growth of the states (1.00 is proportional).
-"""
+For each run, the script prints the time, and the growth of the time divided by the growth of the number of states
+(1.00: the time is proportional to the states). """
 import os
 import shutil
 import subprocess

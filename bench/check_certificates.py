@@ -5,17 +5,16 @@
 
 PSYN is the built program. A line is printed for each size; the number of edges doubles from at least --least (10000) to
 --most (1000000). A line has the family, the vertices, the edges, the bytes of input, the least time of --runs (3) runs,
-and this time divided by that of the line before (2.0 is proportional). With --yardstick, `PROGRAM check GAME
-CERTIFICATE` also runs on each game, in turn with psyn, and the last column is psyn's time divided by the time of
-PROGRAM.
+and this time divided by the time of the line before (2.0: the time is proportional to the edges). With --yardstick,
+`PROGRAM check GAME CERTIFICATE` also runs on each game, in turn with psyn, and the last column is psyn's time divided
+by the time of PROGRAM.
 
 How the games are made: each player wins half of the vertices, and each half is divided into layers. The winner's move
 and the opponent's edges lead from a vertex to a lower layer of the same half or, from layer 0, to anywhere in this
-half. The vertices of layer 0 have the winner's greatest priority. So the count of a vertex is the number of its layer
-for each opposing priority from the vertex's own up to this greatest one, and otherwise 0. A vertex that belongs to its
-winner has further edges, which may lead anywhere. The priorities of the other layers are random, and each priority
-below the two greatest ones occurs.
-"""
+half. The vertices of layer 0 have the winner's greatest priority. So the counts of a vertex are as follows: for each
+opposing priority from the vertex's own priority up to the winner's greatest one, the number of its layer; for every
+other opposing priority, 0. A vertex that belongs to its winner has further edges, which may lead anywhere. The
+priorities of the other layers are random, and each priority below the two greatest ones occurs. """
 import argparse
 import os
 import random

@@ -4,8 +4,8 @@
   bench/circuit_texts.py PROGRAM [ARGUMENTS..]
 
 Makes circuits of 10^5 to 10^6 gates, of two families, and runs `sim` of the built psyn on each circuit with an empty
-stimulus, so that psyn reads the circuit and prints nothing. For each run the time is printed, and its growth divided by
-the growth of the gates (1.00 is proportional).
+stimulus, so that psyn reads the circuit and prints nothing. For each run, the script prints the time, and the growth of
+the time divided by the growth of the number of gates (1.00: the time is proportional to the gates).
     chain      each gate reads the gate on the next line, so that each line comes before the line that it depends on
     drawn      each gate reads two random variables of smaller number, and the lines are shuffled
 """

@@ -4,23 +4,23 @@ that lead to the same diagram of the rest.
 
   bench/diagrams.py [--runs N] [--program PROGRAM] [--labels] [COUNT..]
 
-The program bench/diagrams is built in a temporary folder, on copies of the crates with the libraries that earlier
-checks left in their folders out/; --program names a program that was built before. bench/union.c is compiled with the
-package libbdd-dev; if that fails, there is no comparison with BuDDy. Both programs join COUNT cubes (10000, 20000,
-40000, 80000) over 24 propositions: recursively one half of the cubes, then the other half, and then the two unions.
+The script builds the program bench/diagrams in a temporary folder. The program uses copies of the crates, with the
+libraries that earlier checks built in the crates' folders out/. --program names a program that was built before.
+bench/union.c is compiled with the package libbdd-dev; if that fails, there is no comparison with BuDDy. Both programs
+join COUNT cubes (10000, 20000, 40000, 80000) over 24 propositions: recursively one half of the cubes, then the other
+half, and then the two unions.
 
 A line for each count has psyn's and BuDDy's least time of --runs (3) runs in milliseconds, for the unions alone, and
-psyn's time divided by BuDDy's. Then it has psyn's nodes, the nodes made in a second, and the times of two calls of
-`classes`: for the first eight propositions, and for every fourth one. Both programs must find the same number of random
-letters in the union.
+psyn's time divided by BuDDy's. Then the line has the number of psyn's nodes, the number of nodes made in a second, and
+the times of two calls of `classes`: for the first eight propositions, and for every fourth one. Both programs must find
+the same number of random letters in the union.
 
 With --labels, the diagram of one label of COUNT characters (10000, 20000, 50000, 100000) over 64 propositions is timed.
 There are two kinds of labels: `any` is a disjunction of conjunctions of five literals among twelve neighbouring
 propositions, and `all` is a conjunction of such disjunctions. A line for each label has its characters, the least
-seconds of --runs runs, and the growth of the time for each doubling of the characters since the line above. Then it has
-the nodes made, the nodes of the diagram, and the times of `classes` for the first eight propositions and for every
-eighth one.
-"""
+seconds of --runs runs, and the growth of the time for each doubling of the characters since the line above. Then the
+line has the number of nodes that were made, the number of nodes of the diagram, and the times of `classes` for the
+first eight propositions and for every eighth one. """
 import argparse
 import math
 import os

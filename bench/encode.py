@@ -3,19 +3,19 @@
 
   bench/encode.py [--most MEMORIES] [--program PROGRAM]
 
-psyn has no command that only encodes, so the program bench/encode is built in a temporary folder, on copies of the
-crates with the libraries that earlier checks left in their folders out/. --program names a program that was built
-before. The program reads an automaton, solves its game, makes the winner's machine, and encodes the machine three
-times; the least time counts. The families are:
+psyn has no command that only encodes, so the script builds the program bench/encode in a temporary folder. The program
+uses copies of the crates, with the libraries that earlier checks built in the crates' folders out/. --program names a
+program that was built before. The program reads an automaton, solves its game, makes the winner's machine, and encodes
+the machine three times; the least time counts. The families are:
     cycle      each memory state leads to the next one, whatever the input; its output is random
     drawn      each memory state has two successors and two output letters, between which the input chooses
     wide       as drawn, but the conjunction of two of 16 inputs chooses
     first      the environment wins and moves first; each state has two priorities, hence two memory states
 Each machine has twice as many memory states as the one before, up to MEMORIES (131,072). A line for each machine has
-the memory states, the latches, the gates, the milliseconds, and the milliseconds divided by those of the line above. A
-ratio of 2.0 to 2.3 is growth in proportion to memory states times latches: each latch has a bit in each code, and the
-bits are computed one after another. Then come the gates and the bits computed in a second.
-"""
+the memory states, the latches, the gates, the milliseconds, and the milliseconds divided by the milliseconds of the
+line above. A ratio of 2.0 to 2.3 is growth in proportion to memory states times latches: each latch has a bit in each
+code, and the bits are computed one after another. Then the line has the number of gates that are made in a second, and
+the number of bits of the machine's steps that are computed in a second. """
 import argparse
 import os
 import random

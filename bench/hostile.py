@@ -14,8 +14,8 @@ answer, the exit status, and the answer's first line. The line ends with those o
   LARGE     psyn answered out of memory, and this is not the right answer
   ENDED     a signal or an unknown exit status ended the run: an error, unless the time limit ended it
 
-The last line has the number of runs with each word. The exit status is 1 if a run is ENDED, or if a run that is LARGER
-does not answer out of memory."""
+The last line has the number of runs with each word. The exit status is 1 if a run has the word ENDED, or if a run has
+the word LARGER and its answer is not out of memory."""
 import argparse
 import collections
 import multiprocessing
@@ -48,8 +48,8 @@ def limits(given):
 
 
 def written(kind, rungs, room):
-    """Writes the inputs of a kind to files, and returns for each its command and whether its right answer is out of
-    memory."""
+    """Writes the inputs of a kind to files. For each input, returns the command, and whether the right answer to the
+    input is out of memory."""
     told = []
     for number, run in enumerate(kind(rungs) if kind in BY_RUNGS else kind()):
         with open(os.path.join(room, f"{number}.input"), "wb") as file:
@@ -61,8 +61,8 @@ def written(kind, rungs, room):
 
 
 def written_apart(kind, rungs, room):
-    """Calls `written` in a process of its own. Otherwise the memory of this process would be counted for the processes
-    that it starts."""
+    """Calls `written` in a process of its own. Otherwise the memory that the texts take in this process would be
+    counted for the processes that the script starts later."""
     with multiprocessing.get_context("fork").Pool(1) as pool:
         return pool.apply(written, (kind, rungs, room))
 

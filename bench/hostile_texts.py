@@ -1,7 +1,8 @@
 """Texts that are made to be hard for psyn: each function makes the runs of psyn on one kind of texts.
 
-A run has a command line, its texts, and whether "out of memory" is the right answer, because the answer or the counts
-in it are larger than any machine's memory. A text has 16 MiB if a text of its kind can be so long."""
+A run has a command line, its texts, and a flag that tells whether "out of memory" is the right answer. It is the right
+answer if the answer, or the counts in it, would be larger than any machine's memory. A text has 16 MiB if a text of its
+kind can be so long."""
 import collections
 import os
 import subprocess
@@ -76,7 +77,7 @@ def condition():
 
 
 def states():
-    """65,535 states with 16 unlabelled edges each, one for each letter over four propositions."""
+    """65,535 states with 16 unlabelled edges each: one edge for each letter over four propositions."""
     rows = (f"State: {q}\n" + "".join(f"{(q * 31 + e * 977) % 65535} {{{e % 3}}}\n" for e in range(16)) for q in range(65535))
     return on_automata(filled(head(propositions(4), [2, 3], "3 Fin(2) & (Inf(1) | Fin(0))"), rows, "--END--\n"))
 
@@ -94,8 +95,8 @@ def equal_edges():
 
 
 def marks():
-    """A state with an edge for each of 131,072 letters, all to the same state; the sets of acceptance marks would
-    collide in a hash table with a fixed seed."""
+    """A state with an edge for each of 131,072 letters; all edges lead to one state, and their sets of acceptance marks
+    would collide in a hash table with a fixed seed."""
     masks = map(int, colliding(1 << 17, 17, 1 << 60, 0))
     row = ("[" + "&".join(f"{'!' * (1 - (k >> b) % 2)}{b}" for b in range(17)) + f"] 0 {{{' '.join(str(s) for s in range(64) if mask >> s & 1)}}}\n"
            for k, mask in enumerate(masks))
@@ -367,7 +368,7 @@ def variables():
 
 def stimuli():
     """Stimuli of 16 MiB: empty letters, letters of one digit, and one long letter; and a stimulus of empty letters up
-    to the limit of the input."""
+    to the limit on the length of the input."""
     none, one = circuit([], [], [], [], 0), circuit(["2"], [], ["2"], [], 1)
     runs = on_circuits(none, "\n" * SIZE) + on_circuits(one, "1\n" * (SIZE // 2)) + on_circuits(one, "1" * SIZE + "\n")
     return runs + [Run("sim", (none, "\n" * ((1 << 26) - 50)))]
@@ -381,7 +382,8 @@ def letters_and_gates():
 
 
 def counting():
-    """A 40-bit counter: on a lasso, its latches repeat only after 2^40 laps."""
+    """A 40-bit counter: on a lasso, its latches repeat only after 2^40 laps (repetitions of the lasso's repeated
+    part)."""
     count, lines, gates_of, carry, top = 40, [], [], 1, 40
     for v in range(1, count + 1):
         if carry == 1:
@@ -396,7 +398,7 @@ def counting():
 
 
 def inputs_at_the_limit():
-    """Inputs just below, and above, the limit of 64 MiB."""
+    """Inputs just below and just above the limit of 64 MiB."""
     return [Run("solve", ("0 0 0 0;" + " " * ((1 << 26) - 100),)), Run("solve", (" " * (1 << 26),))]
 
 

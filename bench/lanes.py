@@ -1,19 +1,19 @@
 #!/usr/bin/env python3
-"""Runs circuits on 256 stimuli at once (in lanes) and on one stimulus after another, compares the results, and times a
-step of either.
+"""Runs circuits on 256 stimuli at once (in lanes) and on one stimulus after another, compares the results, and times
+the steps of both kinds of runs.
 
   bench/lanes.py [--random N] [--program PROGRAM]
 
-psyn has no command that runs many stimuli, so the program bench/lanes is built in a temporary folder, on copies of the
-crates with the libraries that earlier checks left in their folders out/. --program names a program that was built
-before. The program runs eight random letters in each of the 256 lanes, and fails if an output or a latch of a lane
-differs from that of the plain run. Runs in lanes alternate with plain runs (of one stimulus after another), and the
-least time of each kind is printed.
+psyn has no command that runs many stimuli, so the script builds the program bench/lanes in a temporary folder. The
+program uses copies of the crates, with the libraries that earlier checks built in the crates' folders out/. --program
+names a program that was built before. The program runs eight random letters in each of the 256 lanes, and fails if an
+output or a latch of a lane differs from that of the plain run. Runs in lanes alternate with plain runs (of one stimulus
+after another), and the least time of each kind is printed.
 
 --random makes N (200) small random circuits for this comparison, with latches that may read any variable and gates in
-any order. Then come circuits of 10000, 100000 and 1000000 gates (those of bench/simulate.py). A line for each has the
-nanoseconds that a step takes for each gate, in all lanes at once and in one plain run, and the ratio of the two.
-"""
+any order. Then come circuits of 10000, 100000 and 1000000 gates (those of bench/simulate.py). A line for each circuit
+has the nanoseconds that a step takes for each gate, in all lanes at once and in one plain run, and the ratio of the
+two. """
 import argparse
 import os
 import random

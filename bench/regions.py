@@ -3,19 +3,19 @@
 
   bench/regions.py [--random N] [--program PROGRAM] [--beside SOLVER] [--games FOLDER]
 
-psyn has no command that only solves, so the program bench/regions is built in a temporary folder, on copies of the
-crates with the libraries that earlier checks left in their folders out/. --program names a program that was built
-before.
+psyn has no command that only solves, so the script builds the program bench/regions in a temporary folder. The program
+uses copies of the crates, with the libraries that earlier checks built in the crates' folders out/. --program names a
+program that was built before.
 
 --random makes N (1000) random games of at most 12 vertices. The enumeration plays each positional strategy of one
-player against each one of the other. A player wins the vertices from which one of the player's strategies beats all of
-the opponent's. The printed winners must be the same, and the printed moves must win.
+player against each positional strategy of the other player. A player wins the vertices from which one of the player's
+strategies beats all of the opponent's. The winners that psyn printed must be those of the enumeration, and the moves
+that psyn printed must win.
 
 Then come paths of up to 10000 vertices, and up to 100000 vertices with self-loops only, all with different priorities;
-the largest game once more with a stack of 256 KiB; and the games in FOLDER. A line for each has the milliseconds and
-the depth of the recursion. SOLVER is another solver. It is run on the same text as `SOLVER solve --stats --counts none
---out none`, and must write `solve_ms` and its milliseconds to standard error.
-"""
+the largest game once more with a stack of 256 KiB; and the games in FOLDER. A line for each of these games has the
+milliseconds and the depth of the recursion. SOLVER is another solver. It is run on the same text as `SOLVER solve
+--stats --counts none --out none`, and must write `solve_ms` and its milliseconds to standard error. """
 import argparse
 import itertools
 import os

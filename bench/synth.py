@@ -10,10 +10,9 @@ Automata of 10 states and more (ten times as many each, at most STATES, which is
     unrealizable   the output must equal the next step's input, in every state
 A line for each automaton has the seconds of three commands. `game` reads the text, builds the automaton and its game,
 and writes the game. `cert` also solves the game and checks the certificate, and writes the certificate in place of the
-game. `synth` also makes the machine and the circuit, and writes the circuit. Then come the growth of the seconds of
-`synth` divided by that of the states (1.00 is proportional), the first line of the answer, the gates, and the most
-memory that `synth` held.
-"""
+game. `synth` also makes the machine and the circuit, and writes the circuit. Then the line has the growth of the
+seconds of `synth`, divided by the growth of the number of states (1.00: the time is proportional to the states). After
+that it has the first line of the answer, the number of gates, and the most memory that `synth` held. """
 import os
 import subprocess
 import sys
@@ -29,8 +28,9 @@ def head(inputs, outputs, acceptance):
 
 
 def states(count):
-    """Edges form a ring of states: a request (input 0) leads one state on, and a grant (output 0) two or five states
-    on, by an edge in the acceptance set. Input 1 jumps far ahead, and output 1 chooses between two and five."""
+    """Edges form a ring of states: a request (input 0) leads to the next state, and a grant (output 0) leads two or
+    five states on, by an edge in the acceptance set. Input 1 jumps far ahead, and output 1 chooses between two and
+    five."""
     lines = [head(2, 2, "1 Inf(0)")]
     for q in range(count):
         lines.append(f"State: {q} [0&!2] {(q + 1) % count} [!0&!2&!1] {q} [!0&!2&1] {(q * 7 + 3) % count} [2&!3] {(q + 2) % count} {{0}} [2&3] {(q + 5) % count} {{0}}\n")

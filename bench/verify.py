@@ -1,6 +1,6 @@
 #!/usr/bin/env python3
-"""Compares the verdicts of `verify` and of an enumeration on printed circuits with one literal changed; or times
-`verify`.
+"""Changes one literal of a circuit that psyn printed, and compares the verdict of `verify` with that of an enumeration;
+or times `verify`.
 
   bench/verify.py PSYN --changed SEED [--literals N] [--most VERTICES] [FILE..]
   bench/verify.py PSYN --times RUNS [FILE..]
@@ -8,15 +8,14 @@
 A FILE is an HOA text. If no FILE is given, the automata are two of examples/files, those of the gallery, and those of
 bench/synth.py. The circuits are those that `synth` prints, with and without --moore.
 
---changed changes one literal at a time: N literals of each circuit (50, or all if there are fewer), which the random
-seed SEED chooses. The verdict of `verify` must be that of an enumeration of the product in Python
-(tools/tests/products.py), and `lasso` must confirm each counterexample. A line for each circuit has the number of each
-verdict, and the number of products with more than VERTICES vertices (50,000) or more than 20 inputs.
+--changed changes one literal at a time: in each circuit, it changes N literals (50, or all if there are fewer) in turn;
+the random seed SEED chooses them. The verdict of `verify` must be that of an enumeration of the product in Python
+(tools/tests/products.py), and `lasso` must confirm each counterexample. A line for each circuit tells how often each
+verdict was given, and has the number of products with more than VERTICES vertices (50,000) or more than 20 inputs.
 
 --times prints a line for each circuit: the least processor seconds of RUNS alternating runs of `synth` and of `verify`
-on the same automaton, and the time of `verify` divided by that of `synth`. If no FILE is given, there is also a circuit
-that copies 20 inputs to 20 outputs; the automaton compares one input with one output in each state.
-"""
+on the same automaton, and the time of `verify` divided by the time of `synth`. If no FILE is given, there is also a
+circuit that copies 20 inputs to 20 outputs; the automaton compares one input with one output in each state. """
 import argparse
 import collections
 import dataclasses
