@@ -12,7 +12,8 @@ a program that was built before. Texts of 4,096 to 65,535 states with 16 edges e
     colours    the same, and each edge is in up to three of the 32 sets of a chain condition
     overlap    as labels, but the last two edges of the last state share a letter (fault 21)
 For each run, the script prints the time, and the growth of the time divided by the growth of the number of states
-(1.00: the time is proportional to the states). """
+(1.00: the time is proportional to the states).
+"""
 import os
 import shutil
 import subprocess

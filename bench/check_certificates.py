@@ -14,7 +14,8 @@ and the opponent's edges lead from a vertex to a lower layer of the same half or
 half. The vertices of layer 0 have the winner's greatest priority. So the counts of a vertex are as follows: for each
 opposing priority from the vertex's own priority up to the winner's greatest one, the number of its layer; for every
 other opposing priority, 0. A vertex that belongs to its winner has further edges, which may lead anywhere. The
-priorities of the other layers are random, and each priority below the two greatest ones occurs. """
+priorities of the other layers are random, and each priority below the two greatest ones occurs.
+"""
 import argparse
 import os
 import random

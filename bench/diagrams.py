@@ -20,7 +20,8 @@ There are two kinds of labels: `any` is a disjunction of conjunctions of five li
 propositions, and `all` is a conjunction of such disjunctions. A line for each label has its characters, the least
 seconds of --runs runs, and the growth of the time for each doubling of the characters since the line above. Then the
 line has the number of nodes that were made, the number of nodes of the diagram, and the times of `classes` for the
-first eight propositions and for every eighth one. """
+first eight propositions and for every eighth one.
+"""
 import argparse
 import math
 import os

@@ -15,7 +15,8 @@ Each machine has twice as many memory states as the one before, up to MEMORIES (
 the memory states, the latches, the gates, the milliseconds, and the milliseconds divided by the milliseconds of the
 line above. A ratio of 2.0 to 2.3 is growth in proportion to memory states times latches: each latch has a bit in each
 code, and the bits are computed one after another. Then the line has the number of gates that are made in a second, and
-the number of bits of the machine's steps that are computed in a second. """
+the number of bits of the machine's steps that are computed in a second.
+"""
 import argparse
 import os
 import random

@@ -16,7 +16,8 @@ that was built before. Texts of 1, 2, 4, 8 and 16 MiB are made in these ways:
     repeated   `controllable-AP:` with the same numbers over and over
     numbers    `controllable-AP:` with numbers that all differ
 For each run, the script prints the time, and the growth of the time divided by the growth of the text's length (1.00:
-the time is proportional to the length). """
+the time is proportional to the length).
+"""
 import os
 import shutil
 import subprocess

@@ -13,7 +13,8 @@ after another), and the least time of each kind is printed.
 --random makes N (200) small random circuits for this comparison, with latches that may read any variable and gates in
 any order. Then come circuits of 10000, 100000 and 1000000 gates (those of bench/simulate.py). A line for each circuit
 has the nanoseconds that a step takes for each gate, in all lanes at once and in one plain run, and the ratio of the
-two. """
+two.
+"""
 import argparse
 import os
 import random

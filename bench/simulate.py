@@ -6,7 +6,8 @@
 Makes circuits of 25000, 50000, 100000 and 200000 gates and a fixed stimulus of 1000 letters, and runs the built psyn on
 each circuit twice: with this stimulus, and with an empty stimulus. The difference of the two times is the time of the
 steps. Each gate reads two random variables among the inputs, the latches and the gates before it; the text has the
-gates in random order. """
+gates in random order.
+"""
 import random
 import subprocess
 import sys

@@ -12,7 +12,8 @@ A line for each automaton has the seconds of three commands. `game` reads the te
 and writes the game. `cert` also solves the game and checks the certificate, and writes the certificate in place of the
 game. `synth` also makes the machine and the circuit, and writes the circuit. Then the line has the growth of the
 seconds of `synth`, divided by the growth of the number of states (1.00: the time is proportional to the states). After
-that it has the first line of the answer, the number of gates, and the most memory that `synth` held. """
+that it has the first line of the answer, the number of gates, and the most memory that `synth` held.
+"""
 import os
 import subprocess
 import sys

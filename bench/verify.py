@@ -15,7 +15,8 @@ verdict was given, and has the number of products with more than VERTICES vertic
 
 --times prints a line for each circuit: the least processor seconds of RUNS alternating runs of `synth` and of `verify`
 on the same automaton, and the time of `verify` divided by the time of `synth`. If no FILE is given, there is also a
-circuit that copies 20 inputs to 20 outputs; the automaton compares one input with one output in each state. """
+circuit that copies 20 inputs to 20 outputs; the automaton compares one input with one output in each state.
+"""
 import argparse
 import collections
 import dataclasses
