@@ -7,10 +7,11 @@ PSYN is the built program (crates/psyn/out/psyn). The families are:
     states     64 to 64,000 states (more would make the text too long), each with 16 letters of the inputs as classes
     classes    64 states, each with 16 to 8,192 letters of the inputs as classes
 In the family `states`, one output leads to another state for each letter of the inputs, and the other output leads to
-the sink. Each automaton is twice as large as the one before, up to --edges edges (1,048,576, the most that psyn reads).
-A line for each automaton has its states, the classes of input letters in each state, the vertices and edges of the
-game, and the bytes of both texts. Then it has the least seconds of --runs (3) runs of the whole process, and the growth
-of the seconds for each doubling of the vertices since the line above (2: the time is proportional to the vertices).
+the sink. Each automaton is about twice as large as the one before, up to --edges edges (1,048,576, the most that psyn
+reads). A line for each automaton has its states, the classes of input letters in each state, the vertices and edges of
+the game, and the bytes of both texts. Then it has the least seconds of --runs (3) runs of the whole process, and the
+growth of the seconds for each doubling of the vertices since the line above (2: the time is proportional to the
+vertices).
 
 Run the script on a machine that does nothing else. A small automaton is run before the first line, so that the program
 is already in memory.
@@ -62,8 +63,8 @@ def by_classes(inputs):
 
 
 def automata(family, most):
-    """The automata of a family, each twice as large as the one before; with each automaton, its number of states, and
-    the number of classes of letters in each state."""
+    """The automata of a family, each about twice as large as the one before; with each automaton, its number of states,
+    and the number of classes of letters in each state."""
     if family == "states":
         for states in SIZES:
             if 16 * states <= most:

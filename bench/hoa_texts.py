@@ -3,10 +3,10 @@
 
   bench/hoa_texts.py [--program PROGRAM]
 
-psyn has no command that only reads HOA texts. So a program of a few lines (SOURCE) is built in a temporary folder, on
-copies of the crates with the libraries that earlier checks left in their folders out/. The program reads a text, and
-prints the number of states that the text's body lists, or the position of the first error. --program names a program
-that was built before. Texts of 1, 2, 4, 8 and 16 MiB are made in these ways:
+psyn has no command that only reads HOA texts. So the script builds a program of a few lines (SOURCE) in a temporary
+folder. The program uses copies of the crates, with the libraries that earlier checks built in the crates' folders out/.
+The program reads a text, and prints the number of states that the text's body lists, or the position of the first
+error. --program names a program that was built before. Texts of 1, 2, 4, 8 and 16 MiB are made in these ways:
     edges      states with many edges, each with a short label and a set
     labels     few edges with long labels over propositions and aliases
     implicit   states with implicit labels over 8 propositions

@@ -5,17 +5,18 @@
 
 hostile_texts.py defines the kinds of texts; most texts have 16 MiB, and games made of rungs have 40 rungs. Each text is
 given to each command that reads it. By default, a run has a stack of 1,024 KiB, at most 1,024 MiB of memory (a larger
-request is refused), and at most 60 seconds of processor time. A line for each run has its kind and its number within
-the kind, the command, the processor seconds, the elapsed seconds, the greatest memory use (MB), the bytes of the
-answer, the exit status, and the answer's first line. The line ends with those of the following words that apply:
+request is refused), and at most 60 seconds of processor time. A line for each run has the kind of its texts, its number
+among the runs of this kind, the command, the processor seconds, the elapsed seconds, the greatest memory use (MB), the
+bytes of the answer, the exit status, and the answer's first line. The line ends with those of the following words that
+apply:
 
   LARGER    out of memory is the right answer, because the answer, or the counts in it, exceed any memory
   SLOW      more than 10 seconds of processor time
   LARGE     psyn answered out of memory, and this is not the right answer
   ENDED     a signal or an unknown exit status ended the run: an error, unless the time limit ended it
 
-The last line has the number of runs with each word. The exit status is 1 if a run has the word ENDED, or if a run has
-the word LARGER and its answer is not out of memory."""
+The last line has the number of runs with each word. A run that the time limit ended is no error. The exit status is 1
+if any other run has the word ENDED, or has the word LARGER without answering out of memory."""
 import argparse
 import collections
 import multiprocessing

@@ -3,16 +3,17 @@
 
   bench/synth.py PSYN [--most STATES]
 
-Automata of 10 states and more (ten times as many each, at most STATES, which is 65,000 if not given) are made in these ways:
+Automata of growing size, which is at most STATES (65,000), are made in these ways; the size is the number of states, of
+inputs in `inputs`, and of sets in `priorities`:
     states         2 inputs and 2 outputs: each request must be granted at some later step; a controller exists
     inputs         1,000 states and 2 to 62 inputs; each state reads two of the inputs
     priorities     a state for each of the 2 to 64 sets of a chain condition
     unrealizable   the output must equal the next step's input, in every state
 A line for each automaton has the seconds of three commands. `game` reads the text, builds the automaton and its game,
 and writes the game. `cert` also solves the game and checks the certificate, and writes the certificate in place of the
-game. `synth` also makes the machine and the circuit, and writes the circuit. Then the line has the growth of the
-seconds of `synth`, divided by the growth of the number of states (1.00: the time is proportional to the states). After
-that it has the first line of the answer, the number of gates, and the most memory that `synth` held.
+game. `synth` also makes the machine and the circuit, and writes the circuit. Then the line has the first line of the
+answer, the number of gates, and the most memory that `synth` held. At its end it has the growth of the seconds of
+`synth`, divided by the growth of the size (1.00: the time is proportional to the size).
 """
 import os
 import subprocess
