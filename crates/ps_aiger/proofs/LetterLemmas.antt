@@ -20,7 +20,8 @@ no_test a b ne = elim (bool_cases (nat_eq a b)) [ inl e ↦ absurd (ne (eqb-true
 
 -- ## Letters
 
--- the bit for the proposition q in the letter that has the given bits at the propositions `ps`, and no other bit
+-- the bit of the proposition q in a letter that has the given bits at the propositions `ps`, and is false at all other
+-- propositions
 abbrev pub bit_for : List ℕ → List Bool → ℕ → Bool
 bit_for [] bits q = false
 bit_for (p ∷ ps) [] q = false

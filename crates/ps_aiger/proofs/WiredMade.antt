@@ -67,7 +67,8 @@ over-made (s ∷ vs) f d sound within room =
 
 -- ## Bits of a step
 
--- the input letter, and the code in the first latches, that the values v of the variables give
+-- the values v of all variables determine the input letter (`letter_read`), and the code that the first latches hold
+-- (`code_read`)
 abbrev pub letter_read : Behaviour → (ℕ → Bool) → ℕ
 letter_read b v = letter_over b.inputs (map v (range_with_len 1 (length b.inputs)))
 

@@ -5,8 +5,8 @@
 -- - `memory_of b latches`: the memory state whose code the latches hold
 -- - `Encodes b c`: the circuit c begins in memory state 0 of the machine b, and each of the circuit's steps is a step
 --   of the machine
--- - `IsTidy c`: the circuit's variables are numbered in order, no gate has a constant or the same variable twice as its
---   sides, and no two gates have the same sides
+-- - `IsTidy c`: the circuit's variables are numbered in order, no gate reads a constant or the same variable twice, and
+--   no two gates read the same two literals
 use Rattle.std.specs.Prelude.{◌≡◌, ◌≢◌, ℕ, ◌+◌, ◌*◌, ◌^◌, ◌<◌, ◌≤◌, Bool, false, cond, List, [], ◌∷◌, length, map}
 use Rattle.std.specs.Prelude.{Option, Some, None, All, AllPairs, nat_lt, if◌then◌else◌, slice_index_or}
 use Rattle.std.specs.List.{range_with_len}
