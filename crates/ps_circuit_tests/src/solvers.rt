@@ -9,8 +9,8 @@ use std::test::Fail;
 /// A game with two vertices, both owned by player 1, in PGSolver's format.
 const GAME: &[u8] = b"7 0 1 9; 9 1 1 9;";
 
-/// What a solver returned: the number of the certificate's entries, or the offset at which its text is rejected, or
-/// `None` for any other fault.
+/// What a solver returned: the number of the certificate's entries, or the offset at which the certificate's text is
+/// rejected, or `None` for any other fault.
 type Answer = Result<usize, Option<usize>>;
 
 /// What the solver returns for a game, after it was given the text of a certificate.
