@@ -517,8 +517,8 @@ impl<'a> Tokens<'a> {
     }
 }
 
-/// The token for a lexeme. The kind of the token also depends on the names that occurred before it, which `history`
-/// records.
+/// The token for a lexeme, which is the kind and the span of a token. The kind of the token also depends on the names
+/// that occurred before it, which `history` records.
 fn token_of<'a>(source: &'a [u8], lexeme: Lexeme, history: History) -> Token<'a>
     requires { IsLexeme source.now lexeme }
     ensures kept { IsOwnKind source.now history lexeme.kind result }

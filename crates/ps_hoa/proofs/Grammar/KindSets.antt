@@ -4,10 +4,10 @@
 --   no kind in common
 -- - `test_of`: a set has exactly one kind
 -- - `plain`: no kind of the set is an error by itself
--- - `laws_sign`: the laws of a token whose kind is in a set
--- - `laws_value`: the laws of a token whose kind is in a set, and which has no error unless it has a value
--- - `laws_expect`: the laws of a token whose kind is in a set, and which has no value
--- - `laws_behind_option`: the laws of a part that may be empty together with the part after it
+-- - `laws_sign`: the grammar of a token whose kind is in a set satisfies `Laws`
+-- - `laws_value`: `Laws` for a token whose kind is in a set, and which has no error unless it has a value
+-- - `laws_expect`: `Laws` for a token whose kind is in a set, and which has no value
+-- - `laws_behind_option`: `Laws` for two parts in a row, if the first of them may be empty
 use Rattle.std.proofs.Common.{rules, ◌≡◌, ℕ, zero, suc, ◌<◌, Bool, true, not, cond, List, [], ◌∷◌, length, get_or}
 use Rattle.std.proofs.Common.{Option, None, Some, is_some, sym, ap, subst, ◌∙◌, arith, ◌&&◌, ◌||◌}
 use Rattle.std.proofs.lemmas.Bool.{and_parts, or_left, or_right}
