@@ -1,6 +1,6 @@
 -- Two grammars in a row satisfy the laws (`Laws`), with smaller sets of symbols than in `laws_then`.
--- - `laws_next`: for two grammars without an empty text
--- - `laws_tight`: for a first grammar without an empty text, whose texts no symbol continues
+-- - `laws_next`: the laws hold if neither grammar has an empty text
+-- - `laws_tight`: the laws hold if the first grammar has no empty text, and no symbol continues a text of it
 use Rattle.std.proofs.Common.{arith}
 use Rattle.ps_text.specs.Parts.{Part, then_by}
 use Rattle.ps_text.proofs.Laws.{Laws, Nothing, Or, When, Apart, weaker}

@@ -1,7 +1,7 @@
 -- `Laws` has the laws that each grammar should satisfy. `Joint` states of two grammars in a row that it is clear where
 -- the second begins.
--- - `Laws odd part First More Null`: the grammar's laws; each symbol that begins a text is in First, and each symbol
---   that continues one is in More
+-- - `Laws odd part First More Null`: the grammar satisfies the laws; each symbol that begins a text is in First, and
+--   each symbol that continues a text is in More
 -- - `Joint P Q`: no symbol both continues a text of P and begins a text of Q, so it is clear where Q begins; the lemma
 --   `joint` derives this from the laws
 --

@@ -1,4 +1,4 @@
--- From the result of parsing the grammar of a whole text to the answer to the text.
+-- The result of parsing the grammar of a whole text determines the answer to the text.
 -- - `no_fault`: the whole text was parsed, and its value is the answer
 -- - `first_fault`: the first fault of the grammar is the first error of the text
 -- - `trailing`: if the grammar was parsed before the end of the text, the first error is that the next symbol is not

@@ -1,4 +1,4 @@
--- What the functions of a cursor do to the list of unread symbols.
+-- When a function of a cursor moves past bytes, their symbols are removed from the list of unread symbols.
 use Rattle.std.proofs.Common.{◌≡◌, ℕ, suc, ◌+◌, ◌-◌, ◌^◌, ◌<◌, ◌≤◌, Bool, true, false, eqb, List, [], ◌∷◌, ◌++◌, length}
 use Rattle.std.proofs.Common.{take, drop, get_or, refl, sym, ap, ap₂, ◌∙◌, append_assoc, arith, length-append, rules}
 use Rattle.std.specs.List.{prefix_len}
