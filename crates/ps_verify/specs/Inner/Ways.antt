@@ -1,5 +1,5 @@
--- Paths from vertex 0 to a given vertex. The list `firsts` has, for each vertex, the first vertex that has an edge to
--- it.
+-- Paths from vertex 0 to a given vertex. For each vertex, the list `firsts` has the first vertex that has an edge to
+-- it, if this vertex is smaller, and otherwise the vertex itself.
 -- - `HasLowered game v count old new`: `new` is the list `old`, where the entries of the first `count` successors of v
 --   are lowered to v, if they were larger
 -- - `AreFirsts game n firsts`: the entry of w is w or a vertex with an edge to w, and is at most each vertex less than
