@@ -4,10 +4,10 @@
   check_certificates.py PSYN [--yardstick PROGRAM] [--least EDGES] [--most EDGES] [--runs N]
 
 PSYN is the built program. A line is printed for each size; the number of edges doubles from at least --least (10000) to
---most (1000000). A line has the family, the vertices, the edges, the bytes of input, the least time of --runs (3) runs,
-and this time divided by the time of the line before (2.0: the time is proportional to the edges). With --yardstick,
-`PROGRAM check GAME CERTIFICATE` also runs on each game, in turn with psyn, and the last column is psyn's time divided
-by the time of PROGRAM.
+--most (1000000). A line has the family, the vertices, the edges, the bytes of input, and the least time of --runs (3)
+runs. Then it has this time divided by the time of the line before (2.0: the time is proportional to the edges). With
+--yardstick, `PROGRAM check GAME CERTIFICATE` also runs on each game, in turn with psyn, and the last column is psyn's
+time divided by the time of PROGRAM.
 
 How the games are made: each player wins half of the vertices, and each half is divided into layers. The winner's move
 and the opponent's edges lead from a vertex to a lower layer of the same half or, from layer 0, to anywhere in this

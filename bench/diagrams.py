@@ -19,8 +19,8 @@ With --labels, the diagram of one label of COUNT characters (10000, 20000, 50000
 There are two kinds of labels: `any` is a disjunction of conjunctions of five literals among twelve neighbouring
 propositions, and `all` is a conjunction of such disjunctions. A line for each label has its characters, the least
 seconds of --runs runs, and the growth of the time for each doubling of the characters since the line above. Then the
-line has the number of nodes that were made, the number of nodes of the diagram, and the number of classes with the time
-of `classes`, for the first eight propositions and for every eighth one.
+line has the number of nodes that were made, and the number of nodes of the diagram. At its end it has the number of
+classes and the time of `classes`, for the first eight propositions and for every eighth one.
 """
 import argparse
 import math

@@ -15,7 +15,7 @@ that psyn printed must win.
 Then come paths of up to 10000 vertices, and up to 100000 vertices with self-loops only, all with different priorities;
 the largest game once more with a stack of 256 KiB; and the games in FOLDER. A line for each of these games has the
 milliseconds and the depth of the recursion. SOLVER is another solver, which also solves the paths and the games in
-FOLDER. It is run on the same text as `SOLVER solve --stats --counts none --out none`, and must write `solve_ms` and its
+FOLDER. It is run as `SOLVER solve --stats --counts none --out none` on the same text, and must write `solve_ms` and its
 milliseconds to standard error.
 """
 import argparse

@@ -7,8 +7,8 @@
 GAMES is a folder of game texts NAME.pg. SOLVER is run as `SOLVER solve` on the same text, and as `SOLVER check GAME
 CERTIFICATE` on the certificate that psyn printed. For each command, the least processor time of N (3) whole processes
 counts; the runs of the commands alternate. A row for each game has psyn's seconds and, with a SOLVER, psyn's seconds
-divided by those of SOLVER; the last row has the sums of the seconds, and their ratio. psyn's `check` must answer that
-psyn's certificate is valid.
+divided by those of SOLVER. The last row has the sums of the seconds, and the ratio of the sums. psyn's `check` must
+answer that psyn's certificate is valid.
 
 With --compact, the script times `solve --compact` on games with as many priorities as vertices, and prints the bytes of
 the certificate and the greatest memory use of the processes.
@@ -76,8 +76,8 @@ def least(runs, calls):
 
 
 def row_of(psyn, game, solver, runs, room):
-    """The least seconds of psyn's `solve` and `check`, and of the other solver's, and whether psyn's certificate is
-    valid."""
+    """The least seconds of psyn's `solve` and `check`, then those of the other solver's two commands, and whether
+    psyn's certificate is valid."""
     path_to = {name: os.path.join(room, name) for name in ("solve", "check", "certificate", "said")}
     with open(game, "rb") as file:
         text = file.read().rstrip(b"\n") + b"\n"
