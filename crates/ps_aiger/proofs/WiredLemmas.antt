@@ -141,7 +141,7 @@ pub first_wired : (m : MachineData) (latches : ℕ) (bits given_bits : List Want
     bits_wired m latches given_bits d ≡ next_wires (behaviour m) latches
 first_wired m latches bits given_bits d eb is given none = grind (arith, map-map, drafted_are)
 
--- the literals of the outputs are built after those of the latches' next values
+-- the literals of the outputs are built after the literals of the latches' next values
 pub all_wired : (m : MachineData) (latches : ℕ) (bits : List Wanted) (d : Drafted) →
     d ≡ (next_wires (behaviour m) latches).draft → bits ≡ map Output m.outputs →
     output_wires (behaviour m) latches ≡ bits_wired m latches bits d

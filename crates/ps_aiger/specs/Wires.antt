@@ -5,8 +5,8 @@
 --   `code` to `code` + 2^latches - 1
 -- - `next_wires, output_wires b latches`: the literals of the latches' next values, and the literals of the outputs;
 --   the gates of the outputs are built last
--- - `IsWired b c`: the circuit c has the literals and gates that these definitions build for the machine b, in the same
---   order
+-- - `IsWired b c`: the circuit c has the literals and gates that the definitions of this file build for the machine b,
+--   in the same order
 -- - `IsOutOfLiterals b`: the gates that are built for the machine b need too many variables, so that it has no circuit
 use Rattle.std.specs.Prelude.{◌≡◌, ℕ, zero, suc, ◌+◌, ◌*◌, ◌^◌, ◌≤◌, Bool, true, false, if◌then◌else◌, List, []}
 use Rattle.std.specs.Prelude.{◌∷◌, length, map, slice_get, Some}

@@ -27,7 +27,7 @@ pub(crate) enum Wanted {
 
 /// Builds the literal whose value is the bit `wanted` of the machine's step, for the memory state whose code the
 /// latches hold and for the letter on the inputs. Input k is variable k + 1, and the variables of the latches follow
-/// those of the inputs.
+/// the variables of the inputs.
 pub(crate) fn literal_of(
     alloc: Global,
     builder: &mut Builder,
