@@ -20,7 +20,7 @@ abbrev pub row_of : FileData → ℕ → Option RowData
 row_of file q = row_among file.rows q
 
 -- An edge is enabled at the letters at which its own label is true, at those at which its state's label is true, or at
--- a single letter; the edge's guard tells which of these it is.
+-- a single letter. The edge's guard tells which of these it is.
 abbrev pub IsEnabled : List Expression → Option Expression → GuardData → ℕ → Type 0
 IsEnabled aliases label (stated e) letter = IsTrue (label_truth aliases letter e)
 IsEnabled aliases None of_state letter = ⊥

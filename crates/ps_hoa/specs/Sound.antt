@@ -1,7 +1,7 @@
 -- The properties of a parsed file. Every number refers to a state, a proposition, a set or an earlier alias. No list
 -- contains a number twice, no two propositions have the same name, and no state has two rows. The edges of a state are
 -- labelled in one of three ways, and psyn's limits on the size of texts are kept.
--- - `IsSoundFile file`: the file has all these properties
+-- - `IsSoundFile file`: the file has all properties that are stated above
 use Rattle.std.specs.Prelude.{◌≡◌, ℕ, ◌+◌, ◌^◌, ◌<◌, ◌≤◌, ◌⊎◌, ◌||◌, false, List, [], ◌∷◌, length, All, sum_by, Option}
 use Rattle.std.specs.Prelude.{None, Some, IfSome}
 use Rattle.std.specs.List.{AllByRecursion}

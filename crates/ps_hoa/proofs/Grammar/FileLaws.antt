@@ -1,6 +1,6 @@
 -- Proof of `Laws` for all of a text after its version, that is, for header and body: which tokens can begin it, and
 -- which can continue it.
--- - `laws_file`: the proof of `Laws`
+-- - `laws_file`: the proof of `Laws` for header and body together
 -- - `joint_file`: no token can both continue the header and begin the body (`Joint`)
 use Rattle.ps_text.specs.Parts.{mapped}
 use Rattle.ps_text.proofs.Combined.{joint_tight}

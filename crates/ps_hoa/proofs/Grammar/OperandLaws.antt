@@ -39,8 +39,8 @@ abbrev pub Of : (Kind → Bool) → Sign → Type 0
 Of test sign = test sign.kind ≡ true
 
 -- `Laws` of a grammar, stated with sets of kinds of tokens: the kinds that begin its texts, the kinds that can continue
--- them, and whether the empty text is one of them. A grammar that satisfies `Tight` has no empty text, and no token can
--- continue its texts.
+-- them, and whether the empty text is one of its texts. A grammar that satisfies `Tight` has no empty text, and no
+-- token can continue its texts.
 abbrev pub Known : {V : Type 0} → Part Sign V HoaCause → (Kind → Bool) → (Kind → Bool) → Type 0 → Type 0
 Known part first more null = Laws Odd part (Of first) (Of more) null
 

@@ -2,7 +2,7 @@
 -- them.
 -- - `joint_item`, `joint_header`: `Joint` for an item's name and its arguments, and for the items and `--BODY--`: no
 --   token can both continue the first part and begin the second
--- - `item_begins`, `item_elsewhere`: the next token begins an item, or does not
+-- - `item_begins`, `item_elsewhere`: the next token begins an item, or begins no item
 -- - `item_loop`: the properties of an item that the loop over the items needs
 -- - `laws_header`: the proof of `Laws` for the header
 use Rattle.std.proofs.Common.{◌≡◌, [], true, false, is_some, refl, ap, sym, ◌∙◌}
