@@ -17,8 +17,8 @@ use Rattle.ps_traces.specs.Inputs.{HasLetters}
 
 module _ {role : Role} {names : List (List ℕ)} {controllable : List ℕ} {c : CircuitData} (are_names : AreNames names)
     (has : HasSymbols role names controllable c) where
-  -- each of these input or output names is that of a proposition which is controllable, or not controllable, as
-  -- `wanted` says
+  -- each of the given input or output names is the name of a proposition; if `wanted` is true, all these propositions
+  -- are controllable, and otherwise none of them is
   of_side : (wanted : Bool) (symbols : List (Option (List ℕ))) (k p : ℕ) →
       AreNamesOnce names controllable wanted symbols → IsSymbol names symbols k p → is_among p controllable ≡ wanted
   of_side wanted symbols k p once s =
