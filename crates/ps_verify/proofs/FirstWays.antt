@@ -44,8 +44,8 @@ module _ {game : ParityGame} {v count : ℕ} {old now : List ℕ} (is_game : IsG
   edge : HasEdge game v next
   edge = (within, (count, less, get_or_default (successors_of game v) count next 0 less ∙ sym is))
 
-  -- `HasLowered` still holds after one more successor: each entry is the old one or v, none has become larger, and that
-  -- of the successor is at most v
+  -- `HasLowered` still holds after one more successor: each entry is the old entry or v, no entry has become larger,
+  -- and the entry of the successor is at most v
   lowered_by : (new : List ℕ) → length new ≡ length now → ((w : ℕ) → get_or new w 0 ≤ get_or now w 0) →
       get_or new next 0 ≤ v → ((w : ℕ) → (get_or new w 0 ≡ get_or now w 0) ⊎ ((get_or new w 0 ≡ v) × (w ≡ next))) →
       HasLowered game v (count + 1) old new

@@ -69,7 +69,7 @@ module _ {owner : ℕ} {names : List (List ℕ)} {auto : Auto} {c : CircuitData}
   greatest_more from laps = ap (λ q. max (greatest_behind from laps) (greatest_along auto q lap))
       (sym (laps_together auto start lap from laps) ∙ sym (reached (from + laps)).state)
 
-  -- the product's vertex after one or more laps of the lasso has at most the greatest priority that occurs on these
+  -- the priority of the product's vertex after one or more laps of the lasso is at most the greatest priority on these
   -- laps
   entered : (from laps : ℕ) → (reached (from + suc laps)).vertex.priority ≤ greatest_behind from (suc laps)
   entered from laps = rw add-suc ((lap_from (from + laps) (reached (from + laps))).entered

@@ -2,7 +2,7 @@
 -- - `IsWinning order role file c`: the automaton accepts all lasso traces of a controller's circuit, or no lasso trace
 --   of an environment's circuit
 -- - `IsLosing order role file c s`: the automaton rejects the trace of a controller's circuit on the stimulus s, or
---   accepts that of an environment's circuit
+--   accepts the trace of an environment's circuit on s
 -- - `IsJudgement order role file c judgement`: the judgement is right: the circuit wins, or the judgement's stimulus is
 --   a counterexample
 use Rattle.std.specs.Prelude.{◌≡◌, ◌<◌, ◌↔◌, IsTrue, List, length}
