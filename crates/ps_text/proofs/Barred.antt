@@ -18,7 +18,7 @@ use Rattle.ps_text.proofs.InPlace.{stops_at, read_quiet, quiet_at, fault_begins,
 use Rattle.ps_text.proofs.Joined.{text_begins}
 use Rattle.ps_text.proofs.Exits.{stops_as}
 
--- a symbol for which `Bad` states an error if it follows a text with some value
+-- a symbol for which `Bad` states an error, if the symbol follows a text with some value
 abbrev pub Bar : {T V F : Type 0} → (V → T → F → Type 0) → T → Type 0
 Bar {T} {V} {F} Bad t = (v : V) × (f : F) × Bad v t f
 

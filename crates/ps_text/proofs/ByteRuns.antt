@@ -1,5 +1,5 @@
 -- Runs of bytes that pass a test.
--- - `all_left`, `all_right`: if all bytes of two lists together pass the test, so do those of each list
+-- - `all_left`, `all_right`: if all bytes of two lists together pass the test, all bytes of each list pass it
 -- - `run_len`, `run_all`, `run_ends`: `prefix_len` is the length of the longest run of passing bytes at the start of a
 --   text; all bytes of this run pass the test; the byte after the run does not
 -- - `run_whole`: if all bytes of a text pass the test, the longest run at its start is the whole text

@@ -2,11 +2,14 @@
 -- - `both_within`, `wider_first`, `wider_more`: the union of two sets is within a third set if each of the two is; the
 --   sets First and More may be replaced by larger ones
 -- - `laws_first`: the laws of a grammar of one symbol, if a given set has each symbol that is accepted or is an error
--- - `laws_forms`: a choice between two grammars without an empty text satisfies the laws
--- - `laws_option`: an optional grammar, whose texts no symbol continues, satisfies the laws
--- - `laws_all`, `laws_times_all`: any number, or a given number, of items that no symbol continues satisfies the laws
--- - `laws_last`: a grammar whose texts no symbol continues, after a grammar that may have an empty text, satisfies the
---   laws
+-- - `laws_forms`: a choice between two grammars satisfies the laws, if neither has an empty text and they begin with
+--   different symbols
+-- - `laws_option`: a grammar or nothing satisfies the laws, if the grammar has no empty text and no symbol continues
+--   its texts
+-- - `laws_all`, `laws_times_all`: any number, or a given number, of items satisfies the laws, if no item is empty and
+--   no symbol continues an item
+-- - `laws_last`: two grammars in a row satisfy the laws, if no symbol both continues the first and begins the second.
+--   The first grammar may have an empty text; no symbol continues a text of the second.
 -- - `joint_tight`: if no symbol continues a text of the first of two grammars in a row, it is clear where the second
 --   begins (`Joint`)
 use Rattle.std.proofs.Common.{◌≡◌, ℕ, Option, Some, inl, inr, rules}

@@ -4,7 +4,8 @@
 -- - `Avoids A there`: the next symbol is not in the set A
 -- - `covers_left`, `covers_right`: `either` has the texts and errors of one alternative, if the next symbol does not
 --   begin the other one
--- - `laws_either`: `either P Q` satisfies the laws of grammars (`Laws`)
+-- - `laws_either`: `either P Q` satisfies the laws of grammars (`Laws`), if P and Q begin with different symbols and at
+--   most one has an empty text
 use Rattle.std.proofs.Common.{arith, ◌≡◌, ◌⊎◌, List, [], ◌∷◌, ◌++◌, Option, None, Some, refl, subst, inl, inr, ◌∙◌}
 use Rattle.std.proofs.Common.{rules, ⊎_elim}
 use Rattle.ps_text.specs.Answers.{Begins, first_of}

@@ -3,7 +3,7 @@
 -- - `joint`: two grammars in a row satisfy `Joint`, if they satisfy the laws and no symbol both continues the first and
 --   begins the second
 -- - `text_behind`, `cause_behind`: after a text of P that can't continue with the next symbol, each text or error of P
---   and Q together is a text or error of Q
+--   and Q together is a text or error of Q, or an error that P has itself
 -- - `begins_left`, `begins_right`: a beginning of a text of P also begins a text of P and Q together; so does a text of
 --   P, followed by a beginning of a text of Q
 -- - `read_then`, `fault_left`, `fault_right`: P and Q together are parsed if both are; they have the first fault of P,
@@ -69,8 +69,8 @@ module _ {T A B F : Type 0} {P : Part T A F} {Q : A → Part T B F} (j : Joint P
       go (longer u m e g) = absurd
           (not_inside m k.is_left (text_begins P.IsText h) e (j.behind_right k.value k.right t f k.is_cause) g)
 
-  -- No text of P and Q together begins with `front` and the next symbol, if `front` begins a text of P but is no text
-  -- of P itself, and no text of P continues with this symbol.
+  -- Let `front` begin a text of P but be no text of P itself, and let no text of P continue with the next symbol. Then
+  -- no text of P and Q together begins with `front` and the next symbol.
   no_text_on : (front y : List T) (b : B) → Begins P.IsText front → ((a : A) → P.IsText front a → ⊥) →
       StopsAt P front (first_of y) → (then_by P Q).IsText (front ++ y) b → ⊥
   no_text_on front y b begun none s k = go (compared front y k.left k.right k.split)

@@ -1,5 +1,5 @@
 -- For each list of symbols, each grammar has an outcome: a text is parsed, or the first fault is found. The proof is by
--- recursion on how the grammar is composed. Only at a single symbol there is something to decide: which of the symbol's
+-- recursion on how the grammar is composed. There is something to decide only at a single symbol: which of the symbol's
 -- errors has the smallest number (Judged).
 -- - `has_give`, `..`, `has_barred`: one lemma for each combinator: a grammar that the combinator makes has an outcome
 --   for each list of symbols

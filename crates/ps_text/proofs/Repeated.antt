@@ -1,7 +1,7 @@
--- `times` and `many`. The lemmas about these two combinators assume that no item is empty, and that no symbol both
--- continues an item and begins an item.
+-- The combinators `times` and `many` repeat an item. The lemmas about them assume that no item is empty, and that no
+-- symbol both continues an item and begins an item.
 -- - `laws_times`, `laws_many`: the grammars of repeated items satisfy the laws; their texts begin with symbols of the
---   item's set First, and continue with those of More or First
+--   item's set First, and continue with symbols of More or First
 -- - `covers_item`: apart from the empty text, `many` has the texts and errors of an item followed by `many`
 -- - `read_nothing`, `read_none`: if the next symbol does not begin an item, `many` is parsed, with no item
 -- - `joint_many`, `joint_times`: an item and the items after it satisfy `Joint`: it is clear where the next item begins

@@ -1,12 +1,14 @@
 -- Grammars made by the combinators `give`, `one` and `mapped`: they satisfy the laws (`Laws`), and the lemmas state
 -- when they are parsed and when they fail. Grammars made by `then_by` satisfy the laws, too.
--- - `laws_give`, `laws_one`, `laws_mapped`, `laws_then`: a grammar made by each of these combinators satisfies the laws
+-- - `laws_give`, `laws_one`, `laws_mapped`, `laws_then`: a grammar that one of these combinators makes satisfies the
+--   laws; for `then_by`, no symbol may both continue the first grammar and begin the second
 -- - `refused`: the fault of a grammar without an empty text, if the next symbol does not begin the grammar
 -- - `read_give`: the grammar `give v` is parsed without taking a symbol
 -- - `taken_byte`: the symbol that is taken for a byte is this byte
 -- - `read_one`, `bad_one`, `refused_one`: the result of parsing one symbol, if the symbol is accepted, if it is an
 --   error, and if it is not allowed or the text ends
--- - `read_mapped`, `fault_mapped`: if P is parsed, `mapped h P` is parsed; the first fault of P is that of `mapped h P`
+-- - `read_mapped`, `fault_mapped`: if P is parsed, `mapped h P` is parsed; the first fault of P is the first fault of
+--   `mapped h P`
 use Rattle.std.proofs.Common.{◌≡◌, ◌≤◌, List, [], ◌∷◌, ◌++◌, Option, None, Some, refl, sym, ap, subst, inl, inr}
 use Rattle.std.proofs.Common.{◌⊎◌, ◌∙◌, ℕ, append_assoc, arith, rules}
 use Rattle.std.specs.Prelude.{◌==◌, if◌then◌else◌}

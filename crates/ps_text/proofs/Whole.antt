@@ -3,8 +3,8 @@
 -- - `first_fault`: the first fault of the grammar is the first error of the text
 -- - `trailing`: if the grammar was parsed before the end of the text, the first error is that the next symbol is not
 --   allowed
--- - `answers_ok`, `answers_fault`, `answers_trailing`: the same three facts, derived from the contract `Meets` of the
---   parsing function
+-- - `answers_ok`, `answers_fault`, `answers_trailing`: the facts of `no_fault`, `first_fault` and `trailing`, derived
+--   from the contract `Meets` of the parsing function
 --
 -- The lemmas require that the grammar satisfies `Laws`, where the set `odd` is `Own causes`: the symbols that are
 -- errors wherever they occur.

@@ -125,7 +125,7 @@ one {T} take Bad = record {
   IsCause = λ front t f. (front ≡ []) × Bad t f;
 }
 
--- as the argument `Bad` of `one`: no symbol has an error
+-- if `one` gets this relation as its argument `Bad`, no symbol has an error
 abbrev pub NoBad : {T F : Type 0} → T → F → Type 0
 NoBad _ _ = ⊥
 
