@@ -3,12 +3,12 @@
 
   bench/hostile.py PSYN [--only KIND,..] [--commands COMMAND,..] [--rungs N] [--seconds N] [--mebibytes N] [--stack KIBIBYTES]
 
-hostile_texts.py defines the kinds of texts; most texts have 16 MiB, and games made of rungs have 40 rungs. Each text is
-given to each command that reads it. By default, a run has a stack of 1,024 KiB, at most 1,024 MiB of memory (a larger
-request is refused), and at most 60 seconds of processor time. A line for each run has the kind of its texts, its number
-among the runs of this kind, and the command. Then it has the processor seconds, the elapsed seconds, the greatest
-memory use (MB), the bytes of the answer, the exit status, and the answer's first line. The line ends with those of the
-following words that apply:
+hostile_texts.py defines the kinds of texts; most texts have 10 to 16 MiB, and games made of rungs have 40 rungs. Each
+text is given to each command that reads it. By default, a run has a stack of 1,024 KiB, at most 1,024 MiB of memory (a
+larger request is refused), and at most 60 seconds of processor time. A line for each run has the kind of its texts, its
+number among the runs of this kind, and the command. Then it has the processor seconds, the elapsed seconds, the
+greatest memory use (MB), the bytes of the answer, the exit status, and the answer's first line. The line ends with
+those of the following words that apply:
 
   LARGER    out of memory is the right answer, because the answer, or the counts in it, exceed any memory
   SLOW      more than 10 seconds of processor time

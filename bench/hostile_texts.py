@@ -1,8 +1,7 @@
 """Texts that are made to be hard for psyn: each function makes the runs of psyn on one kind of texts.
 
 A run has a command line, its texts, and a flag that tells whether "out of memory" is the right answer. It is the right
-answer if the answer, or the counts in it, would be larger than any machine's memory. A text has 16 MiB if a text of its
-kind can be so long."""
+answer if the answer, or the counts in it, would be larger than any machine's memory. Most texts have 10 to 16 MiB."""
 import collections
 import os
 import subprocess
@@ -61,7 +60,7 @@ def wide_label():
 
 
 def twined_label():
-    """A label of 200 bytes whose diagram, in the order of the propositions, has 2^33 nodes."""
+    """A label of 181 bytes whose diagram, in the order of the propositions, has 2^33 nodes."""
     twined = "|".join(f"{k}&{k + 32}" for k in range(32))
     return on_automata(head(propositions(64), range(32), "0 t") + f"State: 0 [{twined}] 0 --END--\n")
 
@@ -260,8 +259,8 @@ def ladder(rungs=40):
 
 
 def second_ladder(rungs=40):
-    """The game `ladder` with two priorities exchanged and other players: each further rung doubles the calls of psyn's
-    recursion."""
+    """The game `ladder` with two priorities exchanged, and with one vertex of each rung given to the other player: each
+    further rung doubles the calls of psyn's recursion."""
     return on_games(game_by_rungs(SECOND_LADDER, rungs))
 
 
@@ -298,7 +297,8 @@ def names_of_games():
 
 
 def certificates():
-    """Certificates of 16 MiB: right, wrong in the last line, cut short, with a count of a million digits, and compact."""
+    """Certificates of 20 to 24 million bytes: right, wrong in the last line, cut short, and compact. One more
+    certificate has a count of a million digits."""
     count = 790000
     game = "".join(f"{v} {v % 5} {v % 2} {max(v - 1, 0)};\n" for v in range(count))
     begun = [f"{v} 0 {'-' if v % 2 else max(v - 1, 0)}" for v in range(count)]
