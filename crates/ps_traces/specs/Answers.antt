@@ -2,7 +2,7 @@
 -- player 0 wins, and otherwise an environment.
 -- - `role_of player`: player 0 is the controller
 -- - `IsWitness order file player c`: the circuit has the inputs, outputs and order of moves of its role; the automaton
---   accepts all words of a controller's lasso traces, or none of an environment's
+--   accepts all words of a controller's lasso traces, or no word of an environment's lasso traces
 use Rattle.std.specs.Prelude.{◌≡◌, ◌≢◌, ℕ, List, if◌then◌else◌, nat_eq}
 use Rattle.ps_hoa.specs.Files.{FileData}
 use Rattle.ps_circuit.specs.Circuits.{CircuitData, IsCircuit}
