@@ -2,8 +2,8 @@
 -- first fault of Q after P.
 -- - `joint`: two grammars in a row satisfy `Joint`, if they satisfy the laws and no symbol both continues the first and
 --   begins the second
--- - `text_behind`, `cause_behind`: after a text of P that can't continue with the next symbol, each text or error of P
---   and Q together is a text or error of Q, or an error that P has itself
+-- - `text_behind`, `cause_behind`: after a text of P that can't continue with the next symbol, a text of P and Q
+--   together is a text of Q, and an error of both together is an error of Q or of P
 -- - `begins_left`, `begins_right`: a beginning of a text of P also begins a text of P and Q together; so does a text of
 --   P, followed by a beginning of a text of Q
 -- - `read_then`, `fault_left`, `fault_right`: P and Q together are parsed if both are; they have the first fault of P,
