@@ -1,8 +1,8 @@
 -- The properties of the circuit of the player who wins an automaton's game. The winner's circuit is a controller if
 -- player 0 wins, and otherwise an environment.
 -- - `role_of player`: player 0 is the controller
--- - `IsWitness order file player c`: the circuit has the inputs, outputs and order of moves of its role; the automaton
---   accepts all words of a controller's lasso traces, or no word of an environment's lasso traces
+-- - `IsWitness order file player c`: the circuit has the inputs, outputs and order of moves of its role. The automaton
+--   accepts all words of a controller's lasso traces, or no word of an environment's lasso traces.
 use Rattle.std.specs.Prelude.{◌≡◌, ◌≢◌, ℕ, List, if◌then◌else◌, nat_eq}
 use Rattle.ps_hoa.specs.Files.{FileData}
 use Rattle.ps_circuit.specs.Circuits.{CircuitData, IsCircuit}
