@@ -69,7 +69,7 @@ fn way_in(alloc: Global, game: &Game, vertex: usize) -> Result<Vec<usize>, Alloc
     Ok(way)
 }
 
-/// The stimulus of a lost cycle of the product: the stem has the inputs that the circuit reads on a path to the cycle,
+/// The stimulus of a lost cycle of the product. The stem has the inputs that the circuit reads on a path to the cycle,
 /// and the lap has the inputs that it reads along the cycle.
 pub(crate) fn stimulus_of(
     alloc: Global,
