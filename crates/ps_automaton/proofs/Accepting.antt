@@ -1,6 +1,7 @@
 -- The deterministic automaton that is built from an HOA file accepts the same lassos as the automaton that the file
--- states. If some laps lead the deterministic automaton from a state back to this state, the greatest priority during
--- these laps is even exactly if the file's automaton accepts the lasso.
+-- states. A lap is one repetition of the lasso's repeated part. If reading one or more laps leads the deterministic
+-- automaton from a state back to the same state, the greatest priority during these laps is even exactly if the file's
+-- automaton accepts the lasso.
 use Rattle.std.proofs.Common.{◌≡◌, ℕ, ◌+◌, ◌-◌, ◌*◌, ◌^◌, ◌<◌, ◌≤◌, inl, inr, suc, zero, Bool, true, rules}
 use Rattle.std.proofs.Common.{false, List, length, Some, refl, ap, sym, ◌∙◌, arith, add-one, add-zero}
 use Rattle.std.specs.Prelude.{◌↔◌, IsTrue, All}
@@ -17,8 +18,8 @@ use Rattle.ps_automaton.proofs.ChainLaws.{greatest_decides}
 use Rattle.ps_automaton.proofs.Orbits.{any_return_decides, priorities_repeat, word_repeats, word_within, word_behind}
 use Rattle.ps_automaton.proofs.Orbits.{all_below, place_below, laps_are_read, greatest_is_read}
 
--- if f gives the priority of each edge in a part of a run, the greatest priority of this part is the greatest of these
--- values of f
+-- f gives the priority of each edge in a part of a run: the greatest priority of the part is the greatest value of f at
+-- the part's indices
 levels_are : (chain : Chain) (f : ℕ → ℕ) (sets : ℕ → ℕ → Bool) (from count : ℕ) →
     ((t : ℕ) → from ≤ t → t < from + count → f t ≡ level chain (sets t)) →
     greatest_level chain (part sets from count) ≡ greatest_from f from count
@@ -166,8 +167,8 @@ module _ (file : FileData) (chain : Chain) (a : Auto) (is_chain : chain_of file.
           ∙ run_is_even is_chain is_auto w letters_are from count (some_letters accepted.laps accepted.some) run
           accepted.met
 
--- If some laps lead from a state back to this state, the lasso is accepted exactly if the greatest priority during
--- these laps is even.
+-- A lap is one repetition of the lasso's repeated part. If one or more laps lead from the state s back to s, the file's
+-- automaton accepts the lasso exactly if the greatest priority during these laps is even.
 pub laps_decide : (file : FileData) (chain : Chain) (a : Auto) (stem lap : List ℕ) (before laps s : ℕ) →
     chain_of file.condition ≡ Some chain → IsAutoOf file chain a → 0 < length lap →
     All (λ letter. letter < 2 ^ length file.names) stem → All (λ letter. letter < 2 ^ length file.names) lap →

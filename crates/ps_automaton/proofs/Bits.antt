@@ -1,4 +1,4 @@
--- A set of numbers, stored as the bits of one number.
+-- Lemmas about a set of numbers that is stored as one number: the number's bit k is 1 if k is in the set.
 use Rattle.std.proofs.Common.{◌≡◌, ℕ, ◌+◌, ◌*◌, ◌^◌, ◌%◌, ◌<◌, List}
 use Rattle.std.proofs.Common.{◌∷◌, length, drop, get_or, arith, add-one, drop-cons, bit_and, bit_or}
 use Rattle.std.proofs.Common.{w64, refl}

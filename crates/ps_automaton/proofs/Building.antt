@@ -1,4 +1,5 @@
--- The automaton that is built from a `Draft`, which holds the decision diagrams of all states' steps.
+-- The automaton that is built from a `Draft`, which holds the decision diagrams of all states' steps, is the automaton
+-- of the file.
 use Rattle.std.proofs.Common.{◌≡◌, ℕ, ◌^◌, ◌<◌, ◌≤◌, ◌⊎◌, inl, inr, false, List, length, Option, Some, rules, arith}
 use Rattle.std.specs.List.{IsDistinct}
 use Rattle.std.specs.Option.{IsSomeAnd}
@@ -41,7 +42,8 @@ module _ {file : FileData} (sound : IsSoundFile file) {chain : Chain} (a : Autom
         (record { state = file.states; priority = 1 })
     sink_named letter = search rules
 
-    -- a property of each state and of the sink holds for every number up to `file.states`, the number of the sink
+    -- if P holds for each state and for the sink, P holds for every number up to `file.states`, which is the sink's
+    -- number
     at_each : (P : ℕ → Type 0) → ((q : ℕ) → q < file.states → P q) → P file.states → (q : ℕ) → q ≤ file.states → P q
     at_each P states sink q low = elim (eq-or-lt_of_le low) [ inl e ↦ rw e sink | inr less ↦ states q less ]
 

@@ -24,7 +24,7 @@ pub level_below_first : (base : Bool) (links : List ChainLink) (has : ℕ → Bo
 level_below_first base [] has = omega arith
 level_below_first base (link ∷ links) has = grind (arith, level_below_first base links has, raised_more)
 
--- the greatest priority that a chain gives to a list of edges
+-- the greatest of the priorities that a chain gives to the edges in a list
 abbrev greatest : Bool → List ChainLink → List (ℕ → Bool) → ℕ
 greatest base links edges = greatest_level (record { links = links; base = base }) edges
 
@@ -74,8 +74,8 @@ link_decides : (met : ℕ → Bool) (accepts : Bool) (c : Condition) {link : Cha
     link_of accepts c ≡ Some link → joined accepts (holds met c) b ≡ cond (met link.colour) link.accepts b
 link_decides met accepts c b e = grind arith
 
--- a chain that begins with the links of some operands has the value of the disjunction or conjunction of these operands
--- and the rest of the chain
+-- a chain consists of the links of some operands, followed by other links: its truth value is that of the disjunction
+-- or conjunction of these operands and of the chain of the other links
 links_decide : (met : ℕ → Bool) (accepts : Bool) (cs : Conditions) (base : Bool) (rest links : List ChainLink) →
     links_of accepts cs ≡ Some links → chain_holds base (links ++ rest) met ≡ joined accepts (together met accepts cs)
     (chain_holds base rest met)

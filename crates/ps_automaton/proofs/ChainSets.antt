@@ -1,4 +1,5 @@
--- If all sets in an acceptance condition are below a bound, so are the sets in the links of its chain.
+-- If all acceptance sets in a condition have numbers less than a bound, the sets in the links of the condition's chain
+-- have, too.
 use Rattle.std.proofs.Common.{rules, ◌≡◌, ℕ, ◌<◌, ◌≤◌, Bool, true, false, List, [], ◌∷◌, ◌++◌, Option, Some, None}
 use Rattle.std.proofs.Common.{arith}
 use Rattle.std.specs.List.{AllByRecursion}

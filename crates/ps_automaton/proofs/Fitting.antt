@@ -1,4 +1,5 @@
--- Lemmas about the edges of a state whose row satisfies `IsSoundRow`.
+-- Lemmas about the edges of a state whose row in the file is well formed (`IsSoundRow`): their letters, acceptance sets
+-- and targets.
 use Rattle.std.proofs.Common.{◌≡◌, ℕ, zero, suc, ◌+◌, ◌^◌, ◌<◌, ◌≤◌, inl, inr, false, List, [], ◌∷◌, length, map}
 use Rattle.std.proofs.Common.{get_or, Option, Some, None, refl, sym, ap, ◌∙◌, arith, add-zero}
 use Rattle.std.specs.List.{All, slice_get}

@@ -1,4 +1,5 @@
--- The links of a chain (specs/Chains), collected from the operands of a disjunction or conjunction one after another.
+-- The code collects the links of a chain (specs/Chains) by visiting the operands of a disjunction or conjunction one
+-- after another.
 use Rattle.std.proofs.Common.{rules, ◌≡◌, ℕ, ◌+◌, ◌<◌, ◌≤◌, Bool, true, false, not, List, [], ◌∷◌, ◌++◌, length, map}
 use Rattle.std.proofs.Common.{drop, get_or, Option, None, Some, ap, append_assoc, append-nil, add-one, add-zero}
 use Rattle.std.proofs.Common.{drop-cons, arith}
@@ -22,8 +23,8 @@ use Rattle.std.specs.declared.alloc.Global.{Global}
 abbrev pub from_place : List Cond → ℕ → Conditions
 from_place operands k = operands_in (map condition_of (drop k operands))
 
--- the invariant of the loop before operand k: the links collected so far, and the index of an earlier operand that is
--- not a link, if there is one
+-- the loop's invariant before operand k: the links collected so far are `after`; the last argument is the index of the
+-- earlier operand that is not a link, or None if there is none
 abbrev pub IsGathering : Bool → List Cond → List Link → List Link → ℕ → Option ℕ → Type 0
 IsGathering accepts operands before after k None =
     whole accepts operands before ≡ in_front (Some (map link_data after)) (chain_of_all accepts (from_place operands k))

@@ -1,4 +1,4 @@
--- States whose edges have implicit labels: each edge is taken at exactly one letter.
+-- If the edges of a state have implicit labels, each edge is taken at exactly one letter.
 use Rattle.std.proofs.Common.{◌≡◌, ℕ, ◌+◌, ◌%◌, ◌^◌, ◌<◌, List, [], ◌∷◌, ◌++◌, length, get_or, Some}
 use Rattle.std.proofs.Common.{refl, ap, ◌∙◌, arith}
 use Rattle.std.specs.List.{slice_get}

@@ -1,4 +1,4 @@
--- Pairs of decision diagrams that have a leaf at the same letter.
+-- Lemmas about two decision diagrams that have a leaf at the same letter, which show that two edges are taken there.
 use Rattle.std.proofs.Common.{arith, ◌≡◌, ℕ, ◌^◌, ◌<◌, inl, inr, Bool, Option, Some, None, IsTrue, refl, sym}
 use Rattle.std.proofs.Common.{ap, ◌∙◌}
 use Rattle.std.specs.Option.{option_map}

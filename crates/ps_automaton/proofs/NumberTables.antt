@@ -12,7 +12,8 @@ use Rattle.ps_automaton.specs.Inner.Views.{link_data}
 use Rattle.ps_automaton.specs.declared.chain.Link as code
 use Rattle.ps_automaton.proofs.ChainLaws.{level_below_first, raised_more}
 
--- the greatest of a base priority and of the table's priorities for the edge's sets, if only sets less than k count
+-- the greatest among a base priority and the priorities that the table has for those of the edge's sets whose numbers
+-- are less than k
 abbrev pub most : ℕ → List ℕ → (ℕ → Bool) → ℕ → ℕ
 most base numbers has zero = base
 most base numbers has (suc k) =
@@ -53,7 +54,7 @@ alone_below_level base [] has s is = omega arith
 alone_below_level base (link ∷ links) has s is =
     grind (arith, alone_below_level base links has s is, level_grows base link links has)
 
--- the edge has a set below 64 such that an edge with only this set has the same priority
+-- one of the edge's sets has a number less than 64, and an edge with only this set has the same priority as the edge
 record Attained (base : Bool) (links : List ChainLink) (has : ℕ → Bool) : Type 0 where
   set : ℕ
   small : set < 64

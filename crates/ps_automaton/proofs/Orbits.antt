@@ -1,5 +1,5 @@
--- In a deterministic run over a lasso, any laps that lead from a state back to this state have the same greatest
--- priority.
+-- A lasso consists of a stem and of laps, which are the repetitions of one word. In a deterministic run over a lasso,
+-- all sequences of laps that lead from some state back to it have the same greatest priority.
 use Rattle.std.proofs.Common.{◌≡◌, ℕ, ◌+◌, ◌-◌, ◌*◌, ◌/◌, ◌%◌, ◌<◌, ◌≤◌, inl, inr, max, suc, zero, List, [], rules, ◌∷◌}
 use Rattle.std.proofs.Common.{length, get_or, refl, ap, ◌∙◌, arith, add-one, add-zero, zero-add}
 use Rattle.std.proofs.Math.Nat.{eq-or-lt_of_le, le_antisymm, mod-lt, div-add-mod, add-mul-mod_self_right}
@@ -134,7 +134,8 @@ pub laps_together : (a : Auto) (q : ℕ) (lap : List ℕ) (m n : ℕ) →
 laps_together a q lap m zero = ap (state_after a q lap) (add-zero m)
 laps_together a q lap m (suc n) = rw add-suc (ap (λ s. state_behind a s lap) (laps_together a q lap m n))
 
--- the greatest priority of the run during `laps` laps, after it has read the stem and `before` laps
+-- the run reads the lasso's stem and `before` repetitions of its repeated part (laps): the greatest priority during the
+-- next `laps` laps is `greatest_of_laps`
 pub greatest_is_read : (a : Auto) (stem lap : List ℕ) (before laps : ℕ) →
     greatest_from (priority_at a (lasso_word stem lap)) (length stem + before * length lap) (laps * length lap)
     ≡ greatest_of_laps a (state_after a (state_behind a a.start stem) lap before) lap laps

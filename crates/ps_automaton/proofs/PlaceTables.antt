@@ -1,4 +1,5 @@
--- The table with the index of each target in a list of targets of edges, after a target is added to the list.
+-- When a target is appended to a list of different targets of edges, and its index is entered into the table of
+-- indices, the table still has the index of each target.
 use Rattle.std.proofs.Common.{◌≡◌, ℕ, ◌⊎◌, inl, inr, true, cond, List, [], ◌∷◌, ◌++◌, length, Option, None, Some, arith}
 use Rattle.std.specs.List.{slice_get}
 use Rattle.std.specs.Ordering.{is_eq}

@@ -1,5 +1,5 @@
--- The leaves of the joined diagram of a state's edges, which are indices of targets, are replaced by the indices of the
--- steps to these targets.
+-- In the joined diagram of a state's edges, each leaf is the index of a target. The code replaces each leaf by the
+-- index of the step to this target.
 use Rattle.std.proofs.Common.{◌≡◌, ℕ, suc, ◌^◌, ◌<◌, ◌⊎◌, inl, inr, Bool, List, [], ◌∷◌, length, get_or, Option, rules}
 use Rattle.std.proofs.Common.{Some, None, refl, sym, ap, subst, ◌∙◌, arith}
 use Rattle.std.specs.List.{slice_get}

@@ -10,7 +10,7 @@ use Rattle.ps_automaton.specs.declared.targets.Target.{Target}
 use Rattle.ps_automaton.specs.declared.step.Step.{Step}
 use Rattle.ps_automaton.proofs.Distinct.{at_last, inserted_keeps, inserted_is}
 
--- the equality test of steps
+-- the test by which the code decides whether two steps are equal
 abbrev pub step_eq : Step → Step → Bool
 step_eq s t = eqb s.state t.state && eqb s.priority t.priority
 

@@ -110,7 +110,8 @@ module _ {file : FileData} (sound : IsSoundFile file) {row : RowData} (row_sound
               (λ alike. grind (arith, target_of_alike there.2 is alike)),
         )
 
-  -- the clashing edges that are found first in a state's row satisfy `IsFirstOfRow`
+  -- if the edge at index `count` is the first that clashes with an earlier edge, and `first` is the smallest index of
+  -- such an earlier edge, these two edges are the state's first clashing pair
   pub first_of_row : {count : ℕ} {targets : List Target} {t : Table} {node : ℕ} →
       IsUnion file row count targets t node → {first : ℕ} → AreClashing file row first count →
       ((a : ℕ) → AreClashing file row a count → first ≤ a) → IsFirstOfRow file row first count

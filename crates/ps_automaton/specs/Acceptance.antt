@@ -1,6 +1,7 @@
 -- The lassos that the automaton of an HOA text accepts. A lasso is a stem followed by a lap that repeats for ever.
--- - `IsRun file w count states sets`: a run over the first `count` letters of the word w
--- - `IsAccepted file stem lap`: some run returns to a state and satisfies the condition in between
+-- - `IsRun file w count states sets`: `states` and `sets` are those of a run over the first `count` letters of w
+-- - `IsAccepted file stem lap`: some run over the lasso visits a state twice, and satisfies the acceptance condition
+--   between the two visits
 use Rattle.std.specs.Prelude.{◌≡◌, ℕ, zero, suc, ◌+◌, ◌*◌, ◌<◌, Bool, IsTrue, List, [], ◌∷◌, length}
 use Rattle.ps_hoa.specs.Files.{FileData}
 use Rattle.ps_hoa.specs.Edges.{Goes}

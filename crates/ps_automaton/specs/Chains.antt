@@ -140,7 +140,8 @@ level chain has = level_by chain.base chain.links has
 
 -- ## Parts of a run
 
--- whether one of the edges is in the set; each edge is given by its acceptance sets
+-- whether one of the edges is in the acceptance set `set`; each edge is given by a function that states which
+-- acceptance sets the edge is in
 abbrev pub is_met : List (ℕ → Bool) → ℕ → Bool
 is_met [] set = false
 is_met (has ∷ edges) set = if has set then true else is_met edges set

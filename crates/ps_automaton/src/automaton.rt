@@ -217,8 +217,8 @@ impl Automaton {
         }
     }
 
-    /// A state that is reached from the given state by reading laps, and a number of further laps that lead from the
-    /// reached state back to itself.
+    /// A state that is reached from the given state by reading the word `lap` zero or more times, and how many further
+    /// readings of `lap` lead from the reached state back to itself.
     fn returning(&self, first: u32, lap: &[u64]) -> Result<Orbit, AllocError>
         requires { first ≤ self.now.states }
         ensures returns { IfOk result (λ orbit. Returns (auto_of self.now) first lap.now orbit.state orbit.laps) }
@@ -238,7 +238,7 @@ impl Automaton {
         })
     }
 
-    /// The greatest priority of the edges taken during `laps` laps.
+    /// The greatest priority of the edges taken while the word `lap` is read `laps` times.
     fn greatest_of_laps(&self, state: u32, lap: &[u64], laps: usize) -> u64
         requires { state ≤ self.now.states }
         ensures { result ≡ greatest_of_laps (auto_of self.now) state lap.now laps }
@@ -282,7 +282,7 @@ fn copied(alloc: Global, names: &[Vec<u8>]) -> Result<Vec<Vec<u8>>, AllocError>
     Ok(copy)
 }
 
-/// A state, and a number of laps that lead from this state back to it.
+/// A state, and the number of repetitions of a lasso's repeated part (laps) that lead from the state back to itself.
 #[derive(Clone, Copy)]
 struct Orbit {
     state: u32,

@@ -24,8 +24,8 @@
 //! | `greatest_level_decides` | in a part of a run, the greatest priority is even exactly if the part is accepted |
 //!
 //! `build` joins the edges of a state one after another, as decision diagrams, so it does not visit every letter if a
-//! label uses only a few of many propositions. For an automaton with n states, `accepts` reads the lap at most 2 * (n +
-//! 1) times.
+//! label uses only a few of many propositions. For an automaton with n states, `accepts` reads the word's repeated part
+//! (lap) at most 2 * (n + 1) times.
 #![tactic(auto)]
 
 mod automaton;

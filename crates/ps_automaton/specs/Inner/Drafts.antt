@@ -1,5 +1,5 @@
--- How the decision diagrams of an automaton's steps are built, one state of the file after another. (For private
--- functions.)
+-- Definitions about the decision diagrams of an automaton's steps, which are built for one state of the file after
+-- another. (For private functions.)
 -- - `IsReady t g`: the diagram store has the diagrams of the file's aliases and of the state's label
 -- - `IsWhere leaf value P`: the leaf is the value if P is true, and None if P is false
 -- - `IsUnion file row count targets t node`: at each letter, the node's leaf is the index of the target of the edge

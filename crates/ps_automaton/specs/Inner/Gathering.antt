@@ -1,4 +1,4 @@
--- How the links of an acceptance condition are appended to links that were collected before. (For private functions.)
+-- The links of an acceptance condition are appended to links that were collected before. (For private functions.)
 use Rattle.std.specs.Prelude.{◌≡◌, ◌<◌, Bool, not, List, length, map, Option, None, Some, option_map, HoldsAt}
 use Rattle.ps_hoa.specs.Conditions.{operands_in}
 use Rattle.ps_hoa.specs.Values.{condition_of}

@@ -4,7 +4,8 @@ use Rattle.ps_automaton.specs.Autos.{state_after}
 use Rattle.ps_automaton.specs.Automata.{auto_of}
 use Rattle.ps_automaton.proofs.automaton.Automaton.returning.Given as goal
 
--- each nonzero entry of `seen` is one more than the number of laps after which its state was reached
+-- each nonzero entry of `seen` is one more than the number of laps (repetitions of the lasso's repeated part) after
+-- which its state was reached
 abbrev pub invariant-loop-laps : goal.invariant-loop-laps
 invariant-loop-laps l = record {
   within : l.state ≤ l.self.states;
