@@ -6,8 +6,8 @@ use ps_label::{Label, Labels};
 use std::alloc::{AllocError, Global};
 use std::test::Fail;
 
-/// The leaves of three diagrams: those that `relabel` and `guard` make from the leaf 2, and the one that `fill` makes
-/// from the diagram without leaves.
+/// The leaves at the letter 0 of three diagrams. The operations `relabel` and `guard` make two of them from the leaf 2,
+/// and `fill` makes one from the diagram without leaves.
 fn changed(store: &mut Store) -> Result<[Option<u64>; 3], AllocError> {
     let two = store.leaf(2)?;
     let relabelled = store.relabel(two, &[4, 5, 6])?;
@@ -32,7 +32,7 @@ fn relabelled_from(alloc: Global, store: &mut Store) -> Result<Option<u64>, Allo
     Ok(made.eval(relabelled, 0))
 }
 
-/// Whether `overlay` reports that two diagrams have different leaves at the same letter, namely 4 and 1.
+/// Whether `overlay` reports that, at the same letter, one diagram has the leaf 4 and the other the leaf 1.
 fn clashes(store: &mut Store) -> Result<bool, AllocError> {
     let first = store.leaf(4)?;
     let second = store.leaf(1)?;
@@ -54,8 +54,8 @@ fn least_letter(alloc: Global, store: &mut Store) -> Result<Option<u64>, AllocEr
     store.path_to(node, 1)
 }
 
-/// The number of leaves in the diagram of the condition that the letter is 3, and the number of classes of letters that
-/// `classes_from` computes for this diagram.
+/// Two numbers for the diagram that has a leaf 1 only at the letter 3: the number of its leaves, and the number of
+/// classes of letters that `classes_from` computes for it.
 fn leaves_and_classes(alloc: Global, store: &mut Store) -> Result<(usize, usize), AllocError> {
     if store.propositions() != 2 {
         return Ok((0, 0));
