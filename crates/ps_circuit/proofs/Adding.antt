@@ -1,7 +1,7 @@
--- Lemmas about the defining literals and the used literals that the lines of one kind (inputs, latches, outputs or
--- gates) add to those of the earlier lines.
--- - `LineKind X`: a kind of lines, each of which has an input, latch, output or gate (an item, of type X): the literals
---   that the items define, and those that they use
+-- Each line of a kind (input, latch, output or gate) appends the literals that it defines to the defining literals so
+-- far, and the literals that it uses to the used literals so far.
+-- - `LineKind X`: a kind of lines, each of which has an item of type X (an input, latch, output or gate); it gives the
+--   literals that items define, and the literals that items use
 -- - `AddsItem kind c d x`: the lines d are the lines c and one more, which has the input, latch, output or gate x
 -- - `Added kind before read d`: the lines d of one kind come after lines with the defining literals `before` and the
 --   used literals `read`, and add their own literals
@@ -35,7 +35,7 @@ pub record Added {X : Type 0} (kind : LineKind X) (before read : List ℕ) (d : 
   pub defined : d.defined ≡ map variable (before ++ kind.defines d.items)
   pub readings : values d.readings ≡ read ++ kind.reads d.items
 
--- before its first line is read, a kind of lines adds no literals to those of the earlier lines
+-- a kind of lines of which no line was read yet has added no literals to those of the earlier lines
 pub none_more : {X : Type 0} (of : List X → List ℕ) → of [] ≡ [] → (front : List ℕ) {items : List X} → items ≡ [] →
     front ≡ front ++ of items
 none_more of none front e = search rules

@@ -2,9 +2,11 @@
 -- - `text_reads`, `text_trails`: the answer to a text follows from the result of parsing the whole grammar
 -- - `Reached start now rest`: the text was parsed from `start` to `now`, and the grammar's part `rest` is still to be
 --   parsed
--- - `past_header`, `past_lines`, `all_reads`: the text is parsed section by section
+-- - `past_header`, `past_lines`, `all_reads`: after the header, after the lines of one kind, and after the symbol
+--   table, the grammar of the rest of the text is still to be parsed
 -- - `answered`: the parser returns the answer to the text
--- - `draft_fails`, `draft_trails`: the ways in which the parser can return without a circuit
+-- - `draft_fails`, `draft_trails`: if a part of the text has an error, or bytes remain after the last part, the error
+--   that the parser returns is the right answer
 use Rattle.std.proofs.Common.{◌≡◌, ℕ, ◌^◌, ◌≤◌, List, [], ◌∷◌, length, Option, None, Some, Result, Ok, Err, IsErrAnd}
 use Rattle.std.proofs.Common.{All, refl, sym, ap, subst, ◌∙◌, arith, length-append, rules}
 use Rattle.std.specs.Prelude.{replicate, IfOk}

@@ -1,6 +1,7 @@
 -- It is decidable whether a gate depends on itself, and the first such gate can be computed.
 -- - `Through n i j`: there is a path from i to j whose inner vertices are below n, which is decided by recursion on n
--- - `first_or_none`: there is a first vertex from which a path leads back to it, or there is none
+-- - `first_or_none`: either there is a first vertex from which a path leads back to the vertex itself, or there is no
+--   such vertex
 use Rattle.std.proofs.Common.{◌≡◌, ℕ, zero, suc, ◌<◌, ◌≤◌, ◌⊎◌, List, length, slice_get, Option, None, Some, refl, sym}
 use Rattle.std.proofs.Common.{inl, inr, ◌∙◌, arith, rules}
 use Rattle.std.proofs.lemmas.Bool.{cases_eq, cases_lt}

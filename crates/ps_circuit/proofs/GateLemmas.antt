@@ -169,7 +169,8 @@ pub chosen_bits : (v : ℕ → Bool) (s h l : ℕ) {ns : ℕ} (high low result :
     bit v result ≡ cond (bit v s) (bit v h) (bit v l)
 chosen_bits v s h l high low result e eh el er = er ∙ chosen_either v s h l high low e eh el
 
--- lemmas about a multiplexer of which one alternative is the constant true
+-- if `high` or `low` is the constant true, the multiplexer is a disjunction: of `s` and `low` if `high` is true, of not
+-- `s` and `high` if `low` is true
 bit_one : {d : Drafted} (v : ℕ → Bool) → MeetsEquations d v → bit v 1 ≡ true
 bit_one v m = ap not m.constant
 

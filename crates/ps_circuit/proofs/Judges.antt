@@ -56,8 +56,8 @@ pub record Digits (s : Seen) (digits : List ℕ) : Type 0 where
   pub all : AllOf is_digit digits
   pub longest : StopsBefore is_digit rest
 
--- in the symbol table, the letter of a symbol is an error only if the number after it is not that of a still unnamed
--- input, latch or output
+-- if the letter of a symbol is an error, digits follow it, and their number does not belong to an input, latch or
+-- output that still lacks a name
 pub bad_symbol : {names : NamesData} {s : Seen} {kind : Kind} {digits : List ℕ} {f : AigCause} →
     take_kind s ≡ Some kind → Digits s digits → IsBadSymbol names s f →
     (0 < length digits) × (slice_get (names_of names kind) (decimal_value digits) ≡ Some None → ⊥)

@@ -70,8 +70,8 @@ length-links_by : (place_of : ℕ → Option ℕ) (gates : List Gate) → length
 length-links_by place_of [] = refl
 length-links_by place_of (g ∷ gates) = ap suc (length-links_by place_of gates)
 
--- if `place_of` gives the index of each gate's variable, the `Links` that are computed with it for a gate have exactly
--- the indices of the gates that it reads
+-- the `Links` of a gate are computed with a function `place_of`: if `place_of` gives the index of each gate's variable,
+-- the `Links` have exactly the indices of the gates that the gate reads
 links-by_places : {gates : List Gate} {place_of : ℕ → Option ℕ} {links : List Links} → ArePlaces gates place_of →
     links ≡ links_by place_of gates → AreLinksOf gates links
 links-by_places {gates} {place_of} a e = search (rules, length-links_by, slice_get-map, slice_get_within)

@@ -91,7 +91,7 @@ gate-again d {e} s x =
 
 -- ## What remains
 
--- a way to make gates: the existing gates remain, and making the same gates again later adds no gate
+-- the function `make` keeps the existing gates, and calling it again after its gates exist adds no gate
 pub record Lasts (make : Drafted → Made) : Type 0 where
   pub extends : (d : Drafted) → Extends d (make d).draft
   pub again : (d e : Drafted) → Extends (make d).draft e → IsThere (make d) make e

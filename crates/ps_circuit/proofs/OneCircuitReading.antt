@@ -42,8 +42,8 @@ same_draft : (text : List ℕ) (a b : Draft) → PartAnswers aig_causes circuit_
 same_draft text a b h k = has_one_answer circuit_text.IsText (IsWrong aig_causes circuit_text) cause_number
     laws_text.laws.one_value numbered (stream_of text) a b h k
 
--- the answer to a text that is parsed without an error, and in which undefined variables and cycles are still to be
--- checked
+-- a text was parsed without an error: its answer is the first undefined variable, or else the first gate that depends
+-- on itself, or else the circuit
 data Settled (d : DraftData) (answer : CircuitAnswer) : Type 0 where
   undefined_at : (l : Number) → IsFirstUndefined d.defined d.readings l →
       answer ≡ Err (record { cause = causes.Undefined; offset = l.offset }) → Settled d answer

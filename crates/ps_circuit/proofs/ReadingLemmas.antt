@@ -44,7 +44,7 @@ apart_of : (literals : List ℕ) → AllPairs (λ v w. v ≢ w) (map variable li
 apart_of literals h i j d lt within e =
     h i j (variable d) lt (omega (arith, length-map literals variable)) (grind (arith, get_or-map))
 
--- the lines that were read form a circuit, if all used literals are defined, except that a gate may depend on itself
+-- if all used literals are defined, the lines that were read form a circuit, except that a gate may depend on itself
 pub draft_of : {c : CircuitData} {defined : List ℕ} → c.most < 2 ^ 31 → Defines c.most [] (definitions c) defined →
     All (IsKnownIn defined) (readings c) → length c.input_names ≡ length c.inputs →
     length c.latch_names ≡ length c.latches → length c.output_names ≡ length c.outputs →
@@ -66,7 +66,8 @@ pub known_all : (variables : List ℕ) (fields : List Number) (i : ℕ) → leng
     All (λ f. IsKnownIn variables f.value) (take i fields) → All (λ f. IsKnownIn variables f.value) fields
 known_all variables fields i le h = subst (λ fs. All (λ f. IsKnownIn variables f.value) fs) (take_all i fields le) h
 
--- the literal at which the check stops is the first used literal whose variable is not defined
+-- the used literals before index i are defined, and the literal at i is not: it is the first used literal whose
+-- variable is not defined
 pub first_undefined : {variables : List ℕ} {readings : List Number} (i : ℕ) (d : Number) → i < length readings →
     All (IsDefined variables) (take i readings) → (IsDefined variables (get_or readings i d) → ⊥) →
     IsFirstUndefined variables readings (get_or readings i d)

@@ -1,5 +1,5 @@
--- What is known of the value that a part of the AIGER grammar yields, if the part has no error. Whether a part has an
--- error also depends on the bytes after it, so each byte is given together with the bytes that follow it (`Placed`).
+-- If a part of the AIGER grammar has no error, the value that the part yields has a known property. Whether a part has
+-- an error also depends on the bytes after it, so each byte is given together with the bytes that follow it (`Placed`).
 -- - `Safe part Good`: a value that is parsed without an error has the property `Good`, whatever follows
 -- - `Followed part Good`: a value that is parsed without an error has the property `Good` if a space, a tab, a newline
 --   or the end follows
@@ -76,8 +76,8 @@ module _ {A B : Type 0} (P : Field A) (Q : A → Field B) where
       (ap (λ (z : List Seen). left ++ z) e ∙ sym (append_assoc left front (t ∷ back)))
       (inr (record { left = left; right = front; value = a; split = refl; is_left = h; is_cause = c }))
 
--- the text of two parts, followed by a rest, may also be regarded as the first part's text, followed by the second
--- part's text and the rest
+-- the text of two parts, followed by a rest, is the first part's text, followed by the second part's text and the rest;
+-- `Placed` holds for both forms
 placed_parts : (text left right rest : List Seen) → text ≡ left ++ right → Placed (text ++ rest) →
     Placed (left ++ (right ++ rest))
 placed_parts text left right rest e placed =

@@ -59,9 +59,9 @@ mux_of d s high low =
     else if low == 1 then or_of d (negated s) high
     else chosen_of d s high low
 
--- The result of a builder's call, where `all` has the gates that the builder should have after the call, and the
--- literal that the call should return. If the call succeeds, it makes these gates and returns this literal. The literal
--- has the value `value v` if the variables' values v satisfy the equations of the gates.
+-- A call of a builder succeeds or fails as it should; `all` has the gates that the builder should have afterwards, and
+-- the literal that the call should return. If the call succeeds, the builder has these gates, and the call returns this
+-- literal. If the variables' values v satisfy the equations of the gates, the literal has the value `value v`.
 pub record MakesGates (old new : Drafted) (result : Result ℕ EncodeFault) (all : Made) (value : (ℕ → Bool) → Bool)
     (Needs : Type 0) : Type 0 where
   -- the existing gates remain, even if the call fails
@@ -69,8 +69,8 @@ pub record MakesGates (old new : Drafted) (result : Result ℕ EncodeFault) (all
   pub held : IfOk result (IsHeld new)
   pub bit : IfOk result (λ literal. (v : ℕ → Bool) → MeetsEquations new v → bit v literal ≡ value v)
   pub made : IfOk result (λ literal. all ≡ record { draft = new; literal = literal })
-  -- if the call fails because no variable is left, 2147483647 variables exist, a new gate is needed, and with all gates
-  -- of `all` there would be more variables than that
+  -- if the call fails because no variable is left, 2147483647 variables exist, and a new gate is needed; with all gates
+  -- of `all`, there would be more than 2147483647 variables
   pub too_large : result ≡ Err CircuitTooLarge → IsFull new
   pub needed : result ≡ Err CircuitTooLarge → Needs
   pub above : result ≡ Err CircuitTooLarge → HasTooMany all.draft

@@ -98,7 +98,7 @@ header =
 
 -- ## Number lines
 
--- what was read up to some line: the inputs, latches, outputs or gates (those of this line's kind), the variables
+-- what was read up to some line: the items of this line's kind (inputs, latches, outputs or gates), the variables
 -- defined so far, the literals used so far, and the offset of each gate's line
 pub record Lines (A : Type 0) : Type 0 where
   pub items : List A
@@ -106,8 +106,8 @@ pub record Lines (A : Type 0) : Type 0 where
   pub readings : List Number
   pub starts : List ℕ
 
--- what was read before the first input line; `next_lines` is what was read before the first line of the next kind
--- (latches, outputs or gates)
+-- before the first input line, nothing was read; before the first line of the next kind, `next_lines` has no items of
+-- that kind, but the variables, literals and offsets of the lines read so far
 abbrev pub no_lines : {A : Type 0} → Lines A
 no_lines = record { items = []; defined = []; readings = []; starts = [] }
 

@@ -4,10 +4,9 @@
 --   circuit c
 -- - `HasOneValues c`: for any inputs and latches, circuit c has a list of values, and any two such lists agree on
 --   defined literals
--- - `Steps c latches inputs outputs next`: the circuit's outputs in a step, and the values of its latches after the
---   step
--- - `IsTrace c moments`: in consecutive steps, the latches begin with their resets, and take the values of their next
---   literals
+-- - `Steps c latches inputs outputs next`: with these values of its latches and inputs, circuit c has the values
+--   `outputs` of its outputs, and its latches have the values `next` after the step
+-- - `IsTrace c moments`: the list has consecutive steps of circuit c; in the first step, the latches have their resets
 --
 -- An undefined variable may have either value, since no literal that the circuit uses has this variable.
 use Rattle.std.specs.Prelude.{◌≡◌, ℕ, ◌+◌, ◌&&◌, Bool, false, not, if◌then◌else◌, List, [], ◌∷◌, map, length}

@@ -58,7 +58,8 @@ pub trait Line {
     /// The grammar of the next line, given what was read before it.
     ghost part: { ℕ → Lines Self.Item → Field (Lines Self.Item) };
 
-    /// The relation between what was read before a line of this kind and what was read up to the end of this line.
+    /// The relation between what was read before a line of this kind and what has been read after that line, which adds
+    /// one item.
     ghost adds: { ℕ → Lines Self.Item → Lines Self.Item → Type 0 };
 
     /// Reads a line.

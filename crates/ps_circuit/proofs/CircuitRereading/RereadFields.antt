@@ -1,13 +1,14 @@
 -- Lemmas about parsing the fields of a line that the circuit writer has written.
 -- - `from e at text`: the bytes of `text` as parser input, from the offset `at` to the end `e`
--- - `Rereads part Good text rest`: the grammar's part `part` is parsed from `text` with a value that has the property
---   `Good`, and `rest` remains
--- - `reread_then`, `reread_mapped`: lemmas for two parts of the grammar that follow one another, and for a part with a
---   function applied to its value
--- - `reread_as`, `reread_branch`: lemmas for parsing an equal text, and for parsing by one of several alternatives
--- - `number_then`, `field_then`: lemmas for a number, or a space and a number, and what follows it
--- - `reread_end`, `reread_more`, `reread_no_more`: lemmas for the end of a line, for a further field that follows, and
---   for no further field
+-- - `Rereads part Good text rest`: parsing the grammar's part `part` at the beginning of `text` gives a value with the
+--   property `Good`, and leaves `rest`
+-- - `reread_then`, `reread_mapped`: `Rereads` holds for two parts in a row if it holds for each, and for a part whose
+--   value is mapped by a function
+-- - `reread_as`, `reread_branch`: `Rereads` holds for an equal text, and for alternatives of which the next byte
+--   selects one
+-- - `number_then`, `field_then`: a written number, or a space and a number, is parsed, and so is the part after it
+-- - `reread_end`: the newline is parsed as the end of a line; `reread_more`, `reread_no_more`: the parser finds that a
+--   further field follows, or that the line ends
 use Rattle.std.proofs.Common.{◌≡◌, ℕ, ◌+◌, ◌^◌, ◌<◌, Bool, true, false, List, [], ◌∷◌, ◌++◌, length, refl, sym, ap}
 use Rattle.std.proofs.Common.{subst, ◌∙◌, arith, rules}
 use Rattle.std.specs.Prelude.{decimal}

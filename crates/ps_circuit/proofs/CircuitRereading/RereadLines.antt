@@ -80,7 +80,7 @@ reread_header c w rest = reread_as regrouped (reread_then chain_header (reread_w
 
 -- ## The parts of a line
 
--- the text of numbers, each after one space, and of what follows them
+-- the text that has each of the given numbers after one space, and then the text `rest`
 abbrev pub fields_text : List ℕ → List ℕ → List ℕ
 fields_text [] rest = rest
 fields_text (x ∷ xs) rest = field_text x (fields_text xs rest)

@@ -1,6 +1,6 @@
 -- Lemmas about parsing the symbol table that is written for a circuit.
--- - `reread_names`: parsing the names of the inputs, of the latches or of the outputs in the symbol table, and what
---   follows them, gives what was written
+-- - `reread_names`: parsing the written names of the inputs, of the latches or of the outputs gives these names; then
+--   the rest of the symbol table is parsed
 -- - `reread_no_names`, `reread_no_comment`: at the end of the text, no further name and no comment is found
 use Rattle.std.proofs.Common.{◌≡◌, ◌≢◌, ℕ, ◌+◌, ◌^◌, ◌<◌, true, List, [], ◌∷◌, ◌++◌, length, Option, None, Some, All}
 use Rattle.std.proofs.Common.{slice_get, refl, sym, subst, arith, append_assoc, rules, length-append}

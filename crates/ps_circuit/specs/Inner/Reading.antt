@@ -1,6 +1,6 @@
 -- The contracts of the AIGER parser's private functions, in terms of what these functions have read.
--- - `lines_of items noted`: what was read up to some line: the inputs, latches, outputs or gates (those of this line's
---   kind), and the parser's records
+-- - `lines_of items noted`: what was read up to some line: the items of this line's kind (inputs, latches, outputs or
+--   gates), and the parser's records
 -- - `TellsField`, `TellsCount`, `TellsHeader`, `TellsDraft`: the function for a field, for a number of lines, for the
 --   header or for the whole text parsed its part, or located the first error
 -- - `AddsInput`, `AddsLatch`, `AddsOutput`, `AddsGate`: one more line was read, of an input, a latch, an output or a
