@@ -1,4 +1,5 @@
--- Letters of the two players, their sums, and the order of letters.
+-- A letter of the automaton is the sum of a letter of the first player and a letter of the second player. Letters are
+-- ordered by the first proposition at which they differ.
 use Rattle.std.proofs.Common.{◌≡◌, ℕ, zero, suc, ◌+◌, ◌^◌, ◌<◌, Bool, true, false, cond, not, ap, sym, ◌∙◌}
 use Rattle.std.proofs.Common.{arith, inl, inr, ◌⊎◌, rules}
 use Rattle.std.specs.Prelude.{◌||◌, ◌&&◌}
@@ -106,7 +107,8 @@ module _ (board : Board) where
   second_off : (mask y : ℕ) → IsMaskOf board mask → y < 2 ^ board.propositions → AgreeOff mask y (second_of y)
   second_off mask y m lt p isnt = search (rules, cases_lt, second_bit, no_bit, second_is)
 
-  -- a letter that agrees with the first player's letter x on the mask is the sum of x and of its own second-player bits
+  -- if the letter u has the same bits as the first player's letter x at the first player's propositions (the mask), u
+  -- is the sum of x and of the second player's bits of u
   pub as_sum : {mask x : ℕ} (u p : ℕ) → IsMaskOf board mask → IsFirstLetter board x → AgreeOn mask x u →
       p < board.propositions → is_in p u ≡ is_in p (x + second_of u)
   as_sum u p m hx on lt = elim (bool_cases (board.is_first p)) [
@@ -114,8 +116,8 @@ module _ (board : Board) where
     | inr isnt ↦ cc (second_bit u p lt isnt, sum_second p hx (second_is u) lt isnt)
   ]
 
-  -- a letter v that agrees with x on the mask is the sum of x and of the second-player bits of any letter u that agrees
-  -- with v off the mask
+  -- the letter v has the bits of x at the first player's propositions (the mask), and the bits of u elsewhere: v is the
+  -- sum of x and of the second player's bits of u
   pub as_other_sum : {mask x : ℕ} (u v p : ℕ) → IsMaskOf board mask → IsFirstLetter board x → AgreeOn mask x v →
       AgreeOff mask u v → p < board.propositions → is_in p v ≡ is_in p (x + second_of u)
   as_other_sum u v p m hx on off lt = elim (bool_cases (board.is_first p)) [

@@ -15,8 +15,8 @@ use Rattle.ps_referee.proofs.PlayersPart.{holds_same}
 use Rattle.ps_zielonka.specs.Divisions.{Division}
 use Rattle.ps_machine.specs.Solving.{AnswersLeast}
 
--- if a player wins everywhere in a set by a table of moves, so does the player by any table with the same moves at the
--- game's vertices
+-- if a player wins everywhere in a set by a table of moves, then any other table with the same moves at the game's
+-- vertices also wins there
 holds_by : {game : ParityGame} {player : ℕ} {set : ℕ → Bool} {table : ℕ → Option ℕ} (other : ℕ → Option ℕ) →
     ((v : ℕ) → v < vertex_count game → other v ≡ table v) → Holds game player set table → Holds game player set other
 holds_by {game} {player} {set} {table} other same h = record {

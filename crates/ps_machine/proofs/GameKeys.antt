@@ -1,4 +1,5 @@
--- How the game of an automaton is built: vertices, known by their keys, are visited and numbered breadth first.
+-- The game of an automaton is built by visiting its vertices, known by their keys (what they stand for), and numbering
+-- them breadth first.
 
 pub mod KeyTests
 pub mod KeyNames

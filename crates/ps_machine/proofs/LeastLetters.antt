@@ -91,7 +91,7 @@ down_to_least n P tell within (suc bound) y here small =
     lower_or_not : (x : ℕ) → Lower x ⊎ (Lower x → ⊥)
     lower_or_not x = search (rules, cases_lt, rank)
 
--- a decidable property that holds for some letter has a least letter
+-- if a decidable property holds for some letter, there is a least letter with this property
 pub least_there : (n : ℕ) (P : ℕ → Type 0) → ((y : ℕ) → P y ⊎ (P y → ⊥)) → ((y : ℕ) → P y → y < 2 ^ n) → (y : ℕ) → P y →
     (z : ℕ) × IsLeastLetter P z
 least_there n P tell within y here = down_to_least n P tell within (rank 0 n y + 1) y here (omega arith)

@@ -1,4 +1,4 @@
--- How a machine is made from a certificate.
+-- A valid certificate of an automaton's game has a machine, which the code builds.
 
 pub mod UsedVertices
 pub mod MemorySteps

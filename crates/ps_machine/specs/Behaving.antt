@@ -1,4 +1,4 @@
--- When two machines behave in the same way.
+-- The relation that holds if two machines behave in the same way.
 -- - `BehavesAs b c`: the machines have equal propositions, players, memory states and steps
 use Rattle.std.specs.Prelude.{◌≡◌, ℕ, ◌<◌}
 use Rattle.ps_machine.specs.Behaviours.{Behaviour}

@@ -1,8 +1,10 @@
 -- What the finite machine of a player does, for one order of moves, and the words that the machine makes.
 -- - `Behaviour`: a machine's propositions and player, and its step at each letter of the other player
 -- - `IsMachine b`: b is the behaviour of a finite machine
--- - `IsLasso b stem lap`: a run from memory state 0 is in the same memory state before and after the lap
--- - `LassosWon file b`: all words of a controller's machine are accepted; of an environment's machine, none is
+-- - `IsLasso b stem lap`: a run of b from memory state 0 reads and outputs `stem` and then `lap`, and is in the same
+--   memory state before and after `lap`
+-- - `LassosWon file b`: if b is a controller's machine, the automaton accepts all its words; if b is an environment's
+--   machine, it accepts none
 use Rattle.std.specs.Prelude.{◌≡◌, ◌≢◌, ℕ, ◌+◌, ◌^◌, ◌<◌, ◌≤◌, ◌⊎◌, ◌↔◌, Bool, false, IsTrue, List, ◌++◌, length}
 use Rattle.std.specs.Prelude.{slice_index}
 use Rattle.std.specs.List.{AllPairs}

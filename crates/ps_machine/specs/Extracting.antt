@@ -34,8 +34,8 @@ pub record IsUsedFirst (keys : List Key) (game : ParityGame) (certificate : Cert
   pub used : IsUsed game certificate v
   pub stands : StandsAt keys v (First q p)
 
--- whether two vertices share a memory state: only equal ones do if the machine's player moves first; otherwise, those
--- with equal states do
+-- two vertices share a memory state: if the machine's player moves first, they must be equal; otherwise, their
+-- automaton states must be equal
 abbrev pub Shares : Bool → ℕ → ℕ → ℕ → ℕ → Type 0
 Shares true v q w r = v ≡ w
 Shares false v q w r = q ≡ r
@@ -47,7 +47,7 @@ pub record IsRepresentative (is_first : Bool) (keys : List Key) (game : ParityGa
   pub here : IsUsedFirst keys game certificate v state priority
   pub least : (w r p : ℕ) → w < v → IsUsedFirst keys game certificate w r p → ¬ Shares is_first v state w r
 
--- the memory state `memory` is the one of the vertex w, whose state is r
+-- at the vertex w, whose automaton state is r, the machine is in the memory state `memory`
 pub record StandsFor (is_first : Bool) (keys : List Key) (kept : List ℕ) (memory w r : ℕ) : Type 0 where
   pub vertex : ℕ
   pub state : ℕ
@@ -119,7 +119,8 @@ abbrev pub is_others : Bool → Board → ℕ → Bool
 is_others true board p = not (board.is_first p)
 is_others false board p = board.is_first p
 
--- the machine's propositions have the given names, and it reads those of its player's opponent
+-- the machine's propositions have the given names, and the machine reads exactly the propositions of its player's
+-- opponent
 pub record HasPropositions (names : List (List ℕ)) (board : Board) (m : Behaviour) : Type 0 where
   pub names_are : m.names ≡ names
   pub as_many : length names ≡ board.propositions

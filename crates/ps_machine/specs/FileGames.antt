@@ -21,7 +21,8 @@ board_of_file order file auto =
       is_first = is_first_of order file.controllable;
     }
 
--- the game is the game of an automaton of the file, and each vertex is named by what it stands for, its key
+-- the game is the game of an automaton of the file, and the name of each vertex states what the vertex stands for (its
+-- key)
 pub record IsGameOfFile (order : Order) (file : FileData) (game : NamedGameData) : Type 0 where
   pub chain : Chain
   pub is_chain : chain_of file.condition ≡ Some chain

@@ -19,7 +19,7 @@ state_name states q = if nat_eq q states then codes "sink" else decimal q
 abbrev pub letter_digit : Board → ℕ → ℕ → List ℕ
 letter_digit board x p = if board.is_first p then (if is_in p x then 49 else 48) ∷ [] else []
 
--- the digits of the first player's propositions less than n: their truth values in x
+-- for each of the first player's propositions less than n, the digit of its truth value in x
 abbrev pub first_digits : Board → ℕ → ℕ → List ℕ
 first_digits board x zero = []
 first_digits board x (suc n) = first_digits board x n ++ letter_digit board x n

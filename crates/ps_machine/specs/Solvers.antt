@@ -1,10 +1,12 @@
--- What a solver may answer for a game, and the text that was given to it before (fed).
--- - `MayAnswer`: what a solver may answer for a game
+-- The definitions by which contracts describe a solver: the answers that it may give for a game, and the text that it
+-- was given before (fed).
+-- - `MayAnswer`: a relation between a game and the answers that a solver may give for it
 -- - `SolverData`: what is known about a solver
--- - `once_fed text solver`: the solver after it was fed `text`
--- - `answers_now solver`: what the solver may answer, with the text that it was fed last
+-- - `once_fed text solver`: the data of the solver after it was fed `text`
+-- - `answers_now solver`: the answers that the solver may give for a game, given the text that it was fed last
 -- - `Answered old new`: the answers that the solver was allowed to give before a call, and gave in it
--- - `IsKept old new`: after a call, the solver is as sure as before, has the same text, and has no new possible answers
+-- - `IsKept old new`: after a call, the solver is sure exactly if it was sure before, has the same text, and may give
+--   no answer that it could not give before
 use Rattle.std.specs.Prelude.{◌≡◌, ℕ, Bool, List, Option, None, Some, Result}
 use Rattle.ps_certificate.specs.Certificates.{CertificateData}
 use Rattle.ps_game.specs.Games.{NamedGameData}
@@ -20,10 +22,11 @@ pub record SolverData : Type 1 where
   pub fed : Option (List ℕ)
   -- what the solver may answer for a game, if the given text was the last one that it was fed
   pub may_answer : Option (List ℕ) → MayAnswer
-  -- whether a given answer for a game was the solver's last one; always true if the solver keeps no record
+  -- the relation that holds for a game and an answer if the solver gave this answer last; it always holds if the solver
+  -- keeps no record
   pub gave : MayAnswer
 
--- the text that a solver has after it was fed `text`, given the text that it had before
+-- the text that a solver has after it was fed `text`: this text, unless the solver ignores every text (`None`)
 abbrev pub fed_with : List ℕ → Option (List ℕ) → Option (List ℕ)
 fed_with text None = None
 fed_with text (Some old) = Some text

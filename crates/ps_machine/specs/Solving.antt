@@ -1,9 +1,11 @@
--- What is true of a solver's answer for a game.
+-- Conditions on the answer r of a solver for a game, and the data of two solvers.
 -- - `IsCertified game c`: the certificate fits the game and is valid
 -- - `winner_at_start c`: the winner of vertex 0
--- - `AnswersSurely game r`: what a sure solver answers: a valid certificate that fits the game, or out of memory
--- - `AnswersLeast game r`: what psyn's own solver answers: like a sure solver, with the least counts for its moves
--- - `NamesVertices game r`: if the answer is a cycle, it consists of vertices of the game
+-- - `AnswersSurely game r`: r is what a sure solver answers: a valid certificate that fits the game, or out of memory
+-- - `AnswersLeast game r`: r is what psyn's own solver answers: a valid certificate whose counts (the numbers that
+--   prove it) are the least for its moves, or out of memory
+-- - `NamesVertices game r`: if the answer is a cycle, it has at least one vertex, and all its vertices are vertices of
+--   the game
 -- - `Replays game fed r`: the answer is the result of parsing the text that was fed
 -- - `own_solver`: what is known about psyn's own solver
 -- - `replay_of text`: what is known about a solver that only parses the text that it was fed

@@ -25,17 +25,17 @@ const GROWTH: u64 = 64;
 /// game. In practical games, a vertex is assigned about ten times on average.
 const PLACED_EACH: u64 = 256;
 
-/// How many times the recursion may assign a vertex to a player in the first round, in addition to `PLACED_EACH` for
-/// each vertex of the game.
+/// How many more times the recursion may assign a vertex to a player in the first round, in addition to `PLACED_EACH`
+/// times for each vertex of the game.
 const PLACED_BESIDE: u64 = 1024;
 
-/// The greatest number of assignments that the recursion may make in the first round because of the square of the number
-/// of vertices. In games with few priorities, the number of assignments may grow with that square. So the recursion may
-/// make half that number of assignments, up to `PLACED_SQUARE`, if the other two limits allow fewer.
+/// An upper bound for a second limit on the recursion's assignments in the first round. In games with few priorities,
+/// the number of assignments may grow with the square of the number of vertices. So this limit is half the square, but
+/// at most `PLACED_SQUARE`. It applies if `PLACED_EACH` and `PLACED_BESIDE` allow fewer assignments.
 const PLACED_SQUARE: u64 = 1 << 26;
 
-/// How many array cells an attempt at strategy improvement may read or write in the first round, for each assignment
-/// that `PLACED_EACH` and `PLACED_BESIDE` allow the recursion.
+/// For each assignment that `PLACED_EACH` and `PLACED_BESIDE` allow the recursion in the first round, an attempt at
+/// strategy improvement may read or write this many array cells.
 const CELLS_EACH: u64 = 64;
 
 /// The limits, in one round, for the recursion and for the attempt at strategy improvement.
@@ -69,9 +69,9 @@ impl Budget {
     }
 }
 
-/// psyn's own solver. The solver computes the regions and the moves of both players, and then the certificate's counts:
-/// the least ones that are valid for these moves. It is sure (each of its certificates is valid, and it fails only if
-/// memory runs out), and ignores every text that it is fed.
+/// psyn's own solver. The solver computes the regions and the moves of both players. It then computes the certificate's
+/// counts, which prove that the moves win: the least counts that are valid for these moves. It is sure (each of its
+/// certificates is valid, and it fails only if memory runs out), and ignores every text that it is fed.
 #[derive(Drop)]
 pub struct BuiltIn {
     alloc: Global,
@@ -194,8 +194,8 @@ fn attempted<A: Arena>(
 }
 
 /// The certificate for a division of the vertices into two regions, and a table of moves for each player. The regions
-/// and the moves may be wrong: the result is None exactly if some player, moving by that player's table, does not win
-/// at all vertices of that player's region.
+/// and the moves may be wrong. If each player, moving by that player's table, wins from every vertex of that player's
+/// region, the result is a certificate; otherwise it is None.
 fn tried<A: Arena>(
     alloc: Global,
     arena: &A,

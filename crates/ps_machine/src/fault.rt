@@ -12,8 +12,8 @@ use thiserror::Error;
 /// Why a solver gives no certificate.
 #[derive(Debug, Drop, Error)]
 pub enum SolveFault {
-    /// The moves that the solver found for a player allow a cycle. If a play repeats it for ever, this player loses.
-    /// The cycle is a list of vertex numbers.
+    /// The moves that the solver found for a player allow a cycle. This player loses a play that repeats the cycle for
+    /// ever. The cycle is a list of vertex numbers.
     #[error("a cycle that its player loses")]
     BadCycle(Vec<usize>),
     /// The text that the solver was fed is not the text of a certificate of the game.

@@ -114,7 +114,8 @@ impl Drawing {
     }
 }
 
-/// In a list of leaves with letters, the letter of the leaf that names the given step.
+/// Each leaf in the list is the index of a step, and comes with a letter: the letter of the first leaf whose step is
+/// the given one.
 fn letter_to(automaton: &Automaton, leaves: &[(u64, u64)], step: Step) -> u64
     requires named { All (λ leaf. leaf.0 < length automaton.now.steps) leaves.now }
     requires there { Any (λ leaf. pair_of automaton.now leaf.0 ≡ step) leaves.now }

@@ -105,7 +105,8 @@ module _ {order : Order} {a : AutomatonData} {mask : ℕ} {t : Table} {q : ℕ} 
       let at : slice_get classes.list.items any.0 ≡ Some c = search (rules, slice_get-get_or) in
       grind (arith, class_rest f of any.0 at, class_heeds any.0 c at)
 
--- if a diagram's leaves are replaced by the entries of a list, an equal list gives the same leaves
+-- if each leaf of a diagram is replaced by the entry that a list has at the leaf's index, replacing by an equal list
+-- gives the same leaves
 pub renamed : (t u : Table) (places values : List ℕ) (rest made : ℕ) → values ≡ places →
     ((x : ℕ) → leaf_of u made x ≡ option_map (λ k. slice_index values k) (leaf_of t rest x)) →
     (x : ℕ) → leaf_of u made x ≡ option_map (λ k. slice_index places k) (leaf_of t rest x)

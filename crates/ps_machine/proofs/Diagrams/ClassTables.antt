@@ -1,4 +1,5 @@
--- The classes of letters that are stored for each state of an automaton.
+-- The classes of letters that the code stores for a state of an automaton stay the classes of this state when more
+-- diagrams and classes are stored.
 use Rattle.std.proofs.Common.{◌≡◌, ◌≢◌, ◌∙◌, ℕ, ◌<◌, ◌≤◌, cond, eqb, Option, Some, Result, List}
 use Rattle.std.proofs.Common.{length, get_or, ap, subst, sym, inl, inr, rules}
 use Rattle.std.specs.Prelude.{IsSome, IsSomeAnd, OnOk}
@@ -24,8 +25,8 @@ use Rattle.ps_machine.specs.declared.key.Order.{Order}
 use Rattle.ps_machine.proofs.BoardSteps.{class_different, class_leads, class_some, known_first, still_known}
 use Rattle.ps_machine.proofs.Diagrams.Remembering.{fit_kept}
 
--- stored classes are still the classes of their states, and the successors of their keys can still be computed, when
--- the table of diagrams grows
+-- when the table of diagrams grows, stored classes are still the classes of their states, and the successors of the
+-- vertices that stand for these classes can still be computed
 module _ {order : Order} {a : AutomatonData} {mask : ℕ} {t u : Table} {rests now : ℕ × ℕ → Option ℕ}
     (keeps : Keeps t u) (before : (k : Key) → IsKnown order a mask t rests k → IsKnown order a mask u now k) where
   remembered_kept : (q : ℕ) (c : Classes) → AreRemembered order a mask t rests q c →
@@ -55,7 +56,7 @@ module _ {order : Order} {a : AutomatonData} {mask : ℕ} {t u : Table} {rests n
       ];
     }
 
--- the classes of one more state are computed, and the diagrams of the steps after them are stored
+-- the classes of one more state are computed, and for each class the diagram of the steps that can follow it is stored
 module _ {order : Order} {a : AutomatonData} {mask : ℕ} {s t u : Table} {rests now : ℕ × ℕ → Option ℕ} {q node : ℕ}
     (c : Classes) {l : List Class} (keeps : Keeps t u) (fit : IsFit order a mask t) (state : q ≤ a.states)
     (same : s ≡ a.store) (is : node ≡ node_of a q) (made : AreClasses s u node mask c.places c.list.items)
@@ -109,7 +110,8 @@ on_ok r P h = search (rules, e)
 some_of : (o : Option Classes) (P : Classes → Type 0) → IsSome o → ((c : Classes) → o ≡ Some c → P c) → IsSomeAnd o P
 some_of o P h k = search (rules, true_is_not_false)
 
--- if `successors` succeeded for the key of every vertex, the classes of all their states are stored
+-- if `successors` succeeded for the key of every vertex (what the vertex stands for), the classes of each state that
+-- occurs in a key are stored
 pub all_divided : {order o : Order} {a b : AutomatonData} {mask : ℕ} {t : Table} {classes : ℕ → Option Classes}
     {keys : List Key} (key : Key) → o ≡ order → b ≡ a → StandsAt keys 0 key →
     ((v : ℕ) (k : Key) → StandsAt keys v k → HasAnswered o b mask t classes k) → AreDivided order a keys t classes

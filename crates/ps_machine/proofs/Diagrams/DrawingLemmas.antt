@@ -1,5 +1,6 @@
--- Lemmas for the diagrams of either player's machine: the vertices of its memory states, the vertices that it can
--- reach, their successors, and its rows. (A row has a letter to output and a next memory state.)
+-- Lemmas for the diagrams of either player's machine: about the vertices of its memory states, the vertices that can be
+-- reached, the successors of these vertices, and the machine's rows. (A row has a letter to output and a next memory
+-- state.)
 use Rattle.std.proofs.Common.{if◌then◌else◌, ◌≡◌, ◌≢◌, ℕ, ◌+◌, ◌<◌, Bool, true, List, length, get_or, map, Some, ap}
 use Rattle.std.proofs.Common.{sym, ◌∙◌, arith, rules, eqb}
 use Rattle.std.specs.Prelude.{slice_get}
@@ -95,7 +96,7 @@ setting {order} plan = search (rules, small_mover)
 
 -- ## Successors
 
--- a list of vertices, which has one vertex for each letter of another list
+-- the list `numbers` has, for each letter of the list `letters`, the vertex that stands for `key` of this letter
 module _ (keys : List Key) (key : ℕ → Key) (numbers : List ℕ) {P : ℕ → Type 0} {letters : List ℕ} {next : List Key}
     (listed : IsListOf P letters) (are : next ≡ map key letters) (zip : AllZip (StandsAt keys) numbers next) where
   letter_of_number : {w : ℕ} → Contains numbers w → (x : ℕ) × P x × StandsAt keys w (key x)
@@ -113,7 +114,7 @@ module _ (keys : List Key) (key : ℕ → Key) (numbers : List ℕ) {P : ℕ →
       let m = rw (← are) at (map_contains key letters c.0 c.1 c.2) in
       zip_vertex keys numbers next zip m
 
--- v has a successor whose key is k
+-- vertex v has a successor that stands for k (a key: what a vertex stands for)
 pub record Leads (keys : List Key) (game : ParityGame) (v : ℕ) (k : Key) : Type 0 where
   pub vertex : ℕ
   pub edge : HasEdge game v vertex
@@ -152,7 +153,7 @@ module _ {board : Board} {mover : ℕ} {keys : List Key} {game : ParityGame} {ce
       some_and (choice_of certificate v) (HasEdge game v) ((s.valid.closed.moves v within).own (own ∙ sym won)) in
       grind (arith, used_more)
 
-  -- the successors of a vertex are the vertices of the keys to which its own key leads
+  -- if a vertex stands for the key k, its successors stand, in order, for the keys to which k leads
   next_keys : (v : ℕ) (k : Key) → StandsAt keys v k → (next : List Key) × LeadsTo board k next ×
       AllZip (StandsAt keys) (successors_of game v) next
   next_keys v k at =

@@ -1,4 +1,5 @@
--- The diagram of a memory state, for a machine whose player moves first.
+-- If the machine's player moves first, the diagram that the code makes for a memory state leads each letter of the
+-- other player to the right row.
 use Rattle.std.proofs.Common.{not, is_some, ◌≡◌, ◌≢◌, ℕ, ◌+◌, ◌^◌, ◌<◌, Bool, true, List, length, get_or, option_map}
 use Rattle.std.proofs.Common.{Option, Some, None, refl, ap, sym, ◌∙◌, arith, rules}
 use Rattle.std.specs.Prelude.{IfSome, slice_get, slice_index}
@@ -35,8 +36,8 @@ use Rattle.ps_machine.proofs.Diagrams.ClassRests.{Heeds, Left}
 
 -- ## Rows whose indices are recorded
 
--- for the first n leaves, the index of the leaf's row has been recorded; each row has a letter of the player and an
--- existing memory state
+-- for each of the first n leaves, `places` has the index of the machine's row for this leaf; each row outputs a letter
+-- of the player and enters an existing memory state
 pub record AreNoted (a : AutomatonData) (keys : List Key) (is_first : Bool) (board : Board) (kept : List ℕ) (letter : ℕ)
     (found : List (ℕ × ℕ)) (old rows : List Row) (places : List ℕ) (n : ℕ) : Type 0 where
   pub same_rows : KeepsRows old rows
@@ -117,7 +118,7 @@ module _ {order : Order} {a : AutomatonData} {keys : List Key} {certificate : Ce
     plays_class v chosen r letter is_kept choice is q p at =
         search (rules, class_chosen, same_letter, get_or_from_slice_get)
 
-    -- each step that can follow the class's letter leads to a reachable vertex
+    -- each step that the automaton can make after the letter which the machine outputs leads to a reachable vertex
     pub entered : {mask : ℕ} {t : Table} {v q p letter rest : ℕ} {found : List (ℕ × ℕ)} → Contains kept v →
         StandsAt keys v (First q p) → PlaysClass (board_of order a) keys certificate v q letter →
         Left order a mask t q letter rest → AreLeaves t rest found →
@@ -149,7 +150,7 @@ module _ {order : Order} {a : AutomatonData} {keys : List Key} {certificate : Ce
         (plays : PlaysClass (board_of order a) keys certificate v q letter) (l : Left order a mask t q letter rest)
         (are : AreLeaves t rest found) (placed : All (λ leaf. IsPlaced a keys is_first kept rows places letter leaf.0)
         found) where
-      -- the leaf to which the letter x leads in the diagram of the class, and the row that is recorded for this leaf
+      -- the letter x leads to `leaf` in the diagram of the class, and the index of the row for this leaf is recorded
       record Noted (x : ℕ) : Type 0 where
         leaf : ℕ
         is_leaf : leaf_of t rest x ≡ Some leaf

@@ -56,7 +56,7 @@ use Rattle.ps_machine.proofs.GameKeys.Standing.{same_some}
 not_same : (x y : ℕ) → (x == y) ≡ false → x ≢ y
 not_same x y e same = cc (eq-eqb x y same)
 
--- the number that a search in the table of keys gives is the number of the key's vertex
+-- if a search for a key (what a vertex stands for) in the list of keys gives the index i, vertex i stands for this key
 pub found_at : (keys : List Key) (key : Key) {i : ℕ} → position ((key_eq.eq-value).it key) keys ≡ Some i →
     StandsAt keys i key
 found_at keys key {i} e =
@@ -140,8 +140,8 @@ module _ {order : Order} {a : AutomatonData} {mask : ℕ} {t : Table} {keys : Li
         same_pair reply.state reply.priority,
       )
 
-  -- after the letter x at the state q, a row is right if it outputs the least letter that makes the step of the
-  -- winner's move, and enters the memory state of that step
+  -- a row is right after the letter x at the state q if its letter is the least that makes the step of the winner's
+  -- move, and its memory state is that of the step's vertex
   answer_by : {kept : List ℕ} (letter memory : ℕ) → IsClassLetter (board_of order a) q x →
       IsMove (board_of order a) q x letter → step_of a q (x + letter) ≡ step →
       ((v : ℕ) → StandsAt keys v (First step.state step.priority) → StandsFor false keys kept memory v step.state) →
@@ -215,8 +215,8 @@ module _ (board : Board) (keys : List Key) (kept : List ℕ) (certificate : Cert
   still_named {old} {new} k (class ∷ classes) (value ∷ values) zip = grind (arith, still_named k classes values zip.1)
 
 module _ {board : Board} {keys : List Key} {kept : List ℕ} {certificate : CertificateData} {q : ℕ} where
-  -- a list has the index of the row for each of the first classes, and for one more class when this class's row is
-  -- stored
+  -- the list `values` has the index of the row for each of the first i classes; after the row of class i is stored, the
+  -- extended list has its index, too
   pub named_next : (old new : List Row) (classes : List Class) (i : ℕ) (d : Class) (values more : List ℕ) (value : ℕ)
       {row : Row} → new ≡ insert_key (row_eq.eq-value).it old row →
       AllZip (Names board keys kept certificate q old) (take i classes) values →
@@ -230,8 +230,8 @@ module _ {board : Board} {keys : List Key} {kept : List ℕ} {certificate : Cert
       let here = rw is at answer in
       rw (e, take_more classes i d within) (grind (arith, AllZip-push, still_named))
 
-  -- if a row has the right output and next memory state for a letter of the first player, so it has for each letter
-  -- that leads to the same steps
+  -- if a row has the right output and next memory state for the first player's letter c, it also has them for each
+  -- letter x that leads to the same steps
   alike_row : {v x c : ℕ} {row : Row} → SameSteps board q x c → IsRowAt false board keys kept certificate v q c row →
       IsRowAt false board keys kept certificate v q x row
   alike_row {v} {x} {c} {row} same r =
@@ -258,8 +258,8 @@ module _ {board : Board} {keys : List Key} {kept : List ℕ} {certificate : Cert
 
 -- ## The diagram
 
--- if N relates each entry of one list to the entry of another at the same index, it also does so for lists equal to
--- these
+-- if the relation N holds between the entries of two lists at each index, it also holds between the entries of two
+-- equal lists
 pub named_as : {X : Type 0} (N : X → ℕ → Type 0) {xs ys : List X} {values same : List ℕ} → ys ≡ xs → same ≡ values →
     AllZip N ys values → AllZip N xs same
 named_as N {ys} {same} is are zip = subst (λ l. AllZip N l same) is (subst (λ v. AllZip N ys v) (sym are) zip)

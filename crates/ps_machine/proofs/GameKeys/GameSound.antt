@@ -21,7 +21,7 @@ use Rattle.ps_machine.proofs.DecidedMoves.{same_states}
 use Rattle.ps_machine.proofs.GameKeys.Standing.{stand-apart, stand-within}
 use Rattle.ps_machine.proofs.Movers.{small_mover}
 
--- the list of a vertex's successors, as keys, is not empty and has no key twice
+-- the list has the keys of a vertex's successors: it is not empty, and has no key twice
 record IsFull (next : List Key) : Type 0 where
   some : 0 < length next
   differ : AllPairs (λ x y. x ≢ y) next

@@ -186,8 +186,8 @@ module _ (board : Board) (mover : ℕ) (start : board.auto.start ≤ board.state
     | inr other ↦ search (rules, Contains-append_right, below_state q count k (omega arith) c)
   ]
 
-  -- a key that a vertex can have: its state is one of the automaton's or the sink, and its letter is a letter of the
-  -- first player
+  -- a vertex can have this key: the key's state is a state of the automaton or the sink, and its letter, if it has one,
+  -- is a letter of the first player
   abbrev Known : Key → Type 0
   Known (First q p) = (q ≤ board.states) × Contains all_keys (First q p)
   Known (Second q x) = (q ≤ board.states) × IsFirstLetter board x × Contains all_keys (Second q x)
@@ -218,7 +218,7 @@ module _ (board : Board) (mover : ℕ) (start : board.auto.start ≤ board.state
             (below_state q (suc board.states) k (omega arith) (at_letter q (2 ^ board.propositions) letter within).0),
       )
 
-  -- the successors of a vertex exist, and are keys that can occur
+  -- a vertex with this key has a list of successors; the list has only keys that vertices can have
   record Next (key : Key) : Type 0 where
     next : List Key
     leads_to : LeadsTo board key next

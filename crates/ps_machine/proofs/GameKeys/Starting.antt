@@ -1,4 +1,5 @@
--- The game that is built of keys, from the key of the automaton's start, is the game of the automaton.
+-- A key states what a vertex stands for. The game of all keys that can be reached from the key of the automaton's start
+-- is the game of the automaton.
 use Rattle.std.proofs.Common.{◌≡◌, ℕ, ◌+◌, ◌<◌, List, ◌∷◌, [], ◌++◌, length, map, take, get_or, Option, Some, Vec}
 use Rattle.std.proofs.Common.{ap, ap₂, sym, ◌∙◌, rules}
 use Rattle.std.specs.List.{All}

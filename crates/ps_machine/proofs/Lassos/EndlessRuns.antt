@@ -93,7 +93,7 @@ module _ {m : Behaviour} {stem lap : List ℕ} (l : IsLasso m stem lap) where
       by : (0 < length stem) ⊎ (length stem ≤ 0) → l.memories (folded (length stem) (length lap) 0) ≡ 0
       by h = grind (arith, folded_within, mod-mul-add, folded, folded_behind)
 
-  -- after the first lap, the machine is in the memory state that it was in before the lap
+  -- after the first reading of the lasso's repeated part (lap), the machine is in the same memory state as before it
   pub memory_returns : memories_on (length stem + length lap) ≡ memories_on (length stem)
   unfolding memories_on at_place
   memory_returns =

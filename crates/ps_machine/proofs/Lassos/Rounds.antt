@@ -39,8 +39,8 @@ pub record Setting (board : Board) (mover : ℕ) (keys : List Key) (game : Parit
   pub fits : Fits game certificate
   pub valid : IsValid game certificate
 
--- two edges in a row, from v to w, each of which is the certificate's move if the winner of vertex 0 owns its first
--- vertex
+-- an edge leads from v to the vertex `between`, and another from there to w; at each of the two vertices that the
+-- winner of vertex 0 owns, the edge is the certificate's move
 pub record Round (game : ParityGame) (certificate : CertificateData) (v w : ℕ) : Type 0 where
   pub between : ℕ
   pub there : HasEdge game v between
@@ -113,8 +113,8 @@ module _ {board : Board} {mover : ℕ} {keys : List Key} {game : ParityGame} {ce
       let same : pair z ≡ pair y = ap₂ (λ a b. First a b) least.here.1.state least.here.1.priority in
       none (rw leads.2 (rw same at (map_contains pair leads.0 c.0 c.1 c.2)))) y itself)
 
-  -- the player who moves first owns each vertex with a key `First`, and the other player each vertex with a key
-  -- `Second`
+  -- the player who moves first owns each vertex whose key is a `First`; the other player owns each vertex whose key is
+  -- a `Second`
   pub first_owner : (v : ℕ) {q p : ℕ} → StandsAt keys v (First q p) → owner_of game v ≡ mover
   first_owner v {q} {p} at = owner_at v at
 

@@ -34,7 +34,8 @@ use Rattle.ps_machine.proofs.Lassos.ListedPaths.{greatest_shift, list_is_path, l
 same_number : {a b : ℕ} {o : Option ℕ} → o ≡ Some a → o ≡ Some b → a ≡ b
 same_number e f = cc
 
--- the vertex that is kept for a memory state has the same state as each vertex to which this memory state belongs
+-- if a memory state belongs to the vertex v, the vertex that the machine keeps for this memory state has the same
+-- automaton state as v
 same_state : {first : Bool} {keys : List Key} {kept : List ℕ} {memory v q : ℕ} (p : ℕ) {u r : ℕ} (o : ℕ) →
     StandsFor first keys kept memory v q → StandsAt keys v (First q p) → slice_get kept memory ≡ Some u →
     StandsAt keys u (First r o) → r ≡ q

@@ -27,7 +27,8 @@ pub some_vertices : {board : Board} {mover : ℕ} {keys : List Key} {game : Pari
     0 < vertex_count game
 some_vertices {keys} is = search (rules, slice_get_within)
 
--- the data from which a machine is built satisfy `IsPlan` before any diagram is made
+-- the game, the certificate and the memory states from which a machine is built fit together (`IsPlan`) before any
+-- diagram is made
 unfoldable pub plan_is : {order : Order} {a : AutomatonData} {keys seen : List Key} {game shown : ParityGame}
     {certificate : CertificateData} {first : Bool} {found kept anchors : List ℕ} →
     IsGameOf (board_of order a) (mover_of order) keys game → Fits game certificate → IsValid game certificate →

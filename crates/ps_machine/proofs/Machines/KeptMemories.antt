@@ -55,7 +55,7 @@ module _ {is_first : Bool} {keys : List Key} {used kept anchors : List ℕ}
     some_kept p q stands is_used = slice_get_within kept 0 0 (first_kept p q stands is_used)
 
     module _ {game : ParityGame} {certificate : CertificateData} (are_used : AreUsed game certificate used) where
-      -- no smaller reachable vertex shares the memory state of the vertex that is kept for it
+      -- of the reachable vertices that share a memory state, the machine keeps the smallest
       kept_at : (memory : ℕ) → memory < length kept →
           IsRepresentative is_first keys game certificate (get_or kept memory 0)
       kept_at memory within =
@@ -73,7 +73,8 @@ module _ {is_first : Bool} {keys : List Key} {used kept anchors : List ℕ}
       pub all_kept : All (IsRepresentative is_first keys game certificate) kept
       all_kept memory d within = rw (get_or_default kept memory 0 d within) at (kept_at memory within)
 
-      -- of the reachable vertices that share a memory state, the smallest is the one that is kept for it
+      -- if v is the smallest of the reachable vertices that share a memory state, v is one of the vertices that the
+      -- machine keeps
       pub each_kept : (v : ℕ) → IsRepresentative is_first keys game certificate v → Contains kept v
       each_kept v k =
           let h = m.found v k.state k.priority ((are_used v).1 k.here.used) k.here.stands in

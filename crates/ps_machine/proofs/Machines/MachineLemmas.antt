@@ -49,7 +49,8 @@ module _ {board : Board} {keys : List Key} {kept : List ℕ} {certificate : Cert
   read_other : (x : ℕ) → IsOtherLetter m.is_first board (read x)
   read_other x = over_other m.is_first board (part_over board.propositions (is_others m.is_first board) x)
 
-  -- a letter leads to the same row of the machine as the letter that has only the other player's bits of it
+  -- the letter `read x` has only those bits of x that belong to the other player; the diagram of a memory state leads
+  -- it to the right row of the machine
   leads : (memory x : ℕ) → (d : Drawn memory) → LeadsToRow m.is_first board keys kept certificate m.store m.rows
       (slice_index m.nodes memory) (slice_index kept memory) d.state (read x)
   leads memory x d = d.leads (read x) (read_other x)

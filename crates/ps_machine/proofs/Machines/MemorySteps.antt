@@ -1,4 +1,5 @@
--- The memory states that the vertices visited so far need, and how one more vertex changes them.
+-- The code makes memory states for the vertices visited so far. Visiting one more vertex keeps these memory states, and
+-- adds one if the vertex needs it.
 use Rattle.std.proofs.Common.{◌≡◌, ◌≢◌, ℕ, ◌+◌, ◌<◌, ◌≤◌, Bool, true, false, List, [], ◌∷◌, ◌++◌, length}
 use Rattle.std.proofs.Common.{get_or, refl, ap, sym, ◌∙◌, arith, not, nat_eq, rules}
 use Rattle.std.specs.List.{All, AllPairs, Contains, list_any}
@@ -85,8 +86,8 @@ module _ (is_first : Bool) (keys : List Key) (used : List ℕ) where
     kept_last : get_or new_kept (length kept) 0 ≡ n
     kept_last = get_or_push kept n 0 (length kept) refl
 
-    -- the reachable first-player vertices up to n have memory states if those before n have them, and if some memory
-    -- state remembers what belongs to n (its anchor)
+    -- if the reachable first-player vertices before n have memory states, and a memory state remembers what belongs to
+    -- n (the anchor of n), the vertices up to n have memory states
     found_more : (kept' anchors' : List ℕ) → ((v x : ℕ) → HasMemory kept anchors v x → HasMemory kept' anchors' v x) →
         HasMemory kept' anchors' n new_anchor → (v r l : ℕ) → v < n + 1 → Contains used v →
         StandsAt keys v (First r l) →

@@ -55,8 +55,8 @@ counts_new list c e = search (rules, distinct-push, not_come, counts_below, rang
 pub none : (n : ℕ) → 0 + n ≡ n
 none n = omega arith
 
--- if a list without its repeats, with x appended, is 0, 1, and so on, then without x it is 0, 1, and so on up to the
--- number before x
+-- remove the repeats from a list and append x: if the result is 0, 1, and so on, the list without its repeats is 0, 1,
+-- and so on up to x - 1
 last_one : (list : List ℕ) (x m : ℕ) → distinct list ++ x ∷ [] ≡ range_with_len 0 m → Counts list x
 last_one list x m e =
     let c = length (distinct list) in

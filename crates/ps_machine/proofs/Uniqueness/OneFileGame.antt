@@ -1,8 +1,9 @@
 -- A file has at most one game, because all automata of the file have the same steps at the states and letters that a
 -- play can reach.
 -- - `alike`: the automata have the same steps at each state, at the sink, and for each letter
--- - `listed_fine`: each key of a game has a state of the file or the sink, and a first-player letter
--- - `leads_too`: each key of a game leads to the same keys in both automata
+-- - `listed_fine`: the state in each key of a game is a state of the file or the sink, and the letter in a key is a
+--   letter of the first player
+-- - `leads_too`: each key of a game leads to the same keys by the steps of either automaton
 -- - `game_too`: the game of one automaton is therefore the game of the other
 use Rattle.std.proofs.Common.{◌≡◌, ℕ, zero, suc, ◌+◌, ◌^◌, ◌<◌, ◌≤◌, List, [], ◌∷◌, length, get_or}
 use Rattle.std.proofs.Common.{sym, ◌∙◌, arith, inl, inr, rules}
@@ -99,8 +100,8 @@ module _ (order : Order) (file : FileData) (chain : Chain) where
   -- ## Keys
 
   module _ {a b : Auto} (is : IsAutoOf file chain a) (too : IsAutoOf file chain b) where
-    -- the state of a vertex's key is one of the file's or the sink, and its letter is a letter of the player who moves
-    -- first
+    -- the key's state is a state of the file or the sink, and the key's letter, if it has one, is a letter of the
+    -- player who moves first
     abbrev pub IsFine : Key → Type 0
     IsFine (First q p) = q ≤ file.states
     IsFine (Second q x) = (q ≤ file.states) × IsFirstLetter (on a) x

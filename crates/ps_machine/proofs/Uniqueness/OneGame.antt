@@ -30,7 +30,7 @@ one_list : {P : ℕ → Type 0} {xs ys : List ℕ} → IsListOf P xs → IsListO
 one_list {P} {xs} {ys} a b = same_rising IsBefore not_both xs ys a.rising b.rising
     (λ z c. b.complete z (All-contains P xs z a.each c)) (λ z c. a.complete z (All-contains P ys z b.each c))
 
--- a key has only one list of successors
+-- a key (what a vertex stands for) has only one list of successors
 one_next : (board : Board) (key : Key) {one other : List Key} → LeadsTo board key one →
     LeadsTo board key other → one ≡ other
 one_next board (First q p) a b = a.2 ∙ ap (map (λ x. Second q x)) (one_list a.1 b.1) ∙ sym b.2
@@ -44,7 +44,7 @@ in_map f xs {key} c =
     let within : c.0 < length xs = omega (arith, c.1, length-map xs f) in
     (get_or xs c.0 0, sym (get_or-map f xs c.0 0 key within) ∙ c.2)
 
--- a key is not its own successor
+-- no key (what a vertex stands for) is its own successor
 not_itself : (board : Board) (key : Key) (next : List Key) → LeadsTo board key next → Contains next key → ⊥
 not_itself board (First q p) next a c =
     (let at = in_map (λ x. Second q x) a.0 (subst (λ l. Contains l (First q p)) a.2 c) in
@@ -244,7 +244,8 @@ module _ (board : Board) (mover : ℕ) where
   vertex_same : {x y : VertexData} → x.owner ≡ y.owner → x.priority ≡ y.priority → x.successors ≡ y.successors → x ≡ y
   vertex_same {x} {y} a b c = search rules
 
-  -- any two games of one board have the same list of keys and are equal
+  -- any two games of one board (an automaton and the owners of its propositions) are equal, and have the same list of
+  -- keys
   pub one_game_of : (one other : List Key) (game same : ParityGame) → IsGameOf board mover one game →
       IsGameOf board mover other same → (one ≡ other) × (game ≡ same)
   unfolding vertex_count owner_of priority_of successors_of

@@ -1,11 +1,12 @@
 -- The diagrams, rows and propositions from which a machine is assembled. A row has a letter to output and a next memory
 -- state. (For private functions.)
 -- - `AreDrawn .. t rows nodes n`: the first n memory states have their diagrams, and each row has a letter of the
---   player and a memory state
+--   machine's player and an existing memory state
 -- - `AreListedBelow n is list`: the list has the numbers less than n that pass the test `is`, ascending
--- - `IsAssembled .. m`: the machine has the propositions of `HasRoles` and the diagrams of `AreDrawn`
+-- - `IsAssembled .. m`: the propositions of machine m satisfy `HasRoles`, and its diagrams satisfy `AreDrawn`
 -- - `machine_of player is_first propositions diagrams`: the player's machine with these propositions and diagrams
--- - `HasRoles is_first board inputs outputs`: which propositions the machine reads and which it outputs
+-- - `HasRoles is_first board inputs outputs`: `inputs` are the other player's propositions, which the machine reads;
+--   `outputs` are the propositions of its own player
 use Rattle.std.specs.Prelude.{◌≡◌, ℕ, ◌<◌, ◌≤◌, Bool, not, List, length, map, slice_index, IsTrue}
 use Rattle.std.specs.List.{All, AllPairs}
 use Rattle.ps_certificate.specs.Certificates.{CertificateData}

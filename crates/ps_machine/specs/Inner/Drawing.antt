@@ -1,13 +1,16 @@
--- What is known while the machine of a certificate is built. A plan has the data from which the machine is made:
+-- Facts that hold while the machine of a certificate is built. A plan has the data from which the machine is made:
 -- automaton, keys, certificate, memory states. The diagrams are made one after another; each memory state has a diagram
 -- that leads each letter of the other player to a row: a letter to output, and a next memory state. (For private
 -- functions.)
 -- - `AreUsed game certificate found`: `found` are the reachable vertices
 -- - `GoesOn game certificate v w`: a path by the moves of the winner of vertex 0 can continue from v to w
--- - `AreMemories is_first keys used kept anchors`: the vertex and the anchor (what is remembered) of each memory state
--- - `IsPlan ..`: the data are those of a game, a valid certificate, and the memory states of its machine
+-- - `AreMemories is_first keys used kept anchors`: `kept` has the vertex of each memory state, and `anchors` what each
+--   memory state remembers
+-- - `IsPlan ..`: the data belong together: keys of an automaton's game, a valid certificate of this game, and the
+--   memory states of its machine
 -- - `IsDrawn .. v node`: at each letter, the diagram leads to the row for the memory state of v
--- - `IsReply .. q x r p, IsReplyRow .. q x row`: the second player's step after the letter x, and the row for it
+-- - `IsReply .. q x r p`: after the first player's letter x at the state q, the second player moves to the state r with
+--   the priority p; `IsReplyRow .. q x row`: the row has the output and the next memory state for this move
 use Rattle.std.specs.Prelude.{◌≡◌, ◌≢◌, ℕ, ◌+◌, ◌<◌, ◌≤◌, ◌↔◌, ◌==◌, Bool, true, false, List, [], ◌∷◌, length, Some}
 use Rattle.std.specs.Prelude.{◌++◌, slice_get, slice_index}
 use Rattle.std.specs.List.{All, AllPairs, Contains}
@@ -35,8 +38,8 @@ AreUsed game certificate found = (v : ℕ) → Contains found v ↔ IsUsed game 
 abbrev pub GoesOn : ParityGame → CertificateData → ℕ → ℕ → Type 0
 GoesOn game certificate v w = RemainsFor game (winner_at_start certificate) (choice_of certificate) v w
 
--- only numbers with the property `IsNext` were appended to the list, which now has all such numbers; if its entries
--- differed before, they still do
+-- only numbers with the property `IsNext` were appended to the list, and the list now has all numbers with this
+-- property; if the entries of the old list differ, so do those of the new list
 pub record Adds (IsNext : ℕ → Type 0) (old new : List ℕ) : Type 0 where
   pub added : List ℕ
   pub grown : new ≡ old ++ added
@@ -51,8 +54,8 @@ abbrev pub anchor_of : Bool → ℕ → ℕ → ℕ
 anchor_of true v q = v
 anchor_of false v q = q
 
--- what adding a memory state for the vertex v does: a new anchor gets a memory state, whose vertex is v; for an anchor
--- that has a memory state already, nothing changes
+-- a memory state is added for the vertex v: if no memory state has the anchor (remembers the same), a new one with the
+-- vertex v is appended; otherwise nothing changes
 pub data KeepsAt (old_kept old_anchors : List ℕ) (v anchor : ℕ) (kept anchors : List ℕ) : Type 0 where
   Stays : Contains old_anchors anchor → kept ≡ old_kept → anchors ≡ old_anchors →
       KeepsAt old_kept old_anchors v anchor kept anchors
@@ -73,8 +76,8 @@ pub record HasMemory (kept anchors : List ℕ) (v anchor : ℕ) : Type 0 where
   pub is_anchored : slice_get anchors memory ≡ Some anchor
   pub behind : slice_index kept memory ≤ v
 
--- each anchor of a reachable first-player vertex has one memory state, whose vertex is the smallest such vertex with
--- that anchor
+-- Each reachable vertex of the first player has an anchor, which the machine remembers. Each anchor has one memory
+-- state, whose vertex is the smallest reachable first-player vertex with this anchor.
 pub record AreMemories (is_first : Bool) (keys : List Key) (used kept anchors : List ℕ) : Type 0 where
   pub many : length anchors ≡ length kept
   pub rising : AllPairs (λ v w. v < w) kept

@@ -1,8 +1,8 @@
--- The machine of a player who moves first: which steps it can take, and the rows that are stored for these steps. After
+-- The steps that the machine of a player who moves first can take, and the rows that are stored for these steps. After
 -- the player's letter, the automaton's diagram can lead to certain leaves, and `places` has the index of a row for each
 -- of them. The machine's diagram is what remains of the automaton's diagram after this letter, with the indices of rows
 -- in place of the leaves. (For private functions.)
--- - `PlaysClass board keys certificate v q letter`: the letter that is output at the vertex v of the state q
+-- - `PlaysClass board keys certificate v q letter`: `letter` is output at the vertex v, whose state is q
 -- - `IsEntered .. leaf`: the machine can take the step that the leaf names
 -- - `IsPlaced .. letter leaf`: the row for the leaf is stored
 use Rattle.std.specs.Prelude.{◌≡◌, ℕ, ◌<◌, Bool, List, length, Some, slice_get}

@@ -1,7 +1,7 @@
 -- The definitions of `Drawing`, `Placing` and `Dividing`, applied to the fields of the struct `Plan`. (For private
 -- functions.)
 -- - `IsPlanned plan`: the machine can be made from the plan
--- - `AreDividedBy plan`: each state that occurs in a key has its classes
+-- - `AreDividedBy plan`: the plan has the classes of letters of each state at which the first player moves
 use Rattle.std.specs.Prelude.{ℕ, nat_eq, List}
 use Rattle.std.specs.List.{All}
 use Rattle.indexmap.specs.IndexMap.{get}
@@ -29,7 +29,8 @@ abbrev pub AreDividedBy : Plan → Type 0
 AreDividedBy p =
     AreDivided p.order p.automaton.now p.keys.now.keys p.divided.now.store (get nat_eq p.divided.now.classes)
 
--- the function that states whether some reachable vertex stands for a state and a priority by which it was entered
+-- the relation that holds for a state and a priority if some reachable vertex stands for this state, entered by an edge
+-- of this priority
 abbrev pub CanEnterBy : Plan → ℕ → ℕ → Type 0
 CanEnterBy p =
     CanEnter p.order p.automaton.now p.keys.now.keys p.certificate.now p.moves_first p.memories.now.kept.items
