@@ -22,12 +22,13 @@ rest_length : (width count : ℕ) (bits : List Bool) → length bits ≡ suc cou
     (length (drop width bits) ≡ count * width) × (width ≤ length bits)
 rest_length width count bits whole = grind (arith, mul_suc, length-drop)
 
--- the number of bits after a letter is appended
+-- if `count` letters of `width` bits have one more letter appended, the number of bits is (count + 1) * width
 pub whole-push : {width : ℕ} (count : ℕ) (bits letter : List Bool) → length bits ≡ count * width →
     length letter ≡ width → length (bits ++ letter) ≡ suc count * width
 whole-push {width} count bits letter whole fits = omega (arith, length-append bits letter, mul_suc count width)
 
--- appending the bits of a letter to the list of bits appends this letter to the letters
+-- if the bits of a letter are appended to the list of bits, the letters in this list are the earlier letters, followed
+-- by the appended letter
 pub letters_in-push : {width : ℕ} (count : ℕ) (bits letter : List Bool) → length bits ≡ count * width →
     length letter ≡ width → letters_in width (suc count) (bits ++ letter) ≡ letters_in width count bits ++ letter ∷ []
 letters_in-push {width} zero bits letter whole fits = search (rules, nil_from_length, take_all)
@@ -48,7 +49,8 @@ pub letter_within : (place count width : ℕ) {size : ℕ} → place < count →
     place * width + width ≤ size
 letter_within place count width lt is = search (rules, mul-le-mul_right)
 
--- in a text without a divider, the first error of the current line is the first error of the text
+-- in a text without a divider, all lines before the current one are without errors: the first error of the current line
+-- is the first error of the text
 pub IsLettersAnswer-line : {text : List ℕ} {width start end : ℕ} {s : StimulusData} →
     HasRead text width false false start s → {line : List ℕ}
     → lines_of (drop start text) ≡ line ∷ lines_of (drop (end + 1) text) → start + length line ≡ end →

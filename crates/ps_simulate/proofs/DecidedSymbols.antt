@@ -67,8 +67,8 @@ module _ (names : List (List ℕ)) (controllable : List ℕ) (wanted : Bool) (sy
       (decide_both (decide_below (suc p) (length names))
       (decide_name (slice_index_or symbols k None) (slice_index_or names p [])))
 
-  -- for each proposition, it is decidable whether it is not of the wanted kind (controllable or not), or some symbol
-  -- names it
+  -- it is decidable whether the proposition p, if it is of the wanted kind (controllable or not), is named by some
+  -- symbol
   decide_each : (p : ℕ) →
       Decided (is_among p controllable ≡ wanted → (k : ℕ) × IsSymbol names symbols k p)
   decide_each p = decide_implied (decide_same (is_among p controllable) wanted)

@@ -27,13 +27,14 @@ stands_or_not xs j = decide_as (λ c. (c.0, c.1, get_or_default xs c.0 0 j c.1 �
 
 module _ (R : ℕ → ℕ → Type 0) (n : ℕ) (to_within : (i j : ℕ) → R i j → j < n) (decide : (i j : ℕ) → Decided (R i j))
     (acyclic : (i : ℕ) → Way R i i → ⊥) where
-  -- a list of distinct numbers below n, each of which comes after all numbers to which it is related
+  -- the list has distinct numbers below n, and each number comes after all numbers to which it is related
   record IsPart (xs : List ℕ) : Type 0 where
     below : (k : ℕ) → k < length xs → get_or xs k 0 < n
     once : (k l : ℕ) → k < l → l < length xs → get_or xs k 0 ≢ get_or xs l 0
     behind : (k j : ℕ) → k < length xs → R (get_or xs k 0) j → (l : ℕ) × (l < k) × (get_or xs l 0 ≡ j)
 
-  -- an ordered list that has the numbers of the list `old`, and all numbers with the property P
+  -- there is a list `new` in which each number comes after those to which it is related; it has the numbers of the list
+  -- `old`, and all numbers with the property P
   record Grown (old : List ℕ) (P : ℕ → Type 0) : Type 0 where
     new : List ℕ
     is_part : IsPart new
@@ -62,7 +63,7 @@ module _ (R : ℕ → ℕ → Type 0) (n : ℕ) (to_within : (i j : ℕ) → R i
         })
       ]
 
-  -- distinct numbers below n, each of which leads to i by steps of the relation
+  -- the list `path` has distinct numbers below n, and from each of them steps of the relation lead to i
   record IsPath (path : List ℕ) (i : ℕ) : Type 0 where
     below : (k : ℕ) → k < length path → get_or path k 0 < n
     differ : (k l d : ℕ) → k < l → l < length path → get_or path k d ≢ get_or path l d

@@ -62,7 +62,8 @@ pub bit_in-read : (values : List (List ℕ)) (wire : Wire) {m : ℕ} (lane : ℕ
     lane_bit (zip2 bit_xor (get_or values wire.place []) (replicate 4 m)) lane ≡ read (lane_of values lane) wire
 bit_in-read values wire lane lt place four e = search (rules, bit_in-flipped, get_or-map)
 
--- if one row of the plan is evaluated in all 256 lanes at once, it is evaluated in each single lane
+-- if one row (gate) of the evaluation plan is evaluated in all 256 lanes at once, this evaluates the row in each single
+-- lane
 pub worked_on : (rows : List Row) (values initial : List (List ℕ)) (a b : List ℕ) (k lane : ℕ) → lane < 256 →
     k < length rows → length a ≡ 4 → length b ≡ 4 → lane_bit a lane ≡ read (lane_of values lane)
     (get_or rows k no_row).first → lane_bit b lane ≡ read (lane_of values lane) (get_or rows k no_row).second →
@@ -72,8 +73,8 @@ pub worked_on : (rows : List Row) (values initial : List (List ℕ)) (a b : List
 worked_on rows values initial a b k lane less lt la lb first second before =
     search (rules, no_row, bit_in-and, map-set, drop-cons)
 
--- if the first k entries of a list are the values of the first k literals, the first k + 1 entries are right after one
--- more literal is read
+-- if the first k entries of a table are the values of the first k literals, then after the value of literal k is stored
+-- at index k, this holds for k + 1 as well
 pub read_on : (literals : List ℕ) (values table : List (List ℕ)) (words : List ℕ) (k lane : ℕ) → k < length literals →
     k < length table → lane_bit words lane ≡ read (lane_of values lane) (wire_in (get_or literals k 0)) →
     take k (lane_of table lane) ≡ map (λ l. read (lane_of values lane) (wire_in l)) (take k literals) →
@@ -93,7 +94,8 @@ read_on literals values table words k lane lt room here before =
       map-append bit (take k literals) (get_or literals k 0 ∷ []),
     )
 
--- a list with the words of the first k latches' resets can be extended, in each lane, by the reset of one more latch
+-- `words` has, in each lane, the reset values of the first k latches; with the words of latch k appended, it has those
+-- of the first k + 1 latches
 pub reset_on : (latches : List Latch) (words : List (List ℕ)) {more : List (List ℕ)} {m : ℕ} (k lane : ℕ) → lane < 256 →
     k < length latches → m ≡ all_or_none (get_or latches k no_latch).reset → more ≡ words ++ replicate 4 m ∷ [] →
     lane_of words lane ≡ map (λ (l : Latch). l.reset) (take k latches) →

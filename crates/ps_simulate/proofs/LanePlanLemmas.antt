@@ -1,4 +1,5 @@
--- The evaluation plan of a circuit for 256 runs at once, which gives new indices to the values of the gates.
+-- The evaluation plan of a circuit for 256 simultaneous runs gives new indices to the values of the gates, and computes
+-- the same values as the plan for a single run.
 use Rattle.std.proofs.Common.{◌≡◌, ℕ, zero, suc, ◌+◌, ◌-◌, ◌/◌, ◌^◌, ◌⊎◌, ◌<◌, ◌≤◌, Bool, inl, inr, List, [], ◌∷◌, ◌++◌}
 use Rattle.std.proofs.Common.{map, take, drop, length, get_or, refl, ap, ◌∙◌, arith, All, rules}
 use Rattle.std.proofs.Common.{get_or-set_same, get_or-set_other}
@@ -54,8 +55,8 @@ module _ {c : CircuitData} (is : IsCircuit c) where
         at : (k : ℕ) → k < length rows → (numbered_row rows k).target ≡ (get_or rows k d).target
         at k lt = ap (λ (r : Row). r.target) (get_or_default rows k no_row d lt)
 
-    -- each index of the table of values belongs to the constant, an input or a latch, or to the value that a row of the
-    -- plan computes
+    -- each index of the table of values belongs either to the constant, an input or a latch, or to a value that a row
+    -- of the plan computes
     whose : (p : ℕ) → p < length (variables c) →
         (p < front) ⊎ ((k : ℕ) × (k < length rows) × (p ≡ (numbered_row rows k).target))
     whose p lt = elim (cases_lt p front) [
@@ -88,8 +89,7 @@ module _ {c : CircuitData} (is : IsCircuit c) where
       pub AreMoved-rows : AreMoved (length (variables c)) front places
       AreMoved-rows = record { each = each; within = within_table; once = one_each; kept = kept }
 
-    -- the lemmas about the rows of a circuit's plan, for rows and sizes that are only known to be equal to those of the
-    -- plan
+    -- the lemmas above, for a list of rows and a size that are equal to those of the plan, although written differently
     pub gate_rows_at : {size f : ℕ} {given : List Row} → size ≡ length (variables c) → f ≡ front → given ≡ rows →
         All (IsGateRow f size) given
     gate_rows_at size_is front_is e k d lt = search (rules, gate_rows)
@@ -130,8 +130,8 @@ rows_from-append : (place : ℕ) (gates : List Operands) (g : Operands) →
 rows_from-append place [] g = ap (λ n. row_of_operands n g ∷ []) (omega arith)
 rows_from-append place (h ∷ gates) g = grind (arith, rows_from-append (place + 1) gates g)
 
--- if the list of gates stands for the first k rows with renumbered indices, it can be extended by the next row with
--- renumbered indices
+-- the entries of `gates` are the first k rows of the plan, with renumbered indices: if row k with renumbered indices is
+-- appended, the entries are the first k + 1 rows
 pub rows_more : (rows : List Row) (places : List ℕ) (gates : List Operands) {more : List Operands}
     (first second front k : ℕ) → k < length rows → AreInOrder front places rows →
     wire_in first ≡ move_wire places (get_or rows k no_row).first →
@@ -152,7 +152,7 @@ rows_more rows places gates first second front k lt in_order at_first at_second 
       map-append (move_row places) (take k rows) (r ∷ []),
     )
 
--- the properties of a renumbering of indices are kept when the value of one more row gets its new index
+-- a renumbering of indices still has its properties after one more row's value gets its new index
 module _ (rows : List Row) (places : List ℕ) (front : ℕ) {size : ℕ} (n : ℕ) {target : ℕ} (lt : n < length rows)
     (e : target ≡ (get_or rows n no_row).target) (gates : All (IsGateRow front size) rows) (many : length places ≡ size)
   where

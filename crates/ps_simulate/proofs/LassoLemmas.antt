@@ -1,4 +1,5 @@
--- Runs of a circuit that reads words, up to the first repetition of latch values.
+-- A circuit reads a stem once and then a lap repeatedly, until a reading of the lap begins with the same latch values
+-- as an earlier reading.
 use Rattle.std.proofs.Common.{◌≡◌, ◌≢◌, ℕ, zero, suc, ◌+◌, ◌-◌, ◌*◌, ◌^◌, ◌<◌, ◌≤◌, inl, inr, Bool, false, List, rules}
 use Rattle.std.proofs.Common.{[], ◌∷◌, ◌++◌, None, Vec, All, length, take, drop, get_or, map, refl, ap, sym, ◌∙◌, arith}
 use Rattle.std.proofs.Common.{append_assoc, add-one, length-append}
@@ -108,7 +109,8 @@ seam [] ys d (suc t) le e = absurd (omega arith)
 seam (z ∷ zs) ys d zero le e = refl
 seam (z ∷ zs) {x} {y} ys d (suc t) le e = seam zs ys d t (omega arith) e
 
--- extending a trace by further steps does not change the latch values before its own steps and after them
+-- extending a trace by further steps does not change the latch values before each of the trace's own steps, nor those
+-- after the last of them
 pub along_more : (c : CircuitData) (trace ms : List Moment) (last to : List Bool) (t : ℕ) → GoesOn c last ms to →
     t ≤ length trace → get_or (latches_along (trace ++ ms) to) t [] ≡ get_or (latches_along trace last) t []
 along_more c trace [] last to t on le = search (rules, append-nil)
@@ -133,7 +135,8 @@ pub HasRead-start : {names : List (List ℕ)} {c : CircuitData} {stem : List (Li
     ReadsWord names c from stem old letters last → HasRead names c stem lap [] letters last
 HasRead-start {names} {c} {stem} lap {last} none same h = search (rules, append-nil)
 
--- what the circuit has read so far, after one more lap
+-- the circuit has read the stem once and the lap once for each entry of `seen`; after it has read the lap once more,
+-- `seen` with one more entry describes what it has read
 pub HasRead-lap : {names : List (List ℕ)} {c : CircuitData} {stem lap seen : List (List Bool)} {old new : List ℕ}
     {from last : List Bool} → HasRead names c stem lap seen old from →
     ReadsWord names c from lap old new last → length from ≡ length c.latches →
@@ -168,7 +171,8 @@ pub HasRead-next : {names : List (List ℕ)} {c d : CircuitData} {stem lap seen 
     length from ≡ length c.latches → HasRead names c stem lap seen' new last
 HasRead-next seen' same at h s r wide = search (rules, HasRead-lap)
 
--- each lap that begins with new latch values leaves fewer lists of latch values that were not seen
+-- the lap is read repeatedly: each time it begins with new latch values, fewer of the possible lists of latch values
+-- are left that were not seen
 pub fewer : {names : List (List ℕ)} {c : CircuitData} {stem lap seen' : List (List Bool)} {new : List ℕ}
     {last : List Bool} (seen : List (List Bool)) (latches : List Bool) → HasRead names c stem lap seen' new last →
     IsSeen seen seen' latches None →
@@ -195,7 +199,8 @@ letter_at items i {item} d lt is = search (rules, get_or-map)
 times_more : (i l : ℕ) → suc i * l ≡ i * l + l
 times_more i l = grind arith
 
--- of the two laps that begin with the same latch values, the first ends no later than the second begins
+-- the lap is read repeatedly until two readings begin with the same latch values: the first of the two ends within the
+-- letters read before the second
 pub lap_within : {names : List (List ℕ)} {c : CircuitData} {stem lap : List (List Bool)} {i : ℕ} {letters : List ℕ}
     (h : RepeatsBy names c stem lap i letters) → length stem + i * length lap + length lap ≤ length letters
 lap_within {lap} {i} h = grind (
@@ -211,8 +216,7 @@ pub lap_length : {names : List (List ℕ)} {c : CircuitData} {stem lap : List (L
 lap_length {names} {c} {stem} {lap} {i} count {letters} h e =
     grind (arith, length_of_letters h, mul-sub (length lap) h.j i, mul_comm (length lap) (h.j - i))
 
--- of the two laps that begin with the same latch values, the first ends no later than the second begins; here, words
--- are stored in a `Vec`
+-- the lemma `lap_within` for words that the code stores in a `Vec`
 pub lap_within_items : {names : List (List ℕ)} {c : CircuitData} (stem lap : List (Vec Bool Global)) {i : ℕ}
     {letters : List ℕ} (h : RepeatsBy names c (letters_of stem) (letters_of lap) i letters)
     → length stem + i * length lap + length lap ≤ length letters

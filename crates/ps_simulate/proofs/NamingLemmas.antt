@@ -1,4 +1,5 @@
--- The list that has, for each proposition, the index of the symbol that names it.
+-- The code enters symbols one after another into a list that has, for each proposition, the index of the symbol that
+-- names it.
 use Rattle.std.proofs.Common.{◌≡◌, ◌≢◌, ℕ, zero, suc, ◌+◌, ◌<◌, ◌⊎◌, inl, inr, Bool, true, false, not, cond, List, []}
 use Rattle.std.proofs.Common.{◌∷◌, length, get_or, set, Option, None, Some, Vec, Bor, map, refl, ap, sym, ◌∙◌, rules}
 use Rattle.std.proofs.Common.{arith}

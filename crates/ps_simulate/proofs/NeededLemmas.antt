@@ -33,7 +33,7 @@ needs_less needed q p n = elim (cases_eq p q) [
   | inr differ ↦ inl (sym (get_or-set_other needed q p true false differ) ∙ n)
 ]
 
--- the list of needed values, in which the two values that a row reads are marked as well
+-- the list `needed`, which marks the needed values, with marks added for the two values that row r reads
 abbrev pub with_sides : List Bool → Row → List Bool
 with_sides needed r = slice_set (slice_set needed r.first.place true) r.second.place true
 

@@ -1,4 +1,4 @@
--- Each of 256 runs at once behaves like a single run.
+-- Each of 256 simultaneous runs of a circuit behaves like a single run.
 use Rattle.std.proofs.Common.{arith, ℕ, ◌<◌, Bool, List, [], ◌∷◌, map, ap}
 use Rattle.std.proofs.lemmas.Simd.{map-map}
 use Rattle.ps_circuit.specs.Circuits.{CircuitData, IsCircuit}

@@ -1,4 +1,5 @@
--- A map with the index of each list of latch values that was seen.
+-- A map has the index of each list of latch values that was seen; after a new list of latch values is entered, it still
+-- does.
 use Rattle.std.proofs.Common.{◌≡◌, ◌≢◌, ℕ, ◌+◌, ◌<◌, Bool, true, cond, List, [], ◌∷◌, ◌++◌, None, Some, Vec, length}
 use Rattle.std.proofs.Common.{get_or, refl, ap, sym, ◌∙◌, length-append, rules, arith}
 use Rattle.std.specs.BTreeMap.{BTreeMap, btree_map_len, get, IsEmpty}
@@ -35,7 +36,7 @@ seen_before {seen} have key same {place} e =
     let at = have.sound key place e in
     (slice_get_within seen place key.items at, get_or_from_slice_get seen place key.items [] at ∙ same, refl)
 
--- latch values that were not seen before are appended
+-- a list of latch values that was not seen before is appended to `seen`, and its index is entered into the map
 module _ {seen : List (List Bool)} {old : BTreeMap (Vec Bool Global) ℕ} (new : BTreeMap (Vec Bool Global) ℕ)
     (have : HavePlaces seen old) (key : Vec Bool Global) {place : ℕ} (size : place ≡ length seen)
     (none : get bits_cmp old key ≡ None) (more : btree_map_len new ≡ btree_map_len old + 1)

@@ -14,7 +14,8 @@ use Rattle.ps_simulate.specs.Plans.{IsPlan}
 abbrev pub wire_in : ℕ → Wire
 wire_in literal = record { place = variable literal; is_negated = is_negated literal }
 
--- rows for the given gates, whose values have successive indices from the given index on
+-- a list of rows, one for each given gate; the values of the gates have successive indices, beginning with the given
+-- index
 abbrev pub rows_from : ℕ → List Operands → List Row
 rows_from place [] = []
 rows_from place (g ∷ gates) =

@@ -29,8 +29,8 @@ GoOnInLanes c latches (m ∷ ms) last =
     GoOnInLanes c next ms last
 
 -- For every list of steps in 256 lanes, the steps of each lane form a run of the circuit from the latch values of that
--- lane. Every run of the circuit from a lane's latch values on the lane's letters is the run of the lane: outputs are
--- the same, and so are latch values before each step and at the end.
+-- lane. Each run of the circuit that begins with a lane's latch values and reads the lane's letters equals the run of
+-- the lane: its outputs and its latch values are the same.
 abbrev pub AreLanesPlain : CircuitData → Type 0
 AreLanesPlain c =
     (latches last : List (List ℕ)) (ms : List LaneMoment) → GoOnInLanes c latches ms last →

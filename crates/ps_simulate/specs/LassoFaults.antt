@@ -1,5 +1,6 @@
 -- Why an automaton gives no verdict on a circuit that reads a stem once and then a lap repeatedly.
--- - `IsLassoFault role a c stem lap fault`: this is the first fault, in the order `Width`, `EmptyLap`, `Symbols`
+-- - `IsLassoFault role a c stem lap fault`: `fault` is the first that applies of `Width`, `EmptyLap` and `Symbols`, or
+--   it is out of memory
 use Rattle.std.specs.Prelude.{◌≡◌, ⊤, ◌<◌, Bool, List, [], length, All}
 use Rattle.ps_circuit.specs.Circuits.{CircuitData}
 use Rattle.ps_automaton.specs.Automata.{AutomatonData}

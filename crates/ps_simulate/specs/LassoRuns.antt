@@ -10,8 +10,8 @@ use Rattle.ps_circuit.specs.Circuits.{CircuitData}
 use Rattle.ps_circuit.specs.Values.{Moment, GoesOn, resets}
 use Rattle.ps_simulate.specs.Lassos.{AreLetters, RepeatsLatches, laps_of, latches_before}
 
--- the circuit reads a word, which leads from some latch values to others, and the corresponding letters of the
--- automaton are appended to the earlier letters
+-- from the latch values `from`, the circuit reads the word, and then has the latch values `last`; the automaton's
+-- letter for each step is appended to the earlier letters
 pub record ReadsWord (names : List (List ℕ)) (c : CircuitData) (from : List Bool) (word : List (List Bool))
     (old new : List ℕ) (last : List Bool) : Type 0 where
   pub trace : List Moment
@@ -21,7 +21,8 @@ pub record ReadsWord (names : List (List ℕ)) (c : CircuitData) (from : List Bo
   pub are_letters : AreLetters names c trace letters
   pub new_is : new ≡ old ++ letters
 
--- the letters of a trace that ends at the first repetition of latch values
+-- `letters` are the automaton's letters of a trace that ends when the latch values before a reading of the lap repeat
+-- for the first time
 pub record RepeatsBy (names : List (List ℕ)) (c : CircuitData) (stem lap : List (List Bool)) (i : ℕ)
     (letters : List ℕ) : Type 0 where
   pub j : ℕ
@@ -29,8 +30,8 @@ pub record RepeatsBy (names : List (List ℕ)) (c : CircuitData) (stem lap : Lis
   pub repeats : RepeatsLatches c stem lap i j trace
   pub are_letters : AreLetters names c trace letters
 
--- After the stem, the circuit has read one lap for each entry of `seen`. The entries of `seen` are the latch values
--- before each lap, in order, and all of them differ.
+-- The circuit has read the stem once, and then the lap once for each entry of `seen`. The entries of `seen` are the
+-- latch values before each reading of the lap, in order, and all of them differ.
 pub record HasRead (names : List (List ℕ)) (c : CircuitData) (stem lap : List (List Bool)) (seen : List (List Bool))
     (letters : List ℕ) (last : List Bool) : Type 0 where
   pub trace : List Moment
@@ -41,7 +42,8 @@ pub record HasRead (names : List (List ℕ)) (c : CircuitData) (stem lap : List 
   pub wide : (k : ℕ) → k < length seen → length (slice_index_or seen k []) ≡ length c.latches
   pub differ : (k l : ℕ) → k < l → l < length seen → slice_index_or seen k [] ≢ slice_index_or seen l []
 
--- the index of the latch values if they were seen before; otherwise they are appended
+-- if the latch values were seen before, the result is their index; otherwise it is None, and they are appended to the
+-- seen latch values
 abbrev pub IsSeen : List (List Bool) → List (List Bool) → List Bool → Option ℕ → Type 0
 IsSeen old new latches (Some i) = (i < length old) × (slice_index_or old i [] ≡ latches) × (new ≡ old)
 IsSeen old new latches None =

@@ -2,10 +2,10 @@
 -- accepts the circuit's trace.
 -- - `IsLetterOf names c m letter`: in the letter, each proposition has the bit that the input or output of its name has
 --   in the step m
--- - `RepeatsLatches c stem lap i j trace`: the trace ends at the first repetition of latch values: those before lap j
---   are those before lap i
--- - `IsVerdictOf file c stem lap verdict`: the verdict tells whether the trace is accepted, with its letters since lap
---   i repeated for ever
+-- - `RepeatsLatches c stem lap i j trace`: the trace reads the stem once and the lap j times; its last latch values are
+--   those before reading number i of the lap, and no latch values repeated earlier
+-- - `IsVerdictOf file c stem lap verdict`: the verdict tells whether the automaton accepts the trace when its letters
+--   from reading number i of the lap on are repeated for ever
 use Rattle.std.specs.Prelude.{◌≡◌, ◌≢◌, ℕ, zero, suc, ◌+◌, ◌-◌, ◌*◌, ◌^◌, ◌<◌, ◌↔◌, Bool, false, IsTrue, List, [], ◌∷◌}
 use Rattle.std.specs.Prelude.{◌++◌, length, map, take, drop, slice_index_or}
 use Rattle.ps_label.specs.Truth.{is_in}
@@ -40,12 +40,12 @@ laps_of lap (suc laps) = laps_of lap laps ++ lap
 abbrev pub latches_along : List Moment → List Bool → List (List Bool)
 latches_along trace last = map (λ m. m.latches) trace ++ last ∷ []
 
--- the latch values before lap k
+-- the latch values before reading number k of the lap, counted from 0
 abbrev pub latches_before : List (List Bool) → List (List Bool) → List Moment → List Bool → ℕ → List Bool
 latches_before stem lap trace last k = slice_index_or (latches_along trace last) (length stem + k * length lap) []
 
--- A trace reads the stem and then j laps, which are not empty. The latch values after the trace are those before lap i,
--- and the latch values before the j laps are pairwise different.
+-- A trace reads the stem once and then the lap, which is not empty, j times. The latch values after the trace are those
+-- before reading number i of the lap. The latch values before the j readings are pairwise different.
 pub record RepeatsLatches (c : CircuitData) (stem lap : List (List Bool)) (i j : ℕ) (trace : List Moment) : Type 0 where
   pub has_letter : 0 < length lap
   pub last : List Bool

@@ -2,7 +2,8 @@
 use Rattle.std.specs.Prelude.{ℕ, zero, suc, Bool, List, [], ◌∷◌, map, take, drop, Vec}
 use Rattle.std.specs.Global.{Global}
 
--- the letters of the stem and those of the lap, each with a bit for each input
+-- the letters of the stem, which are read once, and the letters of the lap, which are read repeatedly; each letter has
+-- a bit for each input
 pub record StimulusData : Type 0 where
   pub stem : List (List Bool)
   pub lap : List (List Bool)

@@ -1,5 +1,6 @@
--- The text of a stimulus has a line of digits for each letter, with one digit for each input. If stem and lap are
--- separated, there is one line `-`, the divider, between them.
+-- The text of a stimulus has a line of digits for each letter, with one digit for each input. With `split`, a line `-`,
+-- the divider, separates the letters of the stem (read once) from those of the lap (read repeatedly); without it, all
+-- letters belong to the stem.
 -- - `lines_of text, start_of lines k`: the lines without their newlines; the offset of the first byte of line k
 -- - `IsStimulus text width split s`: the lines of the text spell the letters of the stimulus s
 -- - `IsErrorAt text width split cause offset`: there is an error with this cause at this offset
@@ -47,7 +48,8 @@ digits_of letter = map digit_of letter
 abbrev pub divider : List ℕ
 divider = 45 ∷ []
 
--- the lines that spell the letters of the stem and, with a divider, also the divider and the letters of the lap
+-- the lines that spell the letters of the stem; if the argument is true, the divider and the lines of the lap's letters
+-- follow
 abbrev pub spelled : Bool → StimulusData → List (List ℕ)
 spelled false s = map digits_of s.stem
 spelled true s = map digits_of s.stem ++ divider ∷ map digits_of s.lap

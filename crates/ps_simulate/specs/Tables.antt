@@ -4,8 +4,8 @@ use Rattle.ps_circuit.specs.Circuits.{CircuitData, IsCircuit}
 use Rattle.ps_simulate.specs.declared.plan.Plan.{Plan}
 use Rattle.ps_simulate.specs.Plans.{IsPlan, variables}
 
--- a table with a value for each index of the plan, beginning with the constant false, and a list with a value for each
--- latch
+-- `values` has a value for each index of the plan, and the first value is the constant false; `latches` has a value for
+-- each latch
 pub record IsValueTable (c : CircuitData) (plan : Plan) (values latches : List Bool) : Type 0 where
   pub is_circuit : IsCircuit c
   pub is_plan : IsPlan c plan

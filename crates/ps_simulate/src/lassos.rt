@@ -30,9 +30,10 @@ use thiserror::Error;
 pub struct Verdict {
     /// Whether the trace is accepted.
     pub accepted: bool,
-    /// The number of letters before the first of two laps that begin with the same latch values.
+    /// The number of letters before the first of two readings of the lap that begin with the same latch values.
     pub stem: usize,
-    /// The number of letters from the first to the second of two laps that begin with the same latch values.
+    /// The number of letters from the first to the second of two readings of the lap that begin with the same latch
+    /// values.
     pub lap: usize,
 }
 
@@ -192,8 +193,8 @@ impl<'a> Run<'a> {
         })
     }
 
-    /// Reads the stem, and then laps until a lap begins with the latch values of an earlier lap. Returns the index of
-    /// that earlier lap. Fails if out of memory.
+    /// Reads the stem once, and then the lap repeatedly, until a reading of the lap begins with the same latch values
+    /// as an earlier reading. Returns the number of the earlier reading, counted from 0. Fails if out of memory.
     fn first_repetition(
         &mut self,
         alloc: Global,

@@ -131,8 +131,8 @@ fn put_places(
     Ok(Some(places))
 }
 
-/// Whether each controllable proposition has an index or, if `wanted` is false, each proposition that is not
-/// controllable.
+/// If `wanted` is true, whether each controllable proposition has an index; otherwise, whether each proposition that is
+/// not controllable has an index.
 fn is_full(controllable: &[u32], wanted: bool, places: &[Option<usize>]) -> bool
     ensures full { result ≡ true → (p : ℕ) → p < length places.now → is_among p controllable.now ≡ wanted →
         slice_index_or places.now p None ≢ None }

@@ -26,7 +26,7 @@ All-slice_get : {X : Type 0} (P : X → Type 0) (xs : List X) (k : ℕ) {x : X} 
 All-slice_get P xs k {x} all there =
     rw (get_or_from_slice_get xs k x x there) at (all k x (slice_get_within xs k x there))
 
--- each of the lines that spell some letters is the line of one of these letters
+-- if line k of the lines that spell a list of letters exists, it spells letter k of the list
 pub mapped : (letters : List (List Bool)) (k : ℕ) {line : List ℕ} → slice_get (map digits_of letters) k ≡ Some line
     → (letter : List Bool) × (slice_get letters k ≡ Some letter) × (line ≡ digits_of letter)
 mapped letters k {line} there = grind (arith, slice_get-map, option_map)
@@ -43,7 +43,7 @@ no_divider letters k there = (let m = mapped letters k there in digits_of-divide
 
 -- ## Lines that spell letters
 
--- the divider is the line after the lines of the stem's letters
+-- if a divider is required, the line after the lines that spell the stem's letters is the divider
 pub divides_at : {split : Bool} (s : StimulusData) (rest lines : List (List ℕ)) → lines ≡ spelled true s ++ rest →
     split ≡ true → Divides split lines (length s.stem)
 divides_at s rest lines is wanted = record {

@@ -1,4 +1,4 @@
--- The lines of a text, and the errors of a single line.
+-- Lemmas about the offsets of the lines of a text, and about the errors of a single line.
 use Rattle.std.proofs.Common.{◌≡◌, ◌≢◌, ℕ, zero, suc, ◌+◌, ◌-◌, ◌<◌, ◌≤◌, ◌==◌, ◌⊎◌, Bool, true, false, rules, List, []}
 use Rattle.std.proofs.Common.{◌∷◌, length, get_or, take, drop, ap, ap₂, ◌∙◌, arith, Some, slice_get, length-take}
 use Rattle.std.proofs.Common.{length-drop}

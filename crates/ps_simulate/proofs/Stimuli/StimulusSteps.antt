@@ -1,4 +1,4 @@
--- How the parser of stimuli proceeds, line by line.
+-- The parser of stimuli reads one line after another, and keeps its invariant.
 use Rattle.std.proofs.Common.{◌≡◌, ℕ, ◌+◌, ◌<◌, ◌≤◌, ◌⊎◌, inl, inr, Bool, true, false, List, [], ◌∷◌, ◌++◌, map, length}
 use Rattle.std.proofs.Common.{rules, drop, refl, sym, ap, ◌∙◌, arith, Some, Err, slice_get, All, length-append}
 use Rattle.std.specs.Prelude.{Vec}
@@ -21,7 +21,7 @@ use Rattle.ps_simulate.specs.Inner.StimulusReading.{HasRead, ReadsLine}
 use Rattle.ps_simulate.proofs.Stimuli.StimulusLines.{start_of-later, in_line_from, in_line_within}
 use Rattle.ps_simulate.proofs.Stimuli.StimulusLemmas.{slice_get-right, no_divider, divides_at, no_cause}
 
--- the stimulus with one more letter, either in the stem or in the lap
+-- the stimulus with one more letter, either in the stem (read once) or in the lap (read repeatedly)
 abbrev pub with_letter : Bool → StimulusData → List Bool → StimulusData
 with_letter false s letter = record { stem = s.stem ++ letter ∷ []; lap = s.lap }
 with_letter true s letter = record { stem = s.stem; lap = s.lap ++ letter ∷ [] }
@@ -116,8 +116,8 @@ pub HasRead-divider : {text : List ℕ} {width : ℕ} {split : Bool} {start end 
 HasRead-divider {text} {width} {split} {start} {end} {s} h {line} next length_is is wanted =
     grind (arith, pushed h next length_is, end_is h next length_is)
 
--- the current line is not the required divider if the lap has begun, if the line is not `-`, or if no divider is
--- required
+-- the current line is not the required divider `-` if the divider was read before, if the line is not `-`, or if no
+-- divider is required
 pub not_divides : {text : List ℕ} {width : ℕ} {split : Bool} (in_lap : Bool) {start : ℕ} {s : StimulusData} →
     HasRead text width split in_lap start s
     → (in_lap ≡ true) ⊎ (¬ (slice_get (lines_of text) (length (spelled in_lap s)) ≡ Some divider) ⊎ (split ≡ false)) →

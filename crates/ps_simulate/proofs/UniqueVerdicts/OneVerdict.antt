@@ -16,7 +16,7 @@ use Rattle.ps_simulate.proofs.UniqueVerdicts.OneTrace.{firsts_agree}
 use Rattle.ps_simulate.proofs.UniqueVerdicts.OneLetter.{one_letters}
 use Rattle.ps_simulate.proofs.LassoLemmas.{along_more, at_end, length_trace}
 
--- the word of n laps begins with the word of j laps, if j is at most n
+-- if j is at most n, the word that repeats `lap` n times begins with the word that repeats it j times
 laps_front : (lap : List (List Bool)) (j n : ℕ) → j ≤ n → (more : List (List Bool)) ×
     (laps_of lap n ≡ laps_of lap j ++ more)
 laps_front lap j zero le = search (rules, append-nil)
@@ -31,8 +31,8 @@ module _ {c : CircuitData} (is_circuit : IsCircuit c) (one : HasOneValues c) whe
   Behind ms last ns last' more =
       (rest : List Moment) × (ns ≡ ms ++ rest) × GoesOn c last rest last' × (map (λ m. m.inputs) rest ≡ more)
 
-  -- if two traces start with the same latch values, and the inputs of one trace begin with those of the other, the one
-  -- trace begins with the other
+  -- the traces ms and ns start with the same latch values: if the inputs of ns begin with the inputs of ms, the trace
+  -- ns begins with the trace ms
   goes_behind : (latches last last' : List Bool) (ms ns : List Moment) (more : List (List Bool)) →
       GoesOn c latches ms last → GoesOn c latches ns last'
       → map (λ m. m.inputs) ns ≡ map (λ m. m.inputs) ms ++ more → Behind ms last ns last' more
@@ -49,7 +49,7 @@ module _ {c : CircuitData} (is_circuit : IsCircuit c) (one : HasOneValues c) whe
   no_letters (m ∷ ms) e = absurd (cc)
 
   module _ (stem lap : List (List Bool)) where
-    -- the first repetition of latch values cannot end at two different laps
+    -- j and j' count how often the lap is read before latch values repeat for the first time: j is not less than j'
     not_earlier : (i j i' j' : ℕ) (ms ns : List Moment) → RepeatsLatches c stem lap i j ms →
         RepeatsLatches c stem lap i' j' ns → j < j' → ⊥
     not_earlier i j i' j' ms ns a b lt =

@@ -7,7 +7,7 @@ use Rattle.ps_circuit.specs.Circuits.{CircuitData}
 use Rattle.ps_simulate.specs.Symbols.{IsSymbol}
 use Rattle.ps_simulate.specs.declared.naming.Naming.{Naming}
 
--- the indices of the first `count` symbols are stored at the propositions that they name
+-- each of the first `count` symbols names a proposition, and `places` has the index of the symbol at this proposition
 pub record ArePut (names : List (List ℕ)) (controllable : List ℕ) (wanted : Bool) (symbols : List (Option (List ℕ)))
     (count : ℕ) (places : List (Option ℕ)) : Type 0 where
   pub size : length places ≡ length names
@@ -28,8 +28,8 @@ pub record ArePlacesOf (names : List (List ℕ)) (controllable : List ℕ) (want
 abbrev pub names_of : Naming → List (List ℕ)
 names_of naming = map bytes_of naming.names.now
 
--- the naming has the index of each input and output of the circuit at the proposition of its name, and no input has the
--- name of an output
+-- the naming has, for each proposition, the index of the input or output with the proposition's name, if there is one;
+-- no input has the name of an output
 pub record IsNaming (c : CircuitData) (naming : Naming) : Type 0 where
   pub few : length naming.names.now ≤ 64
   pub inputs_size : length naming.inputs.items ≡ length naming.names.now

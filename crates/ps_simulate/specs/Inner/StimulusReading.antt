@@ -6,8 +6,8 @@ use Rattle.ps_text.specs.declared.faults.Fault.TheVariants.{Text, OutOfMemory}
 use Rattle.ps_simulate.specs.Stimuli.{StimulusData}
 use Rattle.ps_simulate.specs.StimulusTexts.{lines_of, extent, spelled, digits_of, StandsInLine, IsFirstError}
 
--- the lines before the offset `start` spell the letters of s and, if the lap has begun, the divider `-` between stem
--- and lap
+-- the lines before the offset `start` spell the letters of s; if the lap's letters have begun, the divider `-` is
+-- between them and the stem's letters
 pub record HasRead (text : List ℕ) (width : ℕ) (split in_lap : Bool) (start : ℕ) (s : StimulusData) : Type 0 where
   pub lines : lines_of text ≡ spelled in_lap s ++ lines_of (drop start text)
   pub start_is : start ≡ extent (spelled in_lap s)
