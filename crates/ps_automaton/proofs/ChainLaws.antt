@@ -68,8 +68,8 @@ abbrev joined : Bool → Bool → Bool → Bool
 joined true a b = cond a true b
 joined false a b = cond a b false
 
--- if the acceptance set of a link is met, the disjunction or conjunction has the truth value of the link's flag;
--- otherwise the other operands decide its truth value
+-- the first operand of a disjunction or conjunction is a link: if the link's acceptance set is met, the whole has the
+-- truth value of the link's flag, and otherwise that of the other operands
 link_decides : (met : ℕ → Bool) (accepts : Bool) (c : Condition) {link : ChainLink} (b : Bool) →
     link_of accepts c ≡ Some link → joined accepts (holds met c) b ≡ cond (met link.colour) link.accepts b
 link_decides met accepts c b e = grind arith

@@ -24,8 +24,8 @@ use Rattle.ps_automaton.specs.declared.targets.Target.{Target}
 use Rattle.ps_automaton.proofs.TakenEdges.{edge_of, goes_of}
 use Rattle.ps_automaton.proofs.Unions.{at_leaf, union_clear}
 
--- if all sets in a chain's links have numbers less than 64, the priority of an edge depends only on its sets with such
--- numbers
+-- if all sets in a chain's links have numbers less than 64, the priority of an edge depends only on those of its sets
+-- whose numbers are less than 64
 level_by_same : (base : Bool) (links : List ChainLink) (f g : ℕ → Bool) → AreSetsBelow 64 links →
     ((set : ℕ) → set < 64 → f set ≡ g set) → level_by base links f ≡ level_by base links g
 level_by_same base [] f g few same = refl

@@ -42,8 +42,8 @@ pub record Clash (file : FileData) (q first second : ℕ) : Type 0 where
 abbrev pub IsDeterministic : FileData → Type 0
 IsDeterministic file = (q first second : ℕ) → Clash file q first second → ⊥
 
--- of all pairs of clashing edges in a file, the pair of the smallest state; among these, the pair with the smallest
--- later edge, and then with the smallest earlier edge
+-- the first pair of clashing edges in a file: its state is the smallest with a clash; of this state's pairs, its later
+-- edge is the smallest, and then its earlier edge is the smallest
 pub record IsFirstClash (file : FileData) (q first second : ℕ) : Type 0 where
   pub clash : Clash file q first second
   pub least_state : (p a b : ℕ) → Clash file p a b → q ≤ p
