@@ -1,7 +1,7 @@
 -- Each line of an AIGER text adds defining literals and used literals. If all used literals are defined, the lines form
 -- a circuit, except that a gate may depend on itself.
--- - `Lined kind most before read d`: the lines d of one kind come after lines with the defining literals `before` and
---   the used literals `read`, and add their own; no variable is defined twice or is above `most`
+-- - `Lined kind most before read d`: the lines d of one kind append their defining literals to `before` and their used
+--   literals to `read`; no variable is defined twice or is above `most`
 -- - `gates_placed`: for each gate of a parsed text, the offset of its line is recorded
 -- - `sound_draft`: a parsed text whose used literals are all defined is a circuit, except that a gate may depend on
 --   itself

@@ -178,7 +178,7 @@ pub draft_reads : (text : List ℕ) {start s7 : Stream Seen} {d : DraftData} →
     ReadsPart circuit_text start d s7 → PartAnswers aig_causes circuit_text (stream_of text) (Ok d)
 draft_reads text {start} {s7} {d} is e m = text_reads text s7 d e (subst (λ x. ReadsPart circuit_text x d s7) is m)
 
--- the list of names for inputs, latches or outputs of which none has a name
+-- a list of optional names in which no input, latch or output has a name
 none_of : {A : Type 0} {n : ℕ} (items : List A) → n ≡ length items → replicate n None ≡ no_names items
 none_of [] e = ap (λ k. replicate k None) e
 none_of (x ∷ items) e = ap (λ k. replicate k None) e ∙ ap (λ xs. None ∷ xs) (none_of items refl)

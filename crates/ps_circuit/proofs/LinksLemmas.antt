@@ -1,4 +1,4 @@
--- The indices that are stored for a gate (a value of type `Links`) are exactly those of the gates whose literals it
+-- The value of type `Links` that is stored for a gate has exactly the indices of the gates whose literals the gate
 -- reads.
 use Rattle.std.proofs.Common.{◌≡◌, ◌≢◌, ℕ, ◌+◌, ◌<◌, IfSome, List, [], ◌∷◌, ◌++◌, map, length, get_or, refl, sym, ap}
 use Rattle.std.proofs.Common.{ap₂, subst, ◌∙◌, arith, nat_eq, Some, None, Option, slice_get, suc, rules, AllPairs}
@@ -94,7 +94,7 @@ links_by-more variables gates k g l before e at_first at_second =
     (take k gates) (get_or gates k g ∷ []))
 
 -- the `Links` that are computed for a gate from the list of all gates' variables have exactly the indices of the gates
--- that it reads
+-- that the gate reads
 pub links-by_variables : {gates : List Gate} {variables : List ℕ} {links : List Links} →
     AllPairs (λ g h. variable g.literal ≢ variable h.literal) gates →
     variables ≡ gate_variables gates → links ≡ links_by (place_in variables) gates → AreLinksOf gates links

@@ -17,7 +17,7 @@ abbrev pub graph_of : List Links → Digraph
 graph_of links =
     record { count = length links; degree = λ _. 2; target = λ i place. target_of (slice_get links i) place }
 
--- the `Links` of each gate have exactly the indices of the gates whose literals it reads
+-- the `Links` of each gate have exactly the indices of the gates whose literals the gate reads
 pub record AreLinksOf (gates : List Gate) (links : List Links) : Type 0 where
   pub each : length links ≡ length gates
   pub link_reads : (i j : ℕ) → Link (graph_of links) i j → ReadsGate gates i j

@@ -33,8 +33,8 @@ use Rattle.ps_circuit.specs.declared.sizes.Header.{Header}
 use Rattle.ps_circuit.specs.declared.lines.Noted.{Noted}
 use Rattle.ps_circuit.specs.declared.reader.Draft.{Draft}
 
--- each of the literals defines its variable, these variables are appended to the defined ones in order, and none is
--- defined twice
+-- each literal may define its variable; the variables are appended, in order, to the variables defined before; if those
+-- differ from each other, all defined variables do
 pub record Defines (most : ℕ) (old : List ℕ) (literals : List ℕ) (new : List ℕ) : Type 0 where
   pub variables : new ≡ old ++ map variable literals
   pub each : All (IsDefinition most) literals
