@@ -80,7 +80,7 @@ pub record StepsSecond (board : Board) (keys : List Key) (certificate : Certific
     pub choice : choice_of certificate at ≡ Some chosen
     pub least : IsLeastLetter (λ y. IsSecondLetter board y × GoesTo keys board q (class + y) chosen) letter
 
--- the letter that is output at the vertex v of the state q, if the other player's letter is x
+-- `letter` is output at the vertex v, whose state is q, if the other player's letter is x
 abbrev pub IsPlayed : Bool → Board → List Key → CertificateData → ℕ → ℕ → ℕ → ℕ → Type 0
 IsPlayed true board keys certificate v q x letter = StepsFirst board keys certificate v q x letter
 IsPlayed false board keys certificate v q x letter = StepsSecond board keys certificate v q x letter

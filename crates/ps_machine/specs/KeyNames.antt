@@ -2,7 +2,7 @@
 -- - `state_name states q`: the state's number, or `sink`
 -- - `letter_digits board x`: a digit for each proposition of the player who moves first: its truth value in x
 -- - `key_name board key`: the name of a key, which is `q/p` or `q:digits`
--- - `AreNamed board keys game`: each vertex has its number as id, and the name of its key
+-- - `AreNamed board keys game`: the id of each vertex is its number, and the name of each vertex is that of its key
 use Rattle.std.specs.Prelude.{◌≡◌, ℕ, zero, suc, List, [], ◌∷◌, ◌++◌, length, map, Option, Some, decimal, codes}
 use Rattle.std.specs.Prelude.{if◌then◌else◌, nat_eq}
 use Rattle.std.specs.List.{range_with_len}

@@ -1,7 +1,8 @@
 -- The definitions by which contracts describe a solver: the answers that it may give for a game, and the text that it
 -- was given before (fed).
 -- - `MayAnswer`: a relation between a game and the answers that a solver may give for it
--- - `SolverData`: what is known about a solver
+-- - `SolverData`: whether a solver is sure, the text that it was fed, the answers that it may give, and the answer that
+--   it gave last
 -- - `once_fed text solver`: the data of the solver after it was fed `text`
 -- - `answers_now solver`: the answers that the solver may give for a game, given the text that it was fed last
 -- - `Answered old new`: the answers that the solver was allowed to give before a call, and gave in it

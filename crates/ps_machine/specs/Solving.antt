@@ -7,8 +7,8 @@
 -- - `NamesVertices game r`: if the answer is a cycle, it has at least one vertex, and all its vertices are vertices of
 --   the game
 -- - `Replays game fed r`: the answer is the result of parsing the text that was fed
--- - `own_solver`: what is known about psyn's own solver
--- - `replay_of text`: what is known about a solver that only parses the text that it was fed
+-- - `own_solver`: the data (`SolverData`) of psyn's own solver
+-- - `replay_of text`: the data (`SolverData`) of a solver that was fed `text`, and only parses it
 use Rattle.std.specs.Prelude.{◌≡◌, ℕ, ◌<◌, true, false, List, length, Option, None, Some, Result, Ok, Err}
 use Rattle.std.specs.List.{All}
 use Rattle.ps_game.specs.Games.{NamedGameData, vertex_count}

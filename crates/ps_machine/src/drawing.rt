@@ -116,8 +116,9 @@ impl Drawing {
         }
     }
 
-    /// Makes the diagram of a memory state for a player who moves first. The result is the diagram of the steps after
-    /// the class of letters to which the player's move leads, with the index of a row in place of each step.
+    /// Makes the diagram of a memory state for a player who moves first. The player's move leads to a class of letters.
+    /// The result is the diagram of the steps that can follow this class, with the index of a row in place of each
+    /// step.
     fn first_node(&mut self, plan: &Plan<'_>, vertex: usize, state: u32) -> Result<Node, AllocError>
         requires plan { IsPlanned plan.now }
         requires kept { Contains plan.now.memories.now.kept.items vertex }

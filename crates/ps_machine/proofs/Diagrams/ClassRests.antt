@@ -38,7 +38,7 @@ other_bit c {d} e = ap (λ x. cond x c d) e
 cond_alike : (b c : Bool) {d e : Bool} → (b ≡ false → d ≡ e) → cond b c d ≡ cond b c e
 cond_alike b c h = search rules
 
--- the letter that has the bits of `class` on the mask, and the bits of u elsewhere
+-- the letter that has the bits of `class` at the propositions in the mask, and the bits of u elsewhere
 module _ (n mask class : ℕ) (small : mask < 2 ^ n) where
   bits : ℕ → ℕ → Bool
   bits u p = cond (is_in p mask) (is_in p class) (is_in p u)

@@ -46,7 +46,7 @@ at_position test xs d {i} e =
     let there = position-Some test xs i d e in
     (get_or xs i d, slice_get-get_or xs i d there.0, there.1)
 
--- a search finds the key of each vertex in the list of keys
+-- a search in the list of keys (what the vertices stand for) finds the key of each vertex
 pub has_key : (keys : List Key) (v : ℕ) (key : Key) → StandsAt keys v key →
     list_any ((key_eq.eq-value).it key) keys ≡ true
 has_key keys v key at = list_any_at ((key_eq.eq-value).it key) keys v key (slice_get_within keys v key at)
@@ -170,7 +170,8 @@ module _ {board : Board} {mover : ℕ} {keys : List Key} {game : ParityGame} {ce
       let n = next_keys v (Second q x) at in
       grind (arith, letter_of_number keys (pair_key q x) (successors_of game v) n.1.1 n.1.2 n.2 edge.1)
 
-  -- a vertex of a state has an edge to the vertex of each class of the state
+  -- a vertex of the first player that stands for a state has an edge to the vertex of each class of letters of this
+  -- state
   pub to_class_of : {v q p x : ℕ} → StandsAt keys v (First q p) → IsClassLetter board q x →
       Leads keys game v (Second q x)
   to_class_of {v} {q} {p} at is =

@@ -140,8 +140,8 @@ module _ {order : Order} {a : AutomatonData} {mask : ℕ} {t : Table} {keys : Li
         same_pair reply.state reply.priority,
       )
 
-  -- a row is right after the letter x at the state q if its letter is the least that makes the step of the winner's
-  -- move, and its memory state is that of the step's vertex
+  -- a row is right for the letter x at the state q if its letter is the least that makes the step of the winner's move,
+  -- and its memory state belongs to that step
   answer_by : {kept : List ℕ} (letter memory : ℕ) → IsClassLetter (board_of order a) q x →
       IsMove (board_of order a) q x letter → step_of a q (x + letter) ≡ step →
       ((v : ℕ) → StandsAt keys v (First step.state step.priority) → StandsFor false keys kept memory v step.state) →

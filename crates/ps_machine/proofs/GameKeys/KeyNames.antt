@@ -1,4 +1,4 @@
--- The names of vertices, as the code writes them from the vertices' keys.
+-- The code writes the name of each vertex from its key (what it stands for), as `key_name` states.
 use Rattle.std.proofs.Common.{◌≡◌, ◌≢◌, ℕ, suc, ◌+◌, ◌^◌, ◌<◌, Bool, List, [], ◌∷◌, ◌++◌, Some, rules}
 use Rattle.std.proofs.Common.{decimal, refl, subst, arith, append_assoc}
 use Rattle.std.specs.List.{AllPairs, range_with_len}

@@ -1,10 +1,10 @@
 -- A file has at most one game, because all automata of the file have the same steps at the states and letters that a
 -- play can reach.
--- - `alike`: the automata have the same steps at each state, at the sink, and for each letter
+-- - `alike`: at each state and at the sink, the two automata have the same step for each letter
 -- - `listed_fine`: the state in each key of a game is a state of the file or the sink, and the letter in a key is a
 --   letter of the first player
 -- - `leads_too`: each key of a game leads to the same keys by the steps of either automaton
--- - `game_too`: the game of one automaton is therefore the game of the other
+-- - `game_too`: the game of one automaton of the file is also the game of any other automaton of the file
 use Rattle.std.proofs.Common.{◌≡◌, ℕ, zero, suc, ◌+◌, ◌^◌, ◌<◌, ◌≤◌, List, [], ◌∷◌, length, get_or}
 use Rattle.std.proofs.Common.{sym, ◌∙◌, arith, inl, inr, rules}
 use Rattle.std.specs.List.{All, Contains}

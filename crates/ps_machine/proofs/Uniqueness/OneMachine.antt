@@ -91,7 +91,7 @@ module _ (board : Board) (keys : List Key) (certificate : CertificateData) (diff
       (λ before. b.none_before c (a.here.0, same) before)
       (λ before. a.none_before d (b.here.0, steps_sym board q c d same) before)
 
-  -- the letter that is output at the vertex v of the state q is unique, if the other player's letter is x
+  -- for each letter x of the other player, only one letter can be output at the vertex v, whose state is q
   one_played : (first : Bool) (v q x : ℕ) {one other : ℕ} → IsPlayed first board keys certificate v q x one →
       IsPlayed first board keys certificate v q x other → one ≡ other
   one_played true v q x {one} {other} s t = one_letter true board keys certificate v q x x one other refl s t

@@ -38,8 +38,8 @@ AreUsed game certificate found = (v : ℕ) → Contains found v ↔ IsUsed game 
 abbrev pub GoesOn : ParityGame → CertificateData → ℕ → ℕ → Type 0
 GoesOn game certificate v w = RemainsFor game (winner_at_start certificate) (choice_of certificate) v w
 
--- only numbers with the property `IsNext` were appended to the list, and the list now has all numbers with this
--- property; if the entries of the old list differ, so do those of the new list
+-- all numbers appended to the list have the property `IsNext`, and the list now has every number with this property; if
+-- the entries of the old list differ, those of the new list do, too
 pub record Adds (IsNext : ℕ → Type 0) (old new : List ℕ) : Type 0 where
   pub added : List ℕ
   pub grown : new ≡ old ++ added
