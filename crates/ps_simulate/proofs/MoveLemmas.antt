@@ -1,4 +1,5 @@
--- Lemmas about evaluating the rows of a plan in a table of values with renumbered indices.
+-- Evaluating the rows (gates) of an evaluation plan in a table of values with renumbered indices gives the same values
+-- as in the original table.
 use Rattle.std.proofs.Common.{◌≡◌, ℕ, suc, ◌+◌, ◌<◌, ◌≤◌, Bool, false, not, cond, List, []}
 use Rattle.std.proofs.Common.{◌∷◌, map, length, get_or, refl, sym, ap, ap₂, ◌∙◌, arith, All, length-set, rules}
 use Rattle.std.specs.Prelude.{slice_set}

@@ -1,4 +1,5 @@
--- The rows of a circuit's evaluation plan, one for each gate.
+-- The evaluation plan of a circuit has one row for each gate: the index of the gate's value, and the two literals that
+-- the gate reads.
 use Rattle.std.proofs.Common.{◌≡◌, ℕ, suc, ◌+◌, ◌<◌, List, ◌++◌, map, length, rules}
 use Rattle.std.proofs.Common.{get_or, sym, subst, ap, ◌∙◌, arith, Some, length-append}
 use Rattle.std.proofs.lemmas.List.{length-map, get_or-map, get_or_append_left, get_or-append-add}

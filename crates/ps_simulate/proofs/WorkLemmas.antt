@@ -1,4 +1,4 @@
--- Evaluating the rows of a plan in a table of values, one after another.
+-- Lemmas about the table of values in which the rows (gates) of an evaluation plan are evaluated, one after another.
 use Rattle.std.proofs.Common.{◌≡◌, ◌≢◌, ℕ, zero, suc, ◌<◌, ◌&&◌, Bool, false, not, cond, List, [], ◌∷◌, length, get_or}
 use Rattle.std.proofs.Common.{refl, sym, ap, ap₂, ◌∙◌, arith, length-set, get_or-set_same, get_or-set_other}
 use Rattle.ps_simulate.specs.declared.plan.Wire.{Wire}

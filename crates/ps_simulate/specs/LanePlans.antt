@@ -46,7 +46,7 @@ abbrev pub AreInOrder : ℕ → List ℕ → List Row → Type 0
 AreInOrder front places rows =
     (k : ℕ) (d : Row) → k < length rows → moved places (slice_index_or rows k d).target ≡ front + k
 
--- the target of the row is an index after those of the constant, the inputs and the latches
+-- the target of the row is an index after the indices of the constant, the inputs and the latches
 pub record IsGateRow (front size : ℕ) (r : Row) : Type 0 where
   pub behind : front ≤ r.target
   pub within : r.target < size

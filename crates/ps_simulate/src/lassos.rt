@@ -46,8 +46,8 @@ pub enum LassoFault {
     /// The lap has no letters.
     #[error("the lap is empty")]
     EmptyLap,
-    /// The symbols of the inputs or of the outputs are not the names of the propositions that the circuit's role
-    /// requires, each exactly once.
+    /// The circuit's role (controller or environment) requires that the inputs and the outputs each have the names of
+    /// certain propositions, exactly once. The inputs or the outputs have other names.
     #[error("the symbols are not the names of the propositions")]
     Symbols,
     /// Out of memory.
@@ -91,9 +91,9 @@ impl From<AllocError> for LassoFault {
     }
 }
 
-/// Runs a circuit through a stem and then repeatedly through a lap, until a lap begins with the same latch values as an
-/// earlier lap. The result states whether the automaton accepts the run's trace, continued forever by repeating its
-/// letters since the earlier lap with the same latch values. Letters have a bit for each input, in the circuit's order.
+/// Runs a circuit through a stem and then repeatedly through a lap, until two readings of the lap begin with the same
+/// latch values. The result states whether the automaton accepts the run's trace when its letters between the
+/// beginnings of the two readings are repeated for ever. Letters have a bit for each input, in the circuit's order.
 ///
 /// # Errors
 ///

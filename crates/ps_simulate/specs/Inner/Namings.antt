@@ -1,5 +1,5 @@
--- How the code finds the names of propositions among the symbols of a circuit. Only private contracts use these
--- definitions.
+-- The code finds the names of propositions among the symbols of a circuit, which are the names of its inputs and
+-- outputs. Only private contracts use these definitions.
 use Rattle.std.specs.Prelude.{◌≡◌, ℕ, ◌<◌, ◌≤◌, Bool, false, List, length, map, Option, None, Some, slice_index_or}
 use Rattle.ps_hoa.specs.Files.{is_among}
 use Rattle.ps_hoa.specs.Memory.{bytes_of}
