@@ -81,8 +81,8 @@ module _ {file : FileData} {chain : Chain} {a : Auto} (is_chain : chain_of file.
         | inr behind ↦ (λ set. false, λ h. absurd (omega arith))
       ]
 
-      -- the deterministic automaton's run is also a run of the file's automaton; its part between two visits of the
-      -- same state satisfies the acceptance condition
+      -- if the greatest priority between two visits of a state is even, the deterministic automaton's run is also a run
+      -- of the file's automaton, and its part between the visits satisfies the acceptance condition
       pub run_of_auto : (sets : ℕ → ℕ → Bool) × IsRun file w (from + count) (state_at a w) sets ×
           IsTrue (holds (is_met (part sets from count)) file.condition)
       run_of_auto =

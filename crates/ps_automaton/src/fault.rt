@@ -24,7 +24,7 @@ pub enum AutomatonFault {
         state: u32,
         /// The index of the earlier edge in the state's row, counted from 0.
         first: usize,
-        /// The index of the later of the two edges.
+        /// The index of the later of the two edges in the state's row, counted from 0.
         second: usize,
     },
     /// Memory ran out.

@@ -1,4 +1,4 @@
-//! The steps to the targets of edges.
+//! The steps to the targets of edges, with the priorities that the chain gives to the edges.
 
 ghost use Rattle.std.specs.Prelude.{◌≡◌};
 ghost use Rattle.ps_automaton.specs.Inner.Numbering.{AreSetsBelow, IsTable};

@@ -87,7 +87,8 @@ pub(crate) fn first_clash(
     unreachable!()
 }
 
-/// Whether two edges of the state clash; `letters` is the diagram of the letters at which the later edge is taken.
+/// Whether two edges of the state clash: they are taken at a common letter, but differ in their targets or sets.
+/// `letters` is the diagram of the letters at which the later edge is taken.
 fn clashes(
     store: &mut Store,
     guards: &Guards,
