@@ -87,7 +87,7 @@ fn chosen(store: &mut Store) -> Result<[Option<u64>; 4], AllocError> {
 }
 
 /// Joins the diagram of the first proposition and the leaf 7 to one diagram, whose leaves are indices of pairs of
-/// leaves. Returns its leaves at the letters 1 and 0, and the number of pairs.
+/// leaves. Returns the leaves of the joined diagram at the letters 1 and 0, and the number of pairs.
 fn paired(alloc: Global, store: &mut Store) -> Result<([Option<u64>; 2], usize), AllocError> {
     if store.propositions() != 2 {
         return Ok(([None; 2], 0));
