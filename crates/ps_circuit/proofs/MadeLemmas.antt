@@ -56,7 +56,7 @@ gate_at d {s} = elim (bool_cases (list_any (has_sides s) d.gates)) [
   | inr none ↦ grind (arith, absent_place, slice_get-push)
 ]
 
--- no gate before the index at which a pair of literals is found has the same two literals
+-- a pair of literals is found at an index of the list of gates: no gate before this index has these two literals
 gate_first : {d e : Drafted} (s : Sides) → Extends d e → (k : ℕ) → k < place_of d s → place_of d s ≤ length d.gates →
     has_sides s (get_or e.gates k s) ≡ false
 gate_first {d} {e} s x k lt within =

@@ -3,7 +3,8 @@
 -- - `Safe part Good`: a value that is parsed without an error has the property `Good`, whatever follows
 -- - `Followed part Good`: a value that is parsed without an error has the property `Good` if a space, a tab, a newline
 --   or the end follows
--- - `followed_number`, `followed_field`: a number, or a field, that is parsed without an error meets its condition
+-- - `followed_number`, `followed_field`: if a number, or a field, is parsed without an error, the condition `Wrong`
+--   does not make its value an error
 -- - `safe_then`, `safe_before`, `safe_mapped`, `safe_times`, `safe_many`: a compound part of the grammar is `Safe` if
 --   the parts that it consists of are
 use Rattle.std.proofs.Common.{◌≡◌, ℕ, zero, suc, ◌+◌, List, [], ◌∷◌, ◌++◌, Some, refl, sym, ap}

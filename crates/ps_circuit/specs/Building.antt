@@ -1,4 +1,4 @@
--- The and-gates of a circuit under construction, as a circuit builder has them.
+-- The and-gates that a circuit builder has made so far, and what is required of them.
 -- - `Drafted`: how many variables the builder was given, and the two literals of each gate, in order
 -- - `bit v literal`: the value of a literal, if each variable has the value that v gives it
 -- - `MeetsEquations d v`: variable 0 is false, and the variable of each gate is the conjunction of the gate's two
