@@ -42,9 +42,9 @@ behaviour m =
       plays = λ memory x. (machine_row m memory x).letter;
     }
 
--- In the stored machine, the diagram of each memory state leads each letter to the index of a row. This index depends
--- only on the propositions that the machine reads. Each row has a memory state to enter, and a letter of the machine's
--- player to output.
+-- In the stored machine, the diagram of each memory state leads each letter to the index of a row. The index of the row
+-- depends only on the propositions that the machine reads. Each row has a memory state to enter, and a letter of the
+-- machine's player to output.
 pub record IsWholeMachine (m : MachineData) : Type 0 where
   pub is_machine : IsMachine (behaviour m)
   pub letters : m.store.propositions ≡ length m.names

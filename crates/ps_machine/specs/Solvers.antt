@@ -5,7 +5,8 @@
 --   it gave last
 -- - `once_fed text solver`: the data of the solver after it was fed `text`
 -- - `answers_now solver`: the answers that the solver may give for a game, given the text that it was fed last
--- - `Answered old new`: the answers that the solver was allowed to give before a call, and gave in it
+-- - `Answered old new`: the relation that holds for a game and an answer if the solver might give this answer before a
+--   call, and gave it in the call
 -- - `IsKept old new`: after a call, the solver is sure exactly if it was sure before, has the same text, and may give
 --   no answer that it could not give before
 use Rattle.std.specs.Prelude.{◌≡◌, ℕ, Bool, List, Option, None, Some, Result}

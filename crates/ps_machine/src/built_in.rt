@@ -29,9 +29,9 @@ const PLACED_EACH: u64 = 256;
 /// times for each vertex of the game.
 const PLACED_BESIDE: u64 = 1024;
 
-/// An upper bound for a second limit on the recursion's assignments in the first round. In games with few priorities,
-/// the number of assignments may grow with the square of the number of vertices. So this limit is half the square, but
-/// at most `PLACED_SQUARE`. It applies if `PLACED_EACH` and `PLACED_BESIDE` allow fewer assignments.
+/// In a game with n vertices, the recursion may make at least n * n / 2 assignments in the first round, or
+/// `PLACED_SQUARE` if n * n / 2 is greater. In games with few priorities, the number of assignments may grow with n *
+/// n.
 const PLACED_SQUARE: u64 = 1 << 26;
 
 /// For each assignment that `PLACED_EACH` and `PLACED_BESIDE` allow the recursion in the first round, an attempt at
@@ -193,9 +193,9 @@ fn attempted<A: Arena>(
     }
 }
 
-/// The certificate for a division of the vertices into two regions, and a table of moves for each player. The regions
-/// and the moves may be wrong. If each player, moving by that player's table, wins from every vertex of that player's
-/// region, the result is a certificate; otherwise it is None.
+/// The certificate for two regions, into which the vertices are divided, and for two tables of moves, one for each
+/// player. The regions and the moves may be wrong. If each player, moving by that player's table, wins from every
+/// vertex of that player's region, the result is a certificate; otherwise it is None.
 fn tried<A: Arena>(
     alloc: Global,
     arena: &A,

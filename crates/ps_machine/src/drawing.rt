@@ -71,8 +71,8 @@ impl Plan<'_> {
         self.memories.anchors.get_index_of(&anchor).unwrap()
     }
 
-    /// The letter that a player who moves first outputs at the vertex of a memory state. This is the least letter of
-    /// the class to which the player's move leads.
+    /// The letter that a player who moves first outputs at the vertex of a memory state: the least letter of the class
+    /// to which the player's move leads.
     fn letter_at(&self, vertex: usize) -> u64
         requires plan { IsPlanned self.now }
         requires kept { Contains self.now.memories.now.kept.items vertex }

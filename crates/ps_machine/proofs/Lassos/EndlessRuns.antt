@@ -31,7 +31,7 @@ folded_behind : (stem lap t : ℕ) → stem ≤ t → folded stem lap t ≡ stem
 unfolding folded
 folded_behind stem lap t more = ap (λ (b : Bool). cond b t (stem + (t - stem) % lap)) (le-ltb t stem more)
 
--- counting modulo the lap's length: the next index is one more, or 0 at the end of the lap
+-- counting modulo the length of the lasso's repeated part (lap): the next index is one more, or 0 at the end of the lap
 next_in_lap : (lap n : ℕ) → 0 < lap → ((suc n) % lap ≡ suc (n % lap)) ⊎ ((suc (n % lap) ≡ lap) × ((suc n) % lap ≡ 0))
 next_in_lap lap n some = by (cases_lt (suc (n % lap)) lap)
   where

@@ -16,7 +16,8 @@ use Rattle.ps_machine.specs.declared.key.Key.TheVariants.{First}
 use Rattle.ps_machine.proofs.Diagrams.DrawingLemmas.{stands_for}
 use Rattle.ps_machine.proofs.Lassos.Rounds.{one_place}
 
--- Two vertices share a memory state exactly if they are equal, or, for a player who moves second, have the same state.
+-- If the machine's player moves first, only equal vertices share a memory state; if the player moves second, exactly
+-- the vertices with the same automaton state do.
 pub shares_anchor : (is_first : Bool) (v q w r : ℕ) → Shares is_first v q w r →
     anchor_of is_first v q ≡ anchor_of is_first w r
 shares_anchor is_first v q w r h = search rules

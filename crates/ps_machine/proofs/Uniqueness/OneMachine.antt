@@ -52,8 +52,7 @@ module _ (first : Bool) (keys : List Key) (game : ParityGame) (certificate : Cer
       → All Kept others → ((v : ℕ) → Kept v → Contains kept v) → ((v : ℕ) → Kept v → Contains others v) → kept ≡ others
   one_kept {kept} {others} r s each all whole complete = search (rules, same_numbers, All-contains)
 
-  -- if a reachable vertex v shares a memory state with u, the vertex that is kept for this memory state, v is not less
-  -- than u
+  -- u is the vertex that is kept for a memory state: no reachable vertex that shares this memory state is less than u
   none_below : {v q p : ℕ} (u r o : ℕ) → Kept u → StandsAt keys u (First r o) →
       IsUsedFirst keys game certificate v q p → anchor_of first v q ≡ anchor_of first u r → v < u → ⊥
   none_below {v} {q} {p} u r o k stands used same less =

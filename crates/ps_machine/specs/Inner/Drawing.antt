@@ -70,7 +70,7 @@ pub record IsMemory (is_first : Bool) (keys : List Key) (used kept anchors : Lis
   pub is_used : Contains used (slice_index kept memory)
   pub anchor : slice_get anchors memory ≡ Some (anchor_of is_first (slice_index kept memory) state)
 
--- some memory state has this anchor, and the vertex that is kept for it is at most v
+-- some memory state has this anchor (remembers it), and the vertex that is kept for the memory state is at most v
 pub record HasMemory (kept anchors : List ℕ) (v anchor : ℕ) : Type 0 where
   pub memory : ℕ
   pub is_anchored : slice_get anchors memory ≡ Some anchor

@@ -4,7 +4,7 @@
 -- in place of the leaves. (For private functions.)
 -- - `PlaysClass board keys certificate v q letter`: `letter` is output at the vertex v, whose state is q
 -- - `IsEntered .. leaf`: the machine can take the step that the leaf names
--- - `IsPlaced .. letter leaf`: the row for the leaf is stored
+-- - `IsPlaced .. letter leaf`: `places` has the index of a stored row for the leaf
 use Rattle.std.specs.Prelude.{◌≡◌, ℕ, ◌<◌, Bool, List, length, Some, slice_get}
 use Rattle.ps_certificate.specs.Certificates.{CertificateData, choice_of}
 use Rattle.ps_automaton.specs.Automata.{AutomatonData, pair_of}
