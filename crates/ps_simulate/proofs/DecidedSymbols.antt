@@ -1,7 +1,7 @@
 -- It is decidable whether a circuit has the inputs and outputs that its role (controller or environment) requires,
 -- since only finitely many symbols and names are compared.
 -- - `decide_all`, `decide_some`: it is decidable whether all, or some, numbers below a bound have a property
--- - `symbols_decided`: the law `symbols_are_decided`
+-- - `symbols_decided`: the lemma that proves the law `symbols_are_decided`
 use Rattle.std.proofs.Common.{◌≡◌, ℕ, zero, suc, ◌<◌, ◌⊎◌, inl, inr, Bool, List, [], length, Option, None}
 use Rattle.std.proofs.Common.{Some, sym, subst, arith, rules}
 use Rattle.std.specs.Prelude.{slice_index_or}

@@ -1,4 +1,4 @@
--- Values, traces, letters and verdicts are unique.
+-- For given inputs and latches, a circuit's values, traces, letters and verdicts are unique.
 
 pub mod OneLemmas
 pub mod OneTrace

@@ -93,7 +93,8 @@ fn places_up_to(alloc: Global, count: usize) -> Result<Vec<usize>, AllocError>
     Ok(places)
 }
 
-/// A wire as a literal: the literal's variable is the wire's renumbered index.
+/// The literal for a wire, which is a literal with a table index: the new literal's variable is the wire's renumbered
+/// index.
 fn literal(places: &[usize], wire: Wire) -> Literal
     requires places { All (λ p. p < 2 ^ 31) places.now }
     requires within { wire.place < length places.now }
@@ -107,7 +108,8 @@ fn literal(places: &[usize], wire: Wire) -> Literal
     }
 }
 
-/// Wires as literals: each literal's variable is the renumbered index of its wire. Fails if out of memory.
+/// The literals for wires, which are literals with table indices: each new literal's variable is the renumbered index
+/// of its wire. Fails if out of memory.
 fn literals(alloc: Global, places: &[usize], wires: &[Wire]) -> Result<Vec<Literal>, AllocError>
     requires places { All (λ p. p < 2 ^ 31) places.now }
     requires within { All (λ w. w.place < length places.now) wires.now }

@@ -46,8 +46,8 @@ pub enum LassoFault {
     /// The lap has no letters.
     #[error("the lap is empty")]
     EmptyLap,
-    /// The circuit's role (controller or environment) requires that the inputs and the outputs each have the names of
-    /// certain propositions, exactly once. The inputs or the outputs have other names.
+    /// The circuit's inputs or outputs do not have, each exactly once, the names of the propositions that its role
+    /// (controller or environment) requires.
     #[error("the symbols are not the names of the propositions")]
     Symbols,
     /// Out of memory.
@@ -194,7 +194,8 @@ impl<'a> Run<'a> {
     }
 
     /// Reads the stem once, and then the lap repeatedly, until a reading of the lap begins with the same latch values
-    /// as an earlier reading. Returns the number of the earlier reading, counted from 0. Fails if out of memory.
+    /// as an earlier reading. Returns the number of that earlier reading of the lap, counted from 0. Fails if out of
+    /// memory.
     fn first_repetition(
         &mut self,
         alloc: Global,
