@@ -9,11 +9,12 @@ use ps_text::faults::{Cause, Fault};
 /// description. The last two errors, `UnsetLatch` and `Sections`, are limits of psyn: AIGER allows such texts.
 #[derive(Clone, Copy, Debug, PartialEq, Eq)]
 pub enum AigCause {
-    /// A byte is not allowed at its position, the text ends too early, or a symbol is for an input, latch or output
-    /// that does not exist or already has a name (AIGER 1.9: ASCII format, symbol table, comments).
+    /// A byte is not allowed at its position, or the text ends too early. The error also stands for a symbol of an
+    /// input, latch or output that does not exist or already has a name (AIGER 1.9: ASCII format, symbol table,
+    /// comments).
     Syntax,
-    /// A number is not allowed at its position: a literal that is too large, or that is negated or constant although it
-    /// should define a variable; a reset above 1; or a greatest variable of 2^31 or more (AIGER 1.9: literals).
+    /// A number is not allowed at its position: a literal that is too large, or negated or constant where it should
+    /// define a variable; a reset above 1; or a greatest variable of 2^31 or more (AIGER 1.9: literals).
     Literal,
     /// A variable is defined a second time (AIGER 1.9: literals).
     DefinedTwice,
