@@ -10,7 +10,8 @@
 --   memory states of its machine
 -- - `IsDrawn .. v node`: at each letter, the diagram leads to the row for the memory state of v
 -- - `IsReply .. q x r p`: after the first player's letter x at the state q, the second player moves to the state r with
---   the priority p; `IsReplyRow .. q x row`: the row has the output and the next memory state for this move
+--   the priority p
+-- - `IsReplyRow .. q x row`: the row has the right output and next memory state after the letter x at the state q
 use Rattle.std.specs.Prelude.{◌≡◌, ◌≢◌, ℕ, ◌+◌, ◌<◌, ◌≤◌, ◌↔◌, ◌==◌, Bool, true, false, List, [], ◌∷◌, length, Some}
 use Rattle.std.specs.Prelude.{◌++◌, slice_get, slice_index}
 use Rattle.std.specs.List.{All, AllPairs, Contains}
