@@ -73,8 +73,8 @@ pub worked_on : (rows : List Row) (values initial : List (List ℕ)) (a b : List
 worked_on rows values initial a b k lane less lt la lb first second before =
     search (rules, no_row, bit_in-and, map-set, drop-cons)
 
--- if the first k entries of a table are the values of the first k literals, then after the value of literal k is stored
--- at index k, this holds for k + 1 as well
+-- if the first k entries of a table are the values of the first k literals, and the value of literal k is stored at
+-- index k, this holds for k + 1 as well
 pub read_on : (literals : List ℕ) (values table : List (List ℕ)) (words : List ℕ) (k lane : ℕ) → k < length literals →
     k < length table → lane_bit words lane ≡ read (lane_of values lane) (wire_in (get_or literals k 0)) →
     take k (lane_of table lane) ≡ map (λ l. read (lane_of values lane) (wire_in l)) (take k literals) →

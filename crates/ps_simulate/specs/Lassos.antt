@@ -3,7 +3,7 @@
 -- - `IsLetterOf names c m letter`: in the letter, each proposition has the bit that the input or output of its name has
 --   in the step m
 -- - `RepeatsLatches c stem lap i j trace`: the trace reads the stem once and the lap j times; its last latch values are
---   those before reading number i of the lap, and no latch values repeated earlier
+--   those before reading number i of the lap, the first repetition
 -- - `IsVerdictOf file c stem lap verdict`: the verdict tells whether the automaton accepts the trace when its letters
 --   from reading number i of the lap on are repeated for ever
 use Rattle.std.specs.Prelude.{◌≡◌, ◌≢◌, ℕ, zero, suc, ◌+◌, ◌-◌, ◌*◌, ◌^◌, ◌<◌, ◌↔◌, Bool, false, IsTrue, List, [], ◌∷◌}
