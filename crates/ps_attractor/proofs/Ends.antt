@@ -1,5 +1,5 @@
--- Once the worklist of an attractor computation is processed, the attractor consists of the vertices of the subgame
--- without the level `aim.free`, which marks unattracted vertices.
+-- Once the worklist of an attractor computation is processed, the attractor consists of those vertices of the subgame
+-- that do not have the level `aim.free` (the mark of unattracted vertices).
 use Rattle.std.proofs.Common.{◌≡◌, ◌≢◌, ℕ, ◌+◌, ◌-◌, ◌<◌, ◌≤◌, ◌⊎◌, inl, inr, Bool, IsTrue, length, get_or, drop, rules}
 use Rattle.std.proofs.Common.{sym, ◌∙◌, arith}
 use Rattle.std.proofs.lemmas.Bool.{cases_eq, cases_lt}
@@ -119,7 +119,8 @@ module _ {game : ParityGame} {aim : Aim} {old new : TablesData} {subgame target 
     ]
   ]
 
-  -- a vertex of the attractor outside the target leads to vertices that are earlier in the worklist
+  -- from a vertex of the attractor outside the target, the player's move, or each edge of the other player within the
+  -- subgame, leads to a vertex that is earlier in the worklist
   leads_from : (v : ℕ) → IsTrue (set v) → ¬ IsTrue (target v) →
       (aim.begin + rank_of aim new v < length new.trail) × LeadsBack game aim old new (aim.begin + rank_of aim new v) v
   leads_from v inside outside =

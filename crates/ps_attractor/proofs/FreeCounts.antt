@@ -1,4 +1,4 @@
--- How examining one edge changes the number of unattracted vertices and the worklist.
+-- Examining one edge does not change the sum of the number of unattracted vertices and the length of the worklist.
 use Rattle.std.proofs.Common.{◌≡◌, ◌≢◌, ℕ, ◌+◌, ◌<◌, ◌≤◌, cond, eqb, List, [], ◌∷◌, ◌++◌, length, rules, get_or, arith}
 use Rattle.std.specs.Prelude.{slice_set}
 use Rattle.std.proofs.lemmas.Bool.{eq-eqb, ne_eqb}

@@ -1,4 +1,4 @@
--- A level that is stored and then read is the same level.
+-- Storing a level and reading it back gives the same level.
 use Rattle.std.proofs.Common.{◌≡◌, ℕ, zero, suc, ◌^◌, ◌<◌, ◌∷◌, map, replicate, ap, refl, rules}
 use Rattle.std.specs.Prelude.{min}
 use Rattle.std.proofs.lemmas.Bool.Decides.{nat_tests}

@@ -175,8 +175,8 @@ module _ {game : ParityGame} {player : ℕ} {subgame target : List Bool} {new : 
         ]
       ]
 
--- if the tables record a computed attractor, the region, the moves and the ranks that are read from them are those of
--- the attractor
+-- if the tables record a computed attractor, the region, the moves and the ranks that are read from the tables are
+-- those of the attractor
 pub attractor_of : {game : ParityGame} {player : ℕ} {subgame target : List Bool} {new : TablesData} {a : Attracted} →
     IsSubgame game (has subgame) → IsWithin (has target) (has subgame) →
     AreAttracted game player subgame target new → IsReadOff game new player target a →

@@ -10,7 +10,7 @@ place_in-le [] v i within is = absurd (omega arith)
 place_in-le (x ∷ xs) v zero within is = rw (eq-eqb x v is) (omega arith)
 place_in-le (x ∷ xs) v (suc i) within is = grind (arith, place_in-le xs v i (omega arith) is)
 
--- a number that occurs in the list is at its first index
+-- the first index of a number that occurs in the list is an index of this number
 pub place_in-at : (xs : List ℕ) (v i : ℕ) → i < length xs → get_or xs i 0 ≡ v → get_or xs (place_in xs v) 0 ≡ v
 place_in-at [] v i within is = absurd (omega arith)
 place_in-at (x ∷ xs) v i within is = by_test (λ i within is. place_in-at xs v i within is) (eqb x v) refl i within is

@@ -14,8 +14,8 @@ use Rattle.ps_attractor.specs.Steps.{Reaching, From, FromSource, with_placed}
 use Rattle.ps_attractor.proofs.Placing.{Places, trail_before, trail_last, trail_length, not_it, still_free, grown_on}
 use Rattle.ps_attractor.proofs.Placing.{leads_back_on, stands_after, stands_longer}
 
--- P and Q state which edges are unexamined, and P implies Q: if `CanGoOn` (v has an unattracted successor or an
--- unexamined edge) holds for P, it holds for Q
+-- v has an unattracted successor or an unexamined edge (`CanGoOn`), where P states which edges are unexamined; if P
+-- implies Q, this also holds when Q states which edges are unexamined
 can_map : {game : ParityGame} {aim : Aim} {new : TablesData} {P Q : ℕ → ℕ → Type 0} {v : ℕ} →
     ((j : ℕ) → aim.begin ≤ j → j < length new.trail → HasEdge game v (get_or new.trail j 0) → P v j → Q v j) →
     CanGoOn game aim new P v → CanGoOn game aim new Q v
@@ -61,7 +61,7 @@ pub reaching_leave : {game : ParityGame} {aim : Aim} {old new : TablesData} (lis
 reaching_leave list k n all so_far =
     reaching_map (FromSource k list n) (From (k + 1)) (λ v j is_free after within edge pending. grind arith) so_far
 
--- examining the edge from the predecessor at index n of a vertex's list of predecessors
+-- the edge that is examined comes from u, the predecessor at index n of a vertex's list of predecessors
 module _ {game : ParityGame} {aim : Aim} {old mid : TablesData} (list : List ℕ) (k n : ℕ) {u : ℕ}
     (at : get_or list n 0 ≡ u) (so_far : Reaching game aim old mid (FromSource k list n)) where
   -- when the edge from the vertex u is examined, the unexamined edges from all other vertices stay unexamined
@@ -87,7 +87,7 @@ module _ {game : ParityGame} {aim : Aim} {old mid : TablesData} (list : List ℕ
     back = so_far.back;
   }
 
-  -- examining an edge may append the edge's origin to the worklist; the origin then leads to earlier vertices of the
+  -- if examining an edge appends the edge's origin to the worklist, the origin leads to earlier vertices of the
   -- worklist
   look_places : {new : TablesData} → aim.level ≢ aim.free → aim.begin ≤ length mid.trail → k < length mid.trail →
       Places aim mid new u → LeadsBack game aim old new (length mid.trail) u →

@@ -1,5 +1,5 @@
--- What an attractor computation starts from, and what it yields: the attractor to the vertices of the worklist from
--- index `aim.begin` on. A vertex with the level `aim.free` is in the subgame and not yet attracted.
+-- An attractor computation: the tables with which it starts, and its result, the attractor to the vertices of the
+-- worklist from index `aim.begin` on. A vertex with the level `aim.free` is in the subgame and not yet attracted.
 use Rattle.std.specs.Prelude.{◌≡◌, ◌≢◌, ℕ, ◌<◌, ◌≤◌, ◌⊎◌, length, drop, Option, Bool, IsTrue, slice_index}
 use Rattle.ps_game.specs.Games.{ParityGame, vertex_count}
 use Rattle.ps_game.specs.Subgames.{IsWithin, LeadsInto, IsSubgame}
@@ -14,8 +14,8 @@ pub record StandsFrom (tables : TablesData) (from v : ℕ) : Type 0 where
   pub within : place < length tables.trail
   pub is : slice_index tables.trail place ≡ v
 
--- the subgame consists of the unattracted vertices and the target; the worklist has exactly the target's vertices from
--- index `aim.begin` on
+-- the subgame consists of the unattracted vertices and the target; from index `aim.begin` on, the worklist has exactly
+-- the target's vertices
 pub record IsPosed (game : ParityGame) (aim : Aim) (tables : TablesData) (subgame target : ℕ → Bool) : Type 0 where
   pub is_subgame : IsSubgame game subgame
   pub split : (v : ℕ) → IsTrue (subgame v) → (level_of tables v ≡ aim.free) ⊎ IsTrue (target v)
@@ -37,8 +37,8 @@ pub record StaysOut (game : ParityGame) (subgame set : ℕ → Bool) (v : ℕ) :
   pub leads : LeadsInto game subgame v to
   pub outside : ¬ IsTrue (set to)
 
--- the set is the attractor: the least set closed under attraction, with ranks that decrease along the moves of the
--- table; each vertex of the subgame outside the set has a successor outside
+-- The set is the attractor: the least set closed under attraction, with ranks that decrease along the moves of the
+-- table. Each vertex of the subgame outside the set has a successor in the subgame outside the set
 pub record IsAttracted (game : ParityGame) (subgame : ℕ → Bool) (player : ℕ) (target set : ℕ → Bool)
     (table : ℕ → Option ℕ) (rank : ℕ → ℕ) : Type 0 where
   pub closed : IsClosedUnderAttraction game subgame player target set

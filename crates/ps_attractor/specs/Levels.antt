@@ -1,4 +1,4 @@
--- How the level of a vertex is stored as a number that is at most the limit of an integer type.
+-- The level of a vertex, stored as a number that is at most the limit (the largest number of an integer type).
 use Rattle.std.specs.Prelude.{◌≡◌, ℕ, ◌-◌, ◌^◌, ◌<◌, ◌⊎◌, ◌==◌, if◌then◌else◌}
 
 -- a stored number that equals the limit means the largest `usize`, and every other stored number means itself

@@ -1,4 +1,4 @@
--- How the region, the moves and the ranks of an attractor are read from the tables once the worklist is processed.
+-- The region, the moves and the ranks of an attractor, as they are read from the tables once the worklist is processed.
 use Rattle.std.specs.Prelude.{◌≡◌, ℕ, ◌<◌, ◌≤◌, List, length, Option, Some, None, IsSome, Bool, false, IsTrue}
 use Rattle.std.specs.Prelude.{slice_index}
 use Rattle.ps_game.specs.Games.{ParityGame, owner_of, vertex_count}
@@ -32,7 +32,8 @@ pub record AreLaidOut (subgame target : List Bool) (n : ℕ) (tables : TablesDat
 abbrev pub aim_of : ℕ → Aim
 aim_of player = record { player = player; begin = 0; level = PLACED; free = FREE }
 
--- the tables first had only the target in the worklist, and were then extended by the rest of the attractor
+-- the worklist of the tables first had only the target's vertices, and was then extended by the other vertices of the
+-- attractor
 pub record AreAttracted (game : ParityGame) (player : ℕ) (subgame target : List Bool) (tables : TablesData) : Type 0
   where
     pub old : TablesData
@@ -54,8 +55,8 @@ pub record Moves (game : ParityGame) (tables : TablesData) (player : ℕ) (targe
   pub owns : owner_of game v ≡ player
   pub outside : has target v ≡ false
 
--- exactly those vertices less than n that satisfy `Moves` (attracted vertices of the player outside the target) have a
--- move in the list `moves`; it is their move in the tables
+-- A vertex less than n has a move in the list `moves` exactly if it satisfies `Moves`: it was attracted, belongs to the
+-- player and is not in the target. The move is the vertex's move in the tables
 pub record AreMovesTo (game : ParityGame) (tables : TablesData) (player : ℕ) (target : List Bool) (n : ℕ)
     (moves : List (Option ℕ)) : Type 0 where
   pub given : (v : ℕ) → v < n → Moves game tables player target v → move_at moves v ≡ Some (slice_index tables.moves v)

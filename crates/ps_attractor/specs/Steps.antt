@@ -96,8 +96,8 @@ pub record StandsAmong (list : List ℕ) (from v : ℕ) : Type 0 where
   pub within : number < length list
   pub is : slice_index list number ≡ v
 
--- the edges still to be examined lead to the vertices after index k of the worklist, or lead to the vertex at index k
--- from its n-th predecessor or a later one
+-- an edge is still to be examined if it leads to a vertex after index k of the worklist, or to the vertex at index k
+-- from the n-th or a later one of its predecessors
 abbrev pub FromSource : ℕ → List ℕ → ℕ → ℕ → ℕ → Type 0
 FromSource k sources n v j = (k < j) ⊎ ((j ≡ k) × StandsAmong sources n v)
 

@@ -1,5 +1,5 @@
--- The tables of an attractor computation: a level and a move for each vertex, and the trail, which is the worklist: the
--- attracted vertices in order.
+-- The tables of an attractor computation: a level and a move for each vertex, and the worklist (called trail), which
+-- lists the attracted vertices in order.
 use Rattle.std.specs.Prelude.{◌≡◌, ℕ, ◌+◌, ◌<◌, List, [], ◌∷◌, length, Option, Some, slice_index, if◌then◌else◌, ◌==◌}
 use Rattle.std.specs.List.{All}
 use Rattle.ps_game.specs.Games.{ParityGame, vertex_count}

@@ -1,6 +1,6 @@
-//! The tables of an attractor computation: levels, moves and the trail, which is the worklist. The tables also
-//! remember, for each vertex of the other player, which successor was last found unattracted. The view of the tables in
-//! contracts omits these remembered successors, since no result depends on them.
+//! The tables of an attractor computation: the level and the move of each vertex, and the worklist (called trail). The
+//! tables also remember, for each vertex of the other player, which successor was last found unattracted. The view of
+//! the tables in contracts omits these remembered successors, since no result depends on them.
 
 ghost use Rattle.std.specs.Prelude.{◌≡◌, ◌<◌, ◌≤◌, [], IfOk, OnOk, OnErr, length, replicate, take, slice_index};
 ghost use Rattle.std.specs.Prelude.{slice_set};
@@ -12,8 +12,8 @@ use ps_game::{Numbers, Width};
 use std::alloc::{AllocError, Global};
 use std::marker::Model;
 
-/// A level and a move for each vertex, and the trail, which is the worklist: the attracted vertices in order. Levels,
-/// moves and trail are stored as integers of the type `W`.
+/// A level and a move for each vertex, and the worklist (called trail), which lists the attracted vertices in order.
+/// Levels, moves and trail are stored as integers of the type `W`.
 #[derive(Drop)]
 pub struct Tables<W: Width> {
     level: Levels<W>,

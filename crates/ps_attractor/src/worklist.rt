@@ -1,5 +1,5 @@
-//! The computation of an attractor. The trail of the tables is the worklist, to which each attracted vertex is
-//! appended.
+//! The computation of an attractor. Each attracted vertex is appended to the worklist, which is the `trail` of the
+//! tables.
 
 ghost use Rattle.std.specs.Prelude.{◌≡◌, ◌≢◌, ◌+◌, ◌<◌, ◌≤◌, ℕ, Bool, IfSome, IfNone, OnOk, OnErr, IsTrue, false};
 ghost use Rattle.std.specs.Prelude.{length, slice_index};
@@ -16,10 +16,11 @@ use ps_game::{Arena, Width};
 use std::alloc::AllocError;
 
 impl<W: Width> Tables<W> {
-    /// Appends to the worklist the vertices attracted to the target, which is the worklist from index `aim.begin` on.
-    /// The entries are processed in order, and their unattracted predecessors from which the player can force every
-    /// play to the target are appended. The time is proportional to the number of edges into the processed vertices,
-    /// plus the number of edges from those vertices of the other player that have an edge into a processed vertex.
+    /// Extends the worklist by the vertices that are attracted to the target. The target's vertices are those that the
+    /// worklist has from index `aim.begin` on before the call. The entries of the worklist are processed in order: the
+    /// unattracted predecessors of each entry are appended if the player can force every play from them to the target.
+    /// The time is proportional to the number of edges into the processed vertices, plus the number of edges from those
+    /// vertices of the other player that have an edge into a processed vertex.
     ///
     /// Fails if out of memory; then the vertices that were already attracted stay in the worklist.
     pub fn attract<A: Arena>(

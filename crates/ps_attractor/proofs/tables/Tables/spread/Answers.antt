@@ -18,7 +18,8 @@ loop-source-init g c = record {
       (sym c.vertex_at-reached.ensures) so_far;
 }
 
--- reading a stored predecessor gives the number of that vertex
+-- the number that the code reads from entry n of a list of stored integers is entry n of the list of numbers that the
+-- integers represent
 source_is : {X : Type 0} (value : X → ℕ) (kept : List X) (n number : ℕ) (item : X) → n < length kept →
     item ≡ get_or kept n item → number ≡ value item → get_or (map value kept) n 0 ≡ number
 source_is value kept n number item within is read = get_or-map value kept n item 0 within ∙ ap value (sym is) ∙ sym read
