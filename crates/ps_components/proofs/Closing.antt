@@ -148,7 +148,7 @@ module _ {g : Digraph} {statuses : List Status} {active bounds : List ℕ} {pend
     | inr le ↦ closed number (now_closed q w le (s.marked_active q w a))
   ]
 
-  -- each vertex to which a link leads from the last segment has the status `Closed` now
+  -- each link from the last segment leads to a vertex that has the status `Closed` now
   led_to : (p w : ℕ) → bound ≤ p → IsSettled statuses bounds p w →
       (m : ℕ) × (slice_get statuses' w ≡ Some (Closed m)) × (m ≤ number)
   led_to p w le (closed k c) = (k, closed_stays w k c, omega (arith, s.numbered w k c))

@@ -1,4 +1,4 @@
--- How the statuses of vertices are encoded as numbers, one at a time and in lists.
+-- The codes (numbers) that represent the statuses of vertices, one at a time and in lists.
 use Rattle.std.proofs.Common.{◌≡◌, ℕ, ◌+◌, ◌-◌, ◌<◌, ◌^◌, List, ◌∷◌, ◌++◌, length, map, replicate, take, refl, ap}
 use Rattle.std.proofs.Common.{zero, suc, arith, Result, OnOk, is_ok, if◌then◌else◌, set, rules}
 use Rattle.std.proofs.lemmas.List.{length-map, map-append, map-set, take-map}

@@ -1,4 +1,5 @@
--- What the search for components has found when its search path is empty.
+-- The components that a search has finished are strongly connected components; once the search path is empty, every
+-- seen vertex has a component.
 use Rattle.std.proofs.Common.{◌≡◌, ◌∙◌, ℕ, ◌<◌, ◌⊎◌, inl, inr, List, length, map, refl, ap, arith, Some}
 use Rattle.std.proofs.Common.{get_or, slice_get}
 use Rattle.std.specs.Option.{option_map}

@@ -51,8 +51,8 @@ waits-there g p item (suc n) place w lt h = elim (cases_lt place n) [
   ))
 ]
 
--- if the status of one vertex changes, the sum of what all statuses contribute to the bound on the remaining steps
--- changes by the difference for this vertex
+-- each status contributes a number to the bound on the remaining steps; if one status changes, the sum of these numbers
+-- changes by the difference between the new number and the old one
 turns_from-set : (g : Digraph) (first : ℕ) (statuses : List Status) (i : ℕ) (old new : Status) →
     slice_get statuses i ≡ Some old →
     turns_from g first (set statuses i new) + turns_of g (first + i) old ≡ turns_from g

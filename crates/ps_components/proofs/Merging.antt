@@ -12,8 +12,8 @@ use Rattle.ps_components.proofs.Ways.{across}
 
 module _ {g : Digraph} {statuses : List Status} {active bounds : List ℕ} {pending : List Pending} {order : List ℕ}
     (s : IsSoundSearch g statuses active bounds pending order) where
-  -- if the last segment of the search path has a link to a vertex w on the path, all segments from that of w on can be
-  -- merged
+  -- if the last segment of the search path has a link to a vertex w on the path, the segment of w and all later
+  -- segments can be merged
   pub sound-merged : {from place v w : ℕ} {fewer : List ℕ} → slice_get active from ≡ Some v → Link g v w →
       slice_get statuses w ≡ Some (Active place) → ((k b : ℕ) → slice_get bounds k ≡ Some b → b ≤ from) →
       IsCutAt bounds place fewer → IsSoundSearch g statuses active fewer pending order
@@ -48,8 +48,8 @@ module _ {g : Digraph} {statuses : List Status} {active bounds : List ℕ} {pend
       still p w (closed k c) = closed k c
       still p w (settled_active q a later) = settled_active q a (λ k b h. later k b (cut.part k b h))
 
-  -- a pending link can be removed if its target is settled: finished, or on the search path, in the segment of the
-  -- link's start or in a later one
+  -- a pending link can be removed if its target is finished, or is on the search path, either in the segment of the
+  -- link's start or in a later segment
   pub sound-taken : {e : Pending} → slice_get pending (length pending - 1) ≡ Some e →
       IsSettled statuses bounds e.from e.to →
       IsSoundSearch g statuses active bounds (take (length pending - 1) pending) order

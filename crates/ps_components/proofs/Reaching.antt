@@ -18,7 +18,7 @@ pub reached-closed : (g : Digraph) (statuses : List Status) (active : List ℕ) 
     ChangesReached g active statuses (close_all statuses (drop bound active) k)
 reached-closed g statuses active bound k v = grind (arith, close_all_cases, slice_get-drop)
 
--- appending a vertex to the search path changes only its status, and the vertex is reachable from the path
+-- appending a vertex to the search path changes only the status of this vertex, which is reachable from the path
 pub reached-entered : {g : Digraph} (statuses : List Status) (active : List ℕ) {item : ℕ} (m : Status) →
     IsReached g active item → ChangesReached g active statuses (set statuses item m)
 reached-entered statuses active {item} m r v = grind (arith, slice_get-set_cases)
@@ -30,8 +30,8 @@ reached-root {g} roots k {root} {v} at r = grind arith
 
 module _ {g : Digraph} {statuses : List Status} {active bounds : List ℕ} {pending : List Pending} {order : List ℕ}
     (s : IsSoundSearch g statuses active bounds pending order) where
-  -- also after one more step of the search, only the statuses of vertices reachable from the initial search path have
-  -- changed
+  -- after one more step of the search, it still holds that only the statuses of vertices reachable from the initial
+  -- search path have changed
   pub reached-more : {statuses' : List Status} {active' bounds' : List ℕ} {pending' : List Pending}
       {order' : List ℕ} (statuses'' : List Status) → IsSoundSearch g statuses' active' bounds' pending' order' →
       ChangesReached g active statuses statuses' → ChangesReached g active' statuses' statuses'' →

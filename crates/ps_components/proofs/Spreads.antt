@@ -114,7 +114,8 @@ trail-more {g} {items} {end} {at} {to} t l new = record {
   once = search (rules, slice_get-push_cases);
 }
 
--- if every vertex of a list was reached in a step from index `at` on, the vertex of an earlier step is not in the list
+-- if each vertex of a list was reached in a step at index `at` or later, no vertex that an earlier step reached is in
+-- the list
 pub trail-new : (steps : List Step) (items : List ℕ) {at place : ℕ} {r : Step} → AreApart steps →
     ((k v : ℕ) → slice_get items k ≡ Some v → (i : ℕ) × (s : Step) × (at ≤ i) × (slice_get steps i ≡ Some s) ×
     (s.item ≡ v)) → place < at → slice_get steps place ≡ Some r → (k : ℕ) → slice_get items k ≡ Some r.item → ⊥

@@ -1,4 +1,5 @@
--- Facts about the last segment and the last pending link of a search for components.
+-- No segment begins after the last one; if the last pending link starts in the last segment, all vertices on the search
+-- path can reach the link's target.
 use Rattle.std.proofs.Common.{◌≡◌, ℕ, ◌-◌, ◌<◌, ◌≤◌, inl, List, length, refl, arith, Some, slice_get}
 use Rattle.std.proofs.lemmas.Option.{slice_get_within}
 use Rattle.ps_components.specs.declared.statuses.Status.{Status}

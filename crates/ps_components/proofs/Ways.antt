@@ -1,4 +1,4 @@
--- Joining paths, and what a topological order implies for paths.
+-- Joining paths along links: a path and another path, or a link and the paths before and after it, form one path.
 use Rattle.std.proofs.Common.{arith, ℕ, inl, inr}
 use Rattle.ps_components.specs.Graphs.{Digraph, Link, SameOrWay, Way, last, next}
 

@@ -1,4 +1,4 @@
--- How the status of a vertex in the search for components is encoded as a number.
+-- The code (number) that represents the status of a vertex in the search for components.
 use Rattle.std.specs.Prelude.{ℕ, ◌-◌, ◌^◌, ◌==◌, nat_le, if◌then◌else◌}
 use Rattle.ps_components.specs.declared.statuses.Status.{Status}
 use Rattle.ps_components.specs.declared.statuses.Status.TheVariants.{Unseen, Active, Closed}

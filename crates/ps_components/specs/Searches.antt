@@ -1,11 +1,11 @@
--- The search for strongly connected components, and what each of its methods does to its state.
+-- The search for strongly connected components, and the changes that each of its methods makes to its state.
 -- - `IsSound`: the lists of the search satisfy its invariant.
 -- - `EndsAt` and `HasNext`: the search is sound, its last segment begins at the given index, and the given link is
 --   followed next.
 -- - `IsReachedNext`: the given vertex can be appended to the search path.
 -- - `IsIdle` and `IsFresh`: the search is sound and its search path is empty; for `IsFresh`, no vertex was seen
 --   either.
--- - `Visits`, `Runs`, `Advances`, `Enters`, `Merges`, `Takes`: what the methods of the search do.
+-- - `Visits`, `Runs`, `Advances`, `Enters`, `Merges`, `Takes`: what the methods of the search do to its state.
 use Rattle.std.specs.Prelude.{◌≡◌, ℕ, ◌-◌, ◌<◌, ◌≤◌, List, [], ◌∷◌, ◌++◌, length, slice_get, slice_set, Some, All}
 use Rattle.ps_components.specs.Graphs.{Digraph, Way, Link}
 use Rattle.ps_components.specs.Searching.{IsSoundSearch, IsSoundBut, IsSettled, KeepsStatuses, ChangesReached, HasMet}
@@ -85,7 +85,7 @@ pub record Enters (g : Digraph) (item : ℕ) (old new : Search) : Type 0 where
   pub path : new.active.items ≡ old.active.items ++ item ∷ []
 
 -- segments of the search path were merged, so that the target of the pending link is finished, or is in the segment of
--- the link's start or a later one
+-- the link's start or in a later segment
 pub record Merges (g : Digraph) (link : Pending) (old new : Search) : Type 0 where
   pub sound : IsSound g new
   pub settled : IsSettled new.statuses new.bounds.items link.from link.to

@@ -6,12 +6,13 @@ use Rattle.ps_components.specs.declared.statuses.Status.{Status}
 use Rattle.ps_components.specs.declared.statuses.Status.TheVariants.{Unseen, Active, Closed}
 use Rattle.ps_components.specs.declared.search.Pending.{Pending}
 
--- each start of a segment that is at most p is also at most q, so index q is in the segment of index p or a later one
+-- each segment that begins at index p or before also begins at index q or before, so index q is in the segment of index
+-- p or in a later segment
 abbrev pub NoLater : List ℕ → ℕ → ℕ → Type 0
 NoLater bounds p q = (k b : ℕ) → slice_get bounds k ≡ Some b → b ≤ p → b ≤ q
 
--- the target w of a link from index p of the search path is finished, or is on the search path in the segment of p or a
--- later one
+-- the target w of a link from index p of the search path is finished, or is on the search path in the segment of index
+-- p or in a later segment
 pub data IsSettled (statuses : List Status) (bounds : List ℕ) (p w : ℕ) : Type 0 where
   closed : (k : ℕ) → slice_get statuses w ≡ Some (Closed k) → IsSettled statuses bounds p w
   active : (q : ℕ) → slice_get statuses w ≡ Some (Active q) → NoLater bounds p q → IsSettled statuses bounds p w

@@ -8,7 +8,7 @@ use crate::components::{Components, components_of};
 use crate::graph::Graph;
 use std::alloc::{AllocError, Global};
 
-/// An order in which each vertex follows all vertices to which it has a link, or the first vertex on a cycle.
+/// An order in which each vertex follows all vertices to which it has a link; or the smallest vertex on a cycle.
 #[derive(Drop)]
 pub enum Arrangement {
     /// The vertices, each after all vertices to which it has a link.
@@ -28,7 +28,7 @@ pub fn arrange<G: Graph>(alloc: Global, graph: &G) -> Result<Arrangement, AllocE
     }
 }
 
-/// The first vertex with a link into its own component.
+/// The smallest vertex with a link into its own component.
 fn first_knot<G: Graph>(graph: &G, components: &Components) -> Option<usize>
     requires components { AreComponents (G.graph graph.now) components.now }
     requires met { AreAllMet (G.graph graph.now) components.now }

@@ -33,7 +33,7 @@ impl Model for Components {
 }
 
 impl Components {
-    /// A value without any component, as for a graph without vertices.
+    /// The components of a graph without vertices: there is none.
     pub fn new(alloc: Global) -> Self
         ensures numbers { result.numbers ≡ [] }
         ensures order { result.order ≡ [] }
@@ -43,9 +43,9 @@ impl Components {
         }
     }
 
-    /// Replaces the components by those of the given roots and of all vertices reachable from the roots in `graph`.
-    /// Forgetting the old components takes time proportional to the number of their vertices. Fails if out of memory;
-    /// then the value has no components.
+    /// Forgets the old components, and computes the components of the given roots and of all vertices reachable from
+    /// the roots in `graph`. Forgetting the old components takes time proportional to the number of their vertices.
+    /// Fails if out of memory; then the value has no components.
     pub fn renew<G: Graph>(&mut self, graph: &G, roots: &[usize]) -> Result<(), AllocError>
         requires { All (λ v. v < (G.graph graph.now).count) roots.now }
         ensures components { OnOk result (AreComponents (G.graph graph.now) self.new) }

@@ -115,8 +115,8 @@ impl Search {
         Ok(())
     }
 
-    /// Follows the last pending link if it leaves the last segment of the search path; otherwise makes the last segment
-    /// a finished component. Fails if out of memory.
+    /// Follows the last pending link if the link starts in the last segment of the search path; otherwise makes the
+    /// last segment a finished component. Fails if out of memory.
     fn step<G: Graph>(&mut self, graph: &G, bound: usize) -> Result<(), AllocError>
         requires { EndsAt (G.graph graph.now) bound self.old }
         ensures { OnOk result (Advances (G.graph graph.now) self.old self.new) }

@@ -27,8 +27,8 @@ const LAST_NARROW: usize = 1 << 31;
 
 /// A status for each vertex, stored as a number, its code. The code 0 means unseen. The code k + 1 means finished, in
 /// component k; larger codes mean an index on the search path. Codes take 4 bytes each until a path index of 2^31 - 1
-/// or more, or a component number of 2^31 or more, is stored; then 8 bytes. A call that fails for lack of memory
-/// changes nothing.
+/// or more, or a component number of 2^31 or more, is stored; from then on, they take 8 bytes. A call that fails for
+/// lack of memory changes nothing.
 #[derive(Drop)]
 pub struct Statuses {
     alloc: Global,

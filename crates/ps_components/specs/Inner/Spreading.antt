@@ -13,8 +13,8 @@ abbrev pub AreApart : List Step → Type 0
 AreApart steps =
     (i j : ℕ) (s t : Step) → slice_get steps i ≡ Some s → slice_get steps j ≡ Some t → s.item ≡ t.item → i ≡ j
 
--- the seen vertices are those of the steps, and every link from the vertex of a step before index `place` leads to a
--- seen vertex
+-- the seen vertices are those that the steps reached, and every link from a vertex that a step before index `place`
+-- reached leads to a seen vertex
 pub record IsSpread (g : Digraph) (seen : List Bool) (steps : List Step) (place : ℕ) : Type 0 where
   pub within : LinksStayWithin g
   pub counted : length seen ≡ g.count
@@ -26,7 +26,7 @@ pub record IsSpread (g : Digraph) (seen : List Bool) (steps : List Step) (place 
   pub looked : (i w : ℕ) (s : Step) → i < place → slice_get steps i ≡ Some s → Link g s.item w →
       slice_get seen w ≡ Some true
 
--- the old steps of the breadth-first search are the first of the new steps
+-- the list of the new steps of the breadth-first search begins with the old steps
 abbrev pub KeepsSteps : List Step → List Step → Type 0
 KeepsSteps old new = (i : ℕ) (s : Step) → slice_get old i ≡ Some s → slice_get new i ≡ Some s
 
