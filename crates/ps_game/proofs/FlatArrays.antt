@@ -1,4 +1,5 @@
--- Games in four arrays: what can be read from arrays that represent a game, and when arrays represent a given game.
+-- Games in four arrays: reading a vertex and its successors from the arrays that represent a game, and a condition
+-- under which arrays represent a given game.
 use Rattle.std.proofs.Common.{◌≡◌, ℕ, ◌+◌, ◌-◌, ◌^◌, ◌<◌, ◌≤◌, List, [], ◌∷◌, ◌++◌, length, get_or, take, rules}
 use Rattle.std.proofs.Common.{drop, length-append, take-append-drop, append-nil, refl, sym, ap, ◌∙◌, arith}
 use Rattle.std.specs.List.{All, flat_map, slice_range}
@@ -34,7 +35,7 @@ piece_at f xs i d lt =
     ∙ flat_map-append f (take i xs) (drop i xs) ∙ ap (λ ys. before ++ flat_map f ys) (drop_more xs i d lt) in
     grind (arith, piece_ends, drop_at, take_at)
 
--- the list of the successors of the vertices before v is at most as long as that of all vertices
+-- the vertices before v have together at most as many successors as all vertices have
 pub front_within : (game : ParityGame) (v : ℕ) → length (all_successors (take v game)) ≤ length (all_successors game)
 front_within game v =
     let f : VertexData → List ℕ = λ d. d.successors in

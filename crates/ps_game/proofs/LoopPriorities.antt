@@ -22,7 +22,7 @@ greatest_stands (x ∷ y ∷ ys) some =
       | inr more ↦ (suc behind.0, omega (arith, behind.1), omega (arith, behind.2))
     ]
 
--- reading the vertices at positions i to j - 1 of a path, and the priorities of these vertices
+-- the list of the priorities at positions i to j - 1 of a path: its length, and its entries
 module _ (game : ParityGame) (path : List ℕ) (i j : ℕ) (within : j ≤ length path) where
   places : length (map (priority_of game) (slice_range path i j)) ≡ j - i
   places = search (rules, length-map, length-take-le, length-drop)

@@ -1,4 +1,4 @@
--- Tables of moves that are stored in two lists: the entries of such a table, and how they change when a move is set.
+-- Tables of moves that are stored in two lists: the entries of such a table, and the entries after a move was set.
 use Rattle.std.proofs.Common.{◌≡◌, ℕ, ◌<◌, Bool, true, false, cond, List, length, get_or, set, Option, Some}
 use Rattle.std.proofs.Common.{None, sym, rules}
 use Rattle.std.specs.Prelude.{replicate}

@@ -1,5 +1,5 @@
--- A player who holds a set within the subgame of all vertices (`HoldsWithin`) also holds the set in terms of paths and
--- their loops (`Holds`).
+-- A player who holds a set within the subgame of all vertices (`HoldsWithin`) also holds the set by the definition for
+-- paths and their loops (`Holds`).
 use Rattle.std.proofs.Common.{◌≡◌, ℕ, zero, suc, ◌+◌, ◌-◌, ◌<◌, ◌≤◌, List, length, get_or, Bool, IsTrue, rules, Option}
 use Rattle.std.proofs.Common.{IsSomeAnd, sym, ap, ◌∙◌, arith}
 use Rattle.std.proofs.lemmas.Bool.{cases_eq}

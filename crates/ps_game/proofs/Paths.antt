@@ -28,14 +28,15 @@ IsPath-push game path w is_path edge is_vertex =
       edges = along-push (λ k. HasEdge game) path w is_path.begins is_path.edges edge;
     }
 
--- a path that follows a table of moves still follows the table after one more step by it
+-- a path that follows a table of moves, extended by one more step that follows the table, still follows the table
 pub Follows-push : (game : ParityGame) (player : ℕ) (table : ℕ → Option ℕ) (path : List ℕ) (w : ℕ) → 0 < length path →
     Follows game player table path → (owner_of game (last_vertex path) ≡ player → table (last_vertex path) ≡ Some w) →
     Follows game player table (path ++ w ∷ [])
 Follows-push game player table path w some follows last =
     along-push (λ k u x. owner_of game u ≡ player → table u ≡ Some x) path w some follows last
 
--- a path that follows a history table still follows the history table after one more step by it
+-- a path that follows a history table, extended by one more step that follows the history table, still follows the
+-- history table
 pub GoesBy-push : (game : ParityGame) (player : ℕ) (table : List ℕ → ℕ) (path : List ℕ) (w : ℕ) → 0 < length path →
     GoesBy game player table path → (owner_of game (last_vertex path) ≡ player → table path ≡ w) →
     GoesBy game player table (path ++ w ∷ [])

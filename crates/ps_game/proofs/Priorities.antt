@@ -1,5 +1,5 @@
--- The priorities of one parity that a game has: first those of the vertices that the loop has visited, then the sorted
--- list of all.
+-- The list of a game's priorities of one parity: the program's loop collects the priorities of the vertices that it has
+-- visited, and the full list is then sorted.
 use Rattle.std.proofs.Common.{◌≡◌, ℕ, ◌+◌, ◌%◌, ◌<◌, ◌≤◌, List, [], ◌∷◌, ◌++◌, below_more, eqb, refl, arith, rules}
 use Rattle.std.specs.Ordering.{nat_cmp}
 use Rattle.std.specs.List.{All, Contains, dedup}

@@ -13,7 +13,8 @@ use Rattle.ps_game.specs.Games.{ParityGame, vertex_count}
 use Rattle.ps_game.specs.Plays.{IsPath}
 use Rattle.ps_game.specs.Strategies.{HasLoop}
 
--- if the values of a list's tail are distinct, the values of the whole list are distinct or two of them are equal
+-- if the values of a list's tail are distinct, either the values of the whole list are distinct, or two of them are
+-- equal
 head_repeats : (x : ℕ) (xs : List ℕ) → AllPairs (λ x y. x ≢ y) xs → (b : Bool) → list_any (λ y. x == y) xs ≡ b →
     AllPairs (λ x y. x ≢ y) (x ∷ xs) ⊎ HasLoop (x ∷ xs)
 head_repeats x xs differ true there =

@@ -7,7 +7,7 @@ use Rattle.ps_game.specs.Games.{ParityGame, IsGame, vertex_count, successors_of,
 use Rattle.ps_game.specs.Subgames.{IsSubgame, LeadsInto}
 use Rattle.ps_game.specs.Regions.{has}
 
--- a number in a region is less than the length of the region
+-- a number in a region is less than the length of the list that represents the region
 pub has-below : (region : List Bool) (v : ℕ) → has region v ≡ true → v < length region
 has-below region v inside = search (rules, cases_lt, false≢true, get_or_past)
 

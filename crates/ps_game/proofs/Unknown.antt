@@ -7,7 +7,8 @@ use Rattle.std.proofs.lemmas.Bool.Decides.{nat_tests}
 use Rattle.ps_game.specs.Games.{ParityGame}
 use Rattle.ps_game.specs.Drafts.{IsFirstUnknown, NoneUnknown}
 
--- if a list has no number that is at least n, its head is less than n, and its tail has no such number either
+-- if a list has no number that is at least n, its head is less than n, and its tail has no number that is at least n
+-- either
 parts : (n x : ℕ) (found : Option ℕ) → cond (nat_le n x) (Some x) found ≡ None → (x < n) × (found ≡ None)
 parts n x found none = grind (arith, nat_tests)
 

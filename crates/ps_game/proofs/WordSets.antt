@@ -29,7 +29,8 @@ has-inside : (places : ℕ) (words : List ℕ) (v : ℕ) → v < places → has 
 unfolding members
 has-inside places words v lt = get_or-map-range_with_len (bit_in words) 0 places v v false lt (omega arith)
 
--- a list of truth values is the set that the words represent, if each value agrees with the vertex's bit
+-- a list of truth values represents the same set as the words, if each value equals the bit of the vertex at the
+-- value's index
 members_are : (places : ℕ) (words : List ℕ) (region : List Bool) → length region ≡ places →
     ((v : ℕ) → v < places → get_or region v false ≡ bit_in words v) → members places words ≡ region
 unfolding members

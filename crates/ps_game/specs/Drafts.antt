@@ -24,7 +24,7 @@ abbrev pub distinct : List ℕ → List ℕ
 distinct [] = []
 distinct (x ∷ xs) = x ∷ filter (λ y. not (x == y)) (distinct xs)
 
--- the vertex without repeated successors; each successor keeps the place of its first occurrence
+-- the vertex without repeated successors, which are in the order of their first occurrences
 abbrev pub vertex_without_repeats : VertexData → VertexData
 vertex_without_repeats v = record v { successors = distinct v.successors }
 

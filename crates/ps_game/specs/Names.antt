@@ -1,4 +1,4 @@
--- Lists of optional names, and how contracts represent them.
+-- Lists of optional names, and their representation in contracts.
 use Rattle.std.specs.Prelude.{ℕ, ◌-◌, List, ◌++◌, length, replicate, Option, None, Vec}
 use Rattle.std.specs.Option.{option_map}
 use Rattle.std.specs.Global.{Global}

@@ -1,5 +1,5 @@
 -- The edges that remain when a player moves by a table of moves, the priorities of a game by parity, and the condition
--- that counts (a progress measure) must meet on these edges.
+-- on these edges that a progress measure (the counts) must meet.
 use Rattle.std.specs.Prelude.{◌≡◌, ℕ, ◌%◌, ◌<◌, ◌≤◌, List, Option, Some, Bool, IsTrue}
 use Rattle.std.specs.List.{All, Contains}
 use Rattle.std.specs.List.Sorted.{IsStrictlyIncreasing}
@@ -29,9 +29,9 @@ pub record ListsPriorities (game : ParityGame) (parity : ℕ) (list : List ℕ) 
   pub right_parity : All (λ p. p % 2 ≡ parity) list
   pub present : All (HasPriority game) list
 
--- the rule of counts, a progress-measure condition, for one priority and one edge. If neither end of the edge has a
--- greater priority, the count does not rise along the edge; if the edge also leaves a vertex of this priority, the
--- count decreases
+-- the rule of counts: the condition that a progress measure (the counts for one priority) must meet on one edge. If
+-- neither end of the edge has a greater priority, the count does not rise along the edge; if the edge also leaves a
+-- vertex of the given priority, the count decreases
 pub record KeepsRule (priority from_priority to_priority from_count to_count : ℕ) : Type 0 where
   pub never_rises : from_priority ≤ priority → to_priority ≤ priority → to_count ≤ from_count
   pub falls : from_priority ≡ priority → to_priority ≤ priority → to_count < from_count

@@ -12,7 +12,8 @@ bit_in words v = bit_at (slice_index words (v / 64)) (v % 64) == 1
 unfoldable pub members : ℕ → List ℕ → List Bool
 members places words = map (λ v. bit_in words v) (range_with_len 0 places)
 
--- there are just enough words for the vertices less than `places`, and no bit of a larger number is set
+-- there are just enough words for the vertices less than `places`, and no bit that stands for a number from `places` on
+-- is set
 pub record ArePacked (places : ℕ) (words : List ℕ) : Type 0 where
   pub few : places < 2 ^ 64
   pub enough : places ≤ 64 * length words

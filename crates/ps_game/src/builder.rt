@@ -91,9 +91,10 @@ impl GameBuilder {
     ///
     /// # Errors
     ///
-    /// [`GameFault::NoSuccessor`] with the smallest vertex that no edge leaves. If an edge leaves every vertex,
-    /// [`GameFault::UnknownSuccessor`] with the smallest vertex that has an edge to a vertex that was not added, and
-    /// with the target of its first such edge. Otherwise [`GameFault::OutOfMemory`].
+    /// The fault is [`GameFault::NoSuccessor`], with the smallest vertex that no edge leaves, if there is such a
+    /// vertex. If each vertex has a successor, the fault is [`GameFault::UnknownSuccessor`], with the smallest vertex
+    /// that has an edge to a vertex that was not added, and with the target of its first such edge. Otherwise
+    /// [`GameFault::OutOfMemory`].
     pub fn finish(self) -> Result<Game, GameFault>
         ensures game { IfOk result (λ game. game ≡ without_repeats self) }
         ensures no_successor { (v : ℕ) → (result ≡ Err (GameFault.NoSuccessor v)) ↔ IsFirstBare self v }
@@ -193,7 +194,7 @@ fn first_unknown(vertices: &[Vertex]) -> Option<(usize, usize)>
     None
 }
 
-/// The first successor of the vertex, among those that are not less than the number of vertices.
+/// The first of the vertex's successors that is not less than the number of vertices.
 fn unknown_successor(vertex: &Vertex, count: usize) -> Option<usize>
     ensures { result ≡ find (λ successor. nat_le count successor) vertex.now.successors }
 {

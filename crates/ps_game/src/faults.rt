@@ -7,7 +7,7 @@ use thiserror::Error;
 /// The reason why an unfinished game is rejected.
 #[derive(Clone, Copy, Debug, PartialEq, Eq, Error)]
 pub enum GameFault {
-    /// The fault that no edge leaves some vertex; the smallest such vertex is reported.
+    /// The fault that some vertex has no successor; the smallest vertex without a successor is reported.
     #[error("vertex {vertex} has no successor")]
     NoSuccessor {
         /// The number of the vertex at fault, from 0.
@@ -15,7 +15,7 @@ pub enum GameFault {
     },
 
     /// The fault that some edge leads to a number that is not a vertex. The fault reports the smallest vertex with an
-    /// edge to a number that is not a vertex, and the target of this vertex's first edge of this kind.
+    /// edge to a number that is not a vertex, and the target of the first such edge of this vertex.
     #[error("vertex {vertex} has the unknown successor {successor}")]
     UnknownSuccessor {
         /// The number of the vertex at fault, from 0.

@@ -7,8 +7,8 @@ use crate::regions::Region;
 use std::alloc::{AllocError, Global};
 use std::marker::Model;
 
-/// A move, or no move, for each vertex: the set of vertices that have a move, and the move of each. Since every number
-/// can be a move, no number can represent the absence of a move.
+/// A move, or no move, for each vertex: the set of vertices that have a move, and the move of each of these vertices.
+/// Since every number can be a move, no number can represent the absence of a move.
 #[derive(Drop)]
 pub struct Strategy {
     chosen: Region,

@@ -177,7 +177,7 @@ impl Vertices {
         true
     }
 
-    /// The vertices as a list of values that have a list of successors each. Fails if out of memory.
+    /// Converts the four arrays to a list of vertices, each with its own list of successors. Fails if out of memory.
     fn listed(&self, alloc: Global) -> Result<Vec<Vertex>, AllocError>
         ensures { IfOk result (λ vertices. vertices.items ≡ self.now) }
     {
