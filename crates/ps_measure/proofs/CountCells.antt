@@ -1,5 +1,5 @@
--- Linked lists (chains) of cells that hold the counts of vertices: how one more cell changes them, and which rows of
--- counts they store.
+-- Linked lists (chains) of cells that hold the counts of vertices: the counts of a chain after one more cell, and the
+-- rows of counts that the chains store.
 use Rattle.std.proofs.Common.{◌≡◌, ◌≢◌, ℕ, zero, suc, ◌+◌, ◌-◌, ◌<◌, ◌≤◌, ◌==◌, ◌∙◌, ◌++◌, ◌∷◌, [], List, length, map}
 use Rattle.std.proofs.Common.{max, get_or, inl, inr, refl, sym, ap, add-one, arith, Option, Some, cond}
 use Rattle.std.proofs.Common.{replicate, rules}
@@ -37,8 +37,8 @@ next_falls cells h i o k = search rules
 
 module _ (cells : List CountCell)
     (falls : (i : ℕ) (cell : CountCell) → slice_get cells i ≡ Some cell → cell.next ≤ i) where
-  -- the count that `count_from` reads from a chain does not depend on its limit on the number of cells read, if the
-  -- limit is at least the number of the chain's first cell
+  -- `count_from` reads at most as many cells of a chain as its limit; it reads the same count for all limits that are
+  -- at least the number of the chain's first cell
   pub any_fuel : (f g n k : ℕ) → n ≤ f → n ≤ g → count_from cells f n k ≡ count_from cells g n k
   any_fuel f g zero k a b = from_none cells f k ∙ sym (from_none cells g k)
   any_fuel zero g (suc i) k a b = absurd (omega arith)
@@ -100,7 +100,8 @@ module _ {width : ℕ} {cells : List CountCell} {n : ℕ} (chained : AreChained 
   here_and_behind : (k : ℕ) → count_from cells n n k ≡ max (count_here (Some cell_here) k) (behind k)
   here_and_behind k = grind (arith, from_number cells chained.falls (n - 1) k cell_here there)
 
-  -- after the count of one cell of a chain is added to a row, only the cells after this one remain to be added
+  -- after the count of one cell of a chain was merged into a row, only the counts of the cells after this one remain to
+  -- be merged
   pub row_step : (row new : List ℕ) →
       slice_index new cell_here.place ≡ max (slice_index row cell_here.place) cell_here.count →
       ((k : ℕ) → k ≢ cell_here.place → slice_index new k ≡ slice_index row k) → (k : ℕ) →

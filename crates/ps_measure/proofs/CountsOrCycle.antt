@@ -1,5 +1,5 @@
--- Least counts exist for all priorities by which the player loses (those of the opponent's parity), stored as rows; or
--- there is a cycle that the player loses.
+-- Rows of least counts exist for all priorities by which the player loses (those of the opponent's parity), or there is
+-- a cycle that the player loses.
 use Rattle.std.proofs.Common.{◌≡◌, ℕ, zero, suc, ◌%◌, ◌<◌, ◌≤◌, ◌⊎◌, List, [], ◌∷◌, length, map, get_or, inl, inr}
 use Rattle.std.proofs.Common.{arith, Option, Some, Bool, rules}
 use Rattle.std.specs.Prelude.{slice_get}

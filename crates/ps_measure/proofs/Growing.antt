@@ -1,4 +1,5 @@
--- How counts grow along paths, and how large the total weight of the vertices in a component and all later ones is.
+-- Counts do not decrease along the paths of a graph. The total weight of the vertices in a component and in all later
+-- components has a lower and an upper bound.
 use Rattle.std.proofs.Common.{◌≡◌, ℕ, ◌+◌, ◌<◌, ◌≤◌, inl, inr, refl, ap, arith, Option, Some, rules, cond}
 use Rattle.std.specs.Prelude.{slice_get}
 use Rattle.std.proofs.lemmas.Bool.{le-leb, lt-leb}
@@ -27,7 +28,8 @@ one_count weight d {w = w} {v} {k} components counts from to = elim (components.
 pub met_below : {g : Digraph} {c : ComponentsData} {v k : ℕ} → AreComponents g c → IsIn c v k → v < g.count
 met_below {c = c} {v} {k} components met = omega (arith, slice_get_within c.numbers v (Some k) met, components.counted)
 
--- what a vertex adds to the total weight of the components from number k on does not grow with k
+-- if m is at most k, a vertex adds at least as much to the total weight of the components from m on as to the total
+-- weight of the components from k on
 weight_from-later : (k m x : ℕ) (o : Option (Option ℕ)) → m ≤ k → weight_from k o x ≤ weight_from m o x
 weight_from-later k m x o h = search (rules, nat_tests)
 
@@ -39,8 +41,8 @@ module _ {g : Digraph} {c : ComponentsData} (weight : ℕ → ℕ) {m : ℕ} (co
   all_here : weight_from m (slice_get c.numbers v) (weight v) ≡ weight v
   all_here = rw is (ap (λ b. cond b (weight v) 0) (le-leb m m (omega arith)))
 
-  -- the total weight of the components from m on exceeds that of the components from a later one on by at least the
-  -- weight of v, a vertex of component m
+  -- the components from m on have in total at least the weight of v, a vertex of component m, plus the total weight of
+  -- the components from a number k > m on
   pub weights_from-more : {k : ℕ} → m < k → weights_from c weight k g.count + weight v ≤ weights_from c weight m g.count
   weights_from-more {k} less =
       let none : weight_from k (slice_get c.numbers v) (weight v) ≡ 0 = rw is (grind (arith, lt-leb)) in

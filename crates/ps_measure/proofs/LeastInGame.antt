@@ -1,5 +1,5 @@
 -- The least counts of `low_graph`, the graph of the reversed remaining edges between vertices of at most a given
--- priority, are the game's least counts for this priority. A link of this graph and a path back to the link's source,
+-- priority, are the game's least counts for this priority. A link of `low_graph` and a path back to the link's source,
 -- both reversed, form a cycle of the game.
 use Rattle.std.proofs.Common.{◌≡◌, ◌≢◌, ℕ, zero, suc, ◌+◌, ◌-◌, ◌%◌, ◌<◌, ◌≤◌, ◌∙◌, List, [], ◌∷◌, length, map, get_or}
 use Rattle.std.proofs.Common.{inl, inr, refl, ap, arith, Bool, true, false, cond, nat_le, rules}

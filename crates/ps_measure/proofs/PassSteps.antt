@@ -1,4 +1,4 @@
--- The steps of the pass that raises the values of components along all links, stated for lists of numbers.
+-- The steps, on lists of numbers, of the pass that raises the values of components along all links.
 use Rattle.std.proofs.Common.{◌≡◌, ℕ, ◌+◌, ◌-◌, ◌*◌, ◌<◌, ◌≤◌, ◌∙◌, List, length, get_or, inl, inr, sym, ap, rules}
 use Rattle.std.proofs.Common.{arith, refl, Option, None, Some, eqb, unwrap_or}
 use Rattle.std.specs.Prelude.{slice_get, slice_index, slice_set}
@@ -32,7 +32,8 @@ module _ (low : LowData) {c : ComponentsData} {values : List ℕ} {from number t
     (counting : IsCounting (low_graph low) (low_weight low) c values) (link : Link (low_graph low) from to)
     (from_in : IsIn c from number) (known : slice_get c.numbers to ≡ Some o) (before_is : before ≡ unwrap_or o number)
     (weight_is : weight ≡ low_weight low to) where
-  -- the target of the link is in the component numbered `before`
+  -- the target of the link is in the component with the number `before`, which is at most `number`, the number of the
+  -- source's component
   before_in : IsIn c to before × (before ≤ number)
   before_in =
       let falls = counting.components.falls from number to from_in link in

@@ -1,5 +1,5 @@
 -- A pass over the finished vertices, from the last to the first, raises the value of each component as far as the links
--- require. So each value is final before it is used.
+-- require. The value of each component is therefore final before it is used.
 use Rattle.std.proofs.Common.{rules, ◌≡◌, ℕ, ◌+◌, ◌<◌, ◌≤◌, ◌∙◌, List, length, inl, inr, ap, arith, refl}
 use Rattle.std.proofs.Common.{Option, None, Some}
 use Rattle.std.specs.Prelude.{slice_get, slice_index, slice_set}
@@ -24,8 +24,8 @@ pub raised_before : (c : ComponentsData) {old new : List ℕ} (roots : List ℕ)
     AreRaised c old roots → AreRaised c new roots
 raised_before c roots grown raised i v k at is = omega (arith, raised i v k at is, grown.grows k)
 
--- the values of components still meet the condition of a link (`IsPassed`) after values before index `place`, which is
--- at most the number of the source's component, have grown
+-- the condition of a link on the values of components (`IsPassed`) still holds after values before index `place` have
+-- grown, if `place` is at most the number of the source's component
 pub passed_on : {weight : ℕ → ℕ} {c : ComponentsData} {old new : List ℕ} {w v k : ℕ} → IsIn c w k → {place : ℕ} →
     place ≤ k → GrowsBelow old new place → IsPassed weight c old w v → IsPassed weight c new w v
 passed_on is later grown (inside n from to light) = inside n from to light
@@ -40,8 +40,8 @@ module _ {g : Digraph} {weight : ℕ → ℕ} {c : ComponentsData} {values : Lis
   pub number_within : m < length values
   number_within = omega (arith, components.below v m to, column.each)
 
-  -- the values of components stay correct (`IsColumn`) if one gets the value x: a lower bound for the counts of its
-  -- vertices, and at most the total weight of this component and later ones
+  -- the values of components stay correct (`IsColumn`) if one component gets a value x that is a lower bound for its
+  -- counts, and at most the total weight of this and all later components
   set_column : (x : ℕ) → ((d : ℕ → ℕ) → AreCounts g weight d → x ≤ d v) → x ≤ weights_from c weight m g.count →
       IsColumn g weight c (slice_set values m x)
   set_column x least bounded = record {
@@ -60,7 +60,8 @@ module _ {g : Digraph} {weight : ℕ → ℕ} {c : ComponentsData} {values : Lis
   root_column {w} link heavy = set_column 1 (λ d counts. omega (arith, counts w v link))
       (omega (arith, weights_from-least weight components v to))
 
-  -- the component of v may get the value of a later component that has a link to v, plus the weight of v
+  -- the value of a later component that has a link to v, plus the weight of v, is a possible new value of the component
+  -- of v
   module _ {k : ℕ} (falls : m < k) where
     sum_bounded : slice_index values k + weight v ≤ weights_from c weight m g.count
     sum_bounded = omega (arith, column.bounded k, weights_from-more weight components v to falls)

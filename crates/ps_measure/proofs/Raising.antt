@@ -1,7 +1,8 @@
 -- For each priority by which the player loses, least counts exist, or there is a cycle that the player loses. The proof
--- raises counts from 0 along the remaining edges until no edge breaks the rule of counts (`KeepsRule`). Each count is
--- the length of a chain of vertices of this priority, in which a path of remaining edges leads from each vertex to the
--- next one. If a vertex occurs twice in such a chain, there is a cycle through it that the player loses.
+-- raises counts from 0 along the remaining edges until no edge breaks the rule of counts (`KeepsRule`). Each count for
+-- a priority is the length of a sequence of vertices of that priority, in which a path of remaining edges leads from
+-- each vertex to the next one. If a vertex occurs twice in such a sequence, the player loses some cycle through this
+-- vertex.
 use Rattle.std.proofs.Common.{◌≡◌, ℕ, zero, suc, ◌+◌, ◌-◌, ◌*◌, ◌%◌, ◌<◌, ◌≤◌, ◌⊎◌, ◌∙◌, List, [], ◌∷◌, ◌++◌, length}
 use Rattle.std.proofs.Common.{map, max, get_or, inl, inr, refl, sym, ap, arith, add-one, Option, Bool, true}
 use Rattle.std.proofs.Common.{cond, not, nat_le, nat_eq, ◌&&◌, rules}
@@ -23,7 +24,7 @@ use Rattle.ps_measure.proofs.Summing.{sum_below-bound, sum_below-more}
 
 -- ## Numbers below a bound
 
--- g is greater than f at some number less than n, or at none of them
+-- g is greater than f at some number less than n, or g is at most f at all numbers less than n
 above_or_not : (f g : ℕ → ℕ) (n : ℕ) → ((v : ℕ) × (v < n) × (f v < g v)) ⊎ ((v : ℕ) → v < n → g v ≤ f v)
 above_or_not f g zero = inr (λ v below. absurd (omega (arith, below)))
 above_or_not f g (suc n) = grind (arith, cases_lt (f n) (g n), cases_eq, above_or_not f g n)
@@ -39,7 +40,8 @@ Distinct (u ∷ us) = (Contains us u → ⊥) × Distinct us
 fewer : (b c : Bool) → counted (b && c) ≤ counted b
 fewer b c = search rules
 
--- a list of distinct numbers less than n that pass a test has at most as many entries as there are such numbers
+-- a list of distinct numbers that are less than n and pass a test has at most as many entries as there are numbers less
+-- than n that pass the test
 fits : (h : ℕ → Bool) (n : ℕ) (us : List ℕ) → Distinct us → ((u : ℕ) → Contains us u → (h u ≡ true) × (u < n)) →
     length us ≤ count_below h n
 fits h n [] d each = omega arith

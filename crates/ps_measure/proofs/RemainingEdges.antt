@@ -1,5 +1,5 @@
--- Counts are computed on the graphs `remaining_graph` and `low_graph`: which edges of the game the links of these
--- graphs stand for.
+-- The graphs `remaining_graph` and `low_graph`, on which counts are computed, and the edges of the game that the links
+-- of these graphs stand for.
 use Rattle.std.proofs.Common.{rules, ◌≡◌, ℕ, ◌+◌, ◌<◌, ◌≤◌, ◌∙◌, length, inl, inr, refl, sym, ap}
 use Rattle.std.proofs.Common.{arith, Option, Some, Bool, true, false, cond, nat_le, not, ◌&&◌, ◌||◌}
 use Rattle.std.specs.Prelude.{slice_index, ◌==◌}
@@ -15,7 +15,7 @@ use Rattle.ps_measure.specs.Inner.Remaining.{RemainingData, is_move, remaining_g
 use Rattle.ps_measure.specs.Inner.Remaining.{LowData, low_graph, low_weight}
 use Rattle.ps_measure.specs.Sums.{counted}
 
--- an edge that remains within the region, for the game, the player, the region and the moves that the value r gives
+-- an edge that remains within the region; the value r gives the game, the player, the region and the moves
 abbrev pub Remains : RemainingData → ℕ → ℕ → Type 0
 Remains r = RemainsWithin r.game r.player (has r.region) (move_at r.strategy)
 
@@ -33,7 +33,7 @@ is_move-some o w h = search (rules, eqb-true)
 some-is_move : (o : Option ℕ) (w : ℕ) → o ≡ Some w → is_move o w ≡ true
 some-is_move o w e = rw e (eq-eqb w w refl)
 
--- if k is less than `cond b n 0`, b is true and k is less than n
+-- if k is less than `cond b n 0` (n if b is true, and otherwise 0), b is true and k is less than n
 pub below_places : (b : Bool) (k n : ℕ) → k < cond b n 0 → (b ≡ true) × (k < n)
 below_places b k n below = search rules
 

@@ -1,5 +1,5 @@
--- The rows of counts (progress-measure vectors) of all vertices: how the counts for one more priority are added, and
--- how many counts are not 0.
+-- The rows of counts (progress-measure vectors) of all vertices: the rows after the counts for one more priority are
+-- added, and the number of counts that are not 0.
 use Rattle.std.proofs.Common.{◌≡◌, ℕ, ◌+◌, ◌*◌, ◌<◌, ◌≤◌, ◌∙◌, List, length, inl, inr, refl, sym, arith, Bool, true}
 use Rattle.std.proofs.Common.{false, nat_lt, Option, rules}
 use Rattle.std.specs.Prelude.{slice_index}

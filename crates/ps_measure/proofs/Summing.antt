@@ -8,7 +8,8 @@ pub sum_below-le : (f g : ℕ → ℕ) (n : ℕ) → ((v : ℕ) → v < n → f 
 sum_below-le f g zero each = omega arith
 sum_below-le f g (suc n) each = omega (arith, sum_below-le f g n (λ v below. grind arith), each n (omega arith))
 
--- if no term of f exceeds that of g, and one term is less by at least x, the sum of f is less by at least x
+-- if no term of f exceeds the term of g at the same number, and one is less by at least x, the sum of f is less than
+-- the sum of g by at least x
 pub sum_below-more : (f g : ℕ → ℕ) (n u x : ℕ) → u < n → ((v : ℕ) → v < n → f v ≤ g v) → f u + x ≤ g u →
     sum_below f n + x ≤ sum_below g n
 sum_below-more f g zero u x below each more = absurd (omega arith)
@@ -46,7 +47,7 @@ counted-bound b = search rules
 pub count_below-bound : (test : ℕ → Bool) (n : ℕ) → count_below test n ≤ n
 count_below-bound test n = omega (arith, sum_below-bound (λ v. counted (test v)) n 1 (λ v _. counted-bound (test v)))
 
--- a positive number counts as 1, and 0 counts as 0
+-- the test whether a number is positive counts as 1 for a positive number, and as 0 for 0
 pub positive_none : (x : ℕ) → x ≡ 0 → counted (nat_lt 0 x) ≡ 0
 positive_none x none = ap counted (le-ltb 0 x (omega arith))
 

@@ -1,4 +1,5 @@
--- The table of counts after the counts for one more priority were written, and after all priorities.
+-- The table of counts after the counts for one more priority were written, and after the counts for all priorities were
+-- written.
 use Rattle.std.proofs.Common.{◌≡◌, ℕ, ◌+◌, ◌<◌, ◌≤◌, List, length, arith, Bool, Option, rules}
 use Rattle.std.specs.Prelude.{slice_index}
 use Rattle.ps_game.specs.Games.{ParityGame, IsGame, vertex_count}

@@ -46,7 +46,7 @@ pub record AreRows (rows : List (List ℕ)) (count width : ℕ) : Type 0 where
   pub wide : (v : ℕ) → v < count → width_of rows v ≡ width
 
 -- `priorities` lists the priorities of the game by which the player loses, ascending; the row of each vertex has the
--- least count for each of them
+-- vertex's least count for each of these priorities
 pub record AreRanks (game : ParityGame) (player : ℕ) (set : ℕ → Bool) (table : ℕ → Option ℕ) (priorities : List ℕ)
     (rows : List (List ℕ)) : Type 0 where
   pub listed : ListsPriorities game (other_player player) priorities
@@ -70,7 +70,8 @@ most_raises game set priorities =
     (length priorities)
 
 -- A cycle that the player loses, of edges that remain within the set: an edge leads from each vertex to the next, and
--- from the last to the first. The greatest priority on the cycle has the parity of the other player.
+-- from the last to the first. The greatest priority on the cycle has the opponent's parity, so the player loses the
+-- cycle.
 pub record IsLostCycle (game : ParityGame) (player : ℕ) (set : ℕ → Bool) (table : ℕ → Option ℕ)
     (cycle : List ℕ) : Type 0 where
   pub some : 0 < length cycle
@@ -80,7 +81,7 @@ pub record IsLostCycle (game : ParityGame) (player : ℕ) (set : ℕ → Bool) (
   pub closes : RemainsWithin game player set table (slice_index cycle (length cycle - 1)) (slice_index cycle 0)
   pub lost : greatest (map (priority_of game) cycle) % 2 ≡ other_player player
 
--- what a fault guarantees: a cycle in the fault is a cycle that the player loses; out of memory guarantees nothing
+-- if the fault reports a cycle, the player loses this cycle; the fault `OutOfMemory` guarantees nothing
 abbrev pub IsRefusal : ParityGame → ℕ → (ℕ → Bool) → (ℕ → Option ℕ) → MeasureFault → Type 0
 IsRefusal game player set table (BadCycle cycle) = IsLostCycle game player set table cycle.items
 IsRefusal game player set table OutOfMemory = Unit {0}

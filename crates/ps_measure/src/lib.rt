@@ -3,7 +3,7 @@
 //! [`ranks`] considers the edges that remain inside a region when its player moves according to a table. For each
 //! priority by which the player loses (each of the opponent's parity), [`ranks`] returns the least counts that keep the
 //! rule of counts, `KeepsRule`. The result also states how often a count was raised. If the remaining edges have a
-//! cycle that the player loses, no counts keep the rule, and [`ranks`] returns such a cycle.
+//! cycle that the player loses, no counts keep the rule, and [`ranks`] returns a cycle that the player loses.
 //!
 //! The counts for one priority are a progress measure (Jurdzinski) for that priority, but they are not computed by
 //! lifting them step by step. If there are many priorities, vertices are first grouped by priority. For each priority,

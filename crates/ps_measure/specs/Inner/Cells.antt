@@ -1,4 +1,4 @@
--- What cells mean whose numbers are stored in 4 bytes each.
+-- Cells whose numbers are stored in 4 bytes each, and the cells (`Cell` and `CountCell`) for which they stand.
 use Rattle.ps_measure.specs.declared.back.Cell.{Cell}
 use Rattle.ps_measure.specs.declared.table.CountCell.{CountCell}
 use Rattle.ps_measure.specs.declared.link_cells.NarrowLink.{NarrowLink}

@@ -36,13 +36,14 @@ pub record IsColumn (g : Digraph) (weight : ℕ → ℕ) (c : ComponentsData) (v
 abbrev pub AreRaised : ComponentsData → List ℕ → List ℕ → Type 0
 AreRaised c values roots = (i v k : ℕ) → slice_get roots i ≡ Some v → IsIn c v k → 1 ≤ slice_index values k
 
--- the strongly connected components of a graph, with a correct value (`IsColumn`) for each of them
+-- the strongly connected components of a graph, with a correct value (`IsColumn`) for each component
 pub record IsCounting (g : Digraph) (weight : ℕ → ℕ) (c : ComponentsData) (values : List ℕ) : Type 0 where
   pub components : AreComponents g c
   pub column : IsColumn g weight c values
 
--- The values of components meet the condition of the link from w to v. Either both vertices have one component, and v
--- has weight 0. Or v's component is earlier, and its value is at least that of w's component plus v's weight
+-- The values of components meet the condition of the link from w to v in one of two cases. Either both vertices are in
+-- the same component, and v has weight 0. Or the component of v is earlier than that of w, and its value is at least
+-- the value of w's component plus v's weight
 pub data IsPassed (weight : ℕ → ℕ) (c : ComponentsData) (values : List ℕ) (w v : ℕ) : Type 0 where
   inside : (k : ℕ) → IsIn c w k → IsIn c v k → weight v ≡ 0 → IsPassed weight c values w v
   across : (k m : ℕ) → IsIn c w k → IsIn c v m → m < k → slice_index values k + weight v ≤ slice_index values m →
@@ -59,8 +60,8 @@ pub record IsTurn (g : Digraph) (weight : ℕ → ℕ) (c : ComponentsData) (val
     pub counting : IsCounting g weight c values
     pub number_is : IsIn c from number
 
--- the components are unchanged, and the new values are correct, not less than the old ones, and differ from them only
--- before index `place`
+-- the components are unchanged; the new values are correct, are not less than the old values, and differ from the old
+-- values only before index `place`
 pub record IsRaised (g : Digraph) (weight : ℕ → ℕ) (old new : ComponentsData) (before after : List ℕ) (place : ℕ) :
     Type 0 where
   pub counting : IsCounting g weight new after

@@ -44,8 +44,8 @@ pub record AreLevels (game : ParityGame) (levels : List ℕ) : Type 0 where
   pub each : length levels ≡ vertex_count game
   pub is : (v : ℕ) → v < vertex_count game → slice_index levels v ≡ priority_of game v
 
--- the rows have the least counts for the priorities before index `place`, and 0 for the others; `raises` is the number
--- of nonzero counts
+-- the rows have the least counts for the priorities before index `place`, and 0 for all other priorities; `raises` is
+-- the number of nonzero counts
 pub record AreRanked (game : ParityGame) (player : ℕ) (set : ℕ → Bool) (table : ℕ → Option ℕ) (priorities : List ℕ)
     (rows : List (List ℕ)) (place raises : ℕ) : Type 0 where
   pub shape : AreRows rows (vertex_count game) (length priorities)
@@ -55,7 +55,7 @@ pub record AreRanked (game : ParityGame) (player : ℕ) (set : ℕ → Bool) (ta
   pub raises_is : raises ≡ sum_below (λ k. count_below (λ v. nat_lt 0 (count_of rows v k)) (vertex_count game)) place
 
 -- the list has the priorities of the game by which the player loses, and each vertex has a row with a zero for each of
--- them
+-- these priorities
 pub record AreUnranked (r : RemainingData) (priorities : List ℕ) (rows : List (List ℕ)) : Type 0 where
   pub listed : ListsPriorities r.game (other_player r.player) priorities
   pub zeros : AreZero rows (vertex_count r.game) (length priorities)

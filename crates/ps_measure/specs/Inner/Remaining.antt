@@ -1,5 +1,5 @@
--- The graph of the edges that remain within a region, and the graph of those edges, reversed, whose ends have
--- priorities of at most a given one.
+-- The graph of the edges that remain within a region; and the graph of the reversed remaining edges, without the edges
+-- that have an end whose priority is greater than a given one.
 use Rattle.std.specs.Prelude.{◌≡◌, ℕ, ◌+◌, ◌-◌, ◌<◌, ◌≤◌, List, length, Option, None, Some, Bool, not, ◌&&◌, ◌||◌, ◌==◌}
 use Rattle.std.specs.Prelude.{nat_le, false, if◌then◌else◌, slice_index}
 use Rattle.ps_components.specs.Graphs.{Digraph, Link}
@@ -65,8 +65,8 @@ pub record IsReverse (g r : Digraph) : Type 0 where
   pub there : (v w : ℕ) → Link g v w → Link r w v
   pub back : (v w : ℕ) → Link r w v → Link g v w
 
--- what the counts for one priority are computed from: a stored graph, a region, the level (priority) of each vertex,
--- and the one priority
+-- the data from which the counts for one priority are computed: a stored graph, a region, the level (priority) of each
+-- vertex, and the one priority
 pub record LowData : Type 0 where
   pub star : StarData
   pub region : List Bool
@@ -78,7 +78,7 @@ pub record IsLow (low : LowData) : Type 0 where
   pub region_fits : length low.region ≡ low.star.count
   pub levels_fit : length low.levels ≡ low.star.count
 
--- the stored graph without the links at whose source or target the level is greater than `low.priority`
+-- the stored graph without the links whose source or target has a level greater than `low.priority`
 abbrev pub low_graph : LowData → Digraph
 low_graph low = record {
   count = low.star.count;

@@ -8,7 +8,7 @@ use Rattle.ps_measure.proofs.column.Column.put_into.Goals.{then-count-gt0+in_ok-
 pub loop-vertex-init : goal.loop-vertex-init
 loop-vertex-init c = search (rules, put_none)
 
--- the vertex that the code reads at an index of `order` is the entry of that list at the index
+-- the vertex that the code reads at an index of `order` is the entry of `order` at this index
 the_vertex : (order items : List ℕ) (i : ℕ) → items ≡ order → i < length items →
     slice_get order i ≡ Some (get_or items i 0)
 the_vertex order items i same within = rw (← same) (slice_get-get_or items i 0 within)
