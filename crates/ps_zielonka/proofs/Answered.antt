@@ -1,5 +1,5 @@
--- The end of an iteration in which the player keeps all tops, the attractor's target vertices: plays go on from them to
--- vertices that the player won. The pending call is solved, and the moves at the tops are written.
+-- The end of an iteration in which the player keeps all tops (the attractor's target vertices): plays go on from the
+-- tops to vertices that the player won. The pending call is solved, and the moves at the tops are written.
 use Rattle.std.proofs.Common.{◌≡◌, ◌≢◌, ℕ, ◌+◌, ◌-◌, ◌*◌, ◌<◌, ◌≤◌, ◌⊎◌, inl, inr, List, [], ◌∷◌, ◌++◌, true, length}
 use Rattle.std.proofs.Common.{Some, get_or, refl, sym, ap, arith, rules}
 use Rattle.std.specs.Prelude.{IsTrue}

@@ -63,8 +63,8 @@ module _ (b : Begun) where
   pulled_placed : (v : ℕ) → IsTrue (pulled b v) → IsPlaced b.aim b.old b.new v
   pulled_placed v there = search (rules, placed_from, still_or_placed)
 
-  -- for each level c above that of the attractor, the vertices of level c or higher are the undecided vertices outside
-  -- the attractor
+  -- for each level c above the level of the attractor, the vertices of level c or higher are the undecided vertices
+  -- outside the attractor
   rest_of_turn : (c : ℕ) → 2 * b.depth + 3 ≤ c → c ≤ UNPLACED → IsWithout (undecided b) (pulled b) (from b.new.level c)
   rest_of_turn c above within =
       let into = λ (v : ℕ) (inside : IsTrue (from b.new.level c v)). (
@@ -247,8 +247,8 @@ module _ (b : Begun) where
       falls_begun b.old.level b.new.level (length frames) (length more) size (λ i less. size_from-same (2 * i + 2)
       b.old.level b.new.level sizes (agrees_at (2 * i + 2) (agrees b) (omega arith))) (grind (arith, fewer))
 
-  -- the first iteration attracts no vertex outside a set that has all vertices of the greatest priority and is closed
-  -- under attraction (`IsClosedToTops`); such a vertex is left to the next call
+  -- the first iteration leaves to the next call each vertex outside a set that has all vertices of the greatest
+  -- priority and is closed under attraction (`IsClosedToTops`), since the set contains the attractor
   pub begun_left : {set : ℕ → Bool} (v : ℕ) → b.depth ≡ 0 →
       ((u : ℕ) → u < vertex_count b.game → level_of b.old u ≡ UNPLACED) → IsClosedToTops b.game set →
       v < vertex_count b.game → ¬ IsTrue (set v) → level_of b.new v ≡ UNPLACED

@@ -62,8 +62,8 @@ pub sound_on : {game : ParityGame} {old : TablesData} {winner winner_now order :
     IsSoundBoard game new winner_now order
 sound_on new sound fits winners each = search rules
 
--- an iteration stays prepared (`IsTurned`: the tops have been chosen, and vertices attracted to them) if its sets, and
--- the winners and moves of the attracted vertices, are unchanged
+-- an iteration is prepared (`IsTurned`) once its tops are chosen and vertices are attracted to them; it stays prepared
+-- if its sets, and the winners and moves of the attracted vertices, are unchanged
 unfoldable pub IsTurned-on : {game : ParityGame} {open_part rest : ℕ → Bool} (open_now rest_now : ℕ → Bool) {player : ℕ}
     {win : ℕ → ℕ} (win_now : ℕ → ℕ) {table : ℕ → Option ℕ} (table_now : ℕ → Option ℕ)
     (turned : IsTurned game open_part rest player win table) → open_now ≡ open_part → rest_now ≡ rest →

@@ -16,7 +16,8 @@ use Rattle.ps_zielonka.specs.Inner.Nests.{StandsBetween, StandsBefore, IsKeptAt,
 
 -- ## Keeping the tops
 
--- if in addition only the move at the top u changes, still only moves at tops have changed
+-- if only moves at tops have changed, and then only the move at the top u changes, still only moves at tops have
+-- changed
 pub moved_more : {old mid new : TablesData} (turn top place u : ℕ) → turn ≤ place → place < top →
     get_or old.trail place 0 ≡ u → IsMoved old mid (StandsBetween old turn top) → IsMoved mid new (λ v. v ≡ u) →
     IsMoved old new (StandsBetween old turn top)
@@ -44,7 +45,7 @@ kept_more {game} {old} {mid} {new} {winner} {level} {player} {other} place {u} a
 
 -- ## Placing vertices again
 
--- a vertex among the first k + 1 of a list is among the first k, or it is the last of them
+-- a vertex among the first k + 1 entries of a list is among the first k entries, or is the entry at index k
 one_more : {spare : List ℕ} (k u : ℕ) {v : ℕ} → get_or spare k 0 ≡ u → StandsBefore spare (k + 1) v →
     StandsBefore spare k v ⊎ (v ≡ u)
 one_more {spare} k u at_k stands = search (rules, cases_eq)
@@ -103,8 +104,8 @@ reopened_lost {level = level} spare k u {mid = mid} new at_k within not_won now 
     (λ j less. get_or_append_left mid.trail (u ∷ []) 0 j less) (λ j more before. grind (arith, get_or_push))
     (λ _. grind (arith, get_or-set_same)) (λ won. absurd (not_won won)) refl (length-set mid.level u level) so_far)
 
--- once all vertices of the list `spare`, which were taken off the trail, are handled, those that the player won are
--- `UNPLACED`, and the others are in the trail again (`IsReopened`)
+-- once all vertices of the list `spare`, which were taken off the trail, are handled, each vertex that the player won
+-- is `UNPLACED`, and each other vertex is in the trail again (`IsReopened`)
 pub reopened_end : {winner : List ℕ} {player level turn : ℕ} (k : ℕ) {spare : List ℕ} (old : TablesData)
     {cut new : TablesData} → turn ≤ length old.trail → cut.level ≡ old.level → cut.moves ≡ old.moves →
     cut.trail ≡ take turn old.trail → IsTakenOff turn old.trail spare → k ≡ length spare →

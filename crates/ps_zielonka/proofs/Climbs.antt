@@ -97,8 +97,8 @@ module _ {game : ParityGame} {a : ℕ} {frame : Frame} {old mid new : TablesData
 
   -- ## The sets of the turn
 
-  -- the sets of the step: the undecided vertices before and after it, those of them that the player and the opponent
-  -- have won so far, and those that are decided now
+  -- the sets of the step: the vertices undecided before it and after it; the vertices undecided before it that the
+  -- player, or the opponent, has won so far; and the vertices that are decided now
   abbrev open_then : ℕ → Bool
   open_then = from old.level (a + 2)
 

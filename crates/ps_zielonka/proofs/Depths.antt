@@ -1,5 +1,5 @@
--- How many distinct priorities a subgame has at least, and which vertices the first iteration leaves to the next
--- recursive call.
+-- Lower bounds on the number of distinct priorities of a subgame, and the vertices that the first iteration leaves to
+-- the next recursive call.
 use Rattle.std.proofs.Common.{◌≡◌, ◌≢◌, ℕ, zero, suc, ◌+◌, ◌%◌, ◌<◌, ◌≤◌, List, [], ◌∷◌, length, get_or, Bool, Option}
 use Rattle.std.proofs.Common.{sym, ap, ◌∙◌, arith, rules}
 use Rattle.std.specs.Prelude.{IsTrue}
@@ -69,8 +69,8 @@ HasPriorities-turned {game} {open_part} {rest} {n} turned has_n =
     let (top, is_top, greatest) = turned.some_top in
     HasPriorities-more open_part top turned.left.within (grind arith) (λ v inside same. grind arith) has_n
 
--- if the attractor's target is exactly the vertices of the greatest priority, no vertex of the attractor is outside a
--- set that contains these and is closed under attraction (`IsClosedToTops`)
+-- if the attractor's target is exactly the vertices of the greatest priority, each set that contains these vertices and
+-- is closed under attraction (`IsClosedToTops`) contains the attractor
 pub left_out : {game : ParityGame} {whole rest set : ℕ → Bool} {player : ℕ} {win : ℕ → ℕ} {table : ℕ → Option ℕ} (v : ℕ)
     → ((u : ℕ) → u < vertex_count game → IsTrue (whole u)) → ((u : ℕ) → IsTrue (whole u) → u < vertex_count game) →
     (turned : IsTurned game whole rest player win table) → ((u : ℕ) → IsTrue (turned.tops u) →

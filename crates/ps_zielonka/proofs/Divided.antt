@@ -2,8 +2,9 @@
 -- by induction on the number of vertices of a subgame, and follows Zielonka's algorithm.
 -- - `Divided`: a subgame whose vertices are divided between the players, each of whom holds its vertices by a table
 --   of moves.
--- - `all_mine`: an iteration ends with the whole subgame for the player. `both_parts`: it ends with an attractor for
---   the opponent, and a division of the rest.
+-- - `all_mine`: if the opponent wins no vertex outside the attractor, the player holds the whole subgame.
+-- - `both_parts`: otherwise, the opponent holds its attractor to the vertices that it wins, and the vertices outside
+--   this attractor are divided between the players.
 -- - `game_divided`: the law `each_game_is_divided`.
 use Rattle.std.proofs.Common.{◌≡◌, ◌≢◌, ℕ, zero, suc, ◌-◌, ◌%◌, ◌<◌, ◌⊎◌, inl, inr, Bool, true, false, not, ◌&&◌}
 use Rattle.std.proofs.Common.{◌||◌, Option, None, Some, IsSomeAnd, nat_eq, replicate, refl, sym, subst, ap, ◌∙◌, arith}
@@ -328,7 +329,7 @@ module _ (game : ParityGame) (is_game : IsGame game) where
             | inr (u, less, theirs) ↦ some_theirs u theirs
           ]
 
-    -- the iteration of the algorithm that attracts to a vertex of the greatest priority solves the subgame
+    -- an iteration of the algorithm that attracts vertices to a vertex of the greatest priority solves the subgame
     with_top : (v : ℕ) → IsGreatest game subgame (vertex_count game) v → Solved subgame
     with_top v g =
         let player : ℕ = priority_of game v % 2 in

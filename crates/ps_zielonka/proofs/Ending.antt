@@ -41,8 +41,8 @@ holds_won {game} {winner} {whole} {player} {strategy} is_solved is_player given 
     (HoldsWithin-same (won_by whole win player) (move_at strategy) (λ v inside. inside) (λ v inside. inside)
     (λ v inside owns. grind arith) (is_solved.solved.held player (won_by whole win player) is_player won))
 
--- if the tables of a solved game satisfy `IsSolvedBy`, which speaks of all vertices of level 1 or more, their winners
--- and moves solve the subgame of all vertices
+-- each vertex of a solved game has level 1 or higher (`IsSolvedBy`), so winners and moves that solve the vertices of
+-- level 1 or higher solve the subgame of all vertices
 IsSolved-tables : {game : ParityGame} {tables : TablesData} {winner : List ℕ} → IsSolvedBy game tables winner →
     IsSolved game winner tables.moves (from tables.level 1)
 IsSolved-tables {game} {tables} solved_by = search (rules, to_from, cases_lt, get_or_past, from_at)

@@ -1,4 +1,5 @@
--- Facts about one iteration of Zielonka's algorithm, in the form in which the proofs about the solver's steps use them.
+-- One iteration of Zielonka's algorithm, for the solver's steps: it solves the subgame, or decides some vertices for
+-- the opponent.
 use Rattle.std.proofs.Common.{◌≡◌, ◌≢◌, ℕ, ◌-◌, ◌<◌, inl, inr, Option, IsSomeAnd, Bool, IsTrue, sym, ◌∙◌, arith, rules}
 use Rattle.std.proofs.lemmas.Bool.{false≢true}
 use Rattle.ps_game.specs.Games.{ParityGame, IsGame, owner_of, HasEdge}

@@ -1,5 +1,5 @@
--- When a set that a player holds within a subgame is also held by other moves, or within a larger subgame; and when a
--- player holds a union of two sets, or an attractor.
+-- Conditions under which a player who holds a set within a subgame also holds it by other moves, or within a larger
+-- subgame. Conditions under which a player holds a union of two sets, or an attractor.
 use Rattle.std.proofs.Common.{◌≡◌, ◌≢◌, ℕ, ◌+◌, ◌%◌, ◌<◌, ◌≤◌, ◌⊎◌, inl, inr, Bool, false, Option, Some, rules}
 use Rattle.std.proofs.Common.{IsSomeAnd, sym, ◌∙◌, arith}
 use Rattle.std.specs.Prelude.{IsTrue}
@@ -50,7 +50,8 @@ pub round_beside : {game : ParityGame} {subgame : ℕ → Bool} {player : ℕ} {
 round_beside {game} {subgame} {player} {set} {held} {table} {walk} {k} holds within round =
     all_or_none held walk k round.closes (λ t less from. grind (arith, held_step, round_inside))
 
--- in an attractor, a step of a cycle that follows the table, from a vertex outside the target, leads to a smaller rank
+-- each step of a cycle in an attractor leads to a smaller rank, if the cycle follows the attractor's table and the step
+-- starts outside the target
 falls_step : {game : ParityGame} {subgame : ℕ → Bool} {player : ℕ} {target set other : ℕ → Bool}
     {table : ℕ → Option ℕ} {rank walk : ℕ → ℕ} {k : ℕ} → IsWithin other subgame →
     Falls game subgame player target set table rank → IsRound game player other table walk k → (t : ℕ) → t < k →
@@ -84,8 +85,8 @@ HoldsWithin-same {game} {set} other {table} moves there back same holds = record
   wins = λ walk k top round is_top. holds.wins walk k top (search rules) is_top;
 }
 
--- a set that a player holds within a smaller subgame is also held within a larger one, if no edge of the other player
--- leads from the set to a vertex in their difference
+-- a player who holds a set within a smaller subgame also holds it within a larger one, if each edge of the other player
+-- from the set into the larger subgame leads into the smaller one
 pub HoldsWithin-larger : {game : ParityGame} {smaller : ℕ → Bool} (larger : ℕ → Bool) {player : ℕ} {set : ℕ → Bool}
     {table : ℕ → Option ℕ} → IsWithin smaller larger → ((v w : ℕ) → IsTrue (set v) → owner_of game v ≢ player →
     LeadsInto game larger v w → IsTrue (smaller w)) → HoldsWithin game smaller player set table →
@@ -138,9 +139,10 @@ HoldsWithin-attracted {game} {subgame} {player} {target} {set} {table} {rank} ha
   ];
 }
 
--- a player holds a whole subgame by a table if the player holds by it the part outside the player's attractor to
--- certain vertices, the tops. The table's moves at the player's tops stay in the subgame. The priority of each top has
--- the player's parity, and is greater than all priorities of the other parity in the subgame
+-- a player holds a whole subgame by a table under three conditions. By this table, the player holds the part of the
+-- subgame outside the player's attractor to certain vertices, the tops. The table's moves at the player's tops stay in
+-- the subgame. The priority of each top has the player's parity, and is greater than all priorities of the other parity
+-- in the subgame
 pub HoldsWithin-all : {game : ParityGame} {subgame : ℕ → Bool} {player : ℕ} {tops set rest nested : ℕ → Bool}
     {table : ℕ → Option ℕ} {rank : ℕ → ℕ} → ((v w : ℕ) → IsTrue (tops v) → IsTrue (subgame w) →
     priority_of game w % 2 ≢ player → priority_of game w < priority_of game v) →

@@ -61,8 +61,8 @@ size_from-le c d (x ∷ xs) (y ∷ ys) sizes more =
     size_from-le c d xs ys (omega arith) (λ v within. more (suc v) (omega arith)) in
     omega arith
 
--- fewer vertices have a new level of at least d than had an old level of at least c, if the former are a proper subset
--- of the latter
+-- if the vertices whose new level is at least d are a proper subset of the vertices whose old level was at least c,
+-- they are fewer
 pub size_from-lt : (c d : ℕ) (old new : List ℕ) (u : ℕ) → length new ≡ length old →
     ((v : ℕ) → v < length old → d ≤ get_or new v 0 → c ≤ get_or old v 0) → u < length old → c ≤ get_or old u 0 →
     get_or new u 0 < d → size_from d new < size_from c old

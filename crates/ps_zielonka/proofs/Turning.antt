@@ -89,7 +89,7 @@ lost_held {game} {open_part} {rest} {lost} {player} {other} is_game is_player is
     HoldsWithin-larger open_part {player = other} turned.left.within
     (λ v w inside others leads. search (rules, in_part_or_rest)) (solved.held other lost is_other is_won)
 
--- a player's attractor, within the undecided part, to vertices that the player holds can be decided for this player
+-- within the undecided part, a player's attractor to vertices that the player holds can be decided for this player
 pub Progress-attracted : {game : ParityGame} {subgame open_part target set left : ℕ → Bool} {win : ℕ → ℕ}
     {table : ℕ → Option ℕ} {player : ℕ} {rank : ℕ → ℕ} → IsGame game → player < 2 →
     IsAttracted game open_part player target set table rank → IsWithin set open_part → IsWithout open_part set left →

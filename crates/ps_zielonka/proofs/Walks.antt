@@ -1,6 +1,6 @@
--- Walks that return to their start. A number that never increases along a walk that returns to its start is the same at
--- all vertices of the walk. A set that no step of a walk that returns to its start leaves contains all vertices of the
--- walk or none.
+-- Walks that return to their start. If a walk returns to its start, a number that never increases along the walk is the
+-- same at all vertices of the walk. If a walk returns to its start and none of its steps leaves a set, the set contains
+-- all vertices of the walk or none.
 use Rattle.std.proofs.Common.{◌≡◌, ℕ, zero, suc, ◌+◌, ◌<◌, ◌≤◌, ◌⊎◌, inl, inr, Bool, true, false, cond, ap, ◌∙◌}
 use Rattle.std.proofs.Common.{arith, rules}
 use Rattle.std.specs.Prelude.{IsTrue}
@@ -36,7 +36,7 @@ distance-le a b h = search rules
 distance-same : (a b : Bool) → distance a ≡ distance b → a ≡ b
 distance-same a b h = search rules
 
--- a set that no step of a walk leaves contains all vertices of the walk or none, if the walk returns to its start
+-- if a walk returns to its start and none of its steps leaves a set, the set contains all vertices of the walk or none
 pub all_or_none : (set : ℕ → Bool) (walk : ℕ → ℕ) (k : ℕ) → walk k ≡ walk 0 →
     ((t : ℕ) → t < k → IsTrue (set (walk t)) → IsTrue (set (walk (t + 1))))
     → ((t : ℕ) → t < k → IsTrue (set (walk t))) ⊎ ((t : ℕ) → t < k → set (walk t) ≡ false)

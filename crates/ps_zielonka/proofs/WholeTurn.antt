@@ -24,7 +24,7 @@ IsWon-without game {rest} {lost} {win} table player {other} is_player is_other d
     search (rules, kept_of, false≢true, to_keeps)
 
 -- if no top (target vertex) of the opponent has an edge to a vertex of `lost`, no undecided vertex of the opponent
--- outside `lost` has such an edge
+-- outside `lost` has an edge to a vertex of `lost`
 none_to_lost : {game : ParityGame} {open_part rest lost left : ℕ → Bool} {win : ℕ → ℕ} {table : ℕ → Option ℕ}
     {player other : ℕ} → player < 2 → other < 2 → other ≢ player →
     (turned : IsTurned game open_part rest player win table) → IsWon rest nothing win other lost →

@@ -1,4 +1,4 @@
--- How the region and the strategies that the solver returns follow from the winner and the move of each vertex.
+-- The region and the strategies that the solver returns, read off the winner and the move of each vertex.
 use Rattle.std.specs.Prelude.{◌≡◌, ℕ, ◌<◌, ◌≤◌, List, Option, Some, None, IsSome, Bool, false, IsTrue, not, slice_index}
 use Rattle.std.specs.Prelude.{length}
 use Rattle.ps_game.specs.Games.{ParityGame, vertex_count, owner_of}
@@ -14,8 +14,8 @@ pub record MovesWithin (game : ParityGame) (player : ℕ) (set : ℕ → Bool) (
   pub within : (v : ℕ) → IsSome (move_at strategy v) → IsTrue (set v)
   pub owns : (v : ℕ) → IsSome (move_at strategy v) → owner_of game v ≡ player
 
--- player 0 holds the region by the first strategy, and player 1 holds all other vertices by the second; each strategy
--- has moves only at vertices that its player owns and wins
+-- player 0 holds the region by the first strategy, and player 1 holds all other vertices by the second strategy; each
+-- strategy has moves only at vertices that its player owns and wins
 pub record IsAnswer (game : ParityGame) (region : List Bool) (first second : List (Option ℕ)) : Type 0 where
   pub region_places : length region ≡ vertex_count game
   pub first_places : length first ≡ vertex_count game
@@ -36,8 +36,8 @@ pub record MovesAt (game : ParityGame) (winner : List ℕ) (player v : ℕ) : Ty
   pub wins : slice_index winner v ≡ player
   pub owns : owner_of game v ≡ player
 
--- the strategy has a move, that of the list `moves`, at exactly those vertices less than n that the player wins and
--- owns
+-- exactly those vertices less than n that the player wins and owns have a move in the strategy, which is their move in
+-- the list `moves`
 pub record AreWinningMovesTo (game : ParityGame) (moves winner : List ℕ) (player n : ℕ) (strategy : List (Option ℕ)) :
     Type 0
   where

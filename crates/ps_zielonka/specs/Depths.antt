@@ -10,8 +10,8 @@ use Rattle.ps_zielonka.specs.Answers.{IsAnswer}
 abbrev pub is_vertex : ParityGame → ℕ → Bool
 is_vertex game v = nat_lt v (vertex_count game)
 
--- the vertices of the set have at least `least` distinct priorities: each list that contains all their priorities has
--- at least this length
+-- the vertices of the set have at least `least` distinct priorities: each list that contains all priorities of these
+-- vertices has at least `least` entries
 pub record HasPriorities (game : ParityGame) (set : ℕ → Bool) (least : ℕ) : Type 0 where
   pub many : (list : List ℕ) → ((v : ℕ) → IsTrue (set v) → Contains list (priority_of game v)) → least ≤ length list
 
@@ -21,7 +21,7 @@ pub record IsGreatest (game : ParityGame) (greatest : ℕ) : Type 0 where
   pub stands : (v : ℕ) × (v < vertex_count game) × (priority_of game v ≡ greatest)
 
 -- the set contains all vertices of the greatest priority and is closed under attraction for the player who wins by this
--- priority; the least such set is this player's attractor to these vertices
+-- priority; the least set with both properties is this player's attractor to these vertices
 pub record IsClosedToTops (game : ParityGame) (set : ℕ → Bool) : Type 0 where
   pub greatest : ℕ
   pub is_greatest : IsGreatest game greatest
@@ -30,7 +30,7 @@ pub record IsClosedToTops (game : ParityGame) (set : ℕ → Bool) : Type 0 wher
   pub closed : IsClosedUnderAttraction game (is_vertex game) (greatest % 2) target set
 
 -- The promised bounds on the maximal depth of calls. The depth is at most the number of distinct priorities, and at
--- least 1 if there is a vertex. It is at least 2 if some vertex is outside a set that satisfies `IsClosedToTops`
+-- least 1 if there is a vertex. The depth is at least 2 if some vertex is outside a set that satisfies `IsClosedToTops`
 pub record IsDepth (game : ParityGame) (depth : ℕ) : Type 0 where
   pub most : HasPriorities game (is_vertex game) depth
   pub some : (v : ℕ) → v < vertex_count game → 1 ≤ depth

@@ -47,8 +47,8 @@ impl<W: Width> Board<W> {
         })
     }
 
-    /// Extends the trail by the player's attractor to its vertices from index `begin` on, and records the player as the
-    /// winner of all vertices of the trail from this index on. Fails if out of memory.
+    /// Extends the trail by the player's attractor to the vertices of the trail from index `begin` on, and records the
+    /// player as the winner of all vertices of the trail from this index on. Fails if out of memory.
     pub fn attract<A: Arena>(
         &mut self,
         edges: &Adjacency<'_, A, W>,
@@ -116,9 +116,10 @@ impl<W: Width> Board<W> {
         true
     }
 
-    /// Whether the player keeps a vertex. A vertex of the player must have a successor of a higher level than `placed`
-    /// that the player won; a vertex of the opponent must have no such successor that the opponent won. Writes the move
-    /// at a vertex that the player owns and keeps.
+    /// Whether the player keeps a vertex. The player keeps a vertex of its own if the vertex has a successor of a
+    /// higher level than `level` that the player won. The player keeps a vertex of the opponent if the vertex has no
+    /// successor of a higher level than `level` that the opponent won. Writes the move at a vertex that the player owns
+    /// and keeps.
     fn keeps<A: Arena>(
         &mut self,
         edges: &Adjacency<'_, A, W>,

@@ -54,8 +54,8 @@ impl<W: Width> Nest<W> {
         })
     }
 
-    /// Decides each vertex, unless vertices are decided or attracted `budget` times before that. Returns whether all
-    /// vertices are decided. Fails if out of memory.
+    /// Decides each vertex, or stops because a budget is used up: vertices were decided or attracted `budget` times or
+    /// more. Returns whether all vertices are decided. Fails if out of memory.
     pub fn solve<A: Arena>(
         &mut self,
         edges: &Adjacency<'_, A, W>,

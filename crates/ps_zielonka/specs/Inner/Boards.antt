@@ -1,5 +1,5 @@
--- The board, which has the level, the move and the winner of each vertex, and what the steps of the solver change on
--- it.
+-- The board, which has the level, the move and the winner of each vertex, and the changes that the steps of the solver
+-- make to it.
 use Rattle.std.specs.Prelude.{◌≡◌, ℕ, ◌<◌, ◌≤◌, length, slice_index}
 use Rattle.ps_game.specs.Games.{ParityGame, vertex_count}
 use Rattle.ps_attractor.specs.Tables.{TablesData, FitsGame}

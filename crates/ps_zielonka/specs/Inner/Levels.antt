@@ -1,5 +1,5 @@
 -- The code of a vertex's level, which is the number that represents the level in the tables. Codes increase with the
--- depth of the recursive call. In one call, the code of decided vertices is less than that of attracted vertices.
+-- depth of the recursive call. In one call, the code of decided vertices is less than the code of attracted vertices.
 -- Vertices that are neither decided nor attracted have the largest code, `UNPLACED`.
 use Rattle.std.specs.Prelude.{ℕ, ◌+◌, ◌*◌}
 use Rattle.ps_zielonka.specs.declared.level.Level.{Level}

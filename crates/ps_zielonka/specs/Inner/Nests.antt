@@ -136,8 +136,9 @@ pub record StandsBefore (list : List ℕ) (end v : ℕ) : Type 0 where
   pub before : place < end
   pub is : slice_index list place ≡ v
 
--- v may be a top, in the target of an iteration's attractor. It is before index `behind` of `order`. Its priority has
--- the parity of the priority of the vertex at index `cursor`, and equals that priority if `just_greatest` is true
+-- v may be a top, in the target of an iteration's attractor. The vertex v is before index `behind` of `order`. The
+-- priority of v has the same parity as the priority of the vertex at index `cursor` of `order`, and equals that
+-- priority if `just_greatest` is true
 pub record IsTop (game : ParityGame) (order : List ℕ) (cursor behind : ℕ) (just_greatest : Bool) (v : ℕ) : Type 0 where
   pub stands : StandsBefore order behind v
   pub parity : priority_of game v % 2 ≡ priority_of game (slice_index order cursor) % 2
@@ -167,15 +168,15 @@ pub record IsWonStep (game : ParityGame) (tables : TablesData) (winner : List �
   pub won : slice_index winner w ≡ player
 
 -- The player keeps v. If the player owns v, the move at v leads to a vertex of a higher level than `level` that the
--- player won. Otherwise no edge leads to such a vertex that the opponent won
+-- player won. Otherwise no edge leads from v to a vertex of a higher level than `level` that the opponent won
 pub record IsKeptAt (game : ParityGame) (tables : TablesData) (winner : List ℕ) (level player other v : ℕ) : Type 0
   where
     pub own : owner_of game v ≡ player → IsWonStep game tables winner level player v (slice_index tables.moves v)
     pub foreign : owner_of game v ≢ player → (w : ℕ) → HasEdge game v w → level < level_of tables w →
         slice_index winner w ≢ other
 
--- The player can't keep v. If the player owns v, no edge leads to a vertex of a higher level than `level` that the
--- player won. Otherwise an edge leads to such a vertex that the opponent won
+-- The player can't keep v. If the player owns v, no edge leads from v to a vertex of a higher level than `level` that
+-- the player won. Otherwise an edge leads from v to a vertex of a higher level than `level` that the opponent won
 pub record IsLostAt (game : ParityGame) (tables : TablesData) (winner : List ℕ) (level player other v : ℕ) : Type 0
   where
     pub own : owner_of game v ≡ player → (w : ℕ) → HasEdge game v w → level < level_of tables w →
@@ -194,8 +195,8 @@ pub record IsTakenOff (turn : ℕ) (trail spare : List ℕ) : Type 0 where
   pub all : length spare + turn ≡ length trail
   pub same : (j : ℕ) → j < length spare → slice_index spare j ≡ slice_index trail (turn + j)
 
--- of the vertices that satisfy `Off`, those that the player won have the level `UNPLACED` again; exactly the others are
--- in the trail from index `turn` on, and have the given level
+-- The vertices that satisfy `Off` and were won by the player have the level `UNPLACED` again. All other vertices that
+-- satisfy `Off` have the given level, and exactly these are in the trail from index `turn` on
 pub record IsReopened (winner : List ℕ) (player level turn : ℕ) (Off : ℕ → Type 0) (old new : TablesData) : Type 0 where
   pub longer : turn ≤ length new.trail
   pub front : (j : ℕ) → j < turn → slice_index new.trail j ≡ slice_index old.trail j

@@ -1,4 +1,4 @@
--- The invariants of the solver between two steps, what a step does, and the solution in the tables at the end.
+-- The invariants of the solver between two steps, the effect of a step, and the solution in the tables at the end.
 use Rattle.std.specs.Prelude.{◌≡◌, ℕ, ◌+◌, ◌≤◌, ◌<◌, List, true, false, length}
 use Rattle.ps_game.specs.Games.{ParityGame, vertex_count}
 use Rattle.ps_attractor.specs.Tables.{TablesData, level_of, moves_of}

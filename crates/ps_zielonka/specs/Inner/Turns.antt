@@ -15,8 +15,8 @@ pub record IsWithout (whole part rest : ℕ → Bool) : Type 0 where
   pub outside : (v : ℕ) → IsTrue (rest v) → ¬ IsTrue (part v)
   pub all : (v : ℕ) → IsTrue (whole v) → ¬ IsTrue (part v) → IsTrue (rest v)
 
--- the set has exactly the decided vertices that the player wins: those of the subgame outside the undecided part
--- `open_part`
+-- the set has exactly those vertices of the subgame that are decided (outside the undecided part `open_part`) and won
+-- by the player
 pub record IsWon (subgame open_part : ℕ → Bool) (win : ℕ → ℕ) (player : ℕ) (set : ℕ → Bool) : Type 0 where
   pub within : IsWithin set subgame
   pub decided : (v : ℕ) → IsTrue (set v) → ¬ IsTrue (open_part v)
