@@ -1,5 +1,5 @@
 -- If player 0 holds one region and player 1 holds the rest of the vertices, a valid certificate can be made from the
--- regions, moves and counts. If the counts of both regions are the least ones, so are the certificate's.
+-- regions, moves and counts. If the counts of both regions are the least ones, so are the counts in the certificate.
 use Rattle.std.proofs.Common.{◌≡◌, ◌≢◌, ◌⊎◌, inl, inr, ℕ, ◌<◌, ◌≤◌, List, [], ◌∷◌, length, get_or}
 use Rattle.std.proofs.Common.{Option, Some, None, IfSome, IsSomeAnd, Bool, true, false, IsTrue, refl, sym, subst}
 use Rattle.std.proofs.Common.{◌∙◌, rules, arith, ap, not}
@@ -18,8 +18,8 @@ use Rattle.ps_referee.specs.Inner.Building.{row_in, winner_row, claims}
 use Rattle.ps_referee.proofs.Claims.{winner_is, choice_is}
 use Rattle.ps_referee.proofs.PlayersPart.{two_path, two_follows}
 
--- what a certificate states about a vertex that a player wins: the vertex is in the player's set, and has the move of
--- the player's table and the row of the player's counts
+-- a certificate states that the player wins v: v is in the player's set, and the certificate has the player's counts at
+-- v and, if the player owns v, the move of the player's table
 record IsSide (game : ParityGame) (player : ℕ) (set : ℕ → Bool) (table : ℕ → Option ℕ) (priorities : List ℕ)
     (rows : List (List ℕ)) (c : CertificateData) (v : ℕ) : Type 0 where
   inside : IsTrue (set v)
@@ -45,8 +45,8 @@ some_within v is_game (Some w) is = is_game.within v w is
 module _ {game : ParityGame} (is_game : IsGame game) {player : ℕ} {set : ℕ → Bool} {table : ℕ → Option ℕ}
     {priorities : List ℕ} {rows : List (List ℕ)} {c : CertificateData} (holds : Holds game player set table)
     (ranks : AreRanks game player set table priorities rows) where
-  -- an edge from v that remains by the certificate's moves also remains by the player's table of moves, if the
-  -- certificate names the player as the winner of v
+  -- if the certificate states that the player wins v, each edge from v that remains for the certificate's moves also
+  -- remains for the player's table of moves
   remains_for : {v w : ℕ} → IsSide game player set table priorities rows c v → Remains game c v w →
       RemainsFor game player table v w
   remains_for s r = search rules
@@ -69,8 +69,8 @@ module _ {game : ParityGame} (is_game : IsGame game) {player : ℕ} {set : ℕ �
       let keep = (ranks.columns k within).keep v w (grind (arith, remains_for)) in
       grind arith
 
-  -- in any valid certificate with the same winners and moves, the counts keep the rule of counts on the edges that
-  -- remain for the player's table of moves
+  -- if a valid certificate d differs from the certificate c only in its counts, the counts of d keep the rule of counts
+  -- on the edges that remain for the player's table of moves
   others_keep : (d : CertificateData) → IsValid game d → DiffersInCounts game c d → opposing d player ≡ priorities →
       ((u : ℕ) → u < vertex_count game → IsTrue (set u) → IsSide game player set table priorities rows c u) → (k : ℕ) →
       k < length priorities →
@@ -97,7 +97,7 @@ abbrev pub made_of : List ℕ → List ℕ → List EntryData → CertificateDat
 made_of odd even entries = record { odd = odd; even = even; entries = entries }
 
 -- players 0 and 1 hold the sets `region` and `lost` by their tables, with least counts; the certificate's entries have
--- these winners, moves and counts
+-- the winners, the moves and the counts of both players
 record AreBoth (game : ParityGame) (region lost : ℕ → Bool) (first second : ℕ → Option ℕ) (odd even : List ℕ)
     (odd_rows even_rows : List (List ℕ)) (entries : List EntryData) : Type 0 where
   is_game : IsGame game

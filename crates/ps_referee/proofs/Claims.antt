@@ -1,4 +1,4 @@
--- What a claimed solution, written as a certificate without counts, states about each vertex.
+-- A claimed solution, written as a certificate without counts: the winner and the move that it states for each vertex.
 use Rattle.std.proofs.Common.{◌≡◌, ℕ, ◌<◌, List, [], get_or, Option, Bool}
 use Rattle.std.proofs.Common.{ap, arith, length}
 use Rattle.std.proofs.lemmas.List.FromFn.{get_or-map-range_with_len, length-map-range_with_len}

@@ -1,4 +1,5 @@
--- What the steps of judging a claimed solution of a game establish.
+-- The steps of judging a claimed solution: a correct solution has neither a flaw nor a cycle that a player loses, so
+-- the only possible fault is out of memory.
 use Rattle.std.proofs.Common.{◌≡◌, ◌⊎◌, inl, inr, ℕ, zero, suc, ◌<◌, List, Option, Bool, refl, sym, subst, arith}
 use Rattle.std.proofs.Common.{rules, not, Result, Ok, Err, IsErrAnd}
 use Rattle.std.specs.Result.{IfErr}
@@ -139,7 +140,7 @@ pub only_memory : {X : Type 0} {r : Result X JudgeFault} {fault : JudgeFault} �
     IfErr r IsOutOfMemory → IsOutOfMemory fault
 only_memory is h = subst (λ r. IfErr r IsOutOfMemory) is h
 
--- if a fault that the operator `?` returns satisfies P, the result's fault satisfies P
+-- if the operator `?` passes on a fault that satisfies P, the fault of the whole result satisfies P
 pub if_err : {X : Type 0} (r : Result X JudgeFault) (fault : JudgeFault) (P : JudgeFault → Type 0) →
     IsErrAnd r (λ y. y ≡ fault) → P fault → IfErr r P
 if_err (Ok x) fault P passed h = tt

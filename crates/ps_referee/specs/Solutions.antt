@@ -7,7 +7,7 @@
 -- - `IsSolution`: by its table, each player holds the vertices that it is claimed to win, so the solution is correct.
 -- - `IsCycleOf`: the solution has no flaw, but has the given cycle, which the player loses.
 -- - `IsRefusal`: the fault states what is wrong with the solution.
--- - `IsCertificateOf`: the certificate of a correct solution.
+-- - `IsCertificateOf`: the certificate is valid, and has the winners and moves of the solution and the least counts.
 use Rattle.std.specs.Prelude.{◌≡◌, ℕ, ◌<◌, ◌==◌, if◌then◌else◌, List, [], length, map, Option, None, Bool, not}
 use Rattle.std.specs.List.{range_with_len}
 use Rattle.ps_game.specs.Games.{ParityGame, vertex_count, owner_of}
@@ -66,8 +66,8 @@ pub record IsCycleOf (game : ParityGame) (won : List Bool) (first second : List 
   pub lost : IsLostCycle game player (won_by won player) (moves_by first second player) cycle
   pub first_holds : player ≡ 1 → Holds game 0 (has won) (move_at first)
 
--- what a fault guarantees: a reported flaw is the claimed solution's first flaw, and a reported cycle is lost by the
--- player; out of memory guarantees nothing
+-- a reported flaw is the first flaw of the claimed solution, and a reported cycle is lost by the reported player; the
+-- fault `OutOfMemory` guarantees nothing
 abbrev pub IsRefusal : ParityGame → List Bool → List (Option ℕ) → List (Option ℕ) → JudgeFault → Type 0
 IsRefusal game won first second (Unclosed flaw) = IsFirstFlaw game (claimed game won first second) flaw
 IsRefusal game won first second (BadCycle player cycle) = IsCycleOf game won first second player cycle.items

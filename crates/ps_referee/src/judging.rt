@@ -141,8 +141,8 @@ fn others(alloc: Global, region: &Region) -> Result<Region, AllocError>
     Ok(others)
 }
 
-/// The least counts for the vertices that a player is claimed to win, or a cycle of such vertices that the player
-/// loses.
+/// The least counts for the vertices that a player is claimed to win, or a cycle through some of these vertices that
+/// the player loses.
 fn counts_of<A: Arena>(
     alloc: Global,
     arena: &A,

@@ -14,8 +14,8 @@ pub fn one_certificate()
 {}
 
 /// A solution never has both a flaw and a cycle that may be reported (`IsCycleOf`), and the same player loses all
-/// cycles that may be reported. A correct solution has neither a flaw nor such a cycle. The first flaw of a solution is
-/// unique (`ps_certificate::first_flaw_is_one`).
+/// cycles that may be reported. A correct solution has neither a flaw nor a cycle that may be reported. The first flaw
+/// of a solution is unique (`ps_certificate::first_flaw_is_one`).
 pub fn one_verdict()
     ensures apart { (game : ParityGame) (won : List Bool) (first second : List (Option ℕ)) (flaw : Flaw) (player : ℕ)
         (cycle : List ℕ) → IsFirstFlaw game (claimed game won first second) flaw →

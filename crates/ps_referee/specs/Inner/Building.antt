@@ -1,4 +1,4 @@
--- How a certificate is built from the winners and moves of a solution and from rows of counts.
+-- The entries of the certificate that is built from the winners and moves of a solution and from rows of counts.
 use Rattle.std.specs.Prelude.{ℕ, if◌then◌else◌, List, [], map, Option, Some, None, Bool, slice_get}
 use Rattle.std.specs.List.{range_with_len}
 use Rattle.ps_game.specs.Games.{ParityGame}

@@ -1,12 +1,13 @@
--- What is guaranteed when the computation of one player's counts returns a fault.
+-- If the computation of one player's counts returns a fault, the fault is out of memory or a cycle that the player
+-- loses.
 use Rattle.std.specs.Prelude.{◌≡◌, ℕ, Option, Bool}
 use Rattle.ps_game.specs.Games.{ParityGame}
 use Rattle.ps_measure.specs.Ranks.{IsLostCycle}
 use Rattle.ps_referee.specs.declared.fault.JudgeFault.{JudgeFault}
 use Rattle.ps_referee.specs.declared.fault.JudgeFault.TheVariants.{Unclosed, BadCycle, OutOfMemory}
 
--- what a fault guarantees: a reported cycle lies within the set and the player loses it; out of memory guarantees
--- nothing
+-- no flaw is reported; a reported cycle lies within the set and is lost by `player`, who is also the reported player;
+-- the fault `OutOfMemory` guarantees nothing
 abbrev pub IsLostIn : ParityGame → ℕ → (ℕ → Bool) → (ℕ → Option ℕ) → JudgeFault → Type 0
 IsLostIn game player set table (Unclosed flaw) = ⊥
 IsLostIn game player set table (BadCycle loser cycle) =
