@@ -38,8 +38,8 @@ pub enum Attempted {
     },
     /// The fuel, or the number of stored cells that the fuel allows, was used up before a result was reached.
     OutOfFuel,
-    /// The greatest number of stored cells that any fuel allows did not suffice, or the game is too large. More fuel
-    /// would not help.
+    /// The limit on stored cells, which no amount of fuel can raise any further, was too small, or the game is too
+    /// large. More fuel would not help.
     OutOfRoom,
 }
 

@@ -1,7 +1,7 @@
 //! The limits on the time and the memory of an attempt.
 
-/// How many cells may still be read or written, and how many more may be stored at the same time. A cell is an entry of
-/// a row, and a row is the value of a play.
+/// The number of cells that may still be read or written, and the number of cells that may be stored in addition to
+/// those that are stored now. A cell is an entry of a row, and a row is the value of a play.
 #[derive(Drop)]
 pub struct Fuel {
     /// The number of cells of rows that may still be read or written.

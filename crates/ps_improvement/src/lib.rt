@@ -4,11 +4,11 @@
 //! Player 0 starts with a strategy and improves its moves round by round. The value of a play is its row, which states
 //! how often the play visits each priority before it stops. A play that never stops is worth more to player 0 than any
 //! row. At first, player 0 stops at each of its own vertices, and every vertex of player 1 is closed: plays stop before
-//! they enter it. Each round of improvement computes the value of each vertex of one strongly connected component,
-//! which is the least value that player 1 can force. At the end of a round, player 0 changes its moves to successors
-//! that are worth more, and lets plays enter (opens) each vertex of player 1 that is worth more than stopping. When
-//! nothing improves any more, player 0 wins the vertices from which plays never stop. The strongly connected components
-//! of the game are solved one after another, each after the components to which its edges lead.
+//! they enter it. Each round of improvement computes the values of the vertices of one strongly connected component.
+//! The value of a vertex is the least value that player 1 can force from there. At the end of a round, player 0 changes
+//! its moves to successors that are worth more, and lets plays enter (opens) each vertex of player 1 that is worth more
+//! than stopping. When nothing improves any more, player 0 wins the vertices from which plays never stop. The strongly
+//! connected components of the game are solved one after another, each after the components to which its edges lead.
 //!
 //! | Call | What it gives |
 //! |---|---|

@@ -19,9 +19,11 @@ pub struct Plan<'a, A: Arena> {
     pub arena: &'a A,
     /// The moves of player 0. At a vertex without a move, player 0 stops.
     pub first: Strategy,
-    /// The vertices of player 1 that plays may enter. Plays stop before they enter any other vertex of player 1.
+    /// The vertices of player 1 that plays may enter. Plays stop before they enter a vertex of player 1 that `opened`
+    /// does not contain.
     pub opened: Region,
-    /// The row of priorities that a play from each vertex meets before it stops, or `None` if the play never stops.
+    /// For each vertex, the row of the priorities that the play from this vertex meets before it stops, or `None` if
+    /// the play never stops.
     pub rows: Vec<Option<Row>>,
     ghost sized: { length rows.items ≡ vertex_count (A.game arena.now) },
     ghost moves: { length first ≡ length rows.items },

@@ -1,4 +1,4 @@
-//! The values of plays in strategy improvement, and how they compare.
+//! The values of plays in strategy improvement, and their comparison.
 
 use crate::fuel::Fuel;
 use std::alloc::{AllocError, Global};
@@ -82,8 +82,8 @@ fn worth_of(priority: u64) -> Ordering {
     }
 }
 
-/// The row of a play that meets one priority once more than a play with a given row. It has three parts: the cells of
-/// greater priorities, the cell of that priority, and the cells of smaller priorities.
+/// The row of a play that meets one priority once more than a play with a given row. The row has three parts: the cells
+/// of greater priorities, the cell of the priority that is met once more, and the cells of smaller priorities.
 #[derive(Drop)]
 pub struct Raised<'a> {
     front: &'a [Cell],

@@ -12,8 +12,8 @@ use ps_game::Arena;
 use std::alloc::{AllocError, Global};
 use std::cmp::Ordering;
 
-/// The present choices of the players (the plan), the component that is being solved, and those of its vertices whose
-/// values may decrease.
+/// The present choices of the players (the plan), the component that is being solved, and the vertices of this
+/// component whose values may decrease.
 #[derive(Drop)]
 pub struct Settling<'a, A: Arena> {
     ground: &'a Ground<'a, A>,
@@ -147,8 +147,8 @@ impl<'a, A: Arena> Settling<'a, A> {
         improved
     }
 
-    /// Lets plays enter those closed vertices of player 1 in the current component that are worth more than stopping.
-    /// Returns whether plays may now enter a further vertex.
+    /// Opens each closed vertex of player 1 in the current component that is worth more than stopping, so that plays
+    /// may enter the vertex. Returns whether plays may now enter a further vertex.
     fn open_up(&mut self, fuel: &mut Fuel) -> bool
         ensures { self.new.ground ≡ self.old.ground }
     {
