@@ -1,5 +1,6 @@
-//! Tests of the solvers that may give no result, within a budget or fuel: when the budget or the fuel suffices, and
-//! whether a result agrees with that of the exact solver `regions`.
+//! Tests of the solvers that stop without a result when their budget or fuel is used up. The tests check whether a
+//! given budget or fuel suffices, and whether a result has the same winning region as that of the exact solver
+//! `regions`.
 
 use ps_game::{Counts, Game, Region, Strategy};
 use ps_improvement::{Attempted, attempt};
@@ -31,7 +32,7 @@ fn are_same(one: &Region, other: &Region) -> bool {
     true
 }
 
-/// Whether a result has the same winning region as that of the exact solver `regions`.
+/// Whether there is a result, and it has the same winning region as the result of the exact solver `regions`.
 fn is_right(
     alloc: Global,
     game: &Game,
@@ -68,8 +69,9 @@ fn attempts_end_with_their_fuel(rt: HostRuntime) -> Result<(), Fail> {
 }
 
 /// A path of 1,000 vertices of player 0. The last vertex leads to itself and has the priority 1. Each other vertex has
-/// an even priority that is greater than that of the next vertex. The values of the 1,000 vertices would be rows with
-/// about 500,000 cells, since each row has a cell for each priority that the play from its vertex meets.
+/// an even priority, which is greater than the priority of the next vertex on the path. The values of the 1,000
+/// vertices would be rows with about 500,000 cells in total, since the row of a vertex has a cell for each priority
+/// that the play from this vertex meets.
 #[test]
 fn attempts_end_where_there_is_no_room(rt: HostRuntime) -> Result<(), Fail> {
     let mut text = String::new(rt.alloc());

@@ -16,9 +16,9 @@ const COMPACT: &[u8] = b"psyncert 2\nvertices 2\nodd 1\neven 0\n7 1 9\n9 1 - 0:1
 /// The expected property of a certificate that a test reads.
 #[derive(Clone, Copy)]
 enum Wanted<'a> {
-    /// Writing the certificate gives this text.
+    /// Writing the certificate gives the given text.
     Text(&'a [u8]),
-    /// Writing the certificate compactly gives this text.
+    /// Writing the certificate compactly gives the given text.
     CompactText(&'a [u8]),
     /// The call `closed` finds no wrong move or edge in the certificate, but the call `check`, which also checks the
     /// counts, reports the given flaw.

@@ -131,7 +131,7 @@ fn no_vertex_is_a_game(rt: HostRuntime) -> Result<(), Fail> {
     Ok(())
 }
 
-/// Whether the priorities of one parity that a game has are the wanted ones.
+/// Whether a game has exactly the wanted priorities of one parity.
 fn are_priorities(alloc: Global, game: &Game, parity: u64, wanted: &[u64]) -> bool {
     match priorities_of(alloc, game, parity) {
         Ok(priorities) => priorities.as_slice() == wanted,

@@ -15,7 +15,8 @@ fn ids_of(alloc: Global, first: u64, numbers: &[u64]) -> Result<Ids, AllocError>
     Ok(ids)
 }
 
-/// Whether `Ids` gives each id its index in the list of numbers, and gives the number 6 no index.
+/// Whether `Ids` lists the given numbers, gives each of them its index in the list, and gives no index to the number 6,
+/// which is not among them.
 fn are_placed(ids: &Ids, numbers: &[u64]) -> bool {
     for (place, &id) in numbers.iter().enumerate() {
         if ids.place(id) != Some(place) {

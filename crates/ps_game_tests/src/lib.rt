@@ -1,6 +1,6 @@
 //! Tests of psyn's library crates for games, one file for each topic. A crate that has tests is proved a second time
-//! with them, so the tests are in a crate of their own. The behaviour of psyn's commands is shown by rows of
-//! `examples/rows`, not by tests.
+//! with them, so the tests are in a crate of their own. The behaviour of psyn's commands is shown by the command lines
+//! listed in `examples/rows`, not by tests.
 #![tactic(auto)]
 
 #[cfg(test)]

@@ -7,7 +7,7 @@ use std::alloc::{AllocError, Global};
 /// The numbers of vertices of the regions that the tests use.
 const PLACES: [usize; 8] = [0, 1, 63, 64, 65, 511, 512, 513];
 
-/// The sets to which the tests compare regions. A vertex that is not less than the size `places` of a region is
+/// The sets with which the tests compare regions. A vertex that is not less than the size `places` of a region is
 /// ignored.
 #[derive(Clone, Copy)]
 enum Set {
@@ -36,7 +36,7 @@ impl Set {
         }
     }
 
-    /// Whether a region has exactly the vertices of this set, and its `count` is their number.
+    /// Whether a region has exactly the vertices of this set, and its `count` is the number of these vertices.
     fn is(self, region: &Region, places: usize) -> bool {
         let mut count: usize = 0;
         for vertex in 0..region.places() {
