@@ -1,4 +1,4 @@
--- Abbreviations for the grammar laws of the crate `ps_text`, here for the parts of a certificate's text.
+-- These abbreviations apply the grammar laws of the crate `ps_text` to the parts of a certificate's text.
 -- - `Lawful`, `Chain`, `Left`: the definitions of the crate `ps_text` with these names, for certificates and their
 --   errors
 use Rattle.ps_text.specs.Answers.{Stream}

@@ -1,5 +1,5 @@
--- Lemmas about a certificate's rule of counts: when one edge obeys the rule, and which edge of a vertex breaks it
--- first.
+-- Lemmas about a certificate's rule of counts, which says when a count must not rise, or must fall, along an edge. The
+-- lemmas state when one edge obeys the rule, and which edge of a vertex breaks the rule first.
 use Rattle.std.proofs.Common.{◌≡◌, ◌≢◌, ℕ, ◌%◌, ◌<◌, ◌≤◌, List, length, get_or, max, ◌⊎◌, inl, inr, sym, subst}
 use Rattle.std.proofs.Common.{ap, ◌∙◌, arith, refl, None, Some, Option, rules}
 use Rattle.std.specs.Prelude.{slice_index, IfNone}
@@ -33,9 +33,9 @@ pub opposing_complete : {game : ParityGame} {certificate : CertificateData} (pla
 unfolding opposing
 opposing_complete player h k v m n = search rules
 
--- the counts of an edge's two ends, `before` and `after`, for the ascending list `priorities` of those that oppose the
--- winner. The items of this list before index `start` are less than `top`, and all others are at least `top`, the
--- greater of the two ends' priorities.
+-- `priorities` is the ascending list of the priorities that oppose the winner; the lists `before` and `after` have the
+-- counts of an edge's two ends, one for each item of `priorities`. `top` is the greater of the two ends' priorities:
+-- the items of `priorities` before index `start` are less than `top`, and all other items are at least `top`.
 pub record Compared (game : ParityGame) (certificate : CertificateData) (v w : ℕ) (priorities before after : List ℕ)
     (top start : ℕ) : Type 0 where
   pub priorities_are : priorities ≡ opposing certificate (winner_of certificate v)
@@ -46,7 +46,8 @@ pub record Compared (game : ParityGame) (certificate : CertificateData) (v w : �
   pub lower : (j : ℕ) → j < start → slice_index priorities j < top
   pub higher : (j : ℕ) → start ≤ j → j < length priorities → top ≤ slice_index priorities j
 
--- if the vertex that the edge leaves has the priority at index `start`, the count at this index falls along the edge
+-- if the priority at index `start` of the list is that of the vertex which the edge leaves, the count at index `start`
+-- falls along the edge
 abbrev pub FallsAtStart : ParityGame → ℕ → List ℕ → List ℕ → List ℕ → ℕ → Type 0
 FallsAtStart game v priorities before after start = start < length priorities →
     slice_index priorities start ≡ priority_of game v → slice_index after start < slice_index before start
@@ -85,8 +86,8 @@ KeepsCount-compared {game} {certificate} {v} {w} {priorities} {before} {after} {
           }
     ]
 
--- if an edge obeys the certificate's rule of counts for the priority at index `start`, the first count from there on
--- that rises along the edge is the first that breaks the rule
+-- suppose that an edge obeys the certificate's rule of counts for the priority at index `start`. Of the counts at index
+-- `start` or later, the first that rises along the edge is then the first that breaks the rule
 pub IsFirstBroken-behind : {game : ParityGame} {certificate : CertificateData} {v w : ℕ}
     {priorities before after : List ℕ} {top start : ℕ} (place : ℕ) → Compared game certificate v w priorities before
     after top start → FallsAtStart game v priorities before after start → start ≤ place → place < length priorities →

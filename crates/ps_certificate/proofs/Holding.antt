@@ -1,8 +1,8 @@
 -- If a player follows the moves of a valid certificate, from a vertex that this certificate gives to the player, the
 -- greatest priority of every loop of the path has the player's parity. Suppose that the greatest priority of a loop has
--- the other parity. Then the count for this priority never rises along the edges of the loop, and it falls at a vertex
--- that has this priority. But the count must be the same at both ends of a loop, which ends at the vertex at which it
--- begins.
+-- the opponent's parity. Then the count for this priority never rises along the edges of the loop, and it falls at a
+-- vertex that has this priority. But the count must be the same at both ends of a loop, which ends at the vertex at
+-- which it begins.
 use Rattle.std.proofs.Common.{◌≡◌, ◌≢◌, ℕ, ◌+◌, ◌-◌, ◌%◌, ◌<◌, ◌≤◌, ◌∙◌, List, length, inl, inr, sym, ap, arith, zero}
 use Rattle.std.proofs.Common.{suc, rules}
 use Rattle.std.specs.Prelude.{slice_index}
@@ -63,14 +63,15 @@ winner_along : {game : ParityGame} {certificate : CertificateData} {player : ℕ
     winner_of certificate (slice_index path k) ≡ player
 winner_along {game} {certificate} {player} {path} lost k before = search (rules, path_stays)
 
--- at each vertex of the lost loop, the priority at index `place` of those that oppose the winner is the loop's greatest
--- priority
+-- at each vertex of a lost loop (one whose greatest priority opposes the winner), the item at index `place` of the
+-- priorities that oppose the winner is the loop's greatest priority
 at_place : {game : ParityGame} {certificate : CertificateData} {player : ℕ} {path : List ℕ} {i j place : ℕ} →
     LostLoop game certificate player path i j place → (k : ℕ) → k ≤ j →
     opposing_at certificate (slice_index path k) place ≡ loop_priority game path i j
 at_place {certificate} {place} lost k before = grind (arith, winner_along lost k before)
 
--- each step of the lost loop obeys the certificate's rule of counts for the loop's greatest priority
+-- each step of a lost loop (one whose greatest priority opposes the winner) obeys the certificate's rule of counts for
+-- this priority
 step_keeps : {game : ParityGame} {certificate : CertificateData} {player : ℕ} {path : List ℕ} {i j place : ℕ} →
     LostLoop game certificate player path i j place → (k : ℕ) → i ≤ k → k < j →
     KeepsCount game certificate (slice_index path k) (slice_index path (k + 1)) place

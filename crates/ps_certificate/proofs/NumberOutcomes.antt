@@ -1,7 +1,7 @@
 -- The grammar of a number obeys the grammar laws of the crate `ps_text`. Each condition on a number is decidable, so
 -- parsing a number from any bytes has a result: a value or an error.
--- - `judged_by`, `number_by`: lemmas for a number that a condition judges, and for a number that may disagree with the
---   game
+-- - `judged_by`, `number_by`: the grammar laws hold for a number that is an error if a given condition holds, and for a
+--   number that may disagree with the game
 -- - `decide_next`, `judge_priority`, `judge_zero`, `judge_missing`: the errors of numbers, and of the end of a line,
 --   are decidable
 use Rattle.std.proofs.Common.{◌≡◌, ℕ, ◌^◌, ◌<◌, ◌≤◌, ◌⊎◌, List, [], ◌∷◌, length, drop, refl, inl, inr, arith, rules}

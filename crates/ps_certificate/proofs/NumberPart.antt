@@ -91,7 +91,7 @@ wrong_run_is {bytes} e l w = grind (arith, numeral_split bytes, numeral_plain by
 one_byte : (b : ℕ) (more : List ℕ) → IsPlainNumber (b ∷ more) → IsPlainNumber (b ∷ [])
 one_byte b more h = plain_front (b ∷ []) more (omega arith) h
 
--- in this module, the bytes begin with a digit, and the number that they begin with has no error
+-- assumed in this module: the bytes begin with a digit, and the number with which they begin has no error
 module _ (Wrong : Verdict) (settled : Settled Wrong) (t : Seen) (after : List Seen)
     (long : 0 < run_length (t.byte ∷ t.behind))
     (right : (f : CertCause) → IsWrongRun Wrong (t.byte ∷ t.behind) f → ⊥) where
@@ -272,7 +272,8 @@ judged_wrong settled f r wrong first is =
 
 -- the parser has read a number; `Wrong` states which numbers don't belong to the game
 module _ (Wrong : ℕ → Type 0) {old new : Stream Seen} {n : ℕ} (r : IsNumberRead old new n) where
-  -- the parser accepts the number unless a space, a newline or a colon follows it and it doesn't belong to the game
+  -- the parser rejects the number if it doesn't belong to the game and a space, a newline or a colon follows it;
+  -- otherwise the parser accepts the number
   pub number_reads : (EndsField r.rest → Wrong n → ⊥) → Reads (number Wrong) old n new
   number_reads right = judged_reads (OfOtherGame Wrong) (settled_other Wrong) r (λ f w. right w.1 w.2)
 

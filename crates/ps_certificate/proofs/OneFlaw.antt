@@ -1,4 +1,4 @@
--- Of two different flaws, at most one comes before the other, so the first flaw is unique.
+-- Two different flaws can't each come before the other, so the first flaw is unique.
 use Rattle.std.proofs.Common.{◌≡◌, ◌≢◌, ℕ, ◌<◌, List, length, rules}
 use Rattle.std.specs.Prelude.{slice_index}
 use Rattle.std.specs.List.{AllPairs}

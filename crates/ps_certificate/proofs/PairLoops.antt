@@ -64,8 +64,8 @@ no_pairs_yet {ps} {start} {n} e = record {
   carries = carries_start causes (many (pair ps) no_pairs) start;
 }
 
--- the bytes from `old` to `new` are parsed as a pair of the priority `p` and the count `m`, whichever pairs were read
--- before, if the last of them had the priority `last`
+-- if `last` is the priority of the previous pair, the bytes from `old` to `new` are parsed as the pair of the priority
+-- `p` and the count `m`, whatever the earlier pairs were
 abbrev pub ReadsPair : List ℕ → Option ℕ → Stream Seen → ℕ → ℕ → Stream Seen → Type 0
 ReadsPair ps last old p m new = (pairs : Pairs) → pairs.last ≡ last
     → Reads (pair ps pairs) old (with_pair pairs p m) new

@@ -1,11 +1,12 @@
--- A certificate is closed or has a first flaw, and a certificate that fits its game is valid or has a first flaw. The
--- first flaw is found by searching the vertices in order, at each vertex the successors, and for each edge the
--- priorities.
--- - `IsFirstPlace`, `first_place`: if P or Q holds for each number below n, P holds for all of them, or Q holds for
---   some k and P for each number less than k
+-- A certificate is closed or has a first flaw, and a certificate that fits its game is valid or has a first flaw. To
+-- find the first flaw, the proof goes through the vertices in order, through the successors of each vertex, and through
+-- the priorities for each edge.
+-- - `IsFirstPlace`, `first_place`: suppose that P or Q holds for each number less than n. Then P holds for all these
+--   numbers, or Q holds for some k less than n and P holds for each number less than k
 -- - `decide_move`, `decide_rule`: it is decidable whether a vertex's move is right, and whether an edge obeys the
 --   certificate's rule of counts
--- - `sound_or_flawed`, `kept_or_flawed`: for each stage of the check, a vertex has no flaw, or it has a first one
+-- - `sound_or_flawed`, `kept_or_flawed`: a vertex has no flaw that the first or the second stage of the check reports,
+--   or it has a first flaw of this stage
 -- - `closed_or_flawed`, `valid_or_flawed`: the two lemmas that prove the law `first_flaw_is_there`
 use Rattle.std.proofs.Common.{◌≡◌, ◌≢◌, ℕ, zero, suc, ◌<◌, ◌≤◌, ◌⊎◌, inl, inr, length, get_or, Option, None, Some, refl}
 use Rattle.std.proofs.Common.{sym, subst, arith, rules}

@@ -27,7 +27,7 @@ pub has_entry : {game : ParityGame} (certificate : CertificateData) →
 has_entry {game} certificate well each v k {w} in_range within is = let below : w < vertex_count game =
     well.within v w (HasEdge-at game v k in_range within is) in omega (arith, each)
 
--- the winner's moves allow each edge that leaves a vertex of the loser
+-- the winner's moves allow each edge that leaves a vertex which the loser owns
 pub Remains-other : (game : ParityGame) (certificate : CertificateData) (v w : ℕ) →
     owner_of game v ≢ winner_of certificate v → HasEdge game v w → Remains game certificate v w
 Remains-other game certificate v w other edge = record { edge = edge; chosen = λ own. absurd (other own) }
@@ -40,7 +40,8 @@ Remains-own game certificate v is edge = record { edge = edge; chosen = λ _. is
 pub IsSomeAnd-at : {A : Type 0} {o : Option A} (P : A → Type 0) {x : A} → o ≡ Some x → IsSomeAnd o P → P x
 IsSomeAnd-at {A} P is holds = let F : Option A → Type 0 = λ p. IsSomeAnd p P in subst F is holds
 
--- an option with a value that has the property P is `Some x`, and x has this property
+-- if an option has a value, and this value has the property P, the option is `Some x` for some x that has the property
+-- P
 pub some_of : {A : Type 0} (o : Option A) (P : A → Type 0) → IsSomeAnd o P → (x : A) × (o ≡ Some x) × P x
 some_of o P h = search rules
 
@@ -60,8 +61,8 @@ pub not_wrong_when_right : {game : ParityGame} {certificate : CertificateData} {
     HasRightMove game certificate v → HasWrongMove game certificate v → ⊥
 not_wrong_when_right h k = search rules
 
--- at a vertex that the loser owns, the edge to the first successor with the other winner is the vertex's first escape,
--- an edge out of the winner's region
+-- at a vertex that the loser owns, the edge to the first successor with another winner is the vertex's first escape (an
+-- escape is an edge out of the winner's region)
 pub IsFirstEscape-at : {game : ParityGame} {certificate : CertificateData} {v : ℕ} (k : ℕ) {w : ℕ} → v <
     vertex_count game → owner_of game v ≢ winner_of certificate v → k < length (successors_of game v) → w ≡ slice_index
     (successors_of game v) k → ((j : ℕ) → j < k → winner_of certificate (get_or (successors_of game v) j 0)

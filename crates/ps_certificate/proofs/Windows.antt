@@ -1,4 +1,4 @@
--- How the check marks the numbers of a list that are priorities of a game, in one pass over the vertices.
+-- In one pass over the vertices, the check marks those numbers of a list that are priorities of the game.
 use Rattle.std.proofs.Common.{◌≡◌, ℕ, ◌%◌, below_more, ◌+◌, ◌-◌, ◌<◌, ◌≤◌, ◌∙◌, List, length, get_or, set, inl, inr}
 use Rattle.std.proofs.Common.{sym, arith, Bool, true, false, Option, take, drop, subst, length-take, length-drop, rules}
 use Rattle.std.specs.Prelude.{slice_index, IfSome, is_some}
@@ -84,8 +84,8 @@ pub record AreJust (game : ParityGame) (parity : ℕ) (list : List ℕ) (seen : 
   pub marks : AreMarks game list seen vertex
   pub complete : (v : ℕ) → v < vertex → priority_of game v % 2 ≡ parity → Contains list (priority_of game v)
 
--- if the list contains the priority of `vertex`, marking it makes `AreJust` true of the vertices up to and including
--- `vertex`
+-- if the list contains the priority of `vertex`, marking this priority gives the marks for the vertices up to and
+-- including `vertex`, as `AreJust` defines them
 pub AreJust-found : {game : ParityGame} {parity : ℕ} {list : List ℕ} {seen : List Bool} {vertex place priority : ℕ} →
     IsStrictlyIncreasing list → vertex < vertex_count game → priority ≡ priority_of game vertex → IsAt list
     priority place → AreJust game parity list seen vertex → AreJust game parity list (set seen place true) (vertex + 1)

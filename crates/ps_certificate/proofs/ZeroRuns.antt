@@ -1,4 +1,4 @@
--- How the writer of a certificate writes a run of zero counts.
+-- To write a run of zero counts, the writer of a certificate takes a prefix of a fixed text of zeros.
 use Rattle.std.proofs.Common.{◌≡◌, ℕ, zero, suc, ◌+◌, ◌*◌, ◌≤◌, ◌∙◌, List, [], ◌∷◌, ◌++◌, take, drop, replicate, refl}
 use Rattle.std.proofs.Common.{sym, ap, arith}
 use Rattle.std.specs.Prelude.{decimal}

@@ -80,8 +80,8 @@ pub record IsValid (game : ParityGame) (certificate : CertificateData) : Type 0 
   pub counts : (v w k : ℕ) → Remains game certificate v w → winner_of certificate w ≡ winner_of certificate v →
       k < length (opposing certificate (winner_of certificate v)) → KeepsCount game certificate v w k
 
--- the move of a vertex is wrong: the winner owns the vertex, whose move is missing or is not a successor, or the loser
--- owns the vertex, which has a move
+-- the move of a vertex is wrong if the winner owns the vertex and the move is missing or is not a successor, or if the
+-- loser owns the vertex and it has a move
 abbrev pub HasWrongMove : ParityGame → CertificateData → ℕ → Type 0
 HasWrongMove game certificate v =
     ((owner_of game v ≡ winner_of certificate v) × ¬ IsSomeAnd (choice_of certificate v) (HasEdge game v))
@@ -111,8 +111,8 @@ abbrev pub OccursBefore : List ℕ → ℕ → ℕ → Type 0
 OccursBefore xs x y =
     (i : ℕ) × (j : ℕ) × (i < j) × (j < length xs) × (slice_index xs i ≡ x) × (slice_index xs j ≡ y)
 
--- the edge from v to w comes before the edge from v' to w': edges are ordered by the vertex that they leave, then as in
--- its list of successors
+-- the edge from v to w comes before the edge from v' to w': edges are ordered by the vertex that they leave, and edges
+-- that leave the same vertex by its list of successors
 abbrev pub EdgePrecedes : ParityGame → ℕ → ℕ → ℕ → ℕ → Type 0
 EdgePrecedes game v w v' w' = (v < v') ⊎ ((v ≡ v') × OccursBefore (successors_of game v) w w')
 

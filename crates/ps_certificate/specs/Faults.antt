@@ -6,7 +6,7 @@ use Rattle.ps_certificate.specs.declared.fault.CertCause.TheVariants.{Syntax, Ot
 use Rattle.ps_certificate.specs.declared.flaw.Flaw.{Flaw}
 use Rattle.ps_certificate.specs.declared.flaw.Flaw.TheVariants.{Move, Escape, Rank}
 
--- why the parser returns no certificate: an error of the text with its offset, or out of memory
+-- why the parser returns no certificate: the text has an error, which is given with its offset, or memory ran out
 abbrev pub CertFault : Type 0
 CertFault = Fault CertCause
 

@@ -49,8 +49,8 @@ pub record IsFirstFrom (placed : List PlacedCount) (place number : ℕ) : Type 0
   pub before : AreBefore placed place number
   pub behind : (i : ℕ) → number ≤ i → i < length placed → place ≤ place_at placed i
 
--- from index `from` up to, but not including, index `end`, no count of the first list is greater than that of the
--- second
+-- from index `from` up to, but not including, index `end`, no count of the first list is greater than the second list's
+-- count at the same index
 abbrev pub AreAtMost : List ℕ → List ℕ → ℕ → ℕ → Type 0
 AreAtMost counts others from end = (k : ℕ) → from ≤ k → k < end → slice_index counts k ≤ slice_index others k
 

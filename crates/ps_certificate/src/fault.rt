@@ -11,11 +11,12 @@ pub enum CertCause {
     /// The text does not have the form of a certificate, or a number in it does not fit in 64 bits. In a compact text,
     /// no count may be 0, and the priorities in a line must ascend.
     Syntax,
-    /// The text disagrees with the given game; up to that position, its form is right.
+    /// At the offset of the error, the text disagrees with the given game; before this offset, the text's form is
+    /// right.
     OtherGame,
 }
 
-/// Why the parser returned no certificate: an error of the text with its offset, or out of memory.
+/// Why the parser returned no certificate: the text has an error, which is given with its offset, or memory ran out.
 pub type CertFault = Fault<CertCause>;
 
 impl Cause for CertCause {

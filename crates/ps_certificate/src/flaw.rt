@@ -5,8 +5,8 @@ ghost use Rattle.std.specs.Prelude.{◌≡◌};
 /// The first thing that is wrong with a certificate. Vertices are given by their indices, from 0.
 #[derive(Clone, Copy, Debug, PartialEq, Eq)]
 pub enum Flaw {
-    /// The move of a vertex is wrong: the winner owns the vertex, whose move is missing or is not a successor, or the
-    /// loser owns the vertex, which has a move.
+    /// The move of a vertex is wrong: the winner owns the vertex and the move is missing or is not a successor, or the
+    /// loser owns the vertex and it has a move.
     Move {
         /// The vertex.
         vertex: usize,

@@ -17,7 +17,7 @@ pub(crate) fn leading_zeros(numbers: &[u64], most: usize) -> usize
     zeros
 }
 
-/// The number of zeros in the leading blocks of eight zeros, among the first `end` numbers of a list.
+/// The number of zeros that the first `end` numbers of a list begin with, rounded down to a multiple of eight.
 fn zero_blocks(numbers: &[u64], end: usize) -> usize
     requires { end ≤ length numbers.now }
     ensures within { result ≤ end }

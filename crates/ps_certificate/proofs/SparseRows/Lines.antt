@@ -64,7 +64,7 @@ module _ (ws : List ℕ) (ls : List Line) (cs new : List PlacedCount) (are : Are
         (ls ++ line ∷ []) new ≡ entries_in ws ls cs ++ record { winner = w; choice = line.choice; counts = row } ∷ []
     entries_push is = search (rules, zip_push, map-append, entries_same)
 
-    -- the stored entries stay well formed when one more is appended whose counts are in the shared list
+    -- if one more entry is appended, and its counts are in the shared list, the stored entries stay well formed
     pub lines_push : IsRowWithin new line → AreLines (ws ++ w ∷ []) (ls ++ line ∷ []) new
     lines_push is = grind (
       arith,

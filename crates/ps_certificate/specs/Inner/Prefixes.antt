@@ -90,12 +90,12 @@ KeepsCounts game certificate v w =
 abbrev pub KeepsCountsAt : ParityGame → CertificateData → ℕ → Type 0
 KeepsCountsAt game certificate v = (w : ℕ) → Remains game certificate v w → KeepsCounts game certificate v w
 
--- the edges of each vertex before vertex `n` obey the certificate's rule of counts, as far as the winner's moves allow
--- these edges
+-- at each vertex before vertex `n`, each edge that the winner's moves allow obeys the certificate's rule of counts
 abbrev pub KeepCountsBefore : ParityGame → CertificateData → ℕ → Type 0
 KeepCountsBefore game certificate n = (v : ℕ) → v < n → KeepsCountsAt game certificate v
 
--- the first edge that breaks the certificate's rule of counts, as a flaw: no earlier vertex has such an edge
+-- the flaw is the first edge that breaks the certificate's rule of counts; no earlier vertex has an edge that breaks
+-- this rule
 pub record IsFirstUnranked (game : ParityGame) (certificate : CertificateData) (flaw : Flaw) : Type 0 where
   pub vertex : ℕ
   pub at_vertex : IsFirstFlawAt game certificate 1 vertex flaw

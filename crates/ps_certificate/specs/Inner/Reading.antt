@@ -3,8 +3,8 @@
 -- - `Tells view part old result new`: the function parsed the grammar's part `part`, or located its first error
 -- - `numeral bytes`: the longest number without leading zeros with which the bytes begin
 -- - `TellsNumber old result new`: the function moved past a number, or no number of 64 bits begins here
--- - `TellsPriority`, `TellsHead`, `TellsEntries`: the function for a count's priority, for the first lines or for the
---   whole text parsed its part, or located the first error
+-- - `TellsPriority`, `TellsHead`, `TellsEntries`: the function that parses a count's priority, the first lines or the
+--   whole text has parsed this part of the text, or has located its first error
 use Rattle.std.specs.Prelude.{◌≡◌, ℕ, ◌+◌, ◌^◌, ◌<◌, ◌≤◌, ◌⊎◌, List, [], ◌∷◌, ◌++◌, length, Option, Some, None, Result}
 use Rattle.std.specs.Prelude.{Ok, Err, Bool, true, false, ◌||◌, nat_lt, ◌==◌, if◌then◌else◌, take_while, slice_index}
 use Rattle.std.specs.Char.{is_ascii_digit}

@@ -2,7 +2,7 @@ use Rattle.std.proofs.Common.{ℕ, ◌-◌, ◌<◌, ◌≤◌, length, get_or}
 use Rattle.ps_game.specs.Ranking.{HasPriority}
 use Rattle.ps_certificate.proofs.fitted.all_present.Given as goal
 
--- each number before index `start` is the priority of some vertex
+-- each number of the list before index `start` is the priority of some vertex
 abbrev pub invariant-loop-start : goal.invariant-loop-start
 invariant-loop-start g l = record {
   within : l.start ≤ length l.rising.list.now;
