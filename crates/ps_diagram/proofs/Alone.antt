@@ -77,7 +77,8 @@ alone_end {n} {letter} lt same done alone other olt =
       ]
     ]
 
--- one iteration of the loop over the propositions, which counts down
+-- each iteration of the loop, which goes through the propositions from the last to the first, adds a test of one more
+-- proposition to the tree
 pub alone_next : {n m i letter : ℕ} (v : Bool) (none node made : Tree) → m ≡ n → 0 < i → i ≤ n →
     ((f : ℕ → Bool) → leaf_at none f ≡ None) → IsAlone n i letter node → is_in (i - 1) letter ≡ v →
     IsTestOf (i - 1) (cond v none node) (cond v node none) made → IsAlone m (i - 1) letter made

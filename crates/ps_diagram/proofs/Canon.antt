@@ -112,7 +112,7 @@ from-level n (choice p low high) level o r b = elim (cases_lt p level) [
   | inr le ↦ (le, o.1, o.2, o.3)
 ]
 
--- the conditions under which a test can be added to the table
+-- a test can be added to the table: its tree is ordered and reduced
 pub record Ready (t : Table) (p low high : ℕ) : Type 0 where
   pub ordered : IsFrom 0 t.propositions (choice p (tree_of t low) (tree_of t high))
   pub reduced : IsReduced (choice p (tree_of t low) (tree_of t high))

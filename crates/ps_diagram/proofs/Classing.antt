@@ -1,5 +1,6 @@
--- The classes of the letters over a mask, derived from a diagram whose leaves are numbers of nodes. At each letter, the
--- leaf's node is what remains of the divided node after the mask's propositions have been read.
+-- The letters over the propositions of a mask are divided into classes, by a diagram whose leaves are numbers of nodes.
+-- At each letter, the node with this number is what remains of the given node after the mask's propositions have been
+-- read.
 use Rattle.std.proofs.Common.{◌≡◌, ◌↔◌, ℕ, ◌<◌, ◌^◌, Bool, true, false, List, length, Option, Some, rules}
 use Rattle.std.proofs.Common.{sym, ◌∙◌, arith, inl, inr}
 use Rattle.std.proofs.lemmas.Bool.{cases_lt, false_from_ne_true}
@@ -46,7 +47,7 @@ listed t node own leaves list h o =
       rising = search (rules, o.letter, h.rising);
     }
 
--- a letter leads from a node to the same leaf when the table grows
+-- when the table grows, each letter still leads from a node to the same leaf
 leads_kept : {t u : Table} → Keeps t u → {node : ℕ} → IsNode t node → (leaf letter : ℕ) →
     LeadsToLeaf t node leaf letter ↔ LeadsToLeaf u node leaf letter
 leads_kept k {node} h leaf letter = search rules
@@ -64,8 +65,9 @@ leaves_kept k {node} h all = record {
   rising = all.rising;
 }
 
--- The diagrams that are made from a node of the table s. `divided` leads each letter to the node that remains after it;
--- each of these leaves gives a class of the list. `at` leads each letter to the index of its class.
+-- The diagrams that are made from a node of the table s. The diagram `divided` leads each letter to the number of the
+-- node that remains after this letter has been read; each leaf of `divided` gives a class of the list. The diagram `at`
+-- leads each letter to the index of its class.
 record Made (s u : Table) : Type 0 where
   pub mask : ℕ
   pub node : ℕ
@@ -83,7 +85,8 @@ record Made (s u : Table) : Type 0 where
   pub placed : IsPlaced places list
   pub mapped : (f : ℕ → Bool) → leaf_at (tree_of u at) f ≡ option_and_then places (leaf_at (tree_of u divided) f)
 
--- k is the index of the class of the letter f, and the class's diagram is what remains of the divided node after f
+-- k is the index of the class of the letter f, and the class's diagram is what remains of the divided node after f has
+-- been read
 record IsPlaceOf (s u : Table) (m : Made s u) (f : ℕ → Bool) (k : ℕ) : Type 0 where
   within : k < length m.list
   is : leaf_at (tree_of u m.at) f ≡ Some k
@@ -91,7 +94,8 @@ record IsPlaceOf (s u : Table) (m : Made s u) (f : ℕ → Bool) (k : ℕ) : Typ
   held : IsNode u (class_at m.list k).rest
   leaf : (g : ℕ → Bool) → leaf_at (tree_of u (class_at m.list k).rest) g ≡ leaf_at (tree_of s m.node) (mixed m.mask f g)
 
--- lemmas on `mixed`, the letter that has the bits of one letter on the mask, and the bits of another letter elsewhere
+-- the function `mixed` gives the letter that has the bits of one letter on the mask, and the bits of another letter
+-- elsewhere
 
 mixed_first : (mask x v q : ℕ) → AgreeOn mask x v → mixed mask (assignment x) (assignment v) q ≡ is_in q v
 mixed_first mask x v q on = elim (bool_cases (is_in q mask)) [ inl is ↦ rw is (on q is) | inr isnt ↦ rw isnt ]
@@ -104,7 +108,8 @@ mixed_alike : (mask : ℕ) (f g w : ℕ → Bool) (q : ℕ) → ((p : ℕ) → i
     mixed mask f w q ≡ mixed mask g w q
 mixed_alike mask f g w q on = elim (bool_cases (is_in q mask)) [ inl is ↦ rw is (on q is) | inr isnt ↦ rw isnt ]
 
--- the numbers of the letters that `mixed` makes
+-- the number of a letter that `mixed` gives is a letter that agrees with the first letter on the mask, and with the
+-- second elsewhere
 
 joined_letter : (n mask x : ℕ) (w : ℕ → Bool) → x < 2 ^ n → AgreeOn mask x (letter_of n (mixed mask (assignment x) w))
 joined_letter n mask x w h p is = search (rules, cases_lt, letter_is, no_bit, letter_lt)

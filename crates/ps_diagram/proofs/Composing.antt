@@ -33,7 +33,7 @@ module _ {t u : Table} (truths : List ℕ) (k : Keeps t u) (held : All (IsNode t
   pub bits_after : (letter : ℕ) (f : ℕ → Bool) → AreBitsAt t truths letter f → AreBitsAt u truths letter f
   bits_after letter f bits p lt = bits p lt ∙ sym (ap is_some (leaf_same letter k (held p 0 lt)))
 
-  -- each entry of the memo table still relates a node to the node made from it when the table of nodes grows
+  -- when the table of nodes grows, each entry of the memo table still relates a node to the node that was made from it
   pub composed_kept : (s : Table) (known : ℕ → Option ℕ) → Knows (IsComposed t truths) s t known →
       Knows (IsComposed u truths) s u known
   composed_kept s known h node made e =

@@ -43,7 +43,7 @@ module _ {X : Type 0} (eq : X → X → Bool) (same : (a b : X) → Decides (eq 
   pub one_place : (i j : ℕ) {x : X} → slice_get xs i ≡ Some x → slice_get xs j ≡ Some x → i ≡ j
   one_place i j a b = grind (arith, cases_order, not_before)
 
--- if the equality test holds for an inserted key and the stored one, they are equal
+-- if the equality test is true of an inserted key and a stored key, the two keys are equal
 pub stored_is : {X : Type 0} (eq : X → X → Bool) (same : (a b : X) → Decides (eq a b) (a ≡ b)) (xs : List X) (i : ℕ)
     (x : X) → ((k : X) × (slice_get xs i ≡ Some k) × (eq x k ≡ true)) → slice_get xs i ≡ Some x
 stored_is eq same xs i x s = cc (s.1, (same x s.0).0 s.2)

@@ -37,8 +37,9 @@ pub tested_kept : {t u : Table} → Keeps t u → {test : (ℕ → Bool) → Boo
 tested_kept k h = are_tested h.low_is h.high_is h.made_is (k.held h.low h.low_held) (k.held h.high h.high_held)
     (search rules) (λ g. rw (k.same h.made h.held, k.same h.high h.high_held, k.same h.low h.low_held) (h.leaf g))
 
--- Nodes with the same leaves are equal. So if the same remains of a diagram after two letters, the diagram whose leaves
--- are the nodes that remain has the same leaf at both letters.
+-- Nodes with the same leaves are equal. If what remains of a diagram after one letter has the same leaves as what
+-- remains after another letter, the diagram of the remaining nodes' numbers therefore has the same leaf at both
+-- letters.
 
 pub divided_alike : {t : Table} → IsSoundTable t → (mask : ℕ) (a d : Tree) → IsDivided t mask a d → (f g : ℕ → Bool) →
     ((w : ℕ → Bool) → leaf_at a (mixed mask f w) ≡ leaf_at a (mixed mask g w)) → leaf_at d f ≡ leaf_at d g
@@ -70,7 +71,8 @@ pub tested_blind : {t : Table} → IsSoundTable t → (p level : ℕ) (a b d : T
     IsBlind level b → IsBlind level d
 tested_blind {t} s p level a b d h ba bb f g e = tested_alike s p a b d h f g (ba f g e) (bb f g e)
 
--- how divided trees and tested trees are made
+-- to divide a node, its low side and its high side are divided, and from the two diagrams, whose leaves are numbers of
+-- nodes, one diagram is made
 
 -- what remains of a diagram that tests no proposition has the diagram's leaf
 pub divided_here : {t u : Table} → Keeps t u → (mask : ℕ) {node place : ℕ} (a : Tree) {d : Tree} (leaf : Option ℕ) →
@@ -134,7 +136,8 @@ place_of t level d h node e =
     let r = h (λ _. false) in
     search rules
 
--- a test made of a low side from one table and a high side from a later one
+-- each of the three trees has the number of one node as its leaf at every letter. If the third node tests p and has the
+-- first two nodes as its sides, the three trees are as in `IsTested`
 pub tested_between : {t u v : Table} → Keeps t u → Keeps u v → (p : ℕ) (a b d : Tree) {low high made : ℕ} →
     ((f : ℕ → Bool) → leaf_at a f ≡ Some low) → ((f : ℕ → Bool) → leaf_at b f ≡ Some high) →
     ((f : ℕ → Bool) → leaf_at d f ≡ Some made) → IsNode t low → IsNode t high → IsNode u made →

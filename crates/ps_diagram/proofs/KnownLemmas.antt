@@ -1,5 +1,5 @@
--- In a memo table, each entry still relates the tree of its key to the tree of its result when the table of nodes
--- grows, and when an entry is added.
+-- When the table of nodes grows, or a memo table gets one more entry, each entry of the memo table still relates the
+-- tree of its key to the tree of its result.
 use Rattle.std.proofs.Common.{◌≡◌, ℕ, Bool, true, eqb, Ok, Option, Some, rules, sym, subst, ◌∙◌, ◌⊎◌, inl, inr}
 use Rattle.std.specs.Option.{unwrap_or}
 use Rattle.std.proofs.lemmas.Bool.{eqb-true}

@@ -1,4 +1,4 @@
--- Letters as numbers and as functions.
+-- Lemmas about letters, which are given as numbers or as functions from propositions to truth values.
 use Rattle.std.proofs.Common.{◌≡◌, ℕ, zero, suc, ◌+◌, ◌*◌, ◌^◌, ◌<◌, ◌≤◌, Bool, true, false, cond, sym}
 use Rattle.std.proofs.Common.{add-zero, ◌∙◌, arith, inl, inr}
 use Rattle.std.proofs.lemmas.Bool.{cases_lt}

@@ -1,4 +1,4 @@
--- Products of literals: products with one more literal, and products as trees.
+-- Lemmas about products (conjunctions) of literals: a literal is added to a product, or a product is made into a tree.
 use Rattle.std.proofs.Common.{◌≡◌, ℕ, zero, suc, ◌+◌, ◌-◌, ◌*◌, ◌^◌, ◌%◌, ◌<◌, ◌≤◌, Bool, true, false, cond, None}
 use Rattle.std.proofs.Common.{refl, sym, ap, ◌∙◌, arith, nat_eq, bit_or, ◌⊎◌, inl, inr}
 use Rattle.std.specs.Prelude.{◌&&◌, ◌||◌}
@@ -83,7 +83,7 @@ other_number q p ne = grind arith
 same_number : (p : ℕ) → nat_eq p p ≡ true
 same_number p = grind arith
 
--- a product of literals, extended by the literal that p is true
+-- the product of literals that is made from `product` by adding the literal that p is true
 abbrev pub with_positive : Product → ℕ → Product
 with_positive product p = record {
   positive = bit_or product.positive (1 * 2 ^ p % 2 ^ 64);

@@ -10,7 +10,7 @@ use Rattle.ps_diagram.specs.Reached.{AreLeaves}
 use Rattle.ps_diagram.specs.Inner.Numbered.{class_at, pair_at, AreOf, IsPlaced}
 use Rattle.ps_diagram.proofs.Cells.{bool_cases, push_each}
 
--- leaves whose least letters ascend are different
+-- if the least letters of a list's leaves ascend, no leaf occurs twice in the list
 pub leaves_differ : {t : Table} {node : ℕ} {found : List (ℕ × ℕ)} → AreLeaves t node found →
     AllPairs (λ a b. a.0 ≢ b.0) found
 leaves_differ {found} h i j d lt below e = search rules

@@ -106,8 +106,8 @@ spread_test t mask level letter a dl dh d small low high test f agree = elim (bo
       (r.0, rw (test f, isnt) r.1, r.2, r.3)
 ]
 
--- the diagram of cofactors for both values of the proposition `level` is a test of it, whose sides are made one after
--- the other
+-- the diagram of cofactors for both values of the proposition `level` is a test of this proposition, and the two sides
+-- of the test are made one after the other
 pub spread_sides : {t u v : Table} (mask level letter next : ℕ) (a : Tree) {low : ℕ} (high made : ℕ) →
     letter < 2 ^ level → next ≡ letter + 2 ^ level → Keeps t u → Keeps u v → IsNode t low →
     IsSpread t mask (level + 1) letter a (tree_of t low) → IsSpread u mask (level + 1) next a (tree_of u high) →

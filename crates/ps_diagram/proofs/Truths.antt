@@ -1,4 +1,5 @@
--- Diagrams of truth values (leaf 1 or none): how they are made, and that they stay the same when the table grows.
+-- Lemmas about diagrams of truth values, which have the leaf 1 for true and no leaf for false: such diagrams are made,
+-- and stay the same when the table grows.
 use Rattle.std.proofs.Common.{◌≡◌, ℕ, ◌+◌, ◌<◌, Bool, true, false, cond, List, [], ◌∷◌, ◌++◌, length, get_or, Option}
 use Rattle.std.proofs.Common.{Some, refl, ap, sym, ◌∙◌, arith, drop, drop-cons, add-one, length-append, rules}
 use Rattle.std.specs.Prelude.{option_map}
@@ -48,8 +49,8 @@ opposite_of b = search rules
 pub joined_of : (a b : Bool) → either_leaf (one_where a) (one_where b) ≡ one_where (cond a true b)
 joined_of a b = search rules
 
--- The operands of a label so far decide the label's truth value, or the remaining operands decide it. In a disjunction
--- (`any` is true), a true operand decides; in a conjunction, a false operand decides.
+-- Of a label's operands, those that were visited so far decide the label's truth value, or the remaining ones decide
+-- it. In a disjunction (`any` is true), a true operand decides; in a conjunction, a false operand decides.
 pub record IsDecided (any : Bool) (leaf : Option ℕ) (rest whole : Bool) : Type 0 where
   pub so_far : Bool
   pub is : leaf ≡ one_where so_far

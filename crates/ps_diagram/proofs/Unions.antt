@@ -25,7 +25,8 @@ pub first_leaf-append : (xs ys : List (Option ℕ)) → first_leaf (xs ++ ys) �
 first_leaf-append [] ys = refl
 first_leaf-append (x ∷ xs) ys = search (rules, joined_assoc, first_leaf-append xs ys)
 
--- the first leaf, at a letter, of a list of nodes to which one more is appended
+-- if a node is appended to a list of nodes, the longer list's first leaf at a letter is the old list's first leaf, or
+-- else the leaf of the appended node
 pub first_leaf-push : (t : Table) (nodes : List ℕ) {more : List ℕ} (node letter : ℕ) → more ≡ nodes ++ node ∷ [] →
     first_leaf (leaves_of t more letter) ≡ either_leaf (first_leaf (leaves_of t nodes letter)) (leaf_of t node letter)
 first_leaf-push t nodes node letter e = search (rules, map-append, first_leaf-append, joined_none)
@@ -69,7 +70,8 @@ union_truth t (node ∷ nodes) letter h =
     let one = (h 0 node (omega arith)).leaf letter in
     search (rules, tail_of, joined_of, union_truth t nodes letter (tail_of t node nodes h))
 
--- one more diagram of truth values is appended to a list of such diagrams, while the table grows
+-- if one more diagram of truth values is appended to a list of diagrams of truth values, all items of the longer list
+-- are diagrams of truth values in the grown table
 pub truths_more : {t u : Table} (nodes : List ℕ) {more : List ℕ} {node : ℕ} → Keeps t u → All (IsTruth t) nodes →
     IsTruth u node → more ≡ nodes ++ node ∷ [] → All (IsTruth u) more
 truths_more {t} {u} nodes {node} k h is e = subst (All (IsTruth u)) (sym e) (search (rules, All-push, all_kept))
@@ -112,9 +114,9 @@ back_kept {s} {t} nodes {back} m e k h = all_kept back k (grind (arith, All-drop
 
 -- ## The operands of a label, one after another
 
--- The nodes are the diagrams of the truth values of a label's operands so far. For a conjunction, each node is the
--- diagram of an operand's negation. If the operands so far do not decide the label's truth value, the remaining ones
--- do.
+-- The nodes are the diagrams of the truth values of those operands of a label that were visited so far. For a
+-- conjunction, each node is the diagram of an operand's negation. If the visited operands do not decide the label's
+-- truth value, the remaining ones do.
 pub record AreOperands (any : Bool) (s t : Table) (named made : List ℕ) (rest : List Expression) (label : Expression) :
     Type 0 where
   pub keeps : Keeps s t

@@ -14,7 +14,7 @@ LeadAlike t node mask x y =
 
 -- c is the class of letters with the index k. The class's letter is the least letter in the class; only propositions of
 -- the mask are true in it. The class's diagram depends only on propositions outside the mask. At each letter of the
--- class, it has the leaf of the node that was divided.
+-- class, this diagram has the same leaf as the node that was divided.
 pub record IsClass (s t : Table) (node mask places k : ℕ) (c : Class) : Type 0 where
   pub least : IsLeastLetter (LeadsToLeaf t places k) c.letter
   pub masked : (p : ℕ) → is_in p mask ≡ false → is_in p c.letter ≡ false

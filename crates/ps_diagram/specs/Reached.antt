@@ -26,9 +26,9 @@ pub record AreLeaves (t : Table) (node : ℕ) (found : List (ℕ × ℕ)) : Type
 abbrev pub IsFound : List (ℕ × ℕ) → ℕ → Type 0
 IsFound found leaf = (letter : ℕ) × (lookup (nat_eq leaf) found ≡ Some letter)
 
--- The letter `place` leads to the leaf in the tree t. The letters `place` and `letter` agree on the propositions before
--- the one that t tests first. Every letter x before `place` that leads to the leaf is excluded by `letter`: the first
--- proposition at which x and `place` differ is true in `letter`.
+-- The letter `place` leads to the leaf in the tree t. The letters `place` and `letter` agree on all propositions before
+-- the first proposition that t tests. Every letter x before `place` that leads to the leaf is excluded by `letter`: the
+-- first proposition at which x and `place` differ is true in `letter`.
 pub record IsFirstLetterTo (n : ℕ) (t : Tree) (letter leaf place : ℕ) : Type 0 where
   pub within : place < 2 ^ n
   pub there : leaf_at t (assignment place) ≡ Some leaf

@@ -1,4 +1,4 @@
-//! Joins two diagrams into one, whose leaves are the indices of pairs of their leaves.
+//! Joins two diagrams into one diagram, whose leaf at a letter is the index of the pair of the two diagrams' leaves.
 
 ghost use Rattle.std.specs.Prelude.{◌≡◌, ℕ, ◌+◌, IfOk, Some};
 ghost use Rattle.indexmap.specs.IndexMap.{get};

@@ -149,7 +149,7 @@ impl Store {
         }
     }
 
-    /// The diagram whose leaf at every letter is the number of the same node, which has the given leaf, or none, at
+    /// A diagram that has the same leaf at every letter: the number of the node that has the given leaf, or none, at
     /// every letter.
     fn place_of_leaf(&mut self, leaf: Option<u64>) -> Result<Node, AllocError>
         ensures { MakesTree self.old self.new result (λ made. (mask : ℕ) (tree : Tree) →
@@ -183,8 +183,9 @@ impl Store {
         self.tested(proposition, low, high, tests)
     }
 
-    /// The diagram whose leaf at a letter is the number of a node: the node that the proposition chooses between those
-    /// to which `low` and `high` lead the letter.
+    /// The diagram whose leaf at a letter is the number of a node. If the proposition is false, this node has the
+    /// leaves of the node to which `low` leads the letter, and otherwise the leaves of the node to which `high` leads
+    /// it.
     fn tested(
         &mut self,
         proposition: u32,

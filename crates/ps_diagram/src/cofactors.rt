@@ -43,8 +43,8 @@ impl Store {
         self.spread(other, node, split, level + 1, letter)
     }
 
-    /// The diagram whose leaf at every letter is the number of the same node: what remains of the given node after
-    /// `letter`.
+    /// A diagram that has the same leaf at every letter: the number of the node that remains of the given node after
+    /// `letter` has been read.
     fn spread_leaf(
         &mut self,
         other: &Store,

@@ -7,8 +7,8 @@ use Rattle.ps_diagram.specs.Split.{IsSides}
 use Rattle.ps_diagram.specs.Tree.{Tree, leaf_at}
 use Rattle.ps_diagram.specs.Table.{Table, IsNode, tree_of}
 
--- at letters at which the first tree has a leaf, the fourth tree has the leaf of the second, and at others that of the
--- third
+-- at a letter at which the first tree has a leaf, the fourth tree has the leaf of the second tree; at any other letter,
+-- the fourth tree has the leaf of the third tree
 abbrev pub IsChosen : Tree → Tree → Tree → Tree → Type 0
 IsChosen a b c d = (f : ℕ → Bool) → leaf_at d f ≡ chosen (leaf_at a f) (leaf_at b f) (leaf_at c f)
 

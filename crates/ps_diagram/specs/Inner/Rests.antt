@@ -36,11 +36,11 @@ IsSpread t mask level letter a d =
     (rest : ℕ) × (leaf_at d f ≡ Some rest) × IsNode t rest ×
     ((g : ℕ → Bool) → leaf_at (tree_of t rest) g ≡ leaf_at a (mixed mask f g))
 
--- `leaf` is the number of a node of the table, which depends only on propositions from `level` on
+-- `leaf` is the number of a node of the table, and the leaves of this node depend only on propositions from `level` on
 abbrev pub IsPlace : Table → ℕ → Option ℕ → Type 0
 IsPlace t level leaf = (node : ℕ) × (leaf ≡ Some node) × IsNode t node × IsBlind level (tree_of t node)
 
--- each leaf of the tree is the number of a node, which depends only on propositions from `level` on
+-- each leaf of the tree is the number of a node whose leaves depend only on propositions from `level` on
 abbrev pub LeadsToNodes : Table → ℕ → Tree → Type 0
 LeadsToNodes t level d = (f : ℕ → Bool) → IsPlace t level (leaf_at d f)
 
@@ -72,8 +72,8 @@ pub record AreTested (t : Table) (test : (ℕ → Bool) → Bool) (x y z : Optio
 abbrev pub IsTested : Table → ℕ → Tree → Tree → Tree → Type 0
 IsTested t p a b d = (f : ℕ → Bool) → AreTested t (λ g. g p) (leaf_at a f) (leaf_at b f) (leaf_at d f)
 
--- As in `IsTested` if p is not in the mask. If p is in the mask, the third node at the letter f has the leaves of the
--- second node if p is true in f, and otherwise those of the first.
+-- If p is not in the mask, the three trees are as in `IsTested`. If p is in the mask, the third node at the letter f
+-- has the leaves of the second node if p is true in f, and otherwise those of the first.
 abbrev pub IsDividedTest : Table → ℕ → ℕ → Tree → Tree → Tree → Type 0
 IsDividedTest t mask p a b d =
     (f : ℕ → Bool) → AreTested t (λ g. mixed mask f g p) (leaf_at a f) (leaf_at b f) (leaf_at d f)

@@ -21,8 +21,8 @@ pub record IsRow (t : Table) (level none : ℕ) (nodes : List ℕ) : Type 0 wher
   pub held : (i : ℕ) → IsNode t (slice_index_or nodes i none)
   pub later : (i : ℕ) → IsBlind level (tree_of t (slice_index_or nodes i none))
 
--- at each letter, the row's node whose index is the number of the letter's lowest `level` bits has the leaf that the
--- list `leaves` has for the letter
+-- the lowest `level` bits of a letter, as a number, are the index of a node in the row; at this letter, the node has
+-- the leaf that the list `leaves` has for the letter
 abbrev pub LeadsOn : Table → List ℕ → ℕ → ℕ → List ℕ → Type 0
 LeadsOn t leaves level none nodes =
     (letter : ℕ) → leaf_of t (slice_index_or nodes (letter % 2 ^ level) none) letter ≡ slice_get leaves

@@ -9,7 +9,7 @@ abbrev pub first_leaf : List (Option ℕ) → Option ℕ
 first_leaf [] = None
 first_leaf (leaf ∷ leaves) = either_leaf leaf (first_leaf leaves)
 
--- for a list of nodes, the leaf of each at the letter
+-- the list of the leaves that the nodes of a list have at the letter
 abbrev pub leaves_of : Table → List ℕ → ℕ → List (Option ℕ)
 leaves_of t nodes letter = map (λ node. leaf_of t node letter) nodes
 

@@ -8,7 +8,8 @@ use Rattle.ps_diagram.proofs.store.Store.+with_label.Given as goal
 abbrev pub decreases-with_label : goal.decreases-with_label
 decreases-with_label l = goal.size-with_label l
 
--- the product of the operands so far, together with the remaining operands, makes up the label
+-- the given product and the label are both true exactly if the product extended by the operands visited so far, and the
+-- remaining operands, are true
 abbrev pub invariant-loop-operand : goal.invariant-loop-operand
 invariant-loop-operand l = record {
   decides : (known : List Bool) (letter : ℕ) → (meets l.self.propositions l.more letter
