@@ -1,5 +1,5 @@
--- How the answer to a game text follows from parsing the text once or twice; the second time checks that each successor
--- is a node's id.
+-- The answer to a game text follows from parsing the text once or twice: the second time, each successor is compared
+-- with the ids of the nodes.
 use Rattle.std.proofs.Common.{◌≡◌, ℕ, ◌≤◌, List, length, Option, None, Some, Result, Ok, Err, IsErrAnd, IfOk, refl, sym}
 use Rattle.std.proofs.Common.{rules, ap, subst, zero, suc, ◌+◌, ◌-◌, Bool, cond, [], ◌∷◌, ◌++◌, arith, length-append}
 use Rattle.std.specs.Result.{IfErr}

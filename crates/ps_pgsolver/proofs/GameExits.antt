@@ -1,4 +1,5 @@
--- How the functions of the game parser return: a part of the grammar was parsed, or it has an error.
+-- When a function of the game parser returns, it has parsed a part of the grammar, or has found that part's first
+-- error.
 -- - `Done part old v new`: the grammar's part `part` was parsed from `old` to `new` with the value v
 -- - `done_then`, `stops_left`, `stops_right`: of two parts in a row, both are parsed, the first has an error, or the
 --   second has one
@@ -54,7 +55,7 @@ pub done_value : {V : Type 0} (P : Part Sign V PgCause) (old new : Stream Sign) 
     Done P old w new
 done_value P old new e m = (m.0, subst (λ x. IsRead P (signs old.pieces) x (signs new.pieces)) e m.1)
 
--- whatever parsing `rest` from `now` on gives, a value or an error, parsing `whole` from `start` on gives too
+-- parsing `whole` from `start` on gives the same value or error as parsing `rest` from `now` on
 pub record Continues {V : Type 0} (whole rest : Part Sign V PgCause) (start now : Stream Sign) : Type 0 where
   pub done : (v : V) (new : Stream Sign) → Done rest now v new → Done whole start v new
   pub stops : (e : PgFault) → Halts rest now e → Halts whole start e

@@ -24,7 +24,7 @@ place-within ids id h = search (rules, position-Some)
 places_within : (ids xs : List ℕ) → All (λ id. Contains ids id) xs → All (λ s. s < length ids) (map (place_of ids) xs)
 places_within ids xs h = search (rules, All-map, place-within)
 
--- each vertex of the game that is made from nodes belongs to one of the nodes
+-- each vertex of the game that is made from a list of nodes has the successors of one of these nodes
 pub draft_at : (ids : List ℕ) (nodes : List NodeData) (v : ℕ) → v < vertex_count (draft_of ids nodes) →
     (node : NodeData) × (successors_of (draft_of ids nodes) v ≡ map (place_of ids) node.successors) ×
     ((P : NodeData → Type 0) → All P nodes → P node)

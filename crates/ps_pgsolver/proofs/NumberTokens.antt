@@ -1,4 +1,4 @@
--- How the result of parsing a number token depends on the value of the number.
+-- A number token with a value of less than 2^64 is parsed as this value; a larger value is an error.
 use Rattle.std.proofs.Common.{◌≡◌, ℕ, ◌<◌, ◌≤◌, Some, Ok, Err, refl}
 use Rattle.std.proofs.lemmas.Bool.{lt-ltb, le-ltb}
 use Rattle.ps_text.specs.declared.faults.Fault.TheVariants as faults

@@ -5,7 +5,7 @@ use Rattle.ps_pgsolver.specs.declared.fault.PgCause.{PgCause}
 use Rattle.ps_pgsolver.specs.declared.fault.PgCause.TheVariants as causes
 use Rattle.ps_text.specs.declared.faults.Fault.TheVariants as faults
 
--- why the parser returns no game: an error of the text with its offset, or out of memory
+-- why the parser returns no game: the text has an error, which is given with its offset, or memory ran out
 abbrev pub PgFault : Type 0
 PgFault = Fault PgCause
 

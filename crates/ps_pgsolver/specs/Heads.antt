@@ -1,4 +1,4 @@
--- How the tokens of the parser's code correspond to the tokens of the grammar.
+-- For each token of the parser's code, the token of the grammar to which it corresponds.
 use Rattle.std.specs.Prelude.{◌≡◌, ◌<◌, ◌≤◌, ℕ, Bool, true, false, List, Option, None, Some, length}
 use Rattle.std.specs.List.{AllPass}
 use Rattle.ps_text.specs.Answers.{Stream, next_of, offset_of}

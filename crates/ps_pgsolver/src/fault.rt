@@ -21,7 +21,7 @@ pub enum PgCause {
     Limit,
 }
 
-/// Why the parser returned no game: an error of the text with its offset, or out of memory.
+/// Why the parser returned no game: the text has an error, which is given with its offset, or memory ran out.
 pub type PgFault = Fault<PgCause>;
 
 impl Cause for PgCause {

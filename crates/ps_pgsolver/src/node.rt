@@ -111,7 +111,7 @@ impl Nodes {
 }
 
 /// Reserves memory for the name of the next node, if it has a name; earlier nodes that have no item in the list of
-/// names get an empty one.
+/// names get an empty item.
 fn make_room(
     names: &mut Vec<Option<Vec<u8>>>,
     count: usize,

@@ -26,8 +26,8 @@ abbrev pub ReadsKnown : {V X : Type 0} → (List ℕ → V → Type 0) → (X �
 ReadsKnown Knows view part old result new =
     IfOk result (λ x. (ids : List ℕ) → Knows ids (view x) → WasRead (part (Some ids)) old (view x) new)
 
--- for each list of known ids that contains all successors in the value `after`: it contains those in the value `before`
--- too, and parsing with this list gives the value `after`
+-- if a list of known ids contains all successors in the value `after`, it also contains all successors in the value
+-- `before`, and parsing with this list gives the value `after`
 abbrev pub AddsKnown : {V X : Type 0} → (List ℕ → V → Type 0) → V → V → (Option (List ℕ) → Part Sign V PgCause) →
     Stream Sign → Result X PgFault → Stream Sign → Type 0
 AddsKnown Knows before after part old result new =
