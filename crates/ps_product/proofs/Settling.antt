@@ -1,5 +1,5 @@
--- The stack of the variables that must still be evaluated, as places. Each place on the stack has a lower rank than
--- those below it: it comes earlier in the order of evaluation.
+-- A stack has the variables that must still be evaluated, each given by its place (index). Each place on the stack has
+-- a lower rank than those below it: it comes earlier in the order of evaluation.
 use Rattle.std.proofs.Common.{◌≡◌, ℕ, suc, ◌+◌, ◌-◌, ◌*◌, ◌<◌, inl, inr, List, [], ◌∷◌, ◌++◌, length, get_or, set}
 use Rattle.std.proofs.Common.{All, AllPairs, Option, None, Some, refl, take, ap, sym, ◌∙◌, arith}
 use Rattle.std.proofs.Common.{get_or-set_same, get_or-set_other, length-append}

@@ -1,4 +1,4 @@
--- Boolean functions as diagrams in a table that grows.
+-- Lemmas about Boolean functions that are stored as diagrams in a table that grows.
 use Rattle.std.proofs.Common.{◌≡◌, ℕ, ◌<◌, ◌^◌, Bool, true, false, Option, Some, None, refl, ap, sym, ◌∙◌}
 use Rattle.std.proofs.Common.{List, cond, length, set, length-set, get_or-set_same, get_or-set_other, inl, inr}
 use Rattle.std.specs.Prelude.{is_some}
@@ -79,7 +79,7 @@ known_kept s {t} {u} known k h = record {
 pub learnt : {s : Site} {t u : Table} {known : List (Option Truth)} → Keeps t u → Knows s u known → Learns s t u known
 learnt keeps knows = record { keeps = keeps; knows = knows }
 
--- after an evaluation, `Learns` still holds when the table of diagrams grows further
+-- after an evaluation, all recorded functions are still right (`Learns`) when the table of diagrams grows further
 pub learns_on : (s : Site) {t u v : Table} (known : List (Option Truth)) → Learns s t u known → Keeps u v →
     Learns s t v known
 learns_on s known h k = record { keeps = keeps_trans h.keeps k; knows = known_kept s known k h.knows }

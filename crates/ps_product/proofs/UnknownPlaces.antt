@@ -1,5 +1,5 @@
--- How many variables of a circuit have not been evaluated yet, and the rank of a variable in the order of evaluation. A
--- variable is given by its place (index).
+-- Lemmas about the number of a circuit's variables that have not been evaluated yet, and about the rank of a variable
+-- in the order of evaluation. A variable is given by its place (index).
 use Rattle.std.proofs.Common.{◌≡◌, ℕ, zero, suc, ◌+◌, ◌-◌, ◌<◌, ◌≤◌, inl, inr, List, [], ◌∷◌, length, get_or, set}
 use Rattle.std.proofs.Common.{Option, None, Some, refl, ap, ◌∙◌, arith, nat_eq, not}
 use Rattle.std.specs.Prelude.{nat_lt, if◌then◌else◌, slice_get}

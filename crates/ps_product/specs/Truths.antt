@@ -2,9 +2,10 @@
 -- - `truth_at t truth letter`: the value of the function `truth` at the letter
 -- - `IsTruth t truth`: `truth` is `Never`, `Always`, or a node that is true at some but not all letters
 -- - `bits_at propositions letter`: the bits of these propositions at a letter
--- - `MakesTruth old new result bit`: a call made the function with the given bit at each letter
+-- - `MakesTruth old new result bit`: a call made the function that has, at each letter, the value that `bit` gives
 -- - `IsTruthOf c propositions latches t truth literal`: the function `truth` has the literal's bit at each letter
--- - `AreTruthsOf`, `IsOutcome`: like `IsTruthOf`, for lists of literals; for the outputs and the next latches
+-- - `AreTruthsOf`, `IsOutcome`: like `IsTruthOf`, but for a list of literals, and for a circuit's outputs and next
+--   latches
 use Rattle.std.specs.Prelude.{◌≡◌, ℕ, ◌^◌, ◌<◌, Bool, true, false, not, is_some, if◌then◌else◌, List, length, map}
 use Rattle.std.specs.Prelude.{slice_get, IfOk, Result, Some}
 use Rattle.ps_label.specs.Truth.{is_in}

@@ -1,5 +1,5 @@
--- A circuit whose variables are numbered anew: the constant, the inputs, the latches, the gates. This number is a
--- variable's place.
+-- The variables of a circuit are numbered anew, in the order constant, inputs, latches, gates; a variable's new number
+-- is its place.
 use Rattle.std.specs.Prelude.{◌≡◌, ℕ, ◌+◌, ◌-◌, ◌<◌, ◌≤◌, ◌⊎◌, ◌&&◌, Bool, List, length, map, slice_index_or}
 use Rattle.ps_circuit.specs.declared.parts.Gate.{Gate}
 use Rattle.ps_circuit.specs.Circuits.{CircuitData, IsCircuit, ReadsGate}
@@ -30,7 +30,8 @@ value_at c values place = value_of values (slice_index_or (variables c) place 0)
 abbrev pub read_at : CircuitData → List Bool → Wire → Bool
 read_at c values w = bit_by_wire w (value_at c values w.place)
 
--- `place` is a gate, and `lower` is either no gate, or a gate that the first one reads
+-- the place `place` is that of a gate, and the place `lower` is that of a variable which is not a gate, or of a gate
+-- which that gate reads
 pub record IsBelow (c : CircuitData) (place lower : ℕ) : Type 0 where
   pub behind : front_of c ≤ place
   pub within : lower < length (variables c)

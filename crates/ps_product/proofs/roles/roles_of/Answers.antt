@@ -10,7 +10,8 @@ use Rattle.ps_simulate.specs.Symbols.{HasSymbols, sets_controllable}
 use Rattle.ps_product.proofs.roles.roles_of.Goals as goal
 use Rattle.ps_product.proofs.roles.roles_of.Goals.{In-Some-2}
 
--- the propositions of the inputs and those of the outputs: one list has the controllable ones, the other has the rest
+-- the inputs and the outputs each have a list of propositions: one list has the controllable propositions, and the
+-- other has all other propositions
 both : (c : In-Some-2) → let names = map bytes_of c.names-names.result.now in
     let set = c.controllable-controllable.result.now in
     let reads = c.reads_controllable-reads.result in
