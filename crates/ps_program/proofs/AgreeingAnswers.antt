@@ -83,7 +83,8 @@ module _ (games : OneGame) (certificates : OneCertificate) (flaws : OneFlaw) (ci
 
   -- ---- answers that depend on which certificate a solver chooses
 
-  -- two possible results of a command whose answer is not determined: one of them is a fault, or they agree
+  -- two possible results x and y of a command are alike if x or y is a fault, or if the printed texts of x and y agree
+  -- as the relation `agree` requires
   abbrev Alike : (Reply → Reply → Type 0) → Result Reply (List ℕ) → Result Reply (List ℕ) → Type 0
   Alike agree x y = IsFaultReply (printed x) ⊎ IsFaultReply (printed y) ⊎ agree (printed x) (printed y)
 
@@ -200,7 +201,7 @@ module _ (games : OneGame) (certificates : OneCertificate) (flaws : OneFlaw) (ci
       by (inl (l, reads, e)) (inl (m, reads', e')) =
           grind (arith, automaton_one files refusals outcomes text (Err l) (Err m) reads reads')
 
-  -- two reports that `synth` may print for the same automaton's text agree
+  -- two answers to `synth` print reports for the same automaton's text that have the same winner and the same game
   abbrev ReportsAgree : (cert : Bool) → SynthLine → List ℕ → Reply → Reply → Type 0
   ReportsAgree cert asked texts a b =
       (text : List ℕ) × AsksFor cert texts text × AgreeAsReports asked.order asked.full text a b
@@ -240,8 +241,8 @@ module _ (games : OneGame) (certificates : OneCertificate) (flaws : OneFlaw) (ci
             (λ a b agree. (parts.0, (parts.1, cuts), agree)) alike,
       )
 
-  -- each command line has only one result, or its result is not determined; then any two results agree, or one is a
-  -- fault
+  -- any two results of a command line are equal, or its result is not determined; in the second case, one of the two is
+  -- a fault, or the two agree as `Agree` states
   line_one : (solvers : Solvers) (l : Line) (texts : List ℕ) (x y : Result Reply (List ℕ)) →
       AnswersLine solvers l texts x → AnswersLine solvers l texts y →
       (x ≡ y) ⊎ (IsUndetermined l texts × Alike (Agree l texts) x y)

@@ -1,4 +1,4 @@
--- The lines that the program prints for texts that have no automaton.
+-- Lemmas about the lines that the program prints for texts which have no automaton.
 use Rattle.std.proofs.Common.{rules, arith, ◌≡◌, ℕ, List, Result, Ok, Err, IsErrAnd}
 use Rattle.std.specs.Prelude.{Option, None, Some}
 use Rattle.ps_automaton.specs.Automata.{AutomatonData}

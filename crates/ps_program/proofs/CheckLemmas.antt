@@ -1,4 +1,4 @@
--- The line that the program prints after it has tested a certificate.
+-- Lemmas about the line that the program prints after it has tested a certificate.
 use Rattle.std.proofs.Common.{arith, ◌≡◌, ◌↔◌, ℕ, List, Result, Ok, Err, false, true, ap}
 use Rattle.std.specs.Prelude.{IfErr, IsOk}
 use Rattle.ps_game.specs.Games.{NamedGameData, ParityGame, IsGame, vertex_count}

@@ -1,4 +1,4 @@
--- How faults in the texts of circuits and stimuli become faults of a command.
+-- A fault in the text of a circuit or of a stimulus becomes the fault of the command that reads this text.
 use Rattle.std.proofs.Common.{arith, ℕ, false, Bool, List, length, Ok, Err, refl, inl, inr}
 use Rattle.ps_circuit.specs.Circuits.{CircuitData}
 use Rattle.ps_simulate.specs.Stimuli.{StimulusData, stem_of}

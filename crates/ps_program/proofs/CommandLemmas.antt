@@ -1,4 +1,4 @@
--- How the command-line parser clap reads the words of a line, given the table of commands.
+-- The command-line parser clap, given the table of commands, reads the words of a line as the definitions state.
 use Rattle.std.proofs.Common.{rules, arith, ◌≡◌, ◌⊎◌, ◌∙◌, ◌<◌, ◌+◌, ◌++◌, ℕ, List, [], ◌∷◌, ◌||◌, Bool, Bor, length}
 use Rattle.std.proofs.Common.{map, take, true, false, refl, sym, inl, inr, ap, ap₂, subst}
 use Prim.Native.Nat.{suc}
@@ -49,7 +49,7 @@ says_refusal app words kind same memory (inr among) = inr (kind, grind arith, re
 pub line_refused-other : (kind : ErrorKind) → (kind ≡ DisplayHelp → ⊥) → line_refused kind ≡ Refused
 line_refused-other kind other = grind arith
 
--- what clap returns for a command and flags: the kinds of its errors, and the `Line` that the words mean
+-- for the words of a command and flags: the kinds of errors that clap reports, and the `Line` that the words mean
 abbrev Heard : Type 0
 Heard = List ErrorKind × Line
 
@@ -64,8 +64,8 @@ abbrev behind_first : {X : Type 0} → List X → List X
 behind_first [] = []
 behind_first (x ∷ xs) = xs
 
--- a command is read correctly with each choice of flags if clap reports no error and returns the command's `Line`, for
--- every choice
+-- if clap, for every choice of a command's flags, reports no error and returns the `Line` that the command means with
+-- these flags, the command is read correctly with every choice
 choices_read : (name : Text) (line : (Text → Bool) → Line) (choices : List (List Text)) →
     map (heard name) choices ≡ map (λ flags. ([], line (is_among flags))) choices
     → AllByRecursion (λ flags. AreRead (words_with name flags) (line (is_among flags))) choices
@@ -79,7 +79,7 @@ usages_read : (commands : List Usage) → map (λ usage. map (heard usage.name) 
 usages_read [] same = tt
 usages_read (usage ∷ more) same = search (rules, choices_read, usages_read more (ap behind_first same))
 
--- from a command's name with any choice of its flags, clap returns the command's `Line`
+-- for a command's name with any choice of its flags, clap returns the `Line` that the command means with these flags
 pub lines_read : LinesAreRead
 unfolding table clap_on_literals
 lines_read = usages_read commands refl
@@ -127,7 +127,7 @@ pub flags_whole : (command : Command) (name : Text) (flags : List (Bor Text)) (i
     → (out-Command command).has_globals ≡ false → HasFlags name (map (λ given. given.now) flags) command
 flags_whole command name flags i behind is local = grind (arith, take-length)
 
--- the table of commands with one more command
+-- the table of commands `app`, to which one more command is added
 abbrev pub more : App → Text → List Text → App
 more app name flags = with_subcommand app (command_with name flags)
 
@@ -143,7 +143,8 @@ with_one_more : (app : App) (usages : List Usage) (usage : Usage) →
 with_one_more app [] usage = refl
 with_one_more app (first ∷ usages) usage = with_one_more (more app first.name first.flags) usages usage
 
--- a command of the next row is added to the commands of the rows before it, in the code's table of commands
+-- if the command of the row at index i is added to the commands of the rows before it, the result has the commands of
+-- the first i + 1 rows of the code's table
 pub row_added : (old new app : App) (rows : List Row) (i : ℕ) (default : Row) → i < length rows →
     new ≡ more old (get_or rows i default).name.now (map (λ flag. flag.now) (get_or rows i default).flags.now) →
     old ≡ with_commands app (map usage_of (take i rows)) → new ≡ with_commands app (map usage_of (take (i + 1) rows))
@@ -156,7 +157,8 @@ row_added old new app rows i default within added were =
       take-suc rows i default within,
     )
 
--- the clap command that the code builds from all rows of its table is that of all commands in the definitions
+-- the clap command that the code builds from all rows of its table equals the clap command that the definitions build
+-- from all commands
 pub made_table : {E : Type 0} (made : Result Command E) (rows : List Row) → map usage_of rows ≡ commands →
     IfOk made (λ command. app_of command ≡ with_commands program (map usage_of rows)) →
     IfOk made (λ command. app_of command ≡ table)

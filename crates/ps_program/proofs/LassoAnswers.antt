@@ -1,4 +1,5 @@
--- The result of the command `lasso`, given the results of parsing the automaton, the circuit and the stimulus.
+-- The results of parsing the automaton, the circuit and the stimulus determine the possible results of the command
+-- `lasso`.
 use Rattle.std.proofs.Common.{arith, ◌≡◌, ◌<◌, ℕ, Bool, true, List, All, length, Result, Ok, Err, refl, inl}
 use Rattle.std.proofs.Common.{inr, subst, sym}
 use Rattle.ps_circuit.specs.Circuits.{CircuitData, IsCircuit}

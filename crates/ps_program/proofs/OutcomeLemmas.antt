@@ -1,4 +1,4 @@
--- How the results of a command's steps make up the result of the command.
+-- The results of a command's steps make up the result of the command.
 use Rattle.std.proofs.Common.{rules, arith, ◌≡◌, ℕ, List, Result, Ok, Err, IsErrAnd}
 use Rattle.std.specs.Prelude.{IfOk}
 use Rattle.ps_text.specs.Answers.{Found}
@@ -18,7 +18,7 @@ settles_gives : (step : Result Reply (List ℕ) → Type 0) (outcome : Result An
     (reply_of answer ≡ printed told)
 settles_gives step outcome answer h same = grind arith
 
--- the program's answer has each property that all possible results of the command have when printed
+-- if all possible results of the command, when printed, have a property, the program's answer has this property
 pub settled : {E : Type 0} (step : Result Reply (List ℕ) → Type 0) (outcome : Result Answer Refusal)
     (result : Result Answer E) (P : Answer → Type 0)
     → Gives reply_of step outcome → IfOk result (Settles outcome) →

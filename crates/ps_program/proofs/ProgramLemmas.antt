@@ -1,4 +1,4 @@
--- What the whole program writes, and its exit status.
+-- Lemmas about what the whole program writes, and about its exit status.
 use Rattle.std.proofs.Common.{arith, ◌≡◌, ◌≤◌, ℕ, Bool, false, List, [], length, Some, inl, inr, sym, subst}
 use Rattle.std.specs.Prelude.{Option}
 use Rattle.ps_program.specs.Input.{AgreesWith, input_limit}
@@ -19,7 +19,8 @@ made text status = record { text = text; status = status }
 unbroken : (has_failed : Bool) → has_failed ≡ false → Breaks has_failed false → ⊥
 unbroken has_failed sound h = grind arith
 
--- a sink that was empty before, and neither failed nor stalled, contains exactly the reply after it was written
+-- if a sink was empty before, no call to it failed, and no write stalled (accepted none of its bytes), the sink
+-- contains exactly the reply after the reply was written
 written_whole : (reply : Reply) (items text : List ℕ) (failed_before flushed_before failed_after flushed_after : Bool)
     (status : ℕ) → items ≡ [] → failed_after ≡ false
     → Writes (record {

@@ -1,4 +1,4 @@
--- The lines that are printed for a solver's faults.
+-- Lemmas about the lines that are printed for a solver's faults.
 use Rattle.std.proofs.Common.{arith, ◌≡◌, Bool, true, false, Err}
 use Rattle.ps_game.specs.Games.{NamedGameData}
 use Rattle.ps_certificate.specs.Certificates.{CertificateData}

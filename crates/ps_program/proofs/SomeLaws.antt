@@ -68,7 +68,7 @@ pub record Below : Type 0 where
       ((given : CertificateData) × IsCertificateOf arena won first second given)) ⊎
       ((flaw : Flaw) × IsFirstFlaw arena (claimed arena won first second) flaw) ⊎
       ((player : ℕ) × (cycle : List ℕ) × IsCycleOf arena won first second player cycle)
-  -- automata and their games
+  -- the laws about automata and their games
   pub some_file : (text : List ℕ) → (answer : Result FileData (Found HoaCause)) × ReadsFile text answer
   pub file_sound : (text : List ℕ) (file : FileData) → ReadsFile text (Ok file) → IsSoundFile file
   pub some_refusal : (file : FileData) → IsAdmitted file ⊎ ((fault : AutomatonFault) × (fault ≢ OutOfMemory) ×
@@ -77,7 +77,7 @@ pub record Below : Type 0 where
       (named : NamedGameData) × IsGameOfFile order file named
   pub file_game_sound : (order : Order) (file : FileData) (game : NamedGameData) → IsGameOfFile order file game →
       IsGame game.game
-  -- circuits and their runs
+  -- the laws about circuits and their runs
   pub some_circuit : (text : List ℕ) → (answer : Result CircuitData (Found AigCause)) × ReadsCircuit text answer
   pub circuit_sound : (text : List ℕ) (c : CircuitData) → ReadsCircuit text (Ok c) → IsCircuit c
   pub some_stimulus : (text : List ℕ) (width : ℕ) (split : Bool) → HasSomeAnswer text width split
@@ -87,7 +87,7 @@ pub record Below : Type 0 where
   pub verdict : (role : Role) (file : FileData) (c : CircuitData) (stem lap : List (List Bool)) → IsSoundFile file →
       IsAdmitted file → IsCircuit c → HasSymbols role file.names file.controllable c → AreWide c stem lap →
       0 < length lap → (verdict : Verdict) × IsVerdictOf file c stem lap verdict
-  -- the circuit that a certificate gives the winner
+  -- the laws about the circuit that a certificate gives the winner
   pub winners_circuit : (order : Order) (file : FileData) (game : NamedGameData)
       (is_game : IsGameOfFile order file game) (certificate : CertificateData) → IsSoundFile file →
       IsCertified game certificate →

@@ -1,9 +1,9 @@
 -- The commands `solve`, `cert` and `synth` have results, if their solver may return a certificate.
--- - `certifies_surely`, `certifies_fed`: a solver has a result if it may certify, or may replay the text that it was
--- fed
--- - `solve_some`, `cert_some`: the commands `solve` and `cert`
--- - `synthesises_some`: a report, or the line of a fault
--- - `synth_some`: the command `synth`
+-- - `certifies_surely`, `certifies_fed`: solving a game has a result if the solver may certify each game, or may replay
+--   the text that it was fed
+-- - `solve_some`, `cert_some`: the commands `solve` and `cert` have a result
+-- - `synthesises_some`: synthesis has a result, which is a report or the line of a fault
+-- - `synth_some`: the command `synth` has a result
 use Rattle.std.proofs.Common.{◌≡◌, ◌≢◌, ℕ, Bool, true, false, List, length, Result, Ok, Err, refl, ap, inl, inr}
 use Rattle.std.proofs.Common.{◌∙◌}
 use Rattle.std.specs.Prelude.{Some}

@@ -1,5 +1,5 @@
 -- A circuit has a trace for each list of input letters, and each lasso has a verdict, by laws of lower crates.
--- - `sim_some`, `lasso_some`: the commands `sim` and `lasso`
+-- - `sim_some`, `lasso_some`: the commands `sim` and `lasso` have a result
 use Rattle.std.proofs.Common.{◌≡◌, ◌<◌, ◌⊎◌, ℕ, Bool, true, false, List, [], ◌∷◌, All, length, Result, Ok, Err, refl}
 use Rattle.std.proofs.Common.{sym, ap, subst, inl, inr, flat_map, arith}
 use Rattle.std.proofs.lemmas.List.{length-map}

@@ -1,9 +1,11 @@
 -- Reading a text, making an automaton's game and testing a certificate have results, by laws of lower crates.
--- - `game_text_some`: the game of a text
--- - `certified_some`, `certified_is`: a game and a certificate from two texts, and what is known of them
--- - `tests_some`, `judge_some`: a test of a certificate, and the command `judge`
--- - `automaton_some`, `automaton_is`: the automaton of a text, and what is known of it
--- - `game_of_some`: the game of an automaton
+-- - `game_text_some`: reading a text as a game has a result
+-- - `certified_some`, `certified_is`: reading two texts as a game and a certificate has a result; the game is well
+--   formed, and the certificate fits it
+-- - `tests_some`, `judge_some`: a test of a certificate, and the command `judge`, have a result
+-- - `automaton_some`, `automaton_is`: reading a text as an automaton has a result; a file that is the result is well
+--   formed and has an automaton
+-- - `game_of_some`: making the game of an automaton has a result
 use Rattle.std.proofs.Common.{◌≡◌, ◌≢◌, Bool, ℕ, List, Result, Ok, Err, refl, sym, inl, inr, subst, ap}
 use Rattle.std.specs.Prelude.{Some}
 use Rattle.ps_game.specs.Games.{NamedGameData, ParityGame, IsGame}

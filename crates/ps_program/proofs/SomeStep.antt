@@ -1,6 +1,7 @@
 -- Two steps in a row have a result if the first has one, and the second has one for each value of the first.
 -- - `HasSome step`: the step has an outcome
--- - `then_some`, `ended_some`, `reading_some`: a step and the next one, a step that ends with a value, a parser
+-- - `then_some`, `ended_some`, `reading_some`: two steps in a row, a step that ends with a value, and a parser have an
+--   outcome
 -- - `HasOnly`, `then_only`: each value that the step may return has a property
 use Rattle.std.proofs.Common.{◌≡◌, ℕ, List, Result, Ok, Err, refl, inl, inr}
 use Rattle.ps_text.specs.Answers.{Found}

@@ -1,4 +1,4 @@
--- The joint effect of several reads from a source, or of several writes to a sink.
+-- Lemmas about the joint effect of several reads from a source, or of several writes to a sink.
 use Rattle.std.proofs.Common.{◌≡◌, ℕ, ◌+◌, ◌-◌, ◌≤◌, ◌<◌, List, [], ◌++◌, length, take, drop, Some, None}
 use Rattle.std.proofs.Common.{take-add, length-append, arith}
 use Rattle.std.specs.Prelude.{Option}

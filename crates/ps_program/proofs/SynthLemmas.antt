@@ -1,5 +1,5 @@
--- The result of synthesis: which faults come from the solver, and that the result depends only on the solver's possible
--- answers.
+-- Lemmas about the result of synthesis: a fault comes from the solver only if the solver is not sure, and the result
+-- depends only on the answers that the solver may give.
 use Rattle.std.proofs.Common.{rules, arith, ◌≡◌, ℕ, Bool, true, false, List, Result, Ok, Err, inl, inr, subst}
 use Rattle.std.specs.Prelude.{Option}
 use Rattle.ps_hoa.specs.Files.{FileData}

@@ -1,4 +1,4 @@
--- The faults of texts, and the vertices that flaws name.
+-- Lemmas about the faults of texts, and about the vertices that a certificate's flaws name.
 use Rattle.std.proofs.Common.{arith, ◌<◌, ℕ, List, Ok, Err, refl, inl, inr}
 use Rattle.ps_game.specs.Games.{ParityGame, NamedGameData, IsGame, vertex_count}
 use Rattle.ps_certificate.specs.declared.flaw.Flaw.{Flaw}

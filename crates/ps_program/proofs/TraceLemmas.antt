@@ -1,4 +1,4 @@
--- The printed trace, letter by letter.
+-- Lemmas about the printed trace of a circuit, to which a line is appended for each letter.
 use Rattle.std.proofs.Common.{arith, ◌≡◌, ◌+◌, ℕ, Bool, List, [], ◌∷◌, ◌++◌, All, length, take, Some, slice_get, refl}
 use Rattle.std.proofs.Common.{sym}
 use Rattle.std.proofs.lemmas.Option.{get_or_from_slice_get, slice_get_within}

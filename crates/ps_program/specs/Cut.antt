@@ -37,7 +37,7 @@ pub record Cuts (text first second : List ℕ) : Type 0 where
   pub before : first ≡ take separator text
   pub behind : second ≡ drop (separator + 3) text
 
--- the texts of an input, separated by the first lines `%%` of the input; further such lines belong to the last text
+-- the texts of an input, separated by the first lines `%%` of the input; further lines `%%` belong to the last text
 abbrev pub AreTexts : List ℕ → List (List ℕ) → Type 0
 AreTexts input [] = ⊥
 AreTexts input (last ∷ []) = last ≡ input

@@ -120,7 +120,7 @@ abbrev pub IsFaultReply : Reply → Type 0
 IsFaultReply reply = (line : List ℕ) × (reply ≡ fault_reply line)
 
 -- Any two answers to one input are equal, unless the answer to its command is not determined. If the answer is not
--- determined, two answers agree, or one of them is the line of a fault.
+-- determined, two answers agree as `Agree` states, or one of them is the line of a fault.
 abbrev pub HasOneAnswer : Solvers → Type 0
 HasOneAnswer solvers = (input : List ℕ) (a b : Reply) → AnswersWhole solvers input a → AnswersWhole solvers input b
     → (a ≡ b) ⊎ ((line : Line) × IsLine (first_line input) line × IsUndetermined line (behind_line input) ×

@@ -1,6 +1,7 @@
 -- The command that judges a solution of a game.
 -- - `ReadsSolved texts`: the text of a game, and the text of a solution of that game
--- - `Judges compact named given`: prints the solution's certificate, or why there is none
+-- - `Judges compact named given`: what `judge` prints: the solution's certificate, or the line that refuses the
+--   solution
 -- - `AnswersJudge compact texts`: what the program answers to the command `judge`
 use Rattle.std.specs.Prelude.{◌≡◌, ◌⊎◌, ◌<◌, ⊤, ℕ, Bool, List, length, Result, Ok, Err, codes, map}
 use Rattle.std.specs.List.{All}

@@ -1,4 +1,5 @@
--- The command that runs a circuit on a stem and a lap, and states whether an automaton accepts the resulting word.
+-- The command that runs a circuit on a lasso (a stem, and a lap that repeats for ever), and states whether an automaton
+-- accepts the resulting word.
 use Rattle.std.specs.Prelude.{◌≡◌, ◌<◌, ◌⊎◌, ℕ, true, List, [], ◌++◌, length, codes, Result, Ok, Err, if◌then◌else◌}
 use Rattle.ps_circuit.specs.Circuits.{CircuitData, IsCircuit}
 use Rattle.ps_hoa.specs.Files.{FileData}
@@ -22,12 +23,14 @@ verdict_text v =
     (if v.accepted then codes "accepted" else codes "rejected") ++ codes " stem" ++ spaced v.stem ++
     codes " lap" ++ spaced v.lap
 
--- the line that reports an empty lap, or symbols that the circuit's role (controller or environment) does not allow
+-- the line that reports that the lasso has an empty lap, or that the circuit's symbols are not those of its role
+-- (controller or environment)
 abbrev pub lasso_line : LassoFault → List ℕ
 lasso_line fault = line_text (fault_number fault) (fault_name fault) []
 
 -- The verdict on a lasso, if the lap is not empty and the circuit has the symbols of a controller or an environment, as
--- `role` states; otherwise the line of the fault. An empty lap is reported before wrong symbols.
+-- `role` states; otherwise the line of the fault. An empty lap of the lasso is reported before wrong symbols of the
+-- circuit.
 abbrev pub TellsVerdict : Role → FileData → CircuitData → StimulusData → Result Reply (List ℕ) → Type 0
 TellsVerdict role file c s (Ok reply) =
     IsCircuit c × (0 < length s.lap) × HasSymbols role file.names file.controllable c
@@ -35,8 +38,8 @@ TellsVerdict role file c s (Ok reply) =
 TellsVerdict role file c s (Err line) = ((s.lap ≡ []) × (line ≡ lasso_line EmptyLap))
     ⊎ ((0 < length s.lap) × ¬ HasSymbols role file.names file.controllable c × (line ≡ lasso_line Symbols))
 
--- parses a circuit (a controller or an environment), and a stimulus whose stem and lap are divided by a line `-`, and
--- states the verdict
+-- the text of a circuit and the text of a stimulus are parsed, and the verdict on them is stated; in the stimulus, a
+-- line `-` divides the stem from the repeated lap
 abbrev pub RunsCircuit : Role → FileData → List ℕ → List ℕ → Result Reply (List ℕ) → Type 0
 RunsCircuit role file text letters =
     Then (ReadsCircuitText text) (λ c. Then (ReadsStimulusText (length c.inputs) true letters)

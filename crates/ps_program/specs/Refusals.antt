@@ -1,4 +1,4 @@
--- How the program reports the fault of a parser.
+-- The program reports the fault of a parser by a line, or as lack of memory.
 use Rattle.std.specs.Prelude.{◌≡◌, ⊤, ℕ, List}
 use Rattle.ps_text.specs.declared.faults.Fault.{Fault}
 use Rattle.ps_text.specs.declared.faults.Fault.TheVariants as fault

@@ -1,11 +1,11 @@
-//! How the program reports the faults of synthesis.
+//! The program reports the faults of synthesis by lines, or as lack of memory.
 
 use crate::answer::Refusal;
 use crate::fault::{FaultLine, Place};
 use ps_automaton::AutomatonFault;
 use ps_synthesis::SynthFault;
 
-/// How the program reports that a file has no automaton.
+/// The fault for which a file has no automaton is reported by a line, or as lack of memory.
 impl From<AutomatonFault> for Refusal {
     ghost use Rattle.ps_program.specs.StageFaults.{IsAutomatonTold};
 
@@ -33,7 +33,8 @@ impl From<AutomatonFault> for Refusal {
     }
 }
 
-/// How the program reports the fault for which synthesis made no certificate, no circuit or no report.
+/// The fault for which synthesis made no certificate, no circuit or no report is reported by a line, or as lack of
+/// memory.
 impl From<SynthFault> for Refusal {
     ghost use Rattle.ps_program.specs.StageFaults.{IsTold};
 

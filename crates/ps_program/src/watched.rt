@@ -82,7 +82,8 @@ pub struct Watched<T> {
 }
 
 impl<T> Watched<T> {
-    /// Watches a reader or a writer, of which no call has failed or stalled yet.
+    /// Watches a reader or a writer, of which no call has failed yet, and no write has stalled (accepted none of its
+    /// bytes).
     pub fn new(inner: T) -> Self
         ensures inner { watched_inner result ≡ inner }
         ensures fresh { watched_failed result ≡ false }

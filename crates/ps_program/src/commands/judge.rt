@@ -24,7 +24,7 @@ use std::alloc::Global;
 /// # Errors
 ///
 /// Fails with the first of these faults: a missing text, an error in the game's or the solution's text, a wrong move or
-/// edge, a cycle that makes a player lose who follows the solution. Fails at any time if memory runs out.
+/// edge, a cycle on which a player who follows the solution loses. Fails at any time if memory runs out.
 pub fn judge(alloc: Global, compact: bool, texts: &[u8]) -> Result<Answer, Refusal>
     ensures { Gives reply_of (AnswersJudge compact texts.now) result }
 {

@@ -24,8 +24,9 @@ use std::alloc::{AllocError, Global};
 ///
 /// # Errors
 ///
-/// Fails with the first of these faults: a missing text, a fault of the automaton, of the circuit's text, or of the
-/// stimulus, an empty lap, symbols that the circuit's role does not allow. Fails at any time if memory runs out.
+/// Fails with the first of these faults: a missing text, a fault of the automaton, an error in the circuit's text, an
+/// error in the stimulus, an empty lap of the stimulus, symbols that the circuit's role does not allow. Fails at any
+/// time if memory runs out.
 pub fn lasso(alloc: Global, role: Role, texts: &[u8]) -> Result<Answer, Refusal>
     ensures { Gives reply_of (AnswersLasso role texts.now) result }
 {
@@ -51,8 +52,8 @@ fn run_circuit(
     tell(alloc, role, automaton, &circuit, &stimulus)
 }
 
-/// The automaton's verdict on a circuit's run on a stimulus, or the fault that the lap is empty or the circuit's
-/// symbols are wrong.
+/// The automaton's verdict on a circuit's run on a stimulus, or the fault that the stimulus has an empty lap or the
+/// circuit has wrong symbols.
 fn tell(
     alloc: Global,
     role: Role,

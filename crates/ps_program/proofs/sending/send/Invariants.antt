@@ -2,7 +2,8 @@ use Rattle.std.proofs.Common.{length, ◌-◌, ◌≡◌, false, ◌≤◌, take
 use Rattle.std.specs.Io.KnownBytes.{Appends}
 use Rattle.ps_program.proofs.sending.send.Given as goal
 
--- the bytes written so far are a prefix of the text, and no call has failed or stalled
+-- the bytes written so far are a prefix of the text, no call has failed, and no write has stalled (accepted none of its
+-- bytes)
 abbrev pub invariant-chunks : goal.invariant-chunks
 invariant-chunks g l = record {
   within : l.sent ≤ length l.text;
