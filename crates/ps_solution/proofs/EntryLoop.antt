@@ -1,5 +1,5 @@
--- How the code parses the grammar of a solution: parts that follow one another, parts that may be missing, and the loop
--- over the entries.
+-- Lemmas about the code that parses a solution: parts of the grammar that follow one another, parts that may be
+-- missing, and the loop over the entries.
 use Rattle.std.proofs.Common.{◌≡◌, ℕ, ◌<◌, true, false, List, length, Option, None, Some, Ok, Err, Result, IsErrAnd}
 use Rattle.std.proofs.Common.{refl, sym, ap, subst, inl, ◌∙◌, rules}
 use Rattle.ps_text.specs.Answers.{Stream, Found, next_of}

@@ -1,4 +1,4 @@
--- Which result of synthesis follows from a solver's answer.
+-- Lemmas that derive the result of synthesis from a solver's answer.
 use Rattle.std.proofs.Common.{arith, ◌≡◌, Bool, IsTrue, Result, Ok, Err, refl, sym, subst}
 use Rattle.std.specs.Prelude.{OnOk, is_ok}
 use Rattle.ps_certificate.specs.Certificates.{CertificateData}

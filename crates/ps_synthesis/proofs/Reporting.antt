@@ -171,6 +171,6 @@ module _ (p : ProblemData) (is : IsProblem p) (certificate : CertificateData) (c
 
 -- ## A fault that is passed on
 
--- if the result is a fault, every claim about its report holds, since there is none
+-- if the result is a fault, every claim about its report holds, since there is no report
 pub no_report : (r : Result Report SynthFault) (P : Report → Type 0) (Q : SynthFault → Type 0) → IsErrAnd r Q → IfOk r P
 no_report r P Q is = grind arith

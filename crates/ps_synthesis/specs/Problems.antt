@@ -1,7 +1,8 @@
 -- A synthesis problem: an automaton, the player who moves first, and the game that they define.
--- - `ProblemData`: a problem, with the key of each vertex of the game
--- - `IsProblem p`: the game belongs to the automaton, in the problem's order of moves
--- - `IsProblemOf order text p`: the automaton belongs to the text
+-- - `ProblemData`: a problem, with the key of each vertex of the game: the state and priority, or the state and letter,
+--   for which the vertex stands
+-- - `IsProblem p`: the problem's game is the game of its automaton, in its order of moves
+-- - `IsProblemOf order text p`: the problem has the automaton and the game of the text, in the given order of moves
 -- - `ReturnsOnly game certificate`: the possible answers of a solver that returns only this certificate for a game
 -- - `IsReportFault p certificate fault`: why a certificate for the problem's game gives no report
 use Rattle.std.specs.Prelude.{◌≡◌, ℕ, ◌<◌, List, Ok}

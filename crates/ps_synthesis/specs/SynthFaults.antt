@@ -1,11 +1,12 @@
 -- Why a text gets no report. For each fault that synthesis returns, these definitions state the reason.
 -- - `HasNoAutomaton text fault`: the text describes a file that has no automaton
 -- - `OfGame order text P`: an accepted text has a game for which P holds
--- - `IsLost May game ids`: the solver reported a cycle of vertices of the game, which have these ids
+-- - `IsLost May game ids`: the solver reported a cycle of the game's vertices, and these vertices have the given ids
 -- - `IsNotCertified May game`: the solver returned a certificate that does not fit or is not valid
 -- - `IsTooLarge May order file game`: the circuit of a valid certificate's machine needs too many variables
--- - `IsSynthFault May order text fault`: the reason for a fault
--- - `IsReportOrFault May order compact text answer`: the result for an accepted text, if the solver is sure
+-- - `IsSynthFault May order text fault`: the reason for which synthesis returns this fault
+-- - `IsReportOrFault May order compact text answer`: what synthesis may return for an accepted text if the solver is
+--   sure (all its certificates are valid)
 use Rattle.std.specs.Prelude.{◌≡◌, ◌≢◌, ℕ, ◌<◌, Bool, List, length, map, slice_index, Option, None, Some, Result, Ok}
 use Rattle.std.specs.Prelude.{Err}
 use Rattle.std.specs.List.{All}

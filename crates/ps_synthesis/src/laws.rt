@@ -1,4 +1,4 @@
-//! Laws about the definitions.
+//! Laws about the circuit that a certificate gives the winner of a game.
 
 ghost use Rattle.std.specs.Prelude.{◌≡◌, ◌⊎◌};
 ghost use Rattle.ps_aiger.specs.Wires.{IsOutOfLiterals};

@@ -22,8 +22,8 @@ use Rattle.ps_solution.specs.Texts.{Field, solution_causes, solution}
 abbrev pub ReadsAs : {V X : Type 0} → (X → V) → Field V → Stream Sign → Result X CertFault → Stream Sign → Type 0
 ReadsAs view part old result new = Meets found_of solution_causes view part old result new
 
--- the result of a function that expects a number, if it finds a given token, or the end of the text, at an offset;
--- `judge` checks the number's value
+-- the result of a function that expects a number, if it finds a given token, or the end of the text, at an offset. The
+-- argument `judge` gives the result for a number that fits in 64 bits
 abbrev pub value_answer : {V : Type 0} → (ℕ → ℕ → Result V CertFault) → Option Sign → ℕ → Result V CertFault
 value_answer judge (Some (Number n)) at = if nat_lt n too_large then judge at n else Err (Text Syntax at)
 value_answer judge _ at = Err (Text Syntax at)
