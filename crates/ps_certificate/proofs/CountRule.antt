@@ -123,8 +123,8 @@ same_edge {certificate} {v} {w} fits first other = elim (cases_order other.place
       inr (inr (refl, refl, omega (arith, less, first.priority, other.priority)))
 ]
 
--- the first flaw in the counts of a vertex is its first edge that breaks the certificate's rule of counts, with the
--- first priority for which this edge breaks the rule
+-- the first flaw in the counts of a vertex names the vertex's first edge that breaks the certificate's rule of counts,
+-- and the first priority for which this edge breaks it
 pub IsFirstFlawAt-rank : {game : ParityGame} {certificate : CertificateData} {v w p : ℕ} →
     Fits game certificate → Remains game certificate v w → winner_of certificate w ≡ winner_of certificate v →
     IsFirstBroken game certificate v w p → ((w' : ℕ) → Remains game certificate v w' → (w' ≡ w) ⊎ (KeepsCounts
@@ -155,8 +155,8 @@ pub own_edges : (game : ParityGame) (certificate : CertificateData) (v : ℕ) {w
     v ≡ winner_of certificate v → choice_of certificate v ≡ Some w → {w' : ℕ} → Remains game certificate v w' → w' ≡ w
 own_edges game certificate v own is {w'} remains = search rules
 
--- if all edges of a vertex before the edge to `w` obey the certificate's rule of counts, each edge other than this one
--- obeys the rule or comes later
+-- if all edges of a vertex before the edge to `w` obey the certificate's rule of counts, each other edge of the vertex
+-- obeys the rule or comes after the edge to `w`
 pub other_edges : (game : ParityGame) (certificate : CertificateData) (v w number : ℕ) →
     number < length (successors_of game v) → w ≡ slice_index (successors_of game v) number →
     ((k : ℕ) → k < number → KeepsCounts game certificate v (get_or (successors_of game v) k 0)) → (w' : ℕ) → Remains

@@ -62,7 +62,7 @@ pub part-at : (list : List ℕ) (start end k : ℕ) → k < end - start →
 part-at list start end k below = get_or-take (end - start) (drop start list) k 0 below ∙ get_or-drop start list k 0
 
 -- if the items of a list before index `start`, and those from there to index `end`, are priorities of the game, all
--- items before index `end` are
+-- items before index `end` are priorities of the game
 pub present_more : (game : ParityGame) (list : List ℕ) (start end : ℕ) →
     end ≤ length list → ((k : ℕ) → k < start → HasPriority game (get_or list k 0)) → All
     (HasPriority game) (take (end - start) (drop start list)) → (k : ℕ) → k < end → HasPriority game (get_or list k 0)

@@ -1,7 +1,8 @@
 -- Certificates that have the same winners and moves, and which of them has the least counts.
 -- - `SaysTheSame game c d`: the certificates c and d have the same winners and moves
 -- - `DiffersInCounts game c d`: the certificates c and d have the same winners, moves and priorities
--- - `HasLeastCounts game c`: no valid certificate with the winners, moves and priorities of c has a smaller count
+-- - `HasLeastCounts game c`: no valid certificate with the winners, moves and priorities of c has, for any vertex and
+--   priority, a smaller count than c
 use Rattle.std.specs.Prelude.{◌≡◌, ℕ, ◌<◌, ◌≤◌, length, slice_index}
 use Rattle.ps_game.specs.Games.{ParityGame, priority_of, vertex_count}
 use Rattle.ps_certificate.specs.Certificates.{CertificateData, winner_of, choice_of, counts_of, opposing_at, Fits}

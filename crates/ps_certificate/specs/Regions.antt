@@ -15,7 +15,7 @@ abbrev pub BothKeep : ParityGame → CertificateData → Type 0
 BothKeep game certificate =
     (player : ℕ) → player < 2 → KeepsTo game player (region_of certificate player) (choice_of certificate)
 
--- each player, by following the certificate's moves, stays in the player's region and wins there
+-- each player who follows the certificate's moves, from the player's own region, stays in this region and wins there
 abbrev pub BothHold : ParityGame → CertificateData → Type 0
 BothHold game certificate =
     (player : ℕ) → player < 2 → Holds game player (region_of certificate player) (choice_of certificate)

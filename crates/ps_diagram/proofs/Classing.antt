@@ -135,7 +135,7 @@ module _ {s u : Table} (m : Made s u) where
       leaf_at (tree_of u m.divided) f ≡ leaf_at (tree_of u m.divided) g
   heeds_mask f g on = search (rules, divided_alike, same_letters, mixed_alike)
 
-  -- two letters with the same class index lead to the same leaves for all values of the other propositions
+  -- two letters with the same class index lead to the same leaves for all values of the propositions outside the mask
   together : (x y : ℕ) → leaf_of u m.at x ≡ leaf_of u m.at y → LeadAlike s m.node m.mask x y
   together x y e v w on_x on_y off =
       let p = (place_at (assignment x)).1 in
@@ -151,7 +151,8 @@ module _ {s u : Table} (m : Made s u) where
             (λ i. mixed_first m.mask y w i on_y),
       )
 
-  -- two letters that lead to the same leaves for all values of the other propositions have the same class index
+  -- two letters that lead to the same leaves for all values of the propositions outside the mask have the same class
+  -- index
   apart : (x y : ℕ) → x < 2 ^ u.propositions → y < 2 ^ u.propositions → LeadAlike s m.node m.mask x y →
       leaf_of u m.at x ≡ leaf_of u m.at y
   apart x y hx hy h =

@@ -53,8 +53,8 @@ one_more F eq same known new {key} {value} put h f q made e = elim (put q) [
   | inr is ↦ subst (λ k. F k made) (same key q is.0) (subst (F key) (some_nat value made (sym is.1 ∙ e)) f)
 ]
 
--- R still relates the trees of all entries if the memo table maps one more node to a node, and R relates the trees of
--- these two
+-- if the memo table maps one more node to a node, and R relates the trees of these two nodes, R still relates the two
+-- trees of each entry
 pub knows_more : (R : Tree → Tree → Type 0) (s t : Table) (known new : ℕ → Option ℕ) {key value : ℕ} →
     MayBePut eqb known new key value → Knows R s t known → IsNode s key → IsNode t value →
     R (tree_of s key) (tree_of t value) → Knows R s t new

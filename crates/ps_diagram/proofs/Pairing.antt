@@ -43,7 +43,7 @@ adds_as f a = record {
   added = λ place pair e. elim (a.added place pair e) [ inl old ↦ inl old | inr p ↦ inr (f pair p) ];
 }
 
--- inserting one pair into the list of pairs keeps the indices of the others
+-- inserting one pair into the list of pairs keeps the index of each other pair
 pub adds_one : {P : ℕ × ℕ → Type 0} (xs : List (ℕ × ℕ)) {ys : List (ℕ × ℕ)} (pair : ℕ × ℕ) →
     ys ≡ insert_key pair_eq xs pair → P pair → Adds P xs ys
 adds_one {P} xs pair keys p = rw keys (record {

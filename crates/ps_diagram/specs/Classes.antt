@@ -24,8 +24,8 @@ pub record IsClass (s t : Table) (node mask places k : ℕ) (c : Class) : Type 0
 
 -- The node that is divided is in the table s; the diagrams of its classes are in the table t. The diagram `places`
 -- depends only on the mask, and leads each letter to the index of its class in the list. Two letters are in one class
--- exactly if they lead to the same leaves for all values of the other propositions (`LeadAlike`). The classes are in
--- ascending order of their letters.
+-- exactly if they lead to the same leaves for all values of the propositions outside the mask (`LeadAlike`). The
+-- classes are in ascending order of their letters.
 pub record AreClasses (s t : Table) (node mask places : ℕ) (list : List Class) : Type 0 where
   pub held : IsNode t places
   pub read : (x y : ℕ) → AgreeOn mask x y → leaf_of t places x ≡ leaf_of t places y

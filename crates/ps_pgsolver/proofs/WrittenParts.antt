@@ -64,7 +64,7 @@ read_semicolon : {rest : List Sign} → IsRead semicolon (Semicolon ∷ rest) tt
 unfolding semicolon
 read_semicolon = read_one semicolon_in NoBad refl (λ f b. b)
 
--- a token of another kind is not one of kind `k`
+-- a token whose kind is not `k` is none of the tokens of kind `k`
 kind_avoided : (k : ℕ) (t : Sign) → (kind_of t ≡ k → ⊥) → Avoids (IsKind k) (Some t)
 kind_avoided k t differs u e h = differs (ap kind_of (same_some t u e) ∙ h)
 

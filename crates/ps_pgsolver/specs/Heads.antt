@@ -24,7 +24,7 @@ sign_of kinds.OpenName = Some OpenName
 sign_of kinds.Wrong = Some Wrong
 sign_of kinds.End = None
 
--- the code's token is the next one of the grammar, at the same offset
+-- the next token of the grammar corresponds to the code's token, and is at the same offset
 pub record IsHead (token : Token) (stream : Stream Sign) : Type 0 where
   pub sign : sign_of token.kind ≡ next_of stream
   pub start : token.start ≡ offset_of stream.pieces stream.end

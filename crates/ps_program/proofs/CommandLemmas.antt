@@ -103,7 +103,7 @@ given_is found name value is = grind (arith, first_value-rows)
 abbrev pub app_with : Text → List Text → App
 app_with name flags = record { top = command_with name flags; subs = [] }
 
--- appending the flag at an index to the flags before that index gives one flag more
+-- appending the flag at index i to the flags before index i gives the first i + 1 flags
 one_more : (flags : List (Bor Text)) (i : ℕ) (default : Bor Text) → i < length flags
     → map flag (map (λ given. given.now) (take i flags)) ++ flag (get_or flags i default).now ∷ [] ≡ map flag
     (map (λ given. given.now) (take (i + 1) flags))

@@ -34,8 +34,8 @@ pub enum Line {
     Refused,
     /// Asks for the help text.
     Help,
-    /// Asks whether the winners' moves are edges, and no move of a winner or edge of the loser leaves the winner's
-    /// region.
+    /// Asks whether a certificate is closed: each winner's move is an edge that stays in the winner's region, and so
+    /// does each edge of a vertex that the loser owns.
     Closed,
     /// Asks whether a certificate of a game is valid.
     Check,

@@ -1,8 +1,8 @@
 -- The texts of a report. Each text is what psyn writes for a value, and parsing the text gives the value again. For a
 -- game, this holds only if the text is not longer than the parser accepts.
--- - `PrintsGame text game`: the text of a game
--- - `PrintsCertificate compact text game certificate`: the plain or the compact text of a certificate
--- - `PrintsCircuit text circuit`: the text of a circuit
+-- - `PrintsGame text game`: `text` is the text that psyn writes for the game
+-- - `PrintsCertificate compact text game certificate`: `text` is the plain or the compact text of the certificate
+-- - `PrintsCircuit text circuit`: `text` is the text that psyn writes for the circuit
 use Rattle.std.specs.Prelude.{◌≡◌, ℕ, ◌≤◌, Bool, List, length, Ok}
 use Rattle.ps_circuit.specs.Circuits.{CircuitData}
 use Rattle.ps_circuit.specs.Texts as circuits

@@ -1,6 +1,6 @@
 -- What is known about a report: what it guarantees, and how its circuit is built.
--- - `IsWinners order file game is_game certificate m`: the machine that the certificate gives the winner
--- - `IsWinnersCircuit order file game is_game certificate circuit`: the circuit of the winner's machine
+-- - `IsWinners order file game is_game certificate m`: m is the machine that the certificate gives the winner
+-- - `IsWinnersCircuit order file game is_game certificate circuit`: `circuit` is the circuit of the winner's machine
 -- - `IsReport May order compact text report`: the report guarantees what it states, and its circuit is the winner's
 use Rattle.std.specs.Prelude.{ℕ, Bool, List}
 use Rattle.ps_aiger.specs.Encoded.{Encodes, IsTidy}

@@ -1,12 +1,14 @@
 -- The results of the stages of synthesis: an automaton, a certificate, a circuit.
--- - `IsAutomatonOf text a`: the automaton of the file of an accepted text
--- - `IsTextFault text fault`: why a text has no automaton
--- - `IsSolverFault May game fault`: why a solver's answer is not a valid certificate
--- - `IsFaultFor game given fault`: the fault of synthesis that a solver's fault becomes, or out of memory
--- - `IsCircuitOf order a game certificate circuit`: the circuit of the machine of the certificate
+-- - `IsAutomatonOf text a`: the text is accepted, and a is the automaton of the text's file
+-- - `IsTextFault text fault`: the fault states why the text has no automaton
+-- - `IsSolverFault May game fault`: the fault states why the solver's answer is not a valid certificate
+-- - `IsFaultFor game given fault`: the solver's fault `given` becomes the fault `fault` of synthesis; if memory runs
+--   out for the ids of a cycle, `fault` is `OutOfMemory`
+-- - `IsCircuitOf order a game certificate circuit`: `circuit` is the circuit of the machine that the certificate gives
+--   the winner
 -- - `HasNoCircuit order a game certificate`: the circuit of the certificate's machine needs too many variables
--- - `IsCircuitFault order a game certificate fault`: why there is no circuit
--- - `of_text`, `of_automaton`, `of_circuit`: the faults of lower crates as faults of synthesis
+-- - `IsCircuitFault order a game certificate fault`: the fault states why there is no circuit
+-- - `of_text`, `of_automaton`, `of_circuit`: these functions turn the faults of lower crates into faults of synthesis
 use Rattle.std.specs.Prelude.{◌≡◌, ℕ, List, Err, map, slice_index}
 use Rattle.ps_aiger.specs.Wires.{IsOutOfLiterals, IsWired}
 use Rattle.ps_circuit.specs.Circuits.{CircuitData}

@@ -10,7 +10,8 @@ class_at list i = slice_index_or list i (record { letter = 0; rest = 0 })
 abbrev pub pair_at : List (ℕ × ℕ) → ℕ → ℕ × ℕ
 pair_at leaves i = slice_index_or leaves i (0, 0)
 
--- the list has a class for each of the first n leaves: the leaf is its diagram, with the leaf's least letter
+-- the list has a class for each of the first n leaves: the class's diagram is the leaf, as a number of a node, and the
+-- class's letter is the leaf's least letter
 pub record AreOf (leaves : List (ℕ × ℕ)) (n : ℕ) (list : List Class) : Type 0 where
   pub each : length list ≡ n
   pub rest : (i : ℕ) → i < n → (class_at list i).rest ≡ (pair_at leaves i).0

@@ -13,7 +13,8 @@ use ps_certificate::Flaw;
 use ps_game::NamedGame;
 use std::alloc::Global;
 
-/// Whether the winners' moves are edges, and no move of a winner or edge of the loser leaves the winner's region.
+/// Whether a certificate is closed: each winner's move is an edge that stays in the winner's region, and so does each
+/// edge of a vertex that the loser owns.
 ///
 /// # Errors
 ///
