@@ -25,8 +25,8 @@ pub opposing_rises : {game : ParityGame} {certificate : CertificateData} (player
 unfolding opposing
 opposing_rises {certificate} player fits = search rules
 
--- if the parity of a vertex's priority is that of the player's opponent, the certificate lists this priority among
--- those that oppose the player
+-- if a vertex's priority has the parity of the player's opponent, the certificate lists this priority among the
+-- priorities that oppose the player
 pub opposing_complete : {game : ParityGame} {certificate : CertificateData} (player : ℕ) → Fits game certificate →
     player < 2 → (v : ℕ) → v < vertex_count game → priority_of game v % 2 ≢ player →
     Contains (opposing certificate player) (priority_of game v)
@@ -46,13 +46,14 @@ pub record Compared (game : ParityGame) (certificate : CertificateData) (v w : �
   pub lower : (j : ℕ) → j < start → slice_index priorities j < top
   pub higher : (j : ℕ) → start ≤ j → j < length priorities → top ≤ slice_index priorities j
 
--- if the priority at index `start` of the list is that of the vertex which the edge leaves, the count at index `start`
--- falls along the edge
+-- if the item at index `start` of the list is the priority of the vertex that the edge leaves, the count at index
+-- `start` falls along the edge
 abbrev pub FallsAtStart : ParityGame → ℕ → List ℕ → List ℕ → List ℕ → ℕ → Type 0
 FallsAtStart game v priorities before after start = start < length priorities →
     slice_index priorities start ≡ priority_of game v → slice_index after start < slice_index before start
 
--- for a listed priority less than that of one of the edge's ends, the certificate's rule of counts requires nothing
+-- for a listed priority that is less than the priority of one of the edge's ends, the certificate's rule of counts
+-- requires nothing
 KeepsCount-lower : {game : ParityGame} {certificate : CertificateData} {v w : ℕ} {priorities before after : List ℕ}
     {top start : ℕ} (k : ℕ) → Compared game certificate v w priorities before after top start → k < start →
     KeepsCount game certificate v w k

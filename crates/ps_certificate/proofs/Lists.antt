@@ -1,4 +1,4 @@
--- Lemmas about ascending lists, about binary searches in such lists, and about parts of lists.
+-- Lemmas about ascending lists, about binary searches in ascending lists, and about parts of lists.
 use Rattle.std.proofs.Common.{◌≡◌, ℕ, ◌<◌, ◌≤◌, List, length, get_or, arith, zero, suc, Result, true}
 use Rattle.std.proofs.Common.{false, replicate, rules}
 use Rattle.std.specs.Prelude.{slice_index}

@@ -19,8 +19,8 @@ pub record DiffersInCounts (game : ParityGame) (one other : CertificateData) : T
   pub even : one.even ≡ other.even
   pub same : SaysTheSame game one other
 
--- each count is at most that of every valid certificate that differs only in counts; a count for a priority less than
--- the vertex's own has no meaning, and is 0
+-- each count is at most the count that every valid certificate which differs only in counts has in its place; a count
+-- for a priority less than the vertex's own has no meaning, and is 0
 pub record HasLeastCounts (game : ParityGame) (certificate : CertificateData) : Type 0 where
   pub least : (other : CertificateData) → Fits game other → IsValid game other →
       DiffersInCounts game certificate other →

@@ -12,6 +12,6 @@ no_pairs = record { last = None; count = λ _. 0 }
 abbrev pub with_pair : Pairs → ℕ → ℕ → Pairs
 with_pair pairs p m = record { last = Some p; count = λ q. if q == p then m else pairs.count q }
 
--- the priority of the next pair is not greater than that of the pair before it
+-- the priority of the next pair is not greater than the priority of the pair before it
 abbrev pub DoesNotRise : Pairs → ℕ → Type 0
 DoesNotRise pairs p = IsSomeAnd pairs.last (λ last. p ≤ last)

@@ -54,7 +54,7 @@ pub record IsFirstFrom (placed : List PlacedCount) (place number : ℕ) : Type 0
 abbrev pub AreAtMost : List ℕ → List ℕ → ℕ → ℕ → Type 0
 AreAtMost counts others from end = (k : ℕ) → from ≤ k → k < end → slice_index counts k ≤ slice_index others k
 
--- the first index that is at least `from` and at which the count of the first list is greater than that of the second
+-- the first index, at `from` or later, at which the first list's count is greater than the second list's count
 pub record IsFirstAbove (counts others : List ℕ) (from place : ℕ) : Type 0 where
   pub from_there : from ≤ place
   pub within : place < length counts

@@ -45,7 +45,7 @@ Field V = Part Seen V CertCause
 
 -- ## Bytes
 
--- the value for a byte, if it is one of two allowed bytes, each of which has its own value
+-- if the byte is a, the value v; if the byte is b, the value w; any other byte is not allowed
 abbrev pub take_two : {V : Type 0} → ℕ → ℕ → V → V → Seen → Option V
 take_two a b v w s = if s.byte == a then Some v else if s.byte == b then Some w else None
 

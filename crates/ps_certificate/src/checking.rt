@@ -17,8 +17,8 @@ use crate::rising::Rising;
 use ps_game::{Arena, Player};
 
 /// The first priority for which an edge breaks the certificate's rule of counts, of those that oppose the winner of the
-/// vertex that the edge leaves. A binary search finds the first listed priority that is not less than that of either
-/// end of the edge; from there on, only nonzero counts are compared.
+/// vertex that the edge leaves. A binary search finds the first listed priority that is not less than the priority of
+/// either end of the edge; from there on, only nonzero counts are compared.
 fn broken_priority<A: Arena>(
     arena: &A,
     certificate: &Certificate,

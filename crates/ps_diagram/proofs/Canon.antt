@@ -64,7 +64,8 @@ only_leaf level n (choice p low high) o r x e =
 abbrev Only : ℕ → Tree → Type 0
 Only n t = (u : Tree) (b : ℕ) → IsFrom b n u → IsReduced u → HaveSameLeaves t u → t ≡ u
 
--- if two trees that test p first have the same leaves, so have their low sides, and so have their high sides
+-- if two trees that test p first have the same leaves, their low sides have the same leaves, and their high sides have
+-- the same leaves
 sides_alike : (n p : ℕ) (l h m g : Tree) → IsFrom (p + 1) n l → IsFrom (p + 1) n h → IsFrom (p + 1) n m →
     IsFrom (p + 1) n g → HaveSameLeaves (choice p l h) (choice p m g) → (v : Bool) (f : ℕ → Bool) →
     cond v (leaf_at h f) (leaf_at l f) ≡ cond v (leaf_at g f) (leaf_at m f)

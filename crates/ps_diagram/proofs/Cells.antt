@@ -75,8 +75,8 @@ keeps_refl t = record { propositions = refl; held = λ node h. h; same = λ node
 pub old_or_new : (k n : ℕ) → k < n + 1 → (k < n) ⊎ (k ≡ n)
 old_or_new k n h = elim (cases_lt k n) [ inl lt ↦ inl lt | inr ge ↦ inr (omega arith) ]
 
--- if each entry of a list has a property at its index, and so has an appended entry, each entry of the longer list has
--- it
+-- if each entry of a list has a property at its index, and an appended entry has the property too, each entry of the
+-- longer list has the property
 pub push_each : {X : Type 0} (P : ℕ → X → Type 0) (d : X) (xs : List X) {more : List X} (x : X) {count : ℕ} →
     length xs ≡ count → more ≡ xs ++ x ∷ [] → ((i : ℕ) → i < count → P i (get_or xs i d)) → P count x → (i : ℕ) →
     i < count + 1 → P i (get_or more i d)
@@ -86,7 +86,8 @@ pub keeps_more : (t : Table) (cell : View) → Keeps t (more t cell)
 unfolding tree_of
 keeps_more t cell = grind (arith, length-append, tree_at-old)
 
--- if all old cells with their trees have a property, and so has the added cell, all cells of the new table have it
+-- if all old cells with their trees have a property, and the added cell has the property too, all cells of the new
+-- table have the property
 each_cell : (P : ℕ → View → Tree → Type 0) (cells : List View) (cell : View) →
     ((k : ℕ) → k < length cells → P k (get_or cells k Nothing) (tree_at cells k)) →
     P (length cells) cell (tree_in cells cell) → (k : ℕ) → k < length (cells ++ cell ∷ []) →

@@ -1,4 +1,4 @@
--- Lists without repeats, such as the keys of a set, and lists to which one entry is appended.
+-- Lemmas about lists without repeats, for instance the keys of a set, and about lists to which one entry is appended.
 use Rattle.std.proofs.Common.{◌≡◌, ℕ, zero, suc, ◌<◌, ◌⊎◌, inl, inr, Bool, true, List, [], ◌∷◌, ◌++◌, Some, sym, ap}
 use Rattle.std.proofs.Common.{◌∙◌, arith, length, refl}
 use Rattle.std.specs.List.{slice_get, IsDistinct}

@@ -137,7 +137,7 @@ place_of t level d h node e =
     search rules
 
 -- each of the three trees has the number of one node as its leaf at every letter. If the third node tests p and has the
--- first two nodes as its sides, the three trees are as in `IsTested`
+-- first two nodes as its sides, the three trees meet the condition `IsTested`
 pub tested_between : {t u v : Table} → Keeps t u → Keeps u v → (p : ℕ) (a b d : Tree) {low high made : ℕ} →
     ((f : ℕ → Bool) → leaf_at a f ≡ Some low) → ((f : ℕ → Bool) → leaf_at b f ≡ Some high) →
     ((f : ℕ → Bool) → leaf_at d f ≡ Some made) → IsNode t low → IsNode t high → IsNode u made →

@@ -32,7 +32,8 @@ overlay_sides {s = s} sides l h test =
       | inr is ↦ rw (is, m.same _ l.held) (l.leaf f)
     ]))
 
--- if the sides of two nodes have different leaves at some letter, so have the two nodes
+-- if the low sides or the high sides of two nodes have different leaves at some letter, the two nodes have different
+-- leaves at some letter
 pub clash_side : {t : Table} {a b p al ah bl bh : ℕ} → IsSides t a p al ah → IsSides t b p bl bh → (v : Bool)
     (e : OverlayError) → IsClash (tree_of t (cond v ah al)) (tree_of t (cond v bh bl)) e →
     IsClash (tree_of t a) (tree_of t b) e

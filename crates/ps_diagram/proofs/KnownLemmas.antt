@@ -9,7 +9,7 @@ use Rattle.ps_diagram.specs.Inner.Known.{Knows, KnowsPairs, pair_eq}
 use Rattle.ps_diagram.proofs.Cells.{keeps_refl}
 use Rattle.ps_diagram.proofs.Keys.{and_both}
 
--- keeping nodes is transitive: if u keeps the nodes of t, and v those of u, then v keeps those of t
+-- keeping nodes is transitive: if u keeps the nodes of t, and v keeps the nodes of u, then v keeps the nodes of t
 pub keeps_trans : {t u v : Table} → Keeps t u → Keeps u v → Keeps t v
 keeps_trans a b = search rules
 

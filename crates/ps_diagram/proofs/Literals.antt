@@ -181,13 +181,14 @@ pub side_blind : (t : Table) {value n level : ℕ} {product : Product} (b : Bool
 side_blind t true none node side e empty h = rw e (λ f g same. empty f ∙ sym (empty g))
 side_blind t false none node side e empty h = rw e (product_blind h)
 
--- `leaf_where value c` is the leaf `value` if c is true: choosing between two such leaves is choosing between their
--- conditions
+-- `leaf_where value c` is the leaf `value` if c is true. To choose between the leaves for two conditions is to choose
+-- between the conditions
 tested : (value : ℕ) (b x y rest : Bool) → cond b (leaf_where value (x && rest)) (leaf_where value (y && rest)) ≡ leaf_where value (cond b x y && rest)
 tested value true x y rest = refl
 tested value false x y rest = refl
 
--- one iteration of the loop over the propositions, which counts down
+-- each iteration of the loop, which goes through the propositions from the last to the first, adds the product's
+-- literal on one more proposition to the tree
 pub product_next : {value n m i : ℕ} {product : Product} (t : Table) (none node low high : ℕ) {made : Tree} → m ≡ n →
     0 < i → i ≤ n → ((f : ℕ → Bool) → leaf_at (tree_of t none) f ≡ None) → IsProduct value n i product (tree_of t node) →
     low ≡ cond (is_in (i - 1) product.positive) none node → high ≡ cond (is_in (i - 1) product.negative) none node →

@@ -41,7 +41,7 @@ pub begins_semicolon : {before : List ℕ} (rest : List ℕ) → begins_in (λ b
 begins_semicolon [] e = let x : false ≡ true = e in cc
 begins_semicolon {before} (b ∷ bs) e = grind (arith, at_punctuation before 59 bs refl refl refl refl, eqb-true b 59 e)
 
--- the next token is `sign`, and the tokens after it are those of the text from the offset `behind` on
+-- the next token is `sign`, and the later tokens are the tokens of the text from the offset `behind` on
 pub record Leaves (text : List ℕ) (behind : ℕ) (sign : Sign) (stream : Stream Sign) : Type 0 where
   pub sign_is : next_of stream ≡ Some sign
   pub rest : stream_from text behind ≡ tail stream

@@ -149,7 +149,7 @@ reads_split {text} {rest} at {start} {size} {kind} begins within front back ende
     subst P is (reads text at start size kind begins within (λ empty. ended (back ∙ empty))
     (λ left. grind arith) (sized ∙ ap first_size back))
 
--- the offset of the next token is that of the first byte that is not a blank
+-- the offset of the next token is the offset of the first byte that is not a blank
 pub offset_ahead : (text : List ℕ) (at : ℕ) {start : ℕ} → start ≡ at + prefix_len is_blank (drop at text) →
     start ≤ length text → start ≡ offset_of (stream_from text at).pieces (length text)
 offset_ahead text at {start} begins within = let e : stream_from text at ≡ stream_from text start =

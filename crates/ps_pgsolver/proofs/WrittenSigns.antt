@@ -32,7 +32,7 @@ record Lexed (before bytes : List ℕ) (ss : List Sign) : Type 0 where
   are : signs pieces ≡ ss
   tokens : TokensFrom Blank IsToken before bytes pieces
 
--- whatever bytes come before `bytes`, its tokens are those of the list `ss`
+-- whatever bytes come before `bytes`, the tokens of `bytes` are the items of the list `ss`
 abbrev Lexes : List ℕ → List Sign → Type 0
 Lexes bytes ss = (before : List ℕ) → Lexed before bytes ss
 

@@ -67,8 +67,8 @@ abbrev pub TakesIfNext : Sign → Stream Sign → Bool → Stream Sign → Type 
 TakesIfNext sign old true new = (next_of old ≡ Some sign) × (new ≡ tail old)
 TakesIfNext sign old false new = new ≡ old
 
--- the token is the first one of the text from the token's offset on, and the tokens after it are those of the text from
--- the offset `behind` on
+-- the token is the first token of the text from the token's offset on, and the later tokens are the tokens of the text
+-- from the offset `behind` on
 pub record IsNextToken (text : List ℕ) (token : Token) (behind : ℕ) : Type 0 where
   pub head : IsHead token (stream_from text token.start)
   pub plain : IsPlain token.kind

@@ -46,8 +46,8 @@ along_kept s {t} ws ms k h = record {
       };
 }
 
--- if `ms` are the functions of the literals `ws`, and m is the function of the literal w, then `ms` and m are those of
--- `ws` and w
+-- if `ms` are the functions of the literals `ws`, and m is the function of the literal w, then `ms` followed by m are
+-- the functions of `ws` followed by w
 pub along_more : (s : Site) {t : Table} (ws : List Wire) (ms : List Truth) {ws' : List Wire} {ms' : List Truth}
     (w : Wire) (m : Truth) → AreTruthsAlong s t ws ms → IsTruthAlong s t w m → ws' ≡ ws ++ w ∷ [] →
     ms' ≡ ms ++ m ∷ [] → AreTruthsAlong s t ws' ms'

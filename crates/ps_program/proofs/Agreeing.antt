@@ -65,7 +65,8 @@ first_there order file game is = grind (arith, slice_get_within)
 pub tests_agree : (a b : Bool) (n m : ℕ) → IsTrue a ↔ (n ≡ 0) → IsTrue b ↔ (m ≡ 0) → n ≡ m → a ≡ b
 tests_agree a b n m h k e = grind arith
 
--- facts about one report: it prints the game of the text's automaton, and its winner is that of a valid certificate
+-- facts about one report: it prints the game of the text's automaton, and its winner is the player whom a valid
+-- certificate gives the start vertex
 pub record Facts (May : MayAnswer) (order : Order) (compact : Bool) (text : List ℕ) (report : Report) : Type 0 where
   pub file : FileData
   pub reads : ReadsFile text (Ok file)

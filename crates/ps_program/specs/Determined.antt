@@ -53,8 +53,8 @@ AsksFor false texts text = texts ≡ text
 AsksFor true texts text = (certificate : List ℕ) × CutsInTwo texts (Ok (text, certificate))
 
 -- The answer to a command is not determined in three cases. If a solver is called for a game or an automaton, any
--- winning moves may be printed. If a judged solution allows a cycle that makes a player lose, any such cycle may be
--- reported. If a verified circuit loses, any stimulus on which it loses may be reported.
+-- winning moves may be printed. If a judged solution allows a cycle that makes a player lose, any cycle of this kind
+-- may be reported. If a verified circuit loses, any stimulus on which it loses may be reported.
 abbrev pub IsUndetermined : Line → List ℕ → Type 0
 IsUndetermined (Judge compact) texts =
     (named : NamedGameData) × (given : SolutionData) × ReadsSolved texts (Ok (named, given)) × LosesCycle named given

@@ -1,4 +1,5 @@
--- Lemmas about two operations on the counts of a vertex: comparing them with those of another vertex, and copying them.
+-- Lemmas about two operations on the counts of a vertex: comparing them with the counts of another vertex, and copying
+-- them.
 use Rattle.std.proofs.Common.{◌≡◌, ℕ, ◌+◌, ◌-◌, ◌<◌, ◌≤◌, List, [], ◌∷◌, ◌++◌, length, replicate, ap, arith}
 use Rattle.std.proofs.Common.{take, inl, inr, rules}
 use Rattle.std.proofs.lemmas.Bool.{cases_order, cases_lt}

@@ -55,7 +55,7 @@ vertex_of (Move v _) = v
 vertex_of (Escape v _) = v
 vertex_of (Rank v _ _) = v
 
--- the first of the flaws that one stage of the check reports at a vertex
+-- the first flaw that one stage of the check reports at a vertex
 pub record IsFirstFlawAt (game : ParityGame) (certificate : CertificateData) (stage v : ℕ) (flaw : Flaw) : Type 0 where
   pub is_flaw : IsFlaw game certificate flaw
   pub at_stage : stage_of flaw ≡ stage

@@ -20,8 +20,8 @@ KnowsTriples t known =
     IsNode t truth × IsNode t one × IsNode t other × IsNode t made ×
     IsChosen (tree_of t truth) (tree_of t one) (tree_of t other) (tree_of t made)
 
--- three nodes are split at the same proposition; as numbers, their low sides have a smaller sum than the nodes, and so
--- have their high sides
+-- three nodes are split at the same proposition; as numbers, their low sides have a smaller sum than the nodes, and
+-- their high sides have a smaller sum than the nodes, too
 pub record IsCut (t : Table) (truth one other : ℕ) (c : Cut) : Type 0 where
   pub named : c.proposition < t.propositions
   pub truth_sides : IsSides t truth c.proposition c.truth.low c.truth.high

@@ -28,8 +28,8 @@ IsDivided t mask a d =
 abbrev pub IsCofactor : ℕ → ℕ → Tree → Tree → Type 0
 IsCofactor mask letter a d = (g : ℕ → Bool) → leaf_at d g ≡ leaf_at a (mixed mask (assignment letter) g)
 
--- The second tree is as in `IsDivided`, but only at letters that agree with `letter` on those propositions of the mask
--- that are less than `level`.
+-- The second tree meets the condition of `IsDivided`, but only at letters that agree with `letter` on the propositions
+-- of the mask that are less than `level`.
 abbrev pub IsSpread : Table → (mask level letter : ℕ) → Tree → Tree → Type 0
 IsSpread t mask level letter a d =
     (f : ℕ → Bool) → ((q : ℕ) → q < level → is_in q mask ≡ true → f q ≡ is_in q letter) →
@@ -72,14 +72,14 @@ pub record AreTested (t : Table) (test : (ℕ → Bool) → Bool) (x y z : Optio
 abbrev pub IsTested : Table → ℕ → Tree → Tree → Tree → Type 0
 IsTested t p a b d = (f : ℕ → Bool) → AreTested t (λ g. g p) (leaf_at a f) (leaf_at b f) (leaf_at d f)
 
--- If p is not in the mask, the three trees are as in `IsTested`. If p is in the mask, the third node at the letter f
--- has the leaves of the second node if p is true in f, and otherwise those of the first.
+-- If p is not in the mask, the three trees meet the condition `IsTested`. If p is in the mask, the third node at the
+-- letter f has the leaves of the second node if p is true in f, and otherwise those of the first.
 abbrev pub IsDividedTest : Table → ℕ → ℕ → Tree → Tree → Tree → Type 0
 IsDividedTest t mask p a b d =
     (f : ℕ → Bool) → AreTested t (λ g. mixed mask f g p) (leaf_at a f) (leaf_at b f) (leaf_at d f)
 
--- For each key of the memo table, the two nodes of the key and the node made from them are in the table of nodes. Their
--- trees are as in `IsTested` for the key's proposition.
+-- For each key of the memo table, the two nodes of the key and the node made from them are in the table of nodes. The
+-- trees of these three nodes meet the condition `IsTested` for the key's proposition.
 abbrev pub KnowsTests : Table → (ℕ × ℕ × ℕ → Option ℕ) → Type 0
 KnowsTests t known =
     (p low high made : ℕ) → known (p, low, high) ≡ Some made →

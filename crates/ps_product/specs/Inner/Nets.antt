@@ -30,8 +30,7 @@ value_at c values place = value_of values (slice_index_or (variables c) place 0)
 abbrev pub read_at : CircuitData → List Bool → Wire → Bool
 read_at c values w = bit_by_wire w (value_at c values w.place)
 
--- the place `place` is that of a gate, and the place `lower` is that of a variable which is not a gate, or of a gate
--- which that gate reads
+-- the variable at `place` is a gate; the variable at `lower` is not a gate, or is a gate that the gate at `place` reads
 pub record IsBelow (c : CircuitData) (place lower : ℕ) : Type 0 where
   pub behind : front_of c ≤ place
   pub within : lower < length (variables c)
