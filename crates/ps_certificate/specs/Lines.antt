@@ -1,6 +1,5 @@
--- How a certificate stores its entries: as a list of winners, and a list of values of type `Line`. A `Line` has the
--- move of a vertex, and refers to the range of a shared list that has the vertex's nonzero counts. (For private
--- fields.)
+-- A certificate stores its entries as a list of winners and a list of values of type `Line`. A `Line` has the move of a
+-- vertex, and refers to the range of a shared list that has the vertex's nonzero counts. (For private fields.)
 use Rattle.std.specs.Prelude.{◌≡◌, ℕ, ◌≤◌, List, length, map}
 use Rattle.std.specs.List.{All, slice_range, zip}
 use Rattle.ps_certificate.specs.Certificates.{EntryData}

@@ -4,7 +4,7 @@ use Rattle.std.proofs.lemmas.Bool.{eqb-true}
 use Rattle.ps_diagram.specs.declared.view.View.{View}
 use Rattle.ps_diagram.specs.contracts.view.ViewPartialEq.TheImpl as view_eq
 
--- a conjunction is true only if both of its operands are
+-- a conjunction is true only if both of its operands are true
 pub and_both : (a b : Bool) → (a && b) ≡ true → (a ≡ true) × (b ≡ true)
 and_both a b e = search rules
 

@@ -47,7 +47,7 @@ letter_is (suc n) f p h = elim (cases_lt p n) [
   | inr ge ↦ let same : p ≡ n = omega arith in rw same (bit_here (f n) n (letter_of n f) (letter_lt n f))
 ]
 
--- a tree's leaf at a letter is its leaf at the number of the letter
+-- a tree has the same leaf at a letter and at the number of this letter
 pub leaf_by_number : (n : ℕ) (t : Tree) → IsFrom 0 n t → (f : ℕ → Bool) →
     leaf_at t f ≡ leaf_at t (assignment (letter_of n f))
 leaf_by_number n t o f = from-blind 0 n t o f (assignment (letter_of n f)) (λ q h b. sym (letter_is n f q b))

@@ -31,7 +31,7 @@ pub first_leaf-push : (t : Table) (nodes : List ℕ) {more : List ℕ} (node let
     first_leaf (leaves_of t more letter) ≡ either_leaf (first_leaf (leaves_of t nodes letter)) (leaf_of t node letter)
 first_leaf-push t nodes node letter e = search (rules, map-append, first_leaf-append, joined_none)
 
--- the first leaf, at a letter, of a list of nodes is found in its first half, or else in its second
+-- the first leaf, at a letter, of a list of nodes is found in the list's first half, or else in its second half
 pub first_leaf-halves : (t : Table) (nodes : List ℕ) (m letter : ℕ) →
     either_leaf (first_leaf (leaves_of t (take m nodes) letter)) (first_leaf (leaves_of t (drop m nodes) letter))
     ≡ first_leaf (leaves_of t nodes letter)

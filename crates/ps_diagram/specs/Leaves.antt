@@ -1,4 +1,5 @@
--- Which leaf an operation on diagrams gives at a letter, and which pairs of leaves can be overlaid.
+-- Functions that give the leaf of an operation's result at a letter, and the condition under which two leaves can be
+-- overlaid.
 use Rattle.std.specs.Prelude.{◌≡◌, ℕ, Option, Some, None}
 
 -- the first leaf if there is one, and otherwise the second

@@ -74,8 +74,8 @@ impl Store {
         Ok(classes)
     }
 
-    /// A diagram over the propositions of `split` whose leaves are numbers of nodes: at a letter, the node that remains
-    /// of the given one after the letter's values have been read.
+    /// A diagram over the propositions of `split`, whose leaf at a letter is the number of a node: the node that
+    /// remains of the given node after this letter has been read.
     fn rests(&mut self, other: &Store, node: Node, split: u64) -> Result<Node, AllocError>
         requires { IsLent self.old other.now node }
         ensures { MakesTree self.old self.new result (IsDivided self.new split (tree_of other.now node)) }

@@ -13,9 +13,10 @@ use crate::view::{Node, View};
 use std::alloc::AllocError;
 
 impl Store {
-    /// The diagram over the propositions of `split` whose leaf at a letter is the number of the node that remains of
-    /// the given one after that letter. The propositions less than `level` have been read already, with the values that
-    /// they have in `letter`. Each letter is tried, so `split` should have few propositions.
+    /// A diagram over the propositions of `split`, whose leaf at a letter is the number of a node: the node that
+    /// remains of the given node after this letter has been read. The propositions less than `level` have been read
+    /// already, with the values that they have in `letter`. Each letter is tried, so `split` should have few
+    /// propositions.
     pub(crate) fn spread(
         &mut self,
         other: &Store,

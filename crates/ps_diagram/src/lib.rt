@@ -3,7 +3,7 @@
 //!
 //! In contracts, a `Store` is a `Table`, and a `Node` is a number. A letter is a number, whose bit p is the truth value
 //! of proposition p. `leaf_of table node letter` is the leaf of a node at a letter, or none. The table below states,
-//! for each call, which leaf the node that it makes has at a letter:
+//! for each call that makes a node, which leaf this node has at a letter:
 //!
 //! | Call | The leaf of the new node at a letter |
 //! |---|---|

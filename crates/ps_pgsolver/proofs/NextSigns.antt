@@ -62,7 +62,7 @@ by_class : (P : Sign → Type 0) (before : List ℕ) (b : ℕ) (bs : List ℕ) �
 by_class P before b bs number word name punctuation =
     search (rules, sign_digit, sign_letter, sign_quote, sign_punctuation, cases_Bool)
 
--- if a function has the same value for two tokens, it has that value for the one that a test selects
+-- if a function has the same value for two tokens, it has that value for whichever of the two a test selects
 of_both : {X : Type 0} {x : X} {a b : Sign} (f : Sign → X) (t : Bool) → f a ≡ x → f b ≡ x → f (cond t a b) ≡ x
 of_both f t h k = search rules
 

@@ -1,4 +1,4 @@
--- How the input is divided into its first line and its texts.
+-- The input is divided into its first line and its texts.
 use Rattle.std.specs.Prelude.{◌≡◌, ◌⊎◌, ◌+◌, ◌-◌, ◌<◌, ◌==◌, ◌&&◌, ◌||◌, ℕ, zero, suc, Bool, true, false, List, [], ◌∷◌}
 use Rattle.std.specs.Prelude.{length, take, drop, slice_index, nat_le}
 use Rattle.std.specs.List.{before_first, after_first}

@@ -33,7 +33,8 @@ wins_reply = line_reply (codes "wins")
 abbrev pub loses_reply : StimulusData → Reply
 loses_reply s = text_reply (losing_text s)
 
--- the line that reports that a circuit has wrong symbols, or reads inputs of a step before it may
+-- the line that reports that a circuit has wrong symbols, or that its player moves first in each step, but its outputs
+-- depend on the inputs of the same step
 abbrev pub product_line : ProductFault → List ℕ
 product_line fault = line_text (fault_number fault) (fault_name fault) []
 

@@ -36,7 +36,7 @@ Has part = HasOutcomes solution_causes part
 no_bad : (t : Sign) → Judged cause_number (NoBad {T = Sign} t)
 no_bad t = good (λ f b. b)
 
--- the errors of a number token are decidable if the errors of its value are
+-- the errors of a number token are decidable if the errors of the number's value are decidable
 module _ (Wrong : ℕ → CertCause → Type 0) (judge : (n : ℕ) → Judged cause_number (Wrong n)) where
   judge_value : (t : Sign) → Judged cause_number (BadValue Wrong t)
   judge_value (Number n) = judge_one cause_number (judge_cause cause_number Syntax (decide_below too_large n))

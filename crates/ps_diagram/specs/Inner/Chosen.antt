@@ -1,4 +1,5 @@
--- How the trees that `choose` and `both` make are related to the given trees. (For private functions.)
+-- The relations between the trees that `choose` and `both` make and the trees that these calls are given. (For private
+-- functions.)
 use Rattle.std.specs.Prelude.{◌≡◌, ℕ, ◌+◌, ◌<◌, Bool, List, Option, Some}
 use Rattle.ps_diagram.specs.declared.choose.Cut.{Cut}
 use Rattle.ps_diagram.specs.Leaves.{chosen}

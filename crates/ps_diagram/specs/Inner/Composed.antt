@@ -1,4 +1,4 @@
--- How the tree that `composed_from` makes is related to the tree from which it is made. (For private functions.)
+-- The relation between the tree that `composed_from` makes and the tree from which it is made. (For private functions.)
 use Rattle.std.specs.Prelude.{◌≡◌, ℕ, ◌<◌, Bool, List, if◌then◌else◌, is_some, length, slice_index}
 use Rattle.ps_diagram.specs.Letters.{assignment}
 use Rattle.ps_diagram.specs.Table.{Table, leaf_of}

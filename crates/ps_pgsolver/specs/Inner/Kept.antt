@@ -1,5 +1,5 @@
--- How the nodes of a game text are stored while it is parsed: in a list of ids, a list of vertices and a list of names.
--- While a game text is parsed, the stored vertices give their successors by ids, not yet by indices.
+-- While a game text is parsed, its nodes are stored in a list of ids, a list of vertices and a list of names. The
+-- stored vertices give their successors by ids, not yet by indices.
 use Rattle.std.specs.Prelude.{◌≡◌, ℕ, List, [], ◌∷◌, ◌++◌, length, Option, Some, None, Vec}
 use Rattle.std.specs.Global.{Global}
 use Rattle.ps_game.specs.Games.{VertexData, ParityGame}

@@ -1,4 +1,5 @@
--- Which of a circuit's variables have been evaluated, as functions of the inputs, for given values of the latches.
+-- A table has the variables of a circuit that have been evaluated, as functions of the inputs, for given values of the
+-- latches.
 use Rattle.std.specs.Prelude.{◌≡◌, ℕ, ◌^◌, ◌<◌, Bool, List, length, Option, None, Some, All, slice_get}
 use Rattle.std.specs.Prelude.{slice_index_or, slice_set}
 use Rattle.ps_circuit.specs.Circuits.{CircuitData, IsCircuit}
