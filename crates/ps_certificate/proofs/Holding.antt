@@ -36,7 +36,7 @@ falls_in_the_end f i j m after below step falls =
     grind arith
 
 -- assumed for a contradiction: a path that follows the player's moves of a valid certificate has a loop whose greatest
--- priority opposes the player; `place` is the index of this priority in the list of the priorities that oppose the
+-- priority opposes the player. `place` is the index of this priority in the list of the priorities that oppose the
 -- player
 record LostLoop (game : ParityGame) (certificate : CertificateData) (player : ℕ) (path : List ℕ)
     (i j place : ℕ) : Type 0 where

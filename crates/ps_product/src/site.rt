@@ -27,7 +27,7 @@ pub(crate) struct Site<'s, 'c> {
 }
 
 impl<'s, 'c> Site<'s, 'c> {
-    /// Evaluates the variable at a place, as a Boolean function of the inputs, and before that the gates on which it
+    /// Evaluates the variable at a place as a Boolean function of the inputs, after the gates on which the variable
     /// depends.
     pub fn settle(
         self,

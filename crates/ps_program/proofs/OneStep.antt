@@ -1,4 +1,4 @@
--- Two steps in a row have at most one result if each of them has at most one.
+-- Two steps in a row have at most one result if each of the two steps has at most one result.
 use Rattle.std.proofs.Common.{arith, ◌≡◌, ◌⊎◌, ◌∙◌, ℕ, Bool, true, false, List, Result, Ok, Err, refl, sym, ap, inl}
 use Rattle.std.proofs.Common.{inr}
 use Rattle.ps_text.specs.Answers.{Found}

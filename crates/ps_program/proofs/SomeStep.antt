@@ -1,4 +1,5 @@
--- Two steps in a row have a result if the first has one, and the second has one for each value of the first.
+-- Two steps in a row have a result if the first step has a result, and the second step has a result for each value that
+-- the first may give.
 -- - `HasSome step`: the step has an outcome
 -- - `then_some`, `ended_some`, `reading_some`: two steps in a row, a step that ends with a value, and a parser have an
 --   outcome
@@ -12,7 +13,8 @@ use Rattle.ps_program.proofs.OneStep.{ok_is_not_err}
 abbrev pub HasSome : {V : Type 0} → (V → Type 0) → Type 0
 HasSome {V} step = (outcome : V) × step outcome
 
--- two steps in a row have a result if the first has one, and the second has one for each value of the first
+-- two steps in a row have a result if the first step has a result, and the second step has a result for each value that
+-- the first may give
 pub then_some : {V W : Type 0} (step : Result V (List ℕ) → Type 0) (next : V → Result W (List ℕ) → Type 0) →
     HasSome step → ((v : V) → step (Ok v) → HasSome (next v)) → HasSome (Then step next)
 then_some {V} {W} step next (Err line, s) more = (Err line, inl (line, s, refl))

@@ -14,7 +14,7 @@ abbrev pub Then : {V W : Type 0} → (Result V (List ℕ) → Type 0) → (V →
 Then {V} {W} step next outcome = ((line : List ℕ) × step (Err line) × (outcome ≡ Err line))
     ⊎ ((value : V) × step (Ok value) × next value outcome)
 
--- the result of a parser, in which an error is a line with the number and the name of its cause and its offset
+-- the result of a parser, in which an error is a line with the error's number, name and offset
 abbrev pub Reading : {V C : Type 0} → (C → ℕ) → (C → List ℕ) → (Result V (Found C) → Type 0) →
     Result V (List ℕ) → Type 0
 Reading number name reads (Ok value) = reads (Ok value)

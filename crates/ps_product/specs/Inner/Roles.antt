@@ -6,8 +6,8 @@ use Rattle.ps_hoa.specs.Files.{is_among}
 use Rattle.ps_product.specs.declared.roles.Roles.{Roles}
 use Rattle.ps_simulate.specs.Symbols.{IsSymbol}
 
--- the list has the propositions that the first `count` symbols name; they differ, and all are controllable, or, if
--- `wanted` is false, none is
+-- the list has the propositions that the first `count` symbols name, all of which differ. If `wanted` is true, all of
+-- them are controllable, and otherwise none is controllable
 pub record IsListing (names : List (List ℕ)) (controllable : List ℕ) (wanted : Bool)
     (symbols : List (Option (List ℕ))) (count : ℕ) (list : List ℕ) : Type 0 where
   pub one_each : length list ≡ count

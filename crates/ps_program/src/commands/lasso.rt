@@ -24,9 +24,8 @@ use std::alloc::{AllocError, Global};
 ///
 /// # Errors
 ///
-/// Fails with the first of these faults: a missing text, a fault of the automaton, an error in the circuit's text, an
-/// error in the stimulus, an empty lap of the stimulus, symbols that the circuit's role does not allow. Fails at any
-/// time if memory runs out.
+/// Fails with the first of these faults: a missing text, a fault of the automaton, an error in the circuit's text or
+/// the stimulus, an empty lap of the stimulus, symbols that the role forbids. Fails at any time if memory runs out.
 pub fn lasso(alloc: Global, role: Role, texts: &[u8]) -> Result<Answer, Refusal>
     ensures { Gives reply_of (AnswersLasso role texts.now) result }
 {
