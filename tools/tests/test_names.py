@@ -28,10 +28,7 @@ NUMBERS_OF_PLAYERS = {
     "ps_referee/src/fault.rt": "the public field of `JudgeFault`",
 }
 PROOFS_OF_FUNCTIONS = ("Answers.antt", "Invariants.antt", "Proof.antt", "Lib.antt")
-SAME_LEMMA_FILES = {
-    "Distinct.antt": "ps_automaton ps_diagram: lists without repeats, of the entries of each crate",
-    "Unions.antt": "ps_automaton ps_diagram: joined edges, and joined diagrams",
-}
+SAME_LEMMA_FILES = {}
 
 
 def places_of_names():

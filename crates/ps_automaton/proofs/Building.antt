@@ -16,7 +16,7 @@ use Rattle.ps_automaton.specs.Chains.{Chain, chain_of, has_complement, level}
 use Rattle.ps_automaton.specs.Inner.Drafts.{AreSteps, IsDraft, IsDraftFault, Names}
 use Rattle.ps_automaton.specs.declared.fault.AutomatonFault.{AutomatonFault}
 use Rattle.ps_automaton.specs.declared.step.Step.{Step}
-use Rattle.ps_automaton.proofs.Distinct.{one_place}
+use Rattle.ps_automaton.proofs.DistinctEntries.{one_place}
 use Rattle.ps_automaton.proofs.Steps.{step_eq, step_decides}
 
 named_within : {states : ℕ} {steps : List Step} → AreSteps states steps → (o : Option ℕ) (step : Step) →

@@ -18,7 +18,7 @@ use Rattle.ps_automaton.specs.Inner.Drafts.{AreJoined, AreTargets, IsTargetAt, T
 use Rattle.ps_automaton.specs.Inner.LetterSets.{IsAdded, edge_at, entry_for}
 use Rattle.ps_automaton.specs.declared.targets.Target.{Target}
 use Rattle.ps_automaton.proofs.LetterRows.{states_within}
-use Rattle.ps_automaton.proofs.Unions.{wider}
+use Rattle.ps_automaton.proofs.EdgeUnions.{wider}
 
 -- the indices in a list of first edges are less than `count`
 abbrev pub AreFirsts : ℕ → List (Option ℕ) → Type 0

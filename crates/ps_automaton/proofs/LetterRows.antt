@@ -13,7 +13,7 @@ use Rattle.ps_hoa.proofs.Soundness.SoundLaws.{sound_edge}
 use Rattle.ps_automaton.specs.Inner.Drafts.{AreJoined, AreTargets, IsByLetters, IsTargetAt}
 use Rattle.ps_automaton.specs.Inner.Targets.{IsTargetOf}
 use Rattle.ps_automaton.specs.declared.targets.Target.{Target}
-use Rattle.ps_automaton.proofs.Distinct.{at_end, at_left}
+use Rattle.ps_automaton.proofs.DistinctEntries.{at_end, at_left}
 use Rattle.ps_automaton.proofs.Fitting.{by_letter}
 
 -- ## Targets, one by one

@@ -8,9 +8,9 @@ pub mod Fitting
 pub mod TakenEdges
 pub mod Meeting
 pub mod Ready
-pub mod Distinct
+pub mod DistinctEntries
 pub mod PlaceTables
-pub mod Unions
+pub mod EdgeUnions
 pub mod Steps
 pub mod RowSteps
 pub mod StateSteps

@@ -22,7 +22,7 @@ use Rattle.ps_automaton.specs.Inner.Numbering.{AreSetsBelow}
 use Rattle.ps_automaton.specs.declared.step.Step.{Step}
 use Rattle.ps_automaton.specs.declared.targets.Target.{Target}
 use Rattle.ps_automaton.proofs.TakenEdges.{edge_of, goes_of}
-use Rattle.ps_automaton.proofs.Unions.{at_leaf, union_clear}
+use Rattle.ps_automaton.proofs.EdgeUnions.{at_leaf, union_clear}
 
 -- if all sets in a chain's links have numbers less than 64, the priority of an edge depends only on those of its sets
 -- whose numbers are less than 64

@@ -8,7 +8,7 @@ use Rattle.ps_automaton.specs.Chains.{Chain}
 use Rattle.ps_automaton.specs.Inner.Drafts.{AreSteps, Extends, step_of_target}
 use Rattle.ps_automaton.specs.declared.targets.Target.{Target}
 use Rattle.ps_automaton.specs.declared.step.Step.{Step}
-use Rattle.ps_automaton.proofs.Distinct.{at_last, inserted_keeps, inserted_is}
+use Rattle.ps_automaton.proofs.DistinctEntries.{at_last, inserted_keeps, inserted_is}
 
 -- the test by which the code decides whether two steps are equal
 abbrev pub step_eq : Step → Step → Bool

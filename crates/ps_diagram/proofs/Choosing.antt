@@ -8,7 +8,7 @@ use Rattle.ps_diagram.specs.Table.{Table, IsNode, Keeps, MakesTree, tree_of}
 use Rattle.ps_diagram.proofs.Cells.{bool_cases}
 use Rattle.ps_diagram.proofs.Dividing.{test_same}
 use Rattle.ps_diagram.proofs.KnownLemmas.{MayBePut, one_more}
-use Rattle.ps_diagram.proofs.Making.{by-sides}
+use Rattle.ps_diagram.proofs.MadeDiagrams.{by-sides}
 
 -- the if-then-else of three nodes is made of that of their low sides, made first, that of their high sides, and a test
 -- of the two

@@ -11,7 +11,7 @@ use Rattle.ps_diagram.specs.Letters.{assignment}
 use Rattle.ps_diagram.specs.Table.{Table, IsNode, Keeps, MakesDiagram, MakesTree, leaf_of, tree_of}
 use Rattle.ps_diagram.specs.Tree.{Tree, leaf_at}
 use Rattle.ps_diagram.proofs.Cells.{bool_cases}
-use Rattle.ps_diagram.proofs.Making.{by-sides}
+use Rattle.ps_diagram.proofs.MadeDiagrams.{by-sides}
 
 -- if only one side of a test is needed, since the function in place of the proposition is constant, this side is an
 -- earlier node

@@ -16,7 +16,7 @@ use Rattle.ps_diagram.proofs.Clashing.{one_node}
 use Rattle.ps_diagram.proofs.Mapping.{on_side}
 use Rattle.ps_diagram.specs.declared.split.Split.{Split}
 use Rattle.ps_diagram.proofs.KnownLemmas.{MayBePut, keeps_trans, knows_kept, one_more}
-use Rattle.ps_diagram.proofs.Making.{by-sides}
+use Rattle.ps_diagram.proofs.MadeDiagrams.{by-sides}
 
 are_tested : {t : Table} {test : (ℕ → Bool) → Bool} {x y z : Option ℕ} {low high made : ℕ} → x ≡ Some low →
     y ≡ Some high → z ≡ Some made → IsNode t low → IsNode t high → IsNode t made →

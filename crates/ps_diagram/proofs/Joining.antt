@@ -13,7 +13,7 @@ use Rattle.ps_diagram.proofs.Cells.{bool_cases}
 use Rattle.ps_diagram.proofs.Canon.{changed}
 use Rattle.ps_diagram.specs.declared.split.Split.{Split}
 use Rattle.ps_diagram.proofs.Sides.{side_at}
-use Rattle.ps_diagram.proofs.Making.{by-sides}
+use Rattle.ps_diagram.proofs.MadeDiagrams.{by-sides}
 
 -- the overlay of two nodes is made of the overlay of their low sides, made first, that of their high sides, and a test
 -- of the two

@@ -4,7 +4,7 @@ pub mod Canon
 pub mod Sides
 pub mod Joining
 pub mod KnownLemmas
-pub mod Making
+pub mod MadeDiagrams
 pub mod Letters
 pub mod Clashing
 pub mod Literals

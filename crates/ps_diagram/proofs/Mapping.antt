@@ -11,7 +11,7 @@ use Rattle.ps_diagram.proofs.Canon.{changed}
 use Rattle.ps_diagram.proofs.KnownLemmas.{read_keeps}
 use Rattle.ps_diagram.proofs.Sides.{side_at}
 use Rattle.ps_diagram.proofs.Letters.{letter_lt, leaf_by_number}
-use Rattle.ps_diagram.proofs.Making.{by-sides}
+use Rattle.ps_diagram.proofs.MadeDiagrams.{by-sides}
 
 -- The leaves of a node are replaced by replacing those of its two sides one after the other, and making a test of the
 -- results, while the table grows. The node may be one of another table (`other`).

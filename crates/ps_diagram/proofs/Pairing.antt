@@ -19,7 +19,7 @@ use Rattle.ps_diagram.proofs.Distinct.{inserted_keeps, inserted_is, one_place}
 use Rattle.ps_diagram.proofs.KnownLemmas.{pair_same}
 use Rattle.ps_diagram.proofs.Letters.{letter_lt, leaf_by_number}
 use Rattle.ps_diagram.proofs.Sides.{side_at}
-use Rattle.ps_diagram.proofs.Making.{by-sides}
+use Rattle.ps_diagram.proofs.MadeDiagrams.{by-sides}
 
 -- ## Lists of pairs
 

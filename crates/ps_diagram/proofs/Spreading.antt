@@ -11,7 +11,7 @@ use Rattle.ps_diagram.proofs.Canon.{from-blind}
 use Rattle.ps_diagram.proofs.Cells.{bool_cases}
 use Rattle.ps_diagram.specs.Split.{IsSides}
 use Rattle.ps_diagram.proofs.Letters.{lower_bit, no_bit, top_bit}
-use Rattle.ps_diagram.proofs.Making.{by-sides}
+use Rattle.ps_diagram.proofs.MadeDiagrams.{by-sides}
 
 -- ## One letter
 

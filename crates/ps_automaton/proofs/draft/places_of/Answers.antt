@@ -2,7 +2,7 @@ use Rattle.std.proofs.Common.{arith, rules}
 use Rattle.std.proofs.lemmas.Option.{slice_get-get_or}
 use Rattle.ps_automaton.specs.Inner.Drafts.{Extends}
 use Rattle.ps_automaton.specs.Inner.Views.{chain_data}
-use Rattle.ps_automaton.proofs.Distinct.{stored_is}
+use Rattle.ps_automaton.proofs.DistinctEntries.{stored_is}
 use Rattle.ps_automaton.proofs.Steps.{step_eq, step_decides, step_extends, step_within, extends_both, named_more}
 use Rattle.ps_automaton.proofs.draft.places_of.Goals as goal
 

@@ -4,7 +4,7 @@ use Rattle.ps_hoa.specs.Files.{of_state}
 use Rattle.ps_hoa.specs.Views.{row_data}
 use Rattle.ps_diagram.specs.Table.{IsNode, leaf_of}
 use Rattle.ps_automaton.specs.Inner.Drafts.{IsWhere}
-use Rattle.ps_diagram.proofs.Making.{gives}
+use Rattle.ps_diagram.proofs.MadeDiagrams.{gives}
 use Rattle.ps_automaton.proofs.Meeting.{label_shows}
 use Rattle.ps_automaton.proofs.taken.taken.Goals as goal
 

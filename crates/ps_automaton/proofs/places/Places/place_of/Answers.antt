@@ -1,5 +1,5 @@
 use Rattle.std.proofs.Common.{◌≡◌, ◌++◌, ◌∷◌, [], inl, arith, refl, sym, ◌∙◌}
-use Rattle.ps_automaton.proofs.Distinct.{at_end}
+use Rattle.ps_automaton.proofs.DistinctEntries.{at_end}
 use Rattle.ps_automaton.proofs.PlaceTables.{distinct_by_table, table_push, table_same}
 use Rattle.ps_automaton.proofs.places.Places.place_of.Goals as goal
 

@@ -6,7 +6,7 @@ use Rattle.ps_diagram.proofs.Cells.{keeps_refl}
 use Rattle.ps_diagram.proofs.KnownLemmas.{keeps_trans, kept, knows_kept, knows_more}
 use Rattle.ps_diagram.proofs.Sides.{sides_of_test}
 use Rattle.ps_diagram.proofs.Spreading.{cofactor_blind, cofactor_sides}
-use Rattle.ps_diagram.proofs.Making.{fails, gives}
+use Rattle.ps_diagram.proofs.MadeDiagrams.{fails, gives}
 use Rattle.ps_diagram.proofs.store.Store.+cofactor.Goals as goal
 
 pub returns-in-Some-clause-made : goal.returns-in-Some-clause-made

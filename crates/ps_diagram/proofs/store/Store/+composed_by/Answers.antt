@@ -5,7 +5,7 @@ use Rattle.ps_diagram.specs.Inner.Composed.{IsComposed}
 use Rattle.ps_diagram.specs.Table.{IsNode}
 use Rattle.ps_diagram.proofs.Composing.{composed_kept, composed_sides, bits_before, side_of}
 use Rattle.ps_diagram.proofs.KnownLemmas.{keeps_trans, knows_more}
-use Rattle.ps_diagram.proofs.Making.{gives}
+use Rattle.ps_diagram.proofs.MadeDiagrams.{gives}
 use Rattle.ps_diagram.proofs.store.Store.+composed_by.Goals as goal
 
 pub composed_by-requires : goal.composed_by-requires

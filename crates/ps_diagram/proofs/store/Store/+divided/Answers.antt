@@ -8,7 +8,7 @@ use Rattle.ps_diagram.proofs.Sides.{sides_of_test}
 use Rattle.ps_diagram.proofs.KnownLemmas.{keeps_trans, knows_more}
 use Rattle.ps_diagram.proofs.Dividing.{divided_blind, divided_leads, divided_side}
 use Rattle.ps_diagram.proofs.Dividing.{sides_divided, known_divided_kept, tests_kept}
-use Rattle.ps_diagram.proofs.Making.{fails, gives, by-last}
+use Rattle.ps_diagram.proofs.MadeDiagrams.{fails, gives, by-last}
 use Rattle.ps_diagram.proofs.store.Store.+divided.Goals as goal
 
 pub returns-in-Some-clause-made : goal.returns-in-Some-clause-made

@@ -7,7 +7,7 @@ use Rattle.ps_diagram.specs.Inner.Known.{IsMapped}
 use Rattle.ps_diagram.proofs.Sides.{sides_of_test}
 use Rattle.ps_diagram.proofs.KnownLemmas.{keeps_trans, kept, read_keeps, knows_kept, knows_more}
 use Rattle.ps_diagram.proofs.Mapping.{mapped_blind, mapped_sides, on_side}
-use Rattle.ps_diagram.proofs.Making.{fails, gives}
+use Rattle.ps_diagram.proofs.MadeDiagrams.{fails, gives}
 use Rattle.ps_diagram.proofs.store.Store.+mapped_by.Goals as goal
 
 pub returns-in-Some-clause-made : goal.returns-in-Some-clause-made

@@ -3,7 +3,7 @@ use Rattle.indexmap.specs.IndexMap.{get}
 use Rattle.ps_diagram.specs.Inner.Known.{IsOverlay, pair_eq}
 use Rattle.ps_diagram.proofs.KnownLemmas.{keeps_three, keeps_trans, pairs_kept, pairs_put}
 use Rattle.ps_diagram.proofs.Joining.{overlay_sides, clash_side, clash_passes}
-use Rattle.ps_diagram.proofs.Making.{fails, gives}
+use Rattle.ps_diagram.proofs.MadeDiagrams.{fails, gives}
 use Rattle.ps_diagram.proofs.store.Store.+overlaid.Goals as goal
 
 pub returns-in-Some-clause-made : goal.returns-in-Some-clause-made

@@ -5,7 +5,7 @@ use Rattle.ps_diagram.specs.Inner.Chosen.{IsPairOf}
 use Rattle.ps_diagram.specs.Tree.{IsBlind}
 use Rattle.ps_diagram.proofs.KnownLemmas.{keeps_three, keeps_trans, kept, pairs_kept, pairs_put}
 use Rattle.ps_diagram.proofs.Pairing.{adds_as, adds_sides, meet_side, pair_blind, pair_of_more, pair_sides}
-use Rattle.ps_diagram.proofs.Making.{fails, gives}
+use Rattle.ps_diagram.proofs.MadeDiagrams.{fails, gives}
 use Rattle.ps_diagram.proofs.store.Store.+paired.Goals as goal
 
 pub returns-in-Some-clause-made : goal.returns-in-Some-clause-made

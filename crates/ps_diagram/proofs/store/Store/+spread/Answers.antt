@@ -2,7 +2,7 @@ use Rattle.std.proofs.Common.{rules}
 use Rattle.std.proofs.lemmas.Result.{IfOk-weaker}
 use Rattle.ps_diagram.specs.Table.{tree_of}
 use Rattle.ps_diagram.proofs.Spreading.{spread_sides}
-use Rattle.ps_diagram.proofs.Making.{by-last}
+use Rattle.ps_diagram.proofs.MadeDiagrams.{by-last}
 use Rattle.ps_diagram.proofs.store.Store.+spread.Goals as goal
 
 pub returns-then-level-propositions-clause-blind : goal.returns-then-level-propositions-clause-blind

@@ -8,7 +8,7 @@ use Rattle.ps_diagram.proofs.Cells.{keeps_refl}
 use Rattle.ps_diagram.proofs.KnownLemmas.{keeps_trans, kept}
 use Rattle.ps_diagram.proofs.Dividing.{tested_same, tested_kept, tested_blind, tests_kept, tests_put}
 use Rattle.ps_diagram.proofs.Dividing.{leading_side, sides_tested}
-use Rattle.ps_diagram.proofs.Making.{fails, gives}
+use Rattle.ps_diagram.proofs.MadeDiagrams.{fails, gives}
 use Rattle.ps_diagram.proofs.store.Store.+tested.Goals as goal
 
 pub returns-then-eq-clause-made : goal.returns-then-eq-clause-made

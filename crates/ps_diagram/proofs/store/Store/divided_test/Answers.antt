@@ -5,7 +5,7 @@ use Rattle.ps_label.specs.Truth.{is_in}
 use Rattle.ps_diagram.specs.Table.{tree_of}
 use Rattle.ps_diagram.proofs.Cells.{keeps_refl}
 use Rattle.ps_diagram.proofs.Dividing.{divided_in, leads_kept}
-use Rattle.ps_diagram.proofs.Making.{by-last}
+use Rattle.ps_diagram.proofs.MadeDiagrams.{by-last}
 use Rattle.ps_diagram.proofs.store.Store.divided_test.Goals as goal
 
 pub overflow_shr-split : goal.overflow_shr-split

@@ -4,7 +4,7 @@ use Rattle.ps_label.specs.Expression.{expression}
 use Rattle.ps_label.specs.Truth.{alias_truths, label_truth, truth}
 use Rattle.ps_diagram.proofs.KnownLemmas.{keeps_trans}
 use Rattle.ps_diagram.proofs.Truths.{guarded_is, truths_kept}
-use Rattle.ps_diagram.proofs.Making.{by-last}
+use Rattle.ps_diagram.proofs.MadeDiagrams.{by-last}
 use Rattle.ps_diagram.proofs.store.Store.of_label_as.Goals as goal
 
 pub truth_by-requires-clause-aliases : goal.truth_by-requires-clause-aliases

@@ -2,7 +2,7 @@ use Rattle.std.proofs.Common.{◌≡◌, ◌+◌, ◌-◌, ◌<◌, None, arith,
 use Rattle.ps_diagram.specs.Inner.Rows.{HasLeaf, LeadsOn}
 use Rattle.ps_diagram.proofs.Halving.{first_row, first_leads, has_leaf_kept}
 use Rattle.ps_diagram.proofs.KnownLemmas.{keeps_trans}
-use Rattle.ps_diagram.proofs.Making.{fails}
+use Rattle.ps_diagram.proofs.MadeDiagrams.{fails}
 use Rattle.ps_diagram.proofs.store.Store.of_leaves.Goals as goal
 
 pub loop-proposition-init : goal.loop-proposition-init

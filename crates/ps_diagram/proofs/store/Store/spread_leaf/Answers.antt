@@ -4,7 +4,7 @@ use Rattle.ps_diagram.specs.Tree.{final}
 use Rattle.ps_diagram.proofs.KnownLemmas.{kept}
 use Rattle.ps_diagram.specs.Inner.Rests.{IsCofactor}
 use Rattle.ps_diagram.proofs.Spreading.{spread_here}
-use Rattle.ps_diagram.proofs.Making.{by-last}
+use Rattle.ps_diagram.proofs.MadeDiagrams.{by-last}
 use Rattle.ps_diagram.proofs.store.Store.spread_leaf.Goals as goal
 
 pub returns-clause-made : goal.returns-clause-made

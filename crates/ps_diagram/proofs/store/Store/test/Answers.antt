@@ -2,7 +2,7 @@ use Rattle.std.proofs.Common.{sym, ◌∙◌}
 use Rattle.ps_diagram.specs.Table.{tree_of}
 use Rattle.ps_diagram.proofs.Canon.{Ready, ready}
 use Rattle.ps_diagram.proofs.Cells.{keeps_refl}
-use Rattle.ps_diagram.proofs.Making.{by-last}
+use Rattle.ps_diagram.proofs.MadeDiagrams.{by-last}
 use Rattle.ps_diagram.proofs.store.Store.test.Goals as goal
 
 made_ready : (c : goal.After-intern-arg-1) → Ready c.args.self.now c.args.proposition c.args.low c.args.high
