@@ -5,9 +5,9 @@
 
 PSYN is the built program. A line is printed for each size; the number of edges doubles from at least --least (10000) to
 --most (1000000). A line has the family, the vertices, the edges, the bytes of input, and the least time of --runs (3)
-runs. Then it has this time divided by the time of the line before (2.0: the time is proportional to the edges). With
---yardstick, `PROGRAM check GAME CERTIFICATE` also runs on each game, in turn with psyn, and the last column is psyn's
-time divided by the time of PROGRAM.
+runs. Then the line has the least time divided by the least time of the line before (2.0: the time is proportional to
+the number of edges). With --yardstick, `PROGRAM check GAME CERTIFICATE` also runs on each game, in turn with psyn, and
+the last column is psyn's time divided by the time of PROGRAM.
 
 How the games are made: each player wins half of the vertices, and each half is divided into layers. The winner's move
 and the opponent's edges lead from a vertex to a lower layer of the same half or, from layer 0, to anywhere in this

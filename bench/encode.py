@@ -101,7 +101,7 @@ def made(folder):
 
 
 def figures(program, text):
-    """The nanoseconds, and the numbers of memory states, latches and gates."""
+    """The nanoseconds, and how many memory states, latches and gates there are."""
     run = subprocess.run([program], input=text.encode(), capture_output=True, check=False)
     if run.returncode != 0:
         sys.exit(f"status {run.returncode}: {run.stderr[:200]!r}\n{text[:2000]}")
@@ -113,8 +113,8 @@ def outputs_of(family):
 
 
 def sizes(family, most):
-    """Numbers of memory states, each twice the one before; the last is `most`, or the greatest number for which psyn
-    can read an automaton with enough states."""
+    """How many memory states the machines have, each twice as many as the one before. The last has `most` memory
+    states, or fewer if psyn can't read an automaton that is large enough for so many."""
     most = min(most, 2 * (STATES - 1) if family is first else STATES)
     count = LEAST
     while count < most:

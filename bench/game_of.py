@@ -8,10 +8,10 @@ PSYN is the built program (crates/psyn/out/psyn). The families are:
     classes    64 states, each with 16 to 8,192 letters of the inputs as classes
 In the family `states`, one output leads to another state for each letter of the inputs, and the other output leads to
 the sink. Each automaton is about twice as large as the one before, up to --edges edges (1,048,576, the most that psyn
-reads). A line for each automaton has its states, the classes of input letters in each state, the vertices and edges of
-the game, and the bytes of both texts. Then it has the least seconds of --runs (3) runs of the whole process. At its end
-it has the growth of the seconds for each doubling of the vertices since the line above (2: the time is proportional to
-the vertices).
+reads). A line for each automaton counts its states, the classes of input letters in each state, and the vertices and
+the edges of its game. It also has the bytes of the automaton's text and of the game's text. Then the line has the least
+seconds of --runs (3) runs of the whole process. At its end, the line has the growth of the seconds for each doubling of
+the vertices since the line above (2: the time is proportional to the vertices).
 
 Run the script on a machine that does nothing else. A small automaton is run before the first line, so that the program
 is already in memory.

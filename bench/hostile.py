@@ -6,7 +6,7 @@
 hostile_texts.py defines the kinds of texts; most texts have 10 to 16 MiB, and games made of rungs have 40 rungs. Each
 text is given to each command that reads it. By default, a run has a stack of 1,024 KiB, at most 1,024 MiB of memory (a
 larger request is refused), and at most 60 seconds of processor time. A line for each run has the kind of its texts, its
-number among the runs of this kind, and the command. Then it has the processor seconds, the elapsed seconds, the
+number among the runs of this kind, and the command. Then the line has the processor seconds, the elapsed seconds, the
 greatest memory use (MB), the bytes of the answer, the exit status, and the answer's first line. The line ends with
 those of the following words that apply:
 
@@ -15,8 +15,9 @@ those of the following words that apply:
   LARGE     psyn answered out of memory, and this is not the right answer
   ENDED     a signal or an unknown exit status ended the run: an error, unless the time limit ended it
 
-The last line has the number of runs with each word. A run that the time limit ended is no error. The exit status is 1
-if any other run has the word ENDED, or has the word LARGER without answering out of memory."""
+The last line has, for each of these words, the number of runs with this word. A run that the time limit ended is no
+error. The exit status is 1 if any other run has the word ENDED, or has the word LARGER without answering out of
+memory."""
 import argparse
 import collections
 import multiprocessing
@@ -49,8 +50,8 @@ def limits(given):
 
 
 def written(kind, rungs, room):
-    """Writes the inputs of a kind to files. For each input, returns the command, and whether the right answer to the
-    input is out of memory."""
+    """Writes the inputs of one kind of hostile texts to files. For each input, returns the command, and whether the
+    right answer to the input is out of memory."""
     told = []
     for number, run in enumerate(kind(rungs) if kind in BY_RUNGS else kind()):
         with open(os.path.join(room, f"{number}.input"), "wb") as file:
@@ -101,7 +102,8 @@ def is_wrong(is_larger, status, start):
 
 
 def measure_kind(given, kind, counts):
-    """Prints a line for each run of a kind, and counts the runs with each word."""
+    """Prints a line for each run on one kind of texts, and counts, for each word that a line may end with, the runs
+    with this word."""
     with tempfile.TemporaryDirectory() as room:
         for number, (command, is_larger) in enumerate(written_apart(kind, given.rungs, room)):
             if given.commands and command not in given.commands.split(","):

@@ -1,7 +1,8 @@
 """Texts that are made to be hard for psyn: each function makes the runs of psyn on one kind of texts.
 
-A run has a command line, its texts, and a flag that tells whether "out of memory" is the right answer. It is the right
-answer if the answer, or the counts in it, would be larger than any machine's memory. Most texts have 10 to 16 MiB."""
+A run has a command line, its texts, and a flag that tells whether "out of memory" is the right answer. "out of memory"
+is right if any other answer, or the counts in it, would be larger than any machine's memory. Most texts have 10 to 16
+MiB."""
 import collections
 import os
 import subprocess
@@ -158,8 +159,8 @@ def vertices():
 
 
 def colliding(count, bits, most, *first):
-    """Numbers that collide in a hash table with the toolchain's hash function and a fixed seed, alone or after a given
-    first number."""
+    """Numbers that collide in a hash table with the toolchain's hash function and a fixed seed. If a first number is
+    given, the keys of the table are pairs: the first number and one of the numbers returned."""
     with tempfile.TemporaryDirectory() as room:
         program = os.path.join(room, "colliding")
         subprocess.run(["cc", "-O2", "-o", program, os.path.join(os.path.dirname(os.path.abspath(__file__)), "colliding.c")], check=True)

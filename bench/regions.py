@@ -13,10 +13,10 @@ strategies beats all of the opponent's. The winners that psyn printed must be th
 that psyn printed must win.
 
 Then come paths of up to 10000 vertices, and up to 100000 vertices with self-loops only, all with different priorities;
-the largest game once more with a stack of 256 KiB; and the games in FOLDER. A line for each of these games has the
-milliseconds and the depth of the recursion. SOLVER is another solver, which also solves the paths and the games in
-FOLDER. It is run as `SOLVER solve --stats --counts none --out none` on the same text, and must write `solve_ms` and its
-milliseconds to standard error.
+the largest game once more with a stack of 256 KiB; and the games in FOLDER. A line for each of the paths, and for each
+game in FOLDER, has the milliseconds and the depth of the recursion. SOLVER is another solver, which also solves the
+paths and the games in FOLDER. SOLVER is run as `SOLVER solve --stats --counts none --out none` on the same text, and
+must write `solve_ms` and its milliseconds to standard error.
 """
 import argparse
 import itertools

@@ -12,8 +12,8 @@ inputs in `inputs`, and of sets in `priorities`:
 A line for each automaton has the seconds of three commands. `game` reads the text, builds the automaton and its game,
 and writes the game. `cert` also solves the game and checks the certificate, and writes the certificate in place of the
 game. `synth` also makes the machine and the circuit, and writes the circuit. Then the line has the first line of the
-answer, the number of gates, and the most memory that `synth` held. At its end it has the growth of the seconds of
-`synth`, divided by the growth of the size (1.00: the time is proportional to the size).
+answer, the number of gates, and the most memory that `synth` held. At its end, the line has the growth of the seconds
+of `synth`, divided by the growth of the size (1.00: the time is proportional to the size).
 """
 import os
 import subprocess

@@ -15,8 +15,8 @@ verdict was given, and has the number of products with more than VERTICES vertic
 
 --times prints a line for each circuit: the least processor seconds of RUNS alternating runs of `synth` and of `verify`
 on the same automaton, and the time of `verify` divided by the time of `synth`. If no FILE is given, there is also an
-automaton with 20 inputs and 20 outputs, which compares one input with one output in each state. It has two circuits:
-the circuit of `synth`, and a circuit without gates that copies the inputs to the outputs.
+automaton with 20 inputs and 20 outputs, which compares one input with one output in each state. The script verifies two
+circuits for this automaton: the circuit of `synth`, and a circuit without gates that copies the inputs to the outputs.
 """
 import argparse
 import collections
