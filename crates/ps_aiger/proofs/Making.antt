@@ -37,7 +37,7 @@ pub gives : {d : Drafted} {literal : ℕ} {all : Made} → IsHeld d literal → 
     MakesLiteral d d (Ok literal) all
 gives {d} held made = record { extends = extends-refl d; held = held; made = made; too_large = search rules }
 
--- the function's last call builds the literal
+-- if the last call of a function builds a literal, the function builds this literal
 pub as-made : {old mid new : Drafted} {result : Result ℕ EncodeFault} {whole all : Made} → whole ≡ all →
     Extends old mid → MakesLiteral mid new result all → MakesLiteral old new result whole
 as-made {old} {mid} {new} {result} {whole} {all} is x m = record {

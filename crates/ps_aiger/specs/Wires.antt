@@ -48,7 +48,7 @@ output_bit b p memory x = is_in p (b.plays memory x)
 
 -- The literal of the bit f of the machine's step, for the memory states whose codes are `code` plus a number less than
 -- 2^latches. If `latches` is 0, the bit is a function of the inputs; otherwise the highest of the given latches chooses
--- between two literals, one for each half of these memory states.
+-- between two literals, each of which is built for half of the memory states.
 unfoldable pub code_made : Behaviour → StepBit → ℕ → ℕ → Drafted → Made
 code_made b f zero code d =
     over_variables (range_with_len 1 (length b.inputs)) (λ bits. f (memory_of_code b code) (letter_over b.inputs bits))
@@ -86,8 +86,8 @@ pub record AreGates (from : ℕ) (sides : List Sides) (gates : List Gate) : Type
   pub each : (k : ℕ) (s : Sides) → slice_get sides k ≡ Some s →
       slice_get gates k ≡ Some (record { literal = 2 * (from + k); first = s.first; second = s.second })
 
--- the circuit's outputs, gates and next values of latches are those that are built for the machine with this number of
--- latches
+-- the circuit's outputs, gates and next values of latches are those that are built for the machine, if the circuit has
+-- `latches` latches
 pub record IsWiredBy (b : Behaviour) (c : CircuitData) (latches : ℕ) : Type 0 where
   pub next : map (λ l. l.next) c.latches ≡ (next_wires b latches).literals
   pub outputs : c.outputs ≡ (output_wires b latches).literals

@@ -19,9 +19,9 @@ use std::alloc::Global;
 /// A bit of a row of the machine's table; a row has a next memory state and an output letter.
 #[derive(Debug, Clone, Copy, PartialEq, Eq)]
 pub(crate) enum Wanted {
-    /// The bit with this index in the number of the next memory state.
+    /// The bit with the given index in the number of the next memory state.
     Next(u32),
-    /// The bit of this proposition in the letter that the machine outputs.
+    /// The bit of the given proposition in the letter that the machine outputs.
     Output(u32),
 }
 
@@ -134,7 +134,7 @@ fn constant(machine: &Machine, wanted: Wanted, leaf: u64) -> Literal
     }
 }
 
-/// The bit `wanted` of a row of the machine.
+/// The bit `wanted` of a row of the machine's table.
 fn bit_of_row(wanted: Wanted, row: Row) -> bool
     ensures { result ≡ wanted_bit wanted row }
 {
