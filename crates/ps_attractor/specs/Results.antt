@@ -56,7 +56,7 @@ pub record Moves (game : ParityGame) (tables : TablesData) (player : ℕ) (targe
   pub outside : has target v ≡ false
 
 -- A vertex less than n has a move in the list `moves` exactly if it satisfies `Moves`: it was attracted, belongs to the
--- player and is not in the target. The move is the vertex's move in the tables
+-- player and is not in the target. The move in the list `moves` is the move that the tables have for the vertex.
 pub record AreMovesTo (game : ParityGame) (tables : TablesData) (player : ℕ) (target : List Bool) (n : ℕ)
     (moves : List (Option ℕ)) : Type 0 where
   pub given : (v : ℕ) → v < n → Moves game tables player target v → move_at moves v ≡ Some (slice_index tables.moves v)

@@ -96,8 +96,8 @@ pub record StandsAmong (list : List ℕ) (from v : ℕ) : Type 0 where
   pub within : number < length list
   pub is : slice_index list number ≡ v
 
--- an edge is still to be examined if it leads to a vertex after index k of the worklist, or to the vertex at index k
--- from the n-th or a later one of its predecessors
+-- The edges that are still to be examined: all edges to the vertices after index k of the worklist, and, of the edges
+-- to the vertex at index k, those from its n-th predecessor on.
 abbrev pub FromSource : ℕ → List ℕ → ℕ → ℕ → ℕ → Type 0
 FromSource k sources n v j = (k < j) ⊎ ((j ≡ k) × StandsAmong sources n v)
 

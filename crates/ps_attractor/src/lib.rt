@@ -7,8 +7,8 @@
 //! unreached successor continues where the previous search at that vertex ended, so each edge is examined a bounded
 //! number of times. The time is proportional to the number of edges into reached vertices, plus the number of edges
 //! from those vertices of the other player that have an edge into a reached vertex. Each call of `attract` also makes
-//! the tables and the predecessor lists, in time proportional to the numbers of vertices and edges. The memory is
-//! proportional to the numbers of vertices and edges.
+//! the tables and the predecessor lists, in time proportional to the number of vertices and edges. The memory is
+//! proportional to the number of vertices and edges.
 //!
 //! | Call | What it gives |
 //! |---|---|
