@@ -42,8 +42,8 @@ pub record Clash (file : FileData) (q first second : ℕ) : Type 0 where
 abbrev pub IsDeterministic : FileData → Type 0
 IsDeterministic file = (q first second : ℕ) → Clash file q first second → ⊥
 
--- the first pair of clashing edges in a file: its state is the smallest with a clash; of this state's pairs, its later
--- edge is the smallest, and then its earlier edge is the smallest
+-- The first pair of clashing edges in a file belongs to the first state with a clash. Of this state's clashing pairs,
+-- it is the pair whose later edge comes first, and among these the pair whose earlier edge comes first.
 pub record IsFirstClash (file : FileData) (q first second : ℕ) : Type 0 where
   pub clash : Clash file q first second
   pub least_state : (p a b : ℕ) → Clash file p a b → q ≤ p

@@ -181,7 +181,7 @@ fn is_by_letters(row: &Row) -> bool
     }
 }
 
-/// The diagram of the steps of a state each of whose edges is taken at a single letter.
+/// The diagram of the steps of a state, if each edge of the state is taken at exactly one letter.
 fn node_by_letters(pairs: &mut Pairs, levels: &Levels, guards: &Guards) -> Result<Node, AllocError>
     requires pairs { AreReady pairs.old guards.now }
     requires by_letters { IsByLetters guards.now.file.now (row_data guards.now.row.now) }

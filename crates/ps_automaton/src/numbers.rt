@@ -37,7 +37,7 @@ pub(crate) fn table_of(chain: &Chain) -> Numbers
     Numbers { base, by_set }
 }
 
-/// The priority that a chain's base gives.
+/// The priority of an edge that is in no acceptance set of the chain: 0 if the chain's base is true, else 1.
 fn base_number(base: bool) -> u64
     ensures { result ≡ chains.base_number base }
 {

@@ -162,7 +162,7 @@ pub record ArePlaces (chain : Chain) (targets : List Target) (steps : List Step)
   pub each : (k place : ℕ) (target : Target) → slice_get targets k ≡ Some target → slice_get places k ≡ Some place →
       slice_get steps place ≡ Some (step_of_target chain target)
 
--- the leaf is the index of the step
+-- the leaf is the index of the given step in the list of steps
 abbrev pub Names : List Step → Option ℕ → Step → Type 0
 Names steps leaf step = IsSomeAnd leaf (λ place. slice_get steps place ≡ Some step)
 

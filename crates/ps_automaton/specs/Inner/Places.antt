@@ -20,7 +20,8 @@ pub record IsTableOf (targets : List Target) (table : ℕ → ℕ → Option ℕ
   pub whole : (target : Target) (place : ℕ) → slice_get targets place ≡ Some target →
       table target.state target.sets ≡ Some place
 
--- the target is at the index `place` of the new list, which is the old list, or the old list with the target appended
+-- the new list is the old list, or the old list with the target appended; the target is at the index `place` of the new
+-- list
 pub record IsPlaced (old new : List Target) (target : Target) (place : ℕ) : Type 0 where
   pub list : (new ≡ old) ⊎ (new ≡ old ++ target ∷ [])
   pub stored : slice_get new place ≡ Some target
