@@ -6,8 +6,8 @@ use ps_label::{Label, Labels};
 use std::alloc::{AllocError, Global};
 use std::test::Fail;
 
-/// The leaves at the letter 0 of three diagrams. The operations `relabel` and `guard` make two of them from the leaf 2,
-/// and `fill` makes one from the diagram without leaves.
+/// The leaves at the letter 0 of three diagrams. The operations `relabel` and `guard` each make a diagram from the leaf
+/// 2, and `fill` makes a diagram from the diagram without leaves.
 fn changed(store: &mut Store) -> Result<[Option<u64>; 3], AllocError> {
     let two = store.leaf(2)?;
     let relabelled = store.relabel(two, &[4, 5, 6])?;
