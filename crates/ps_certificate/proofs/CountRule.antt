@@ -146,7 +146,8 @@ IsFirstFlawAt-rank {game} {certificate} {v} {w} {p} fits remains same_winner bro
         (Rank v w p ≡ other) ⊎ Precedes game (Rank v w p) other
     others other is_flaw early same = grind (arith, here)
 
--- if the winner's move at a vertex is right, and leads to `w`, the winner's moves allow the edge to `w`
+-- if the winner of a vertex also owns it, and its move there is right and leads to `w`, then the vertex has an edge to
+-- `w`, and the winner's moves allow this edge
 pub own_edge : {game : ParityGame} {certificate : CertificateData} {v w : ℕ} → HasRightMove game certificate v →
     owner_of game v ≡ winner_of certificate v → choice_of certificate v ≡ Some w → Remains game certificate v w
 own_edge {game} {certificate} {v} {w} right own is = search (rules, Remains-own, IsSomeAnd-at)

@@ -2,8 +2,8 @@
 -- which parsing fails.
 -- - `choice_dash`, `choice_fails`, `choice_reads`: lemmas for a move that is `-`, has an error, or is the id of a
 --   vertex
--- - `past_id`, .., `entry_reads`: what is still to be parsed of a vertex's line after each of its fields
--- - `past_first`, .., `head_read`: what is still to be parsed of the text after each of its first lines
+-- - `past_id` to `entry_reads`: what is still to be parsed of a vertex's line after each of its fields
+-- - `past_first` to `head_read`: what is still to be parsed of the text after each of its first lines
 -- - `text_fails`, `text_reads`, `text_trails`: lemmas for a whole text that has an error, is parsed, or is followed by
 --   more bytes
 use Rattle.std.proofs.Common.{◌≡◌, ◌≢◌, ℕ, Bool, not, cond, eqb, ltb, List, [], ◌∷◌, length, Option, Some, None, Result}
@@ -181,8 +181,8 @@ module _ (odd even ids : List ℕ) where
       → Stops causes whole old (found_of e) → IsErrAnd r (λ y. y ≡ e) → TellsHead odd even ids old r new
   head_fails old new e r s i = search (rules, err_from_is_err_and)
 
-  -- if the lines before those of the vertices have been parsed, an error in the vertices' lines is an error of the
-  -- whole text. If the vertices' lines have no error, parsing them completes the whole text.
+  -- if the lines that come before the lines of the vertices have been parsed, an error in the vertices' lines is an
+  -- error of the whole text. If the vertices' lines have no error, parsing them completes the whole text.
   module _ (compact : Bool) (all : List ℕ) (same : all ≡ ids) (start now : Stream Seen)
       (k : Carries causes whole start (all_entries compact odd even ids) now) where
     abbrev with_lists : List EntryData → CertificateData

@@ -1,8 +1,8 @@
 -- If a player follows the moves of a valid certificate, from a vertex that this certificate gives to the player, the
 -- greatest priority of every loop of the path has the player's parity. Suppose that the greatest priority of a loop has
 -- the opponent's parity. Then the count for this priority never rises along the edges of the loop, and it falls at a
--- vertex that has this priority. But the count must be the same at both ends of a loop, which ends at the vertex at
--- which it begins.
+-- vertex that has this priority. This contradicts the fact that a loop ends at the vertex at which it begins, so that
+-- the count is the same at both ends of the loop.
 use Rattle.std.proofs.Common.{◌≡◌, ◌≢◌, ℕ, ◌+◌, ◌-◌, ◌%◌, ◌<◌, ◌≤◌, ◌∙◌, List, length, inl, inr, sym, ap, arith, zero}
 use Rattle.std.proofs.Common.{suc, rules}
 use Rattle.std.specs.Prelude.{slice_index}
@@ -36,8 +36,8 @@ falls_in_the_end f i j m after below step falls =
     grind arith
 
 -- assumed for a contradiction: a path that follows the player's moves of a valid certificate has a loop whose greatest
--- priority opposes the player. `place` is the index of this priority in the list of the priorities that oppose the
--- player
+-- priority opposes the player. `place` is the index of the loop's greatest priority in the list of the priorities that
+-- oppose the player
 record LostLoop (game : ParityGame) (certificate : CertificateData) (player : ℕ) (path : List ℕ)
     (i j place : ℕ) : Type 0 where
   pub fits : Fits game certificate

@@ -73,8 +73,8 @@ abbrev pub behind : {A : Type 0} → List A → Result (List A) (Option (Found C
 behind front (Ok others) = Ok (front ++ others)
 behind front (Err o) = Err o
 
--- a loop's invariant: parsing the rest of a list from here gives the elements that follow the list `front`, which was
--- already read
+-- a loop's invariant: the elements in the list `front` were read, and parsing the unread rest of the text's list gives
+-- the elements that follow them
 pub record Listing {A : Type 0} (whole : Field (List A)) (start : Stream Seen) (rest : Field (List A))
     (now : Stream Seen) (front : List A) : Type 0 where
   pub carries : (r : Result (List A) (Option (Found CertCause))) (new : Stream Seen) → Parses causes rest now r new

@@ -253,7 +253,7 @@ pub stops_at_place : {V : Type 0} {P : Field V} {old : Stream Seen} {f : CertCau
     Stops causes P old (found_of e)
 stops_at_place {P = P} {old = old} s is = subst (λ x. Stops causes P old (found_of x)) (sym is) s
 
--- if no number of 64 bits begins here, parsing a number stops at the first byte with the error `Syntax`
+-- if the bytes do not begin with a number of 64 bits, parsing a number stops at the first byte with the error `Syntax`
 pub judged_fails : (Wrong : Verdict) {old : Stream Seen} {fault : CertFault} →
     (fault ≡ Text Syntax (stream_offset old)) × HasNoNumber old → Stops causes (judged Wrong) old (found_of fault)
 judged_fails Wrong h = stops_at_place (stops_there h.1.at h.1.bytes h.1.old_is (go h.1.none)) h.0

@@ -43,7 +43,7 @@ numeral_split bytes = search (rules, cases_Bool, comes_is, taken_split)
 no_zero : (bytes : List ℕ) → comes 48 bytes ≡ false → BeginsWithZero (take_while is_ascii_digit bytes) → ⊥
 no_zero bytes h k = search (rules, take_while-cons, cases_Bool, eqb-false)
 
--- if `numeral` gives any digits, they are a number without leading zeros
+-- if the list `numeral bytes` is not empty, it is a number without leading zeros
 pub numeral_plain : (bytes : List ℕ) → 0 < length (numeral bytes) → IsPlainNumber (numeral bytes)
 numeral_plain bytes long = search (rules, All-cons, All-nil, taken_digits, no_zero)
 

@@ -1,7 +1,7 @@
 -- Lemmas about parsing a pair of a priority and its count in a compact certificate, including the cases in which
 -- parsing fails.
 -- - `zero_fails`, `positive_reads`: lemmas for the count in a pair, which must not be 0
--- - `priority_fails`, .., `priority_unknown`: lemmas for a pair whose priority has an error
+-- - `priority_fails` to `priority_unknown`: lemmas for a pair whose priority has an error
 -- - `priority_reads`: the priority of a pair is parsed
 -- - `past_priority`, `past_colon`, `pair_priority`: what is still to be parsed of a pair after its priority, and after
 --   its colon

@@ -1,8 +1,8 @@
 -- A certificate is closed or has a first flaw, and a certificate that fits its game is valid or has a first flaw. To
 -- find the first flaw, the proof goes through the vertices in order, through the successors of each vertex, and through
 -- the priorities for each edge.
--- - `IsFirstPlace`, `first_place`: suppose that P or Q holds for each number less than n. Then P holds for all these
---   numbers, or Q holds for some k less than n and P holds for each number less than k
+-- - `IsFirstPlace`, `first_place`: let P or Q hold for each number less than n. Then P holds for each number less than
+--   n, or there is a first k less than n for which Q holds: P holds for each number less than k.
 -- - `decide_move`, `decide_rule`: it is decidable whether a vertex's move is right, and whether an edge obeys the
 --   certificate's rule of counts
 -- - `sound_or_flawed`, `kept_or_flawed`: a vertex has no flaw that the first or the second stage of the check reports,
@@ -224,8 +224,8 @@ module _ (game : ParityGame) (certificate : CertificateData) where
   abbrev HasFirst : Type 0
   HasFirst = (flaw : Flaw) × IsFirstFlaw game certificate flaw
 
-  -- either no vertex has a wrong move or an edge out of its winner's region, or the certificate's first flaw is one of
-  -- these
+  -- either no vertex has a wrong move or an edge out of its winner's region, or the certificate's first flaw is a wrong
+  -- move or such an edge
   all_sound : ((v : ℕ) → v < vertex_count game → IsSoundAt game certificate v) ⊎
       (¬ IsClosed game certificate × HasFirst)
   all_sound = elim (first_place (IsSoundAt game certificate)

@@ -24,7 +24,7 @@ pub same_place : (list : List ℕ) → IsStrictlyIncreasing list → {i j : ℕ}
 same_place list rising {i} {j} i_within j_within same = search (rules, cases_order, rising_far)
 
 -- the marks for the vertices before `vertex`: each marked number of the list `window` is a priority of the game, and
--- each number of the list that is the priority of one of these vertices is marked
+-- each number of `window` that is the priority of a vertex before `vertex` is marked
 pub record AreMarks (game : ParityGame) (window : List ℕ) (seen : List Bool) (vertex : ℕ) : Type 0 where
   pub room : length window ≤ length seen
   pub marked : (k : ℕ) → k < length window → get_or seen k false ≡ true → HasPriority game (get_or window k 0)
@@ -61,8 +61,8 @@ pub part-at : (list : List ℕ) (start end k : ℕ) → k < end - start →
     get_or (take (end - start) (drop start list)) k 0 ≡ get_or list (start + k) 0
 part-at list start end k below = get_or-take (end - start) (drop start list) k 0 below ∙ get_or-drop start list k 0
 
--- if the items of a list before index `start`, and those from there to index `end`, are priorities of the game, all
--- items before index `end` are priorities of the game
+-- if all items of a list before index `start` are priorities of the game, and all items at the indices `start` to `end`
+-- - 1 are, too, then so are all items before index `end`
 pub present_more : (game : ParityGame) (list : List ℕ) (start end : ℕ) →
     end ≤ length list → ((k : ℕ) → k < start → HasPriority game (get_or list k 0)) → All
     (HasPriority game) (take (end - start) (drop start list)) → (k : ℕ) → k < end → HasPriority game (get_or list k 0)

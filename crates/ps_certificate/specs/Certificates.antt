@@ -31,8 +31,8 @@ choice_of certificate v = (slice_index_or certificate.entries v no_entry).choice
 unfoldable pub counts_of : CertificateData → ℕ → List ℕ
 counts_of certificate v = (slice_index_or certificate.entries v no_entry).counts
 
--- the priorities that oppose a player: the odd ones for player 0, the even ones for player 1. The player loses a play
--- that repeats a loop whose greatest priority is one of them.
+-- the priorities that oppose a player: the odd ones for player 0, the even ones for player 1. A player loses a play
+-- that repeats a loop whose greatest priority opposes the player.
 unfoldable pub opposing : CertificateData → ℕ → List ℕ
 opposing certificate player = if player == 0 then certificate.odd else certificate.even
 
@@ -111,8 +111,8 @@ abbrev pub OccursBefore : List ℕ → ℕ → ℕ → Type 0
 OccursBefore xs x y =
     (i : ℕ) × (j : ℕ) × (i < j) × (j < length xs) × (slice_index xs i ≡ x) × (slice_index xs j ≡ y)
 
--- the edge from v to w comes before the edge from v' to w': edges are ordered by the vertex that they leave, and edges
--- that leave the same vertex by its list of successors
+-- The edge from v to w comes before the edge from v' to w'. Edges are ordered by the vertices that they leave; edges
+-- that leave one vertex are in the order of its list of successors.
 abbrev pub EdgePrecedes : ParityGame → ℕ → ℕ → ℕ → ℕ → Type 0
 EdgePrecedes game v w v' w' = (v < v') ⊎ ((v ≡ v') × OccursBefore (successors_of game v) w w')
 

@@ -48,7 +48,7 @@ fn window_present<A: Arena>(arena: &A, window: Rising<'_>) -> bool
 }
 
 /// Whether a short ascending list has exactly the game's priorities of one parity. The function makes one pass over the
-/// vertices, and searches the list for each vertex's priority that has this parity.
+/// vertices. If a vertex's priority has the given parity, the list is searched for it.
 fn is_just<A: Arena>(arena: &A, parity: u64, rising: Rising<'_>) -> bool
     requires right_parity { All (λ p. p % 2 ≡ parity) rising.list.now }
     requires short { length rising.list.now ≤ 1024 }

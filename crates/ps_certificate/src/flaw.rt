@@ -35,7 +35,7 @@ pub enum Flaw {
 impl Flaw {
     ghost use Rattle.ps_certificate.specs.Faults.{flaw_number, flaw_name};
 
-    /// The number of this flaw in psyn's list of faults, docs/FAULTS.md.
+    /// The flaw's number in psyn's list of faults, docs/FAULTS.md.
     pub fn number(self) -> u8
         ensures { result ≡ flaw_number self }
     {

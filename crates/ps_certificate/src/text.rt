@@ -60,7 +60,8 @@ pub fn ids_of(alloc: Global, game: &NamedGame) -> Result<Ids, AllocError>
     Ok(ids)
 }
 
-/// Parses the lines of a certificate's text before those of the vertices, and returns whether the text is compact.
+/// Parses the lines of a certificate's text that come before the lines of the vertices. Returns whether the text is
+/// compact.
 fn head(cursor: &mut Cursor, known: &Known, count: usize) -> Result<bool, CertFault>
     ensures { (ids : List ℕ) → count ≡ length ids → TellsHead known.now.odd.items known.now.even.items ids cursor.old
         result cursor.new }

@@ -86,7 +86,7 @@ fn room_for(entries: &Entries, compact: bool) -> usize {
     room
 }
 
-/// Writes the lines of a certificate's text that come before those of the vertices.
+/// Writes the lines of a certificate's text that come before the lines of the vertices.
 fn write_head(
     out: &mut Vec<u8>,
     count: usize,
@@ -225,7 +225,7 @@ fn write_pair(out: &mut Vec<u8>, priority: u64, count: u64) -> Result<(), AllocE
     write_number(out, count)
 }
 
-/// Writes numbers, each after a space. Most of these numbers are counts of 0, so a run of zeros is written at once.
+/// Writes numbers, each after a space. Most of the numbers are counts of 0, so a run of zeros is written at once.
 fn write_fields(out: &mut Vec<u8>, numbers: &[u64]) -> Result<(), AllocError>
     ensures bytes { OnOk result (out.new.items ≡ out.old.items ++ fields numbers.now) }
     ensures words { OnOk result (All IsWord numbers.now) }

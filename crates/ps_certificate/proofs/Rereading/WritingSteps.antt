@@ -1,6 +1,7 @@
 -- Lemmas about the invariants of the certificate writer's loops: what a loop has written so far.
 -- - `all_taken`, `all_taken_all`: a property holds for all elements that a loop has taken so far
--- - `head_joined`: the lines before those of the vertices are written one after the other
+-- - `head_joined`: the lines of a certificate that come before the lines of the vertices are written one after the
+--   other
 -- - `pair_written`, `pair_skipped`: one more count has been written, or is 0 and was left out
 use Rattle.std.proofs.Common.{◌≡◌, ℕ, ◌+◌, ◌<◌, ◌≤◌, cond, eqb, List, [], ◌∷◌, ◌++◌, length, get_or, drop}
 use Rattle.std.proofs.Common.{take, subst, append_assoc, arith, rules}

@@ -4,7 +4,7 @@
 --   left
 -- - `then`, `with_value`: lemmas for two parts of the grammar that follow one another, and for a part with a function
 --   applied to its value
--- - `read_byte`, .., `read_text`: parsing each part of the written text, or the whole text, gives the value that was
+-- - `read_byte` to `read_text`: parsing each part of the written text, or the whole text, gives the value that was
 --   written
 -- - `reads_again`: parsing the whole text that was written for a certificate gives this certificate
 use Rattle.std.proofs.Common.{◌≡◌, ◌≢◌, ℕ, zero, suc, ◌+◌, ◌^◌, ◌<◌, ◌⊎◌, Bool, true, false, cond, eqb, List, [], ◌∷◌}

@@ -2,7 +2,7 @@
 -- was located.
 -- - `Tells view part old result new`: the function parsed the grammar's part `part`, or located its first error
 -- - `numeral bytes`: the longest number without leading zeros with which the bytes begin
--- - `TellsNumber old result new`: the function moved past a number, or no number of 64 bits begins here
+-- - `TellsNumber old result new`: the function moved past a number, or no number of 64 bits begins at the cursor
 -- - `TellsPriority`, `TellsHead`, `TellsEntries`: the function that parses a count's priority, the first lines or the
 --   whole text has parsed this part of the text, or has located its first error
 use Rattle.std.specs.Prelude.{◌≡◌, ℕ, ◌+◌, ◌^◌, ◌<◌, ◌≤◌, ◌⊎◌, List, [], ◌∷◌, ◌++◌, length, Option, Some, None, Result}
