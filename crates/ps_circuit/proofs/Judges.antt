@@ -64,7 +64,7 @@ pub bad_symbol : {names : NamesData} {s : Seen} {kind : Kind} {digits : List ℕ
 bad_symbol {names} {s} {kind} {digits} letter d b = search (rules, same_some, same_run)
 
 module _ (names : NamesData) where
-  -- it is decidable whether the input, latch or output with this number is missing or already has a name
+  -- it is decidable whether an input, latch or output, given by its number, is missing or already has a name
   decide_free : (place : Option (Option (List ℕ))) → Decided (place ≡ Some None → ⊥)
   decide_free place = search (rules, none_is_some, same_some)
 

@@ -79,7 +79,8 @@ links-by_places {gates} {place_of} a e = search (rules, length-links_by, slice_g
 abbrev sides : Option ℕ → Option ℕ → Links
 sides first second = record { first = first; second = second }
 
--- appending the `Links` of gate k to those of the first k gates gives the `Links` of the first k + 1 gates
+-- The `Links` of a gate are the indices of the gates that it reads. If the `Links` of gate k are appended to those of
+-- the first k gates, the list has the `Links` of the first k + 1 gates.
 pub links_by-more : (variables : List ℕ) (gates : List Gate) (k : ℕ) (g : Gate) {links more : List Links}
     {first second : Option ℕ} → k < length gates →
     links ≡ links_by (place_in variables) (take k gates) → more ≡ links ++

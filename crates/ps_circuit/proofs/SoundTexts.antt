@@ -37,7 +37,7 @@ use Rattle.ps_circuit.proofs.CircuitTextLaws.{chain_1, chain_first, chain_next, 
 
 -- ## Lines
 
--- a defining literal without an error defines a variable that was not defined before
+-- if a defining literal has no error, the variable that it defines was not defined before
 defines_right : (most : ℕ) (defined : List ℕ) (l : Number) → IsRight (WrongDefinition most defined) l →
     Defines most defined (l.value ∷ []) (defined ++ variable l.value ∷ [])
 defines_right most defined l right = elim (decide_definition most l.value) [

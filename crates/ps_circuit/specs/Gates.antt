@@ -60,8 +60,9 @@ mux_of d s high low =
     else chosen_of d s high low
 
 -- A call of a builder succeeds or fails as it should; `all` has the gates that the builder should have afterwards, and
--- the literal that the call should return. If the call succeeds, the builder has these gates, and the call returns this
--- literal. If the variables' values v satisfy the equations of the gates, the literal has the value `value v`.
+-- the literal that the call should return. If the call succeeds, the builder has the gates of `all`, and the call
+-- returns the literal of `all`. If the variables' values v satisfy the equations of the gates, the literal has the
+-- value `value v`.
 pub record MakesGates (old new : Drafted) (result : Result ℕ EncodeFault) (all : Made) (value : (ℕ → Bool) → Bool)
     (Needs : Type 0) : Type 0 where
   -- the existing gates remain, even if the call fails

@@ -24,8 +24,8 @@
 -- The literal of an input, of a latch or of a gate's left side must be even and at least 2, and a latch's reset must be
 -- 0 or 1. The errors 62, 63, 66 and 67 are reported at the first digit of the wrong number, and the error 61 for a
 -- symbol's number at the symbol's letter. The first error in the order of the text is reported. If there are several
--- errors at the same offset, the error with the smallest number is reported. If a text has none of the errors above, it
--- can have one of the following, which are checked in this order:
+-- errors at the same offset, the error with the smallest number is reported. If a text has none of the errors 61, 62,
+-- 63, 66 and 67, the errors 64 and 65 are checked, in this order:
 -- - 64 (`Undefined`): the first literal that is used and whose variable is neither defined nor 0
 -- - 65 (`Cyclic`): the line of the first gate that depends on itself
 use Rattle.std.specs.Prelude.{◌≡◌, ◌≢◌, ℕ, zero, suc, ◌+◌, ◌*◌, ◌^◌, ◌<◌, ◌≤◌, ◌⊎◌, List, [], ◌∷◌, ◌++◌, Bool, false}
@@ -106,8 +106,8 @@ pub record Lines (A : Type 0) : Type 0 where
   pub readings : List Number
   pub starts : List ℕ
 
--- before the first input line, nothing was read; before the first line of the next kind, `next_lines` has no items of
--- that kind, but the variables, literals and offsets of the lines read so far
+-- `no_lines` is what was read before the first input line: nothing. `next_lines` is what was read before the first line
+-- of the next kind: no items of that kind, but the variables, literals and offsets of all earlier lines.
 abbrev pub no_lines : {A : Type 0} → Lines A
 no_lines = record { items = []; defined = []; readings = []; starts = [] }
 

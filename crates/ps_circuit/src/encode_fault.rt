@@ -21,7 +21,7 @@ pub enum EncodeFault {
 impl EncodeFault {
     ghost use Rattle.ps_circuit.specs.EncodeFaultNames.{fault_number, fault_name};
 
-    /// The number of this fault in psyn's list of faults, docs/FAULTS.md.
+    /// The fault's number in psyn's list of faults, docs/FAULTS.md.
     pub fn number(self) -> u8
         ensures { result ≡ fault_number self }
     {

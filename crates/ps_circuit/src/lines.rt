@@ -38,7 +38,7 @@ pub struct Noted {
 }
 
 impl Noted {
-    /// The records before any line is read.
+    /// The parser's records before any line of inputs, latches, outputs or gates is read.
     pub fn nothing(alloc: Global) -> Self
         ensures { lines_of [] result ≡ no_lines {A = ℕ} }
     {
@@ -79,7 +79,7 @@ pub trait Line {
 ///
 /// # Errors
 ///
-/// The first error in the lines of this kind, or out of memory.
+/// The first error in the lines of inputs, latches, outputs or gates that are read, or out of memory.
 pub fn lines<L: Line>(
     alloc: Global,
     cursor: &mut Cursor,

@@ -29,7 +29,8 @@ pub struct Names {
 }
 
 impl Names {
-    /// The state before any name is read, for the given numbers of inputs, latches and outputs. Fails if out of memory.
+    /// The names before any line of the symbol table is read: a place without a name for each input, latch and output.
+    /// Fails if out of memory.
     pub fn none(
         alloc: Global,
         inputs: usize,
@@ -133,7 +134,7 @@ fn name_line(
     Ok(())
 }
 
-/// Whether there is an input, latch or output with this number, and it has no name yet.
+/// Whether the input, latch or output with the given number exists and has no name yet.
 fn is_free(names: &Vec<Option<Vec<u8>>>, number: u64) -> bool
     ensures free { IsTrue result → slice_get (map name_bytes names.now.items) number ≡ Some None }
     ensures taken { result ≡ false → slice_get (map name_bytes names.now.items) number ≢ Some None }

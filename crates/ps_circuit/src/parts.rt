@@ -7,7 +7,8 @@ use crate::literal::Literal;
 pub struct Latch {
     /// The latch's own literal, which is neither negated nor constant.
     pub literal: Literal,
-    /// The literal whose value is the value of the latch in the next step.
+    /// The latch's next-state literal: the value of this literal in one step is the value of the latch in the following
+    /// step.
     pub next: Literal,
     /// The value of the latch in the first step.
     pub reset: bool,

@@ -88,9 +88,9 @@ module _ {c : CircuitData} (draft : IsDraft c) {X : Type 0} (kind : LineKind X) 
     (none : texts [] ≡ []) (some : (x : X) (xs : List X) → texts (x ∷ xs) ≡ text x ++ texts xs)
     (reread : (rest : List ℕ) (Good : Lines X → Type 0) (d : Lines X) (x : X) → IsNew kind c.most d x →
     ((e : Lines X) → AddsItem kind d e x → Good e) → Rereads (line d) Good (text x ++ rest) rest) where
-  -- the list `whole` has the literals of earlier lines, of all lines of one kind, and of later lines. One line of this
-  -- kind, with the item x, divides it: the literals before this line come first, then its own literals, then the later
-  -- ones
+  -- the list `whole` has the literals of earlier lines, of all lines of one kind, and of later lines. The line of an
+  -- item x divides the list `whole`: first come the literals of earlier lines, then the literals of the line of x, and
+  -- then the literals of later lines.
   middle : (of : List X → List ℕ) → ((xs ys : List X) → of (xs ++ ys) ≡ of xs ++ of ys) →
       (front back whole : List ℕ) → whole ≡ front ++ (of all ++ back) → (a xs : List X) (x : X) → a ++ x ∷ xs ≡ all →
       whole ≡ (front ++ of a) ++ (of (x ∷ []) ++ (of xs ++ back))

@@ -2,8 +2,8 @@
 -- - `from e at text`: the bytes of `text` as parser input, from the offset `at` to the end `e`
 -- - `Rereads part Good text rest`: parsing the grammar's part `part` at the beginning of `text` gives a value with the
 --   property `Good`, and leaves `rest`
--- - `reread_then`, `reread_mapped`: `Rereads` holds for two parts in a row if it holds for each, and for a part whose
---   value is mapped by a function
+-- - `reread_then`, `reread_mapped`: `Rereads` holds for two parts together, one after the other, if it holds for each;
+--   it also holds for a part whose value is mapped by a function
 -- - `reread_as`, `reread_branch`: `Rereads` holds for an equal text, and for alternatives of which the next byte
 --   selects one
 -- - `number_then`, `field_then`: a written number, or a space and a number, is parsed, and so is the part after it

@@ -1,6 +1,6 @@
 -- Lemmas about parsing the first line, and the line of each input, latch, output or gate, in the text of a written
 -- circuit.
--- - `IsWritable`: a circuit whose numbers of inputs, latches, outputs and gates fit into 64 bits
+-- - `IsWritable`: a well-formed circuit that may have cycles, with fewer than 2^64 inputs, latches, outputs and gates
 -- - `reread_header`: parsing the first line gives the numbers that were written
 -- - `IsNew kind most d x`: after the lines d, x (an input, latch, output or gate) may define its variable, if it has
 --   one, and the literals that x uses are not too large
@@ -39,7 +39,8 @@ use Rattle.ps_circuit.proofs.CircuitRereading.RereadFields.{reread_more, reread_
 abbrev pub field_text : ℕ → List ℕ → List ℕ
 field_text n rest = 32 ∷ (decimal n ++ rest)
 
--- the circuit is well formed, apart from cycles, and its numbers of inputs, latches, outputs and gates fit into 64 bits
+-- the circuit is well formed, but may have cycles; the number of its inputs is less than 2^64, and so is the number of
+-- its latches, of its outputs and of its gates
 pub record IsWritable (c : CircuitData) : Type 0 where
   pub draft : IsDraft c
   pub inputs : length c.inputs < 2 ^ 64

@@ -1,7 +1,7 @@
 -- The contracts of the AIGER parser's private functions, in terms of the bytes that these functions move past.
 -- - `Tells view part old result new`: either the function parsed the grammar's part `part`, or its result is this
 --   part's first error
--- - `TellsNumber old result new`: either the function moved past a number, or no number begins here
+-- - `TellsNumber old result new`: either the function moved past a number, or no number begins at the cursor
 use Rattle.std.specs.Prelude.{◌≡◌, ℕ, ◌-◌, ◌^◌, ◌<◌, List, [], length, Result, Ok, Err, min}
 use Rattle.ps_text.specs.Answers.{Stream}
 use Rattle.ps_text.specs.Readers.{Meets}
