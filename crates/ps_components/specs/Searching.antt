@@ -6,8 +6,8 @@ use Rattle.ps_components.specs.declared.statuses.Status.{Status}
 use Rattle.ps_components.specs.declared.statuses.Status.TheVariants.{Unseen, Active, Closed}
 use Rattle.ps_components.specs.declared.search.Pending.{Pending}
 
--- each segment that begins at index p or before also begins at index q or before, so index q is in the segment of index
--- p or in a later segment
+-- index q of the search path is in the segment of index p, or in a later segment: each segment that begins at p or
+-- before also begins at q or before
 abbrev pub NoLater : List ℕ → ℕ → ℕ → Type 0
 NoLater bounds p q = (k b : ℕ) → slice_get bounds k ≡ Some b → b ≤ p → b ≤ q
 

@@ -84,8 +84,8 @@ impl Spread {
         Ok(())
     }
 
-    /// Records that the vertex `to` was reached from step `place`, unless it was reached before. Fails if out of
-    /// memory.
+    /// Records that the vertex `to` was reached from the vertex of the search step with the index `place`, unless `to`
+    /// was reached before. Fails if out of memory.
     fn reach<G: Graph>(&mut self, graph: &G, to: usize, place: usize) -> Result<(), AllocError>
         requires to { to < length self.old.seen.items }
         requires linked { (s : Step) × (slice_get self.old.steps.items place ≡ Some s) ×
