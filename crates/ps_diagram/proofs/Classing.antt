@@ -1,6 +1,6 @@
 -- The letters over the propositions of a mask are divided into classes, by a diagram whose leaves are numbers of nodes.
--- At each letter, the node with this number is what remains of the given node after the mask's propositions have been
--- read.
+-- At each letter, the leaf is the number of the node that remains of the given node after the mask's propositions have
+-- been read.
 use Rattle.std.proofs.Common.{◌≡◌, ◌↔◌, ℕ, ◌<◌, ◌^◌, Bool, true, false, List, length, Option, Some, rules}
 use Rattle.std.proofs.Common.{sym, ◌∙◌, arith, inl, inr}
 use Rattle.std.proofs.lemmas.Bool.{cases_lt, false_from_ne_true}
@@ -195,8 +195,9 @@ module _ {s u : Table} (m : Made s u) where
         (m.listed.rising i j lt below));
   }
 
--- The node that is divided is in the table s. The diagram that leads each letter to the node that remains after it is
--- in v. The diagram of class indices is in u, which keeps the nodes of v.
+-- Three tables of nodes are involved. The table s has the node whose letters are divided into classes. The table v has
+-- a diagram that leads each letter to the node that remains after this letter. The table u has the nodes of v, and a
+-- diagram whose leaves are the indices of the classes.
 pub classes_of : {s v u : Table} → Keeps v u → IsSoundTable s → IsSoundTable u → u.propositions ≡ s.propositions →
     (mask : ℕ) {node divided at : ℕ} {places : ℕ → Option ℕ} {leaves : List (ℕ × ℕ)} {list : List Class} →
     IsNode s node → IsNode v divided → IsNode u at → IsDivided v mask (tree_of s node) (tree_of v divided) →

@@ -125,7 +125,7 @@ tests_put {t = t} known new n put k h hx hy m p a b =
     (tree_of t v)) test_eq test_same known new put (λ q. tests_kept known k h q.0 q.1 q.2)
     (j.held _ hx, j.held _ hy, m.held, rw (j.same _ hx, j.same _ hy) m.leaf) (p, a, b)
 
--- diagrams each of whose leaves is the number of a node
+-- diagrams in which each leaf is the number of a node
 
 pub names_of : (t : Table) (level : ℕ) (d : Tree) → LeadsToNodes t level d → (f : ℕ → Bool) → IsSome (leaf_at d f)
 names_of t level d h f = let r = h f in rw r.1

@@ -117,8 +117,8 @@ module _ {t u : Table} {p none : ℕ} {nodes made : List ℕ} (row : IsRow t (p 
   unfolding Made
   half_row = search (rules, nothing_now, made_there, test_blind, empty_blind)
 
-  -- at each letter, a node of the new row has the leaf that one of its two sides has there: the truth value of p
-  -- selects the side, a node of the old row
+  -- The two sides of a node of the new row are nodes of the old row. At each letter, the node has the leaf of its high
+  -- side if the proposition p is true, and otherwise of its low side.
   leads_by : (letter : ℕ) → IsTestOf p (tree_of t (get_or nodes (letter % 2 ^ p) none))
       (tree_of t (get_or nodes (2 ^ p + letter % 2 ^ p) none)) (tree_of u (get_or made (letter % 2 ^ p) none)) →
       leaf_of u (get_or made (letter % 2 ^ p) none) letter ≡ leaf_of t (get_or nodes (letter % 2 ^ (p + 1)) none) letter

@@ -28,8 +28,8 @@ pub side_at : {t : Table} {node p low high : ℕ} (v : Bool) → IsSides t node 
     leaf_at (tree_of t node) (changed f p v) ≡ leaf_at (tree_of t (cond v high low)) f
 side_at v h f = search (rules, side_leaf)
 
--- Two nodes are numbers, which are replaced by the numbers x and y. If neither number rises, and the number of each
--- node that tests the smaller of the two tested propositions falls, the sum of the two numbers falls.
+-- Nodes are numbers. The nodes `first` and `second` are replaced by x and y, which are not greater. If each of the two
+-- nodes that tests the smaller proposition is replaced by a smaller number, the sum of the two numbers falls.
 pub falls : (a b : ℕ) {r : ℕ} (first second x y : ℕ) → r ≡ min a b → x ≤ first → y ≤ second → (a ≡ r → x < first) →
     (b ≡ r → y < second) → x + y < first + second
 falls a b first second x y e hx hy lx ly = search (rules, cases_lt)

@@ -25,13 +25,14 @@ pub first_leaf-append : (xs ys : List (Option ℕ)) → first_leaf (xs ++ ys) �
 first_leaf-append [] ys = refl
 first_leaf-append (x ∷ xs) ys = search (rules, joined_assoc, first_leaf-append xs ys)
 
--- if a node is appended to a list of nodes, the longer list's first leaf at a letter is the old list's first leaf, or
--- else the leaf of the appended node
+-- Append a node to a list of nodes. At each letter, the first leaf of the list's nodes stays the same, or is the new
+-- node's leaf if no old node has a leaf.
 pub first_leaf-push : (t : Table) (nodes : List ℕ) {more : List ℕ} (node letter : ℕ) → more ≡ nodes ++ node ∷ [] →
     first_leaf (leaves_of t more letter) ≡ either_leaf (first_leaf (leaves_of t nodes letter)) (leaf_of t node letter)
 first_leaf-push t nodes node letter e = search (rules, map-append, first_leaf-append, joined_none)
 
--- the first leaf, at a letter, of a list of nodes is found in the list's first half, or else in its second half
+-- the first leaf of a list's nodes at a letter is in the first half of the list, or in the second half if no node of
+-- the first half has a leaf
 pub first_leaf-halves : (t : Table) (nodes : List ℕ) (m letter : ℕ) →
     either_leaf (first_leaf (leaves_of t (take m nodes) letter)) (first_leaf (leaves_of t (drop m nodes) letter))
     ≡ first_leaf (leaves_of t nodes letter)

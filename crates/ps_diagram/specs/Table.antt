@@ -32,7 +32,7 @@ trees_of cells = fold (λ known cell. known ++ tree_by known cell ∷ []) [] cel
 abbrev pub tree_at : List View → ℕ → Tree
 tree_at cells place = slice_index_or (trees_of cells) place empty
 
--- the tree of a cell of the store
+-- the tree that a cell of the store represents, given the cells before it
 abbrev pub tree_in : List View → View → Tree
 tree_in cells cell = tree_by (trees_of cells) cell
 

@@ -21,9 +21,9 @@ pub(crate) struct Cut {
     pub proposition: u32,
     /// The sides of the first node, which decides between the other two.
     pub truth: Sides,
-    /// The sides of the node from which leaves are taken at letters at which the deciding node has a leaf.
+    /// The sides of the second node, whose leaf is taken at each letter at which the first node has a leaf.
     pub one: Sides,
-    /// The sides of the node from which leaves are taken at all other letters.
+    /// The sides of the third node, whose leaf is taken at each letter at which the first node has no leaf.
     pub other: Sides,
 }
 

@@ -42,9 +42,9 @@ pub struct Classes {
 }
 
 impl Store {
-    /// The classes of the letters over the propositions of `split`. Two letters are in one class exactly if, for all
-    /// truth values of the other propositions, they lead to the same leaf, or both to none. This call copies the store
-    /// to read the node from it; `classes_from` reads the node from a borrowed store.
+    /// Divides the letters over the propositions of `split` into classes. Two letters are in one class exactly if, for
+    /// all truth values of the other propositions, they lead to the same leaf, or both to none. This call copies the
+    /// store to read the node from it; `classes_from` reads the node from a borrowed store.
     pub fn classes(&mut self, node: Node, split: u64) -> Result<Classes, AllocError>
         requires held { IsNode self.old node }
         ensures keeps { Keeps self.old self.new }
@@ -55,7 +55,7 @@ impl Store {
         Ok(classes)
     }
 
-    /// Like `classes`, but for a node of another store. The diagrams of the classes are made in the store `self`.
+    /// Like `classes`, but for a node of the store `other`. The diagrams of the classes are made in the store `self`.
     pub fn classes_from(
         &mut self,
         other: &Store,
@@ -74,8 +74,8 @@ impl Store {
         Ok(classes)
     }
 
-    /// A diagram over the propositions of `split`, whose leaf at a letter is the number of a node: the node that
-    /// remains of the given node after this letter has been read.
+    /// A diagram over the propositions of `split`. The leaf at a letter is the number of a node: what remains of the
+    /// given node after the letter has been read.
     fn rests(&mut self, other: &Store, node: Node, split: u64) -> Result<Node, AllocError>
         requires { IsLent self.old other.now node }
         ensures { MakesTree self.old self.new result (IsDivided self.new split (tree_of other.now node)) }

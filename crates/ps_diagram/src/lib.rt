@@ -38,9 +38,9 @@
 //! diagram once. `overlay` and `both` visit each reachable pair of nodes once, and `choose` visits each reachable
 //! triple once. `composed_from` visits each node once, and chooses between its sides by the function that replaces its
 //! proposition. If this function is constant, only one side is visited, and the node may be visited again from other
-//! nodes. The first few nodes may be visited more often, because they are not kept in a memo table: most calls need
-//! none. `of_letter` makes one node for each proposition. `of_label` makes a node for each literal of a product; it
-//! joins the diagrams of other operands in halves. `classes` first copies the store.
+//! nodes. Most calls visit only a few nodes, so the first few nodes are not kept in a memo table, and may be visited
+//! more often. `of_letter` makes one node for each proposition. `of_label` makes a node for each literal of a product;
+//! it joins the diagrams of other operands in halves. `classes` first copies the store.
 #![tactic(auto)]
 
 mod both;

@@ -15,9 +15,9 @@ use std::alloc::AllocError;
 /// A conjunction of literals, as two sets of propositions; proposition p is bit p of a set.
 #[derive(Clone, Copy)]
 pub(crate) struct Product {
-    /// The propositions that must be true.
+    /// The propositions whose literals in the product are not negated.
     pub positive: u64,
-    /// The propositions that must be false.
+    /// The propositions whose literals in the product are negated.
     pub negative: u64,
 }
 

@@ -4,7 +4,8 @@ use Rattle.ps_diagram.specs.Letters.{assignment}
 use Rattle.ps_diagram.specs.Table.{Table, leaf_of}
 use Rattle.ps_diagram.specs.Tree.{Tree, leaf_at}
 
--- f has the values of the functions `truths` at the letter: f p is whether the p-th node has a leaf there
+-- f has the values of the functions `truths` at the letter: f p is true exactly if the p-th node of `truths` has a leaf
+-- at the letter
 abbrev pub AreBitsAt : Table → List ℕ → ℕ → (ℕ → Bool) → Type 0
 AreBitsAt t truths letter f =
     (p : ℕ) → p < length truths → f p ≡ is_some (leaf_of t (slice_index truths p) letter)

@@ -23,8 +23,8 @@ IsDivided t mask a d =
     ((g : ℕ → Bool) → leaf_at (tree_of t rest) g ≡ leaf_at a (mixed mask f g))
 
 -- The second tree is the cofactor of the first tree for one letter: what remains after the propositions of the mask
--- have been read. At each letter g, it has the leaf of the first tree at the letter that agrees with `letter` on the
--- mask and with g elsewhere.
+-- have been read. At each letter g, the second tree has the leaf of the first tree at the letter that agrees with
+-- `letter` on the mask and with g elsewhere.
 abbrev pub IsCofactor : ℕ → ℕ → Tree → Tree → Type 0
 IsCofactor mask letter a d = (g : ℕ → Bool) → leaf_at d g ≡ leaf_at a (mixed mask (assignment letter) g)
 
@@ -72,8 +72,8 @@ pub record AreTested (t : Table) (test : (ℕ → Bool) → Bool) (x y z : Optio
 abbrev pub IsTested : Table → ℕ → Tree → Tree → Tree → Type 0
 IsTested t p a b d = (f : ℕ → Bool) → AreTested t (λ g. g p) (leaf_at a f) (leaf_at b f) (leaf_at d f)
 
--- If p is not in the mask, the three trees meet the condition `IsTested`. If p is in the mask, the third node at the
--- letter f has the leaves of the second node if p is true in f, and otherwise those of the first.
+-- If p is not in the mask, the trees a, b and d meet the condition `IsTested`. If p is in the mask, the third node at
+-- the letter f has the leaves of the second node if p is true in f, and otherwise those of the first.
 abbrev pub IsDividedTest : Table → ℕ → ℕ → Tree → Tree → Tree → Type 0
 IsDividedTest t mask p a b d =
     (f : ℕ → Bool) → AreTested t (λ g. mixed mask f g p) (leaf_at a f) (leaf_at b f) (leaf_at d f)

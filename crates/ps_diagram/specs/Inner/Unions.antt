@@ -4,7 +4,7 @@ use Rattle.ps_diagram.specs.Labels.{IsOneOrNone}
 use Rattle.ps_diagram.specs.Leaves.{either_leaf}
 use Rattle.ps_diagram.specs.Table.{Table, IsNode, leaf_of}
 
--- the first leaf in the list, if any
+-- the first entry of a list that is a leaf; other entries are `None`
 abbrev pub first_leaf : List (Option ℕ) → Option ℕ
 first_leaf [] = None
 first_leaf (leaf ∷ leaves) = either_leaf leaf (first_leaf leaves)
