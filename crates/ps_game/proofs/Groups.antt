@@ -90,7 +90,7 @@ summed f g same (x ∷ xs) a =
     ap (λ n. fold_l (λ s x. s + x) (a + n) (map g (map f xs))) (same x) ∙ summed f g same xs (a + f x)
 
 -- The sum of f over the words before a group of eight, plus the sum of f over the group's lanes, is the sum of f over
--- the words up to the group's end. The cast g changes no summand
+-- the words up to the group's end. The function g, a cast to another integer type, changes none of the summands.
 pub group_summed : (f g : ℕ → ℕ) (words : List ℕ) (group count : ℕ) → ((x : ℕ) → g (f x) ≡ f x) →
     count ≡ sum_by f (take (group * 8) words)
     → count + fold_l (λ s x. s + x) 0 (map g (map f (chunk (group * 8) 8 words))) ≡ sum_by f

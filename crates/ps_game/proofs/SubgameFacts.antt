@@ -33,7 +33,7 @@ whole_game game is_game =
       );
     }
 
--- an edge leads to each successor of a vertex, given by its index
+-- for each index in the list of a vertex's successors, the vertex has an edge to the successor at this index
 pub edge_at : (game : ParityGame) (v k : ℕ) → v < vertex_count game → k < length (successors_of game v) →
     HasEdge game v (get_or (successors_of game v) k 0)
 edge_at game v k is_vertex within = (is_vertex, Contains-get_or (successors_of game v) k 0 within)

@@ -1,7 +1,7 @@
 -- Sets of vertices and tables of moves, as lists with an entry for each vertex.
 use Rattle.std.specs.Prelude.{ℕ, List, Option, None, Bool, false, slice_index_or}
 
--- whether a vertex is in the set
+-- whether the vertex v is in a set, which has a truth value for each vertex
 abbrev pub has : List Bool → ℕ → Bool
 has region v = slice_index_or region v false
 

@@ -1,5 +1,5 @@
 //! Builds a game from vertices and edges that are added in any order. At the end, repeated successors are dropped, in
-//! time proportional to the numbers of vertices and edges.
+//! time proportional to the number of vertices and edges.
 
 ghost use Rattle.std.specs.Prelude.{◌≡◌, ◌<◌, ◌≤◌, ◌+◌, ◌↔◌, ℕ, [], IfOk, OnOk, OnErr, Err, IfSome, IfNone, Some, None};
 ghost use Rattle.std.specs.Prelude.{length, find, nat_le, take, map};
@@ -205,7 +205,7 @@ fn unknown_successor(vertex: &Vertex, count: usize) -> Option<usize>
         .find(|successor| count <= *successor)
 }
 
-/// Drops all repeated successors, in time proportional to the numbers of vertices and edges. For each vertex, `seen`
+/// Drops all repeated successors, in time proportional to the number of vertices and edges. For each vertex, `seen`
 /// has the stamp of the last processed vertex with an edge to it, or 0. The stamp of a vertex is its number plus one.
 #[tactic(auto, unfolding(crate::specs::Games::vertex_count, crate::specs::Games::successors_of))]
 fn drop_repeats(vertices: &mut [Vertex], seen: &mut [usize])

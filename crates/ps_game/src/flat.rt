@@ -36,7 +36,7 @@ impl<W: Width> Model for FlatGame<W> {
 }
 
 impl<W: Width> FlatGame<W> {
-    /// Copies a game into flat arrays of integers of the type `W`. Takes time proportional to the numbers of vertices
+    /// Copies a game into flat arrays of integers of the type `W`. Takes time proportional to the number of vertices
     /// and edges. Fails if out of memory.
     pub fn of(alloc: Global, game: &Game) -> Result<FlatGame<W>, AllocError>
         requires { FitsWithin game.now W.LIMIT }
@@ -94,7 +94,8 @@ impl<W: Width> Arena for FlatGame<W> {
     }
 }
 
-/// Whether 4 bytes can hold the numbers of vertices and edges of a game.
+/// Whether a game has so few vertices and edges that 4 bytes can hold the number of its vertices and the number of its
+/// edges.
 pub fn fits_narrow(game: &Game) -> bool
     ensures { IsTrue result ↔ ((vertex_count game.now ≤ 2 ^ 32 - 1) × (edge_count game.now ≤ 2 ^ 32 - 1)) }
 {
