@@ -32,7 +32,7 @@ fn are_same(one: &Region, other: &Region) -> bool {
     true
 }
 
-/// Whether there is a result, and it has the same winning region as the result of the exact solver `regions`.
+/// Whether a result was found that has the same winning region as the result of the exact solver `regions`.
 fn is_right(
     alloc: Global,
     game: &Game,
@@ -69,9 +69,9 @@ fn attempts_end_with_their_fuel(rt: HostRuntime) -> Result<(), Fail> {
 }
 
 /// A path of 1,000 vertices of player 0. The last vertex leads to itself and has the priority 1. Each other vertex has
-/// an even priority, which is greater than the priority of the next vertex on the path. The values of the 1,000
-/// vertices would be rows with about 500,000 cells in total, since the row of a vertex has a cell for each priority
-/// that the play from this vertex meets.
+/// an even priority, which is greater than the priority of the next vertex on the path. The value of a vertex has an
+/// entry for each priority that the play from this vertex meets, so the values of the 1,000 vertices would have about
+/// 500,000 entries in total.
 #[test]
 fn attempts_end_where_there_is_no_room(rt: HostRuntime) -> Result<(), Fail> {
     let mut text = String::new(rt.alloc());

@@ -42,7 +42,7 @@ impl Wanted<'_> {
     }
 }
 
-/// Whether a text was written, and it is the wanted text.
+/// Whether the wanted text was written.
 fn is_text(text: Result<Vec<u8>, AllocError>, wanted: &[u8]) -> bool {
     match text {
         Ok(text) => text.as_slice() == wanted,

@@ -70,7 +70,7 @@ fn numbers_of_components(rt: HostRuntime) {
     assert_eq!(rt; numbers_from_roots(rt.alloc()), Some([None, Some(1)]));
 }
 
-/// Whether `arrange` gives a topological order of a graph's vertices, and it is the wanted one.
+/// Whether `arrange` gives the wanted topological order of a graph's vertices.
 fn is_order(alloc: Global, targets: &[usize], wanted: &[usize]) -> bool {
     match arrange(alloc, &Table { targets }) {
         Ok(Arrangement::Order(order)) => order.as_slice() == wanted,

@@ -4,7 +4,7 @@
 use ps_game::Region;
 use std::alloc::{AllocError, Global};
 
-/// The numbers of vertices of the regions that the tests use.
+/// The sizes of the tested regions: how many vertices the game of each region has.
 const PLACES: [usize; 8] = [0, 1, 63, 64, 65, 511, 512, 513];
 
 /// The sets with which the tests compare regions. A vertex that is not less than the size `places` of a region is
@@ -36,7 +36,7 @@ impl Set {
         }
     }
 
-    /// Whether a region has exactly the vertices of this set, and its `count` is the number of these vertices.
+    /// Whether a region has exactly the vertices of the set `self`, and its `count` is the number of its vertices.
     fn is(self, region: &Region, places: usize) -> bool {
         let mut count: usize = 0;
         for vertex in 0..region.places() {
@@ -48,7 +48,7 @@ impl Set {
         region.places() == places && region.count() == count && region.is_empty() == (count == 0)
     }
 
-    /// Whether a region was made without an error, and has exactly the vertices of this set.
+    /// Whether a region was made without an error, and has exactly the vertices of the set `self`.
     fn is_made(self, region: Result<Region, AllocError>, places: usize) -> bool {
         match region {
             Ok(region) => self.is(&region, places),

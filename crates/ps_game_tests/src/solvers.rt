@@ -361,7 +361,7 @@ fn counts_of_a_region(rt: HostRuntime) {
     assert!(rt; are_ranked(rt.alloc(), (Player::EVEN, None), (2, 0), &mut counts, lost));
 }
 
-/// Appends the vertices of a region and the moves of a table to a list of results.
+/// Appends the vertices of a region and the moves of a table to the list `found`.
 fn add_table(
     found: &mut Vec<Option<u64>>,
     region: &Region,
@@ -376,7 +376,7 @@ fn add_table(
     Ok(())
 }
 
-/// Appends the vertices, the moves and the ranks of a player's attractor to vertex 0 to a list of results.
+/// Appends a player's attractor of vertex 0 to the list `found`: its vertices, its moves and its ranks.
 fn add_attracted<A: Arena>(
     alloc: Global,
     arena: &A,
@@ -391,8 +391,8 @@ fn add_attracted<A: Arena>(
     Ok(())
 }
 
-/// Appends the winning region of player 0, the moves of both players, and the least counts of the region to a list of
-/// results.
+/// Appends to the list `found`: the winning region of player 0, the moves of both players, and the least counts of the
+/// region.
 fn add_won<A: Arena>(
     alloc: Global,
     arena: &A,
@@ -411,7 +411,7 @@ fn add_won<A: Arena>(
     add_counts(alloc, &ranks.counts, found)
 }
 
-/// Appends the vertices of a region and the moves of both players' tables to a list of results.
+/// Appends the vertices of a region and the moves of both players' tables to the list `found`.
 fn add_tables(
     found: &mut Vec<Option<u64>>,
     won: &Region,
@@ -422,7 +422,7 @@ fn add_tables(
     add_table(found, won, second)
 }
 
-/// Appends the counts that a table has for each vertex to a list of results.
+/// Appends the counts that a table has for each vertex to the list `found`.
 fn add_counts(
     alloc: Global,
     counts: &CountTable,
@@ -456,7 +456,7 @@ fn won_by_tables<W: Width>(alloc: Global, game: &Game) -> Result<Vec<Option<u64>
     tables_of(alloc, &won, &first, &second)
 }
 
-/// A list of results with the vertices of a region and the moves of both players' tables.
+/// The entries of a region and of both players' tables of moves, in one list.
 fn tables_of(
     alloc: Global,
     won: &Region,
