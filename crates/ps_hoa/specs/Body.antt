@@ -174,7 +174,7 @@ edge h before row = either (labelled_edge h before row) (plain_edge h before row
 abbrev pub edges : HeaderData → ℕ → RowData → Part Sign RowData HoaCause
 edges h before row = many (edge h before) row
 
--- the row has implicit labels, but not exactly one edge for each letter
+-- the state's row has implicit labels, but not exactly one edge for each letter
 abbrev pub IsWrongCount : HeaderData → RowData → Type 0
 IsWrongCount h row = (labelling row ≡ ByPlace) × (length row.edges ≢ 2 ^ length (names_of h))
 

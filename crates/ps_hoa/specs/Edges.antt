@@ -1,7 +1,7 @@
 -- The edges of an automaton: the letters at which an edge is taken, and the sets of the edge.
 -- - `row_of file q`: the row of the state q, which is what the text states about q, if there is one
--- - `IsTaken file row edge letter`: the edge of the row is taken at the letter
--- - `is_marked row edge set`: the edge of the row is in the set
+-- - `IsTaken file row edge letter`: the edge of a state's row is taken at the letter
+-- - `is_marked row edge set`: the edge of a state's row is in the acceptance set
 -- - `Goes file q letter marks next`: at the letter, an edge with the sets `marks` leads from q to `next`
 --
 -- A letter is a number whose bit i is proposition i.
@@ -20,7 +20,7 @@ abbrev pub row_of : FileData → ℕ → Option RowData
 row_of file q = row_among file.rows q
 
 -- An edge is enabled at the letters at which its own label is true, at those at which its state's label is true, or at
--- a single letter. The edge's guard tells which of these it is.
+-- a single letter. The guard of an edge tells which of these three kinds of letters enables the edge.
 abbrev pub IsEnabled : List Expression → Option Expression → GuardData → ℕ → Type 0
 IsEnabled aliases label (stated e) letter = IsTrue (label_truth aliases letter e)
 IsEnabled aliases None of_state letter = ⊥

@@ -85,8 +85,8 @@ names_of h = unwrap_or h.names []
 
 -- ## Symbols
 
--- the limits on the numbers of states, propositions, sets and aliases; without `States:`, every state must be less than
--- the limit on states
+-- at most how many states, propositions, sets and aliases an automaton may have; without `States:`, every state must be
+-- less than the limit on states
 abbrev pub state_limit : ℕ
 state_limit = 65535
 

@@ -1,6 +1,6 @@
 -- The names of the items of a header.
 -- - `item_names`: the names of the items that the parser knows
--- - `item_named name`: the item with this name
+-- - `item_named name`: the header item with the given name
 -- - `once_of item`: the index of an item among the items that may occur only once
 -- - `none_occurred`: none of the items that may occur only once has occurred
 use Rattle.std.specs.Prelude.{ℕ, Bool, false, List, [], ◌∷◌, codes, if◌then◌else◌, Option, None, Some}

@@ -24,7 +24,7 @@ pub record Grammar (V : Type 0) : Type 1 where
   pub together : Connective → List V → V
 
 -- Each constructor gives one form of operand with its nesting depth, its tokens and its value. The relation `More`
--- describes the further operands of a row, each after its connective.
+-- describes the further operands of a formula, each after its connective.
 mutual
   pub data IsOperand {V : Type 0} (g : Grammar V) : ℕ → List Sign → V → Type 0 where
     atom : (text : List Sign) (v : V) → g.IsAtom text v → IsOperand g 0 text v

@@ -1,7 +1,8 @@
 -- The properties of a parsed file. Every number refers to a state, a proposition, a set or an earlier alias. No list
 -- contains a number twice, no two propositions have the same name, and no state has two rows. The edges of a state are
 -- labelled in one of three ways, and psyn's limits on the size of texts are kept.
--- - `IsSoundFile file`: the file has all properties that are stated above
+-- - `IsSoundFile file`: the numbers in the file are those of existing states, propositions, sets and aliases; nothing
+--   occurs twice; edges are labelled in one of the three ways; the limits are kept
 use Rattle.std.specs.Prelude.{◌≡◌, ℕ, ◌+◌, ◌^◌, ◌<◌, ◌≤◌, ◌⊎◌, ◌||◌, false, List, [], ◌∷◌, length, All, sum_by, Option}
 use Rattle.std.specs.Prelude.{None, Some, IfSome}
 use Rattle.std.specs.List.{AllByRecursion}

@@ -1,6 +1,6 @@
 -- The tokens of an HOA text, as a relation between its bytes and a list of tokens.
 -- - `Sign`: a token as the grammar sees it: its kind and its bytes
--- - `IsComment text`: `/* .. */`, with comments of its own inside
+-- - `IsComment text`: a comment from `/*` to `*/`, which may contain comments
 -- - `IsBlankRun text`: blanks and comments
 -- - `IsName text`: a letter or `_`, followed by letters, digits, `_` and `-`
 -- - `IsLongestToken kind text rest`: `text`, which `rest` follows, is a token of the kind, and is as long as possible
@@ -101,12 +101,12 @@ pub record IsLongestToken (kind : Kind) (text rest : List ℕ) : Type 0 where
   pub form : HasForm kind text
   pub longest : StopsBefore (lengthens kind) rest
 
--- a comment begins here and is not closed
+-- the bytes begin with `/*`, which opens a comment that is not closed
 pub record IsUnclosedComment (text rest : List ℕ) : Type 0 where
   pub begins : text ≡ codes "/*"
   pub unclosed : (comment more : List ℕ) → text ++ rest ≡ comment ++ more → IsComment comment → ⊥
 
--- no token, comment or blank begins here
+-- no token, comment or blank begins with the byte `text`
 pub record IsOdd (text rest : List ℕ) : Type 0 where
   pub byte : ℕ
   pub text_is : text ≡ byte ∷ []

@@ -147,7 +147,7 @@ fn is_end_wrong(header: &Header, rows: &Rows) -> bool
     }
 }
 
-/// Whether a row has implicit labels, but not exactly one edge for each letter.
+/// Whether a state's row has implicit labels, but not exactly one edge for each letter.
 fn has_wrong_count(row: &Row, propositions: usize) -> bool
     ensures { (h : HeaderData) → length (names_of h) ≡ propositions →
         (result ≡ true) ↔ IsWrongCount h (row_data row.now) }
@@ -190,7 +190,7 @@ fn state_number(tokens: &mut Tokens, header: &Header, rows: &Rows) -> Result<u32
     new_state_of(token, header, rows)
 }
 
-/// The state that a token names, which must not have a row yet.
+/// The state that a token names. It is an error if the text has the edges of this state already.
 fn new_state_of(token: Token, header: &Header, rows: &Rows) -> Result<u32, HoaFault>
     ensures sign { Takes (λ n. n) int_in (BadIn (IsBadRow (header_data header.now) (body_data rows.now)))
         (piece_of token.entry) result }

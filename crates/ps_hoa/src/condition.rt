@@ -19,9 +19,9 @@ use std::alloc::{AllocError, Global};
 /// set of edges infinitely often, or only finitely often.
 #[derive(Debug, Drop)]
 pub enum Cond {
-    /// True of every run.
+    /// The condition that is true of every run.
     Always,
-    /// True of no run.
+    /// The condition that is true of no run.
     Never,
     /// A set, given by its number, or its complement if the flag is true, is visited infinitely often.
     Inf(u32, bool),

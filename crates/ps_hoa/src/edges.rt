@@ -40,7 +40,7 @@ pub(crate) enum Labelling {
     ByEdge,
     /// The order of the edges labels them: the edge with the index `k` is taken at the letter `k`.
     ByPlace,
-    /// Not known yet, since the state has no label and no edge.
+    /// How the edges are labelled is not known yet: the state has no label, and no edge was parsed so far.
     NotKnown,
 }
 
@@ -291,7 +291,7 @@ pub(crate) fn marks(
     }
 }
 
-/// Parses acceptance sets between braces. Each set must be less than `count`.
+/// Parses acceptance sets between braces. The number of each set must be less than `count`.
 fn sets(alloc: Global, tokens: &mut Tokens, count: u32) -> Result<SmallVec<u32, 4>, HoaFault>
     ensures { ReadsAs (λ marks. marks.items) (parts.sets count) tokens.old result tokens.new }
 {

@@ -23,7 +23,8 @@ pub enum Guard {
     Stated(Label),
     /// The letters at which the label of the edge's state is true.
     OfState,
-    /// Only the given letter, in which proposition `i` is bit `i`. The letter is also the index of the edge in its row.
+    /// Only the given letter, in which proposition `i` is bit `i`. The letter is also the index of the edge in its
+    /// state's row.
     Letter(u64),
 }
 
@@ -137,7 +138,7 @@ impl HoaFile {
         &self.condition
     }
 
-    /// The rows in the order of the text. A state need not have a row.
+    /// The rows of the states, in the order of the text. A state need not have a row.
     pub fn rows(&self) -> &[Row]
         ensures value { map row_data result.now ≡ self.now.rows }
         ensures well_formed { IsSoundFile self.now }

@@ -70,8 +70,8 @@ pub(crate) fn read<G: Infix>(
     row(alloc, tokens, grammar, NESTING_LIMIT, Connective::Or)
 }
 
-/// Parses operands that are separated by the given connective and by connectives that bind tighter. In them, `!` and
-/// `(` may be nested up to the depth `room`.
+/// Parses operands that are separated by the given connective and by connectives that bind tighter. In the operands,
+/// `!` and `(` may be nested up to the depth `room`.
 #[cycle(infix)]
 fn row<G: Infix>(
     alloc: Global,

@@ -39,7 +39,7 @@ pub(crate) fn opened(text: &[u8]) -> Result<Tokens<'_>, HoaFault>
     // text.
     ensures tokens { IfOk result (λ tokens. (answer : Result FileData (Found HoaCause)) →
         PartAnswers hoa_causes file (stream_of tokens) answer → ReadsFile text.now answer) }
-    // A fault returned here is the first error of the text.
+    // A fault that this function returns is the first error of the text.
     ensures refused { IfErr result (IsRefusedAs text.now) }
 {
     if text.len() > TEXT_LIMIT {

@@ -37,7 +37,7 @@ impl Rows {
         }
     }
 
-    /// The number of edges of all rows.
+    /// The total number of edges in the rows of all states.
     pub(crate) fn edges(&self) -> usize
         ensures value { result ≡ (body_data self.now).edges }
         ensures within { result ≤ edge_limit }
@@ -52,7 +52,7 @@ impl Rows {
         self.places.contains_key(&state)
     }
 
-    /// The row that was added last, if there is one.
+    /// The state's row that was added last, if there is one.
     pub(crate) fn last(&self) -> Option<&Row>
         ensures { option_map row_data (option_copied result) ≡ last_row (body_data self.now) }
     {
@@ -72,7 +72,7 @@ impl Rows {
         Ok(())
     }
 
-    /// The rows, in order.
+    /// The rows of the states, in the order in which they were added.
     pub(crate) fn as_slice(&self) -> &[Row]
         ensures { map row_data result.now ≡ (body_data self.now).rows }
     {
@@ -88,7 +88,7 @@ impl Rows {
     }
 }
 
-/// The row at an index, if there is one.
+/// The state's row at an index of the list, if there is one.
 fn row_at(rows: &[Row], place: usize) -> Option<&Row>
     ensures { option_copied result ≡ slice_get rows.now place }
 {

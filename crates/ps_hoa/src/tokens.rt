@@ -24,7 +24,7 @@ pub enum Kind {
     HeaderAgain,
     /// A name: a letter or `_`, followed by letters, digits, `_` and `-`.
     Word,
-    /// `@`, followed by letters, digits, `_` and `-`.
+    /// The name of an alias: `@`, followed by letters, digits, `_` and `-`.
     AliasName,
     /// `0`, or digits that don't begin with `0`.
     Int,
@@ -370,7 +370,7 @@ pub(crate) fn is_same(name: &[u8], word: &[u8]) -> bool
 }
 
 impl History {
-    /// The history when only `HOA:` has occurred.
+    /// The history at the start of the header, after the token `HOA:` and before all other tokens.
     fn new() -> Self
         ensures { result ≡ fresh }
     {

@@ -1,7 +1,7 @@
 -- Proofs of `Laws` for the acceptance sets, labels and edges of a body: which tokens can begin them, and which can
--- continue them. `Joint` states of two parts in a row that no token can both continue the first part and begin the
--- second. For states, see proofs/Grammar/StateLaws.
--- - `laws_marks`, `..`, `laws_edge`: proofs of `Laws` for the body's acceptance sets, labels and edges
+-- continue them. `Joint` states of a part and the part after it that no token can both continue the first part and
+-- begin the second. For states, see proofs/Grammar/StateLaws.
+-- - `laws_marks` to `laws_edge`: proofs of `Laws` for the body's acceptance sets, labels and edges
 -- - `joint_braces`, `joint_sets`: `Joint` for neighbours among `{`, the numbers of the sets, and `}`
 -- - `joint_bracket`, `joint_label`: `Joint` for neighbours among `[`, a label, and `]`
 -- - `joint_edge_label`, `joint_edge_target`, `joint_edge_marks`, `joint_plain_marks`: `Joint` for neighbouring parts of

@@ -1,6 +1,6 @@
 -- The parts of a header that consist of a single token.
 -- - `reads_token`: a function whose result is right for the next token meets the contract of parsing a single token
--- - `signs_expect`, `..`, `signs_body`: each grammar of a single token accepts some token, and the end of the text is
+-- - `signs_expect` to `signs_body`: each grammar of a single token accepts some token, and the end of the text is
 --   neither accepted nor an error
 -- - `takes_refused`, `takes_bad`: the contract `Takes` holds for the fault of a token that is not allowed here, and for
 --   the fault of a token with an error

@@ -1,6 +1,6 @@
 -- Proofs of `Laws` for single operands, and for rows of operands with connectives between them: which tokens can begin
 -- them, and which can continue them. The first token of an operand tells its form.
--- - `laws_not`, `..`, `laws_right`: proofs of `Laws` for single tokens
+-- - `laws_not` to `laws_right`: proofs of `Laws` for single tokens
 -- - `laws_both`, `laws_rows`, `laws_nested`: proofs of `Laws` for rows of operands, and for rows in parentheses
 -- - `laws_negation`, `laws_holding`, `laws_operand`: proofs of `Laws` for `!` with its operand, for an operand that
 --   contains another operand, and for any operand

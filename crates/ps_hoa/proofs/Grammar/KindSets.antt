@@ -1,13 +1,13 @@
 -- Lemmas about sets of kinds of tokens, and proofs that grammars of a single token satisfy `Laws`. Each lemma about
 -- sets has a premise `Each`, which `refl` proves by trying all kinds of tokens.
 -- - `within`, `within_both`, `apart`: one set is a subset of another, two sets are subsets of a third, or two sets have
---   no kind in common
--- - `test_of`: a set has exactly one kind
--- - `plain`: no kind of the set is an error by itself
+--   no kind of tokens in common
+-- - `test_of`: a set contains exactly one kind of tokens
+-- - `plain`: no token whose kind is in the set is an error by itself
 -- - `laws_sign`: the grammar of a token whose kind is in a set satisfies `Laws`
 -- - `laws_value`: `Laws` for a token whose kind is in a set, and which has no error unless it has a value
 -- - `laws_expect`: `Laws` for a token whose kind is in a set, and which has no value
--- - `laws_behind_option`: `Laws` for two parts in a row, if the first of them may be empty
+-- - `laws_behind_option`: `Laws` for a part that may be empty and the part after it
 use Rattle.std.proofs.Common.{rules, ◌≡◌, ℕ, zero, suc, ◌<◌, Bool, true, not, cond, List, [], ◌∷◌, length, get_or}
 use Rattle.std.proofs.Common.{Option, None, Some, is_some, sym, ap, subst, ◌∙◌, arith, ◌&&◌, ◌||◌}
 use Rattle.std.proofs.lemmas.Bool.{and_parts, or_left, or_right}

@@ -61,7 +61,7 @@ taken_expect test sign v e = was_true (test sign.kind) v e
 pub nothing_apart : (A : Sign → Type 0) → Apart Nothing A
 nothing_apart A t h k = h
 
--- two grammars in a row: a token and any grammar after it, or any grammar and the token `)` after it
+-- `Joint` and `Laws` for a token with any grammar after it, and for any grammar with the token `)` after it
 module _ {V : Type 0} (test : Kind → Bool) {P : Part Sign V HoaCause} {First More : Sign → Type 0}
     (m : Tight (expect test) test) where
   pub joint_expect : {Null : Type 0} → Laws Odd P First More Null → Joint (expect test) (λ _. P)

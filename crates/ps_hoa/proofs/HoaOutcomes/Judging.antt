@@ -1,7 +1,7 @@
 -- The errors that a token can have in labels, conditions, the header and the body. It is decidable whether a token has
 -- an error, and which of its errors has the smallest number.
 -- - `decide_kind`: the kind of a token is decided by a test
--- - `judge_above`, `..`, `judge_close`: a token of each form has an error with the smallest number, or no error
+-- - `judge_above` to `judge_close`: a token of each form has an error with the smallest number, or no error
 use Rattle.std.proofs.Common.{◌≡◌, ℕ, suc, ◌+◌, ◌<◌, ◌≤◌, Bool, true, List, length, Option, None, Some, rules, refl}
 use Rattle.std.proofs.Common.{sym, inr, ◌∙◌, subst}
 use Rattle.std.proofs.lemmas.Bool.{cases_eq}

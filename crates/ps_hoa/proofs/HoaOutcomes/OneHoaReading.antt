@@ -1,7 +1,7 @@
 -- An HOA text has at most one answer: its meaning, or its first error.
--- - `one_behind`: the blanks at the start of a text are unique
--- - `one_version`: the version is unique
--- - `one_reading`: the answer is unique
+-- - `one_behind`: a text has only one division into the blanks at its start and the rest
+-- - `one_version`: a text has at most one version after `HOA:`
+-- - `one_reading`: an HOA text has at most one answer
 use Rattle.std.proofs.Common.{if◌then◌else◌, ◌≡◌, ℕ, ◌+◌, eqb, List, ◌++◌, length, codes, Result, refl, sym, ap, ap₂}
 use Rattle.std.proofs.Common.{subst, ◌∙◌, append_assoc, arith, rules}
 use Rattle.std.proofs.lemmas.List.{append_cancel_left}
@@ -89,7 +89,8 @@ same_meaning : (end : ℕ) (ps qs : List (Piece Sign)) (a b : Answer) → ps ≡
 same_meaning end ps qs a b e h k = has_one_answer file.IsText (IsWrong hoa_causes file) cause_number laws_file.one_value
     numbered (record { pieces = in_context fresh qs; end = end }) a b (grind arith) k
 
--- the lengths of the parts before the version, the version itself, and the rest of the text are unique
+-- a text that begins with `HOA:` and a version has only one version, one rest after the version, and one length for
+-- each gap before the version
 place : (bytes a b m n f g x y t u v w : List ℕ) → IsBehindBlanks bytes a (codes "HOA:" ++ m) →
     IsBehindBlanks bytes b (codes "HOA:" ++ n) → IsBehindBlanks m f x → IsBehindBlanks n g y →
     IsVersion x v t → IsVersion y w u → (length a ≡ length b) × (length f ≡ length g) × (v ≡ w) × (t ≡ u)

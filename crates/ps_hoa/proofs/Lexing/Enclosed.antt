@@ -1,6 +1,6 @@
 -- Comments and strings have the lengths that are computed for them.
--- - `comment_sound`: a comment ends after the length that is computed for it
--- - `quoted_sound`: a string ends after the length that is computed for it
+-- - `comment_sound`: the length that is computed for a comment is the number of bytes up to the comment's end
+-- - `quoted_sound`: the length that is computed for a string is the number of bytes up to the string's end
 use Rattle.std.proofs.Common.{◌≡◌, ◌≢◌, ℕ, suc, zero, ◌<◌, ◌≤◌, ◌&&◌, Bool, true, false, List, [], ◌∷◌, ◌++◌, length}
 use Rattle.std.proofs.Common.{take, refl, ap, sym, ◌∙◌, arith, inl, inr, ◌⊎◌, rules}
 use Rattle.std.specs.Prelude.{Some, nat_eq}

@@ -1,6 +1,6 @@
 -- The scan over the bytes of a text finds the only list of tokens that `AreTokens` allows for these bytes, and such a
 -- list exists.
--- - `only_lex`, `some_tokens`: the list is unique, and exists
+-- - `only_lex`, `some_tokens`: a text has at most one list of tokens, and has a list of tokens
 -- - `no_blanks`, `more_blanks`, `no_blank_begins`: the bytes between two offsets are blanks and comments (`no_blanks`,
 --   `more_blanks`), or no blank or comment begins at the given bytes (`no_blank_begins`)
 use Rattle.std.proofs.Common.{rules, ◌≡◌, ℕ, suc, zero, ◌+◌, ◌<◌, ◌≤◌, false, List, [], ◌∷◌, ◌++◌, length, take, drop}

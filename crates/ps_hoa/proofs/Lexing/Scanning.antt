@@ -124,7 +124,7 @@ pub lex_nothing : (at : ℕ) → lex at [] ≡ []
 unfolding lex_behind
 lex_nothing at = refl
 
--- skipping blanks does not change the tokens
+-- after blanks are skipped, the rest of the text has the same tokens
 pub lex_skip : (bytes : List ℕ) (n at : ℕ) → scan_step bytes ≡ Skip n → 0 < n →
     lex at bytes ≡ lex (at + n) (drop n bytes)
 lex_skip bytes n at h k = search (rules, nothing_begins, lex_is, lex_skips)

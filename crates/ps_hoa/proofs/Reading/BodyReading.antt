@@ -1,12 +1,13 @@
 -- Lemmas for each way in which the functions that parse edges can return.
 -- - `int_signs`, `bracket_signs`: the parts that consist of an `INT` or of a `[`
--- - `int_begins`: the next token is an `INT`
--- - `target_reads`, `target_fails`, `target_alternates`: a target is parsed, has an error, or is followed by `&`
+-- - `int_begins`: a next token of the kind `Int` begins the part that consists of an `INT`
+-- - `target_reads`, `target_fails`, `target_alternates`: lemmas for a target that is parsed, for one with an error, and
+--   for one that is followed by `&`
 -- - `edge_begins`, `bracket_serves`, `int_serves`: an edge begins with `[` or an `INT`, and has a label exactly if it
 --   begins with `[`
--- - `braces_serve`, `no_braces_serve`: the next token is the `{` of acceptance sets, or is not `{`, so that the edge or
---   state names no acceptance set
--- - `pushed_edge`: the edges of a row after an edge is appended
+-- - `braces_serve`, `no_braces_serve`: lemmas for a next token `{`, which begins acceptance sets, and for any other
+--   next token, so that the edge or state names no acceptance set
+-- - `pushed_edge`: the edges of a state's row after an edge is appended
 use Rattle.std.proofs.Common.{◌⊎◌, ◌++◌, map, ◌≡◌, true, inl, ℕ, List, [], ◌∷◌, Option, Some, Ok, Err, refl, sym, inr}
 use Rattle.std.proofs.Common.{ap, ◌∙◌, rules}
 use Rattle.std.proofs.lemmas.List.{map-append}
@@ -111,7 +112,7 @@ module _ (h : HeaderData) (s : Stream Sign) where
   no_braces_serve differs = serves_as s (right_otherwise (laws_sets (sets_of h)) laws_no_sets (there_of s)
       (expect_elsewhere tests_left_brace s differs) (λ k. k))
 
--- the abstract values of a row's edges, after an edge is appended
+-- the abstract values of the edges of a state's row, after an edge is appended
 pub pushed_edge : (es new : List Edge) (e : Edge) → new ≡ es ++ e ∷ [] →
     map edge_data es ++ edge_data e ∷ [] ≡ map edge_data new
 pushed_edge es new e q = sym (ap (map edge_data) q ∙ map-append edge_data es (e ∷ []))

@@ -6,14 +6,14 @@
 -- - `Leads P old Q now`: if Q, read from `now`, stops at an error, then P, read from `old`, stops at the same error
 -- - `here`, `first`: `Leads` holds for a part and itself; it also holds if P is a sequence of two parts, and Q is the
 --   first of them
--- - `behind`: if the first of two parts in a row was parsed, an error that stops the second part also stops the two
+-- - `behind`: if a part is followed by another and was parsed, an error that stops the second part also stops the two
 --   parts together
 -- - `under`: an error that stops a part also stops the same part with its value mapped
 -- - `instead`: if each result of P is also a result of Q (`Serves`), and `Leads` holds for P and another part, then
 --   `Leads` holds for Q and that part
 -- - `exit`: the exit of a `?`, at which the function returns the error that was found
--- - `entered`: a token that begins the first of two parts in a row begins both together
--- - `value_is`: the parsed part has this value
+-- - `entered`: if a part is followed by another, a token that begins the first part also begins the two parts together
+-- - `value_is`: a part that was parsed with a value was also parsed with each value that is equal to it
 -- - `Loop item`: the laws of the items of a loop
 -- - `loop_more`, `loop_fails`, `loop_ends`, `loop_shrinks`: the loop goes on after an item, stops at an item with an
 --   error, or ends; each item leaves fewer tokens

@@ -1,8 +1,7 @@
--- An `INT` that can have errors of two kinds. No error of the second kind has a smaller number than an error of the
--- first kind.
--- - `takes_err`: the `INT` has an error of the first kind
--- - `takes_further`: the `INT` has only an error of the second kind
--- - `takes_both`: the `INT` has no error of either kind
+-- An `INT` that can have the errors of two relations, B and E. No error of E has a smaller number than an error of B.
+-- - `takes_err`: the `INT` has an error of the relation B
+-- - `takes_further`: the `INT` has an error of the relation E, and none of the relation B
+-- - `takes_both`: the `INT` has no error of the relation B, and none of the relation E
 use Rattle.std.proofs.Common.{◌≡◌, ℕ, ◌≤◌, ◌⊎◌, Option, None, Some, IfSome, Result, Err, IsErrAnd, sym, subst, inl, inr}
 use Rattle.std.proofs.Common.{◌∙◌, rules}
 use Rattle.std.proofs.lemmas.Result.{err_from_is_err_and}

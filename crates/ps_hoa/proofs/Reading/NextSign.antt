@@ -1,5 +1,5 @@
 -- The next token, as the tokenizer sees it and as the grammar sees it.
--- - `next_there`: unless the text ends here, the tokenizer's next token is the next symbol that the grammar sees
+-- - `next_there`: unless no token is left, the tokenizer's next token is the next symbol that the grammar sees
 -- - `next_same`: the next symbol that the grammar sees is the tokenizer's next token
 -- - `start_there`: an error at the next token is reported at the offset of this token
 use Rattle.std.proofs.Common.{arith, ◌≡◌, Some}

@@ -23,7 +23,7 @@ use Rattle.ps_hoa.proofs.Lexing.Relation.{whole, no_blank_begins, some_tokens}
 use Rattle.ps_hoa.proofs.Lexing.StepMeanings.{begins_is}
 use Rattle.ps_hoa.proofs.Lexing.TokenSteps.{run_sound}
 
--- the slice from an offset to the end
+-- the bytes of a text from an offset to the end of the text
 abbrev to_its_end : List ℕ → ℕ → List ℕ
 to_its_end text at = take (length text - at) (drop at text)
 

@@ -1,8 +1,8 @@
 -- Lemmas for each way in which the functions that parse states can return.
 -- - `next_signs`, `end_signs`: the parts that consist of `State:` or of `--END--`
--- - `state_enters`, `avoids_state`: the next token is `State:`, or is not
--- - `label_serves`, `no_label_serves`: the state has a label, or has none
--- - `name_serves`, `no_name_serves`: the state has a name, or has none
+-- - `state_enters`, `avoids_state`: lemmas for a next token that is `State:`, and for any other next token
+-- - `label_serves`, `no_label_serves`: lemmas for a state with a label, and for a state without a label
+-- - `name_serves`, `no_name_serves`: lemmas for a state with a name, and for a state without a name
 -- - `edges_serve`: parsing further edges of equal rows, after equally many edges, gives equal results
 -- - `state_loop`, `edge_loop`, `set_loop`: the properties of states, edges and sets that the loops over them need
 --   (`Loop`)

@@ -55,8 +55,8 @@ pub record HasAliases (names : List (List ℕ)) (es : List Expression) : Type 0 
   pub few : length es ≤ alias_limit
   pub rise : NamesRise 0 es
 
--- the invariant: the numbers of states, propositions, aliases and sets are within their limits, and no name and no
--- controllable proposition occurs twice
+-- the invariant: the header has no more states, propositions, aliases and sets than their limits allow, and no name and
+-- no controllable proposition occurs twice
 abbrev pub Kept : HeaderData → Type 0
 Kept h = IfSome h.states (λ n. n ≤ state_limit) × ((length (names_of h) ≤ proposition_limit) × AreNames (names_of h)) ×
     HasAliases h.alias_names h.aliases × IfSome h.acceptance (λ a. a.sets ≤ set_limit) ×

@@ -1,6 +1,6 @@
 -- Properties that hold for the value of each text of a grammar if the text has no error.
 -- - `Keeps part S`: if a text of the part has no error, S holds for the value of the text
--- - `keeps_give`, `..`, `keeps_barred`: one lemma for each combinator: `Keeps` holds for the part that the combinator
+-- - `keeps_give` to `keeps_barred`: one lemma for each combinator: `Keeps` holds for the part that the combinator
 --   makes if it holds for the parts that are combined
 -- - `keeps_read`: S holds for the value of a part that was parsed
 use Rattle.std.proofs.Common.{◌≡◌, ℕ, zero, suc, List, [], ◌∷◌, ◌++◌, Option, Some, refl, sym, subst}
@@ -14,7 +14,7 @@ IsQuiet {T} {V} {F} part text =
 abbrev pub Keeps : {T V F : Type 0} → Part T V F → (V → Type 0) → Type 0
 Keeps {T} {V} {F} part S = (text : List T) (v : V) → part.IsText text v → IsQuiet part text → S v
 
--- for each grammar, all values have the property that is true of everything
+-- the property that is true of everything is kept by each grammar: the values of all texts have it
 pub keeps_nothing : {T V F : Type 0} (part : Part T V F) → Keeps part (λ _. Unit {0})
 keeps_nothing part text v i q = tt
 

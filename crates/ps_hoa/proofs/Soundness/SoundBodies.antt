@@ -131,7 +131,7 @@ pub record IsRowKept (h : HeaderData) (row : RowData) : Type 0 where
   pub edges : AllByRecursion (IsEdgeKept h) row.edges
   pub labelled : LabelledBy row.label row.edges
 
--- the text has fewer edges than the limit, and the next edge of the row may have a label
+-- the text has fewer edges than the limit, and the next edge of the state's row may have a label
 abbrev MayBegin : ℕ → RowData → Type 0
 MayBegin before row = (edge_limit ≤ before + length row.edges → ⊥) × ((MayHaveLabel (labelling row) → ⊥) → ⊥)
 
@@ -143,7 +143,7 @@ keeps_bracket before row = keeps_one is_bracket (IsBadBracket before row) (λ t 
       λ no. good causes.Labels (at, inr (no, refl)),
     ))
 
--- the row belongs to state n, and its edges and the `before` edges of earlier states together are within the limit on
+-- the row has the edges of state n; together with the `before` edges of earlier states, they are within the limit on
 -- edges
 abbrev pub IsRowOf : (before n : ℕ) → RowData → Type 0
 IsRowOf before n row = (row.state ≡ n) × (before + length row.edges ≤ edge_limit)
@@ -169,7 +169,7 @@ module _ (h : HeaderData) (before n : ℕ) where
   edges_within row k r = keeps_read (edges h before row) (keeps_many (edge h before)
       (λ other l. keeps_either (labelled_within other l) (plain_within other l)) row k) _ _ _ r.1
 
--- a row that satisfies `IsRowKept` and belongs to state n
+-- a row that has the edges of state n and satisfies `IsRowKept`
 module _ (h : HeaderData) (before : ℕ) (n : ℕ) where
   abbrev RowOf : RowData → Type 0
   RowOf row = IsRowKept h row × IsRowOf before n row

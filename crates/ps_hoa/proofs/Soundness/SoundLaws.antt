@@ -1,7 +1,7 @@
 -- Consequences of the soundness of a file, for the crates that depend on this one.
 -- - `label_within`: the labels of the file use only propositions less than 64
 -- - `aliases_ordered`: each alias uses only earlier aliases
--- - `sound_row`, `sound_edge`: each row is sound, and so is each edge
+-- - `sound_row`, `sound_edge`: in a sound file, the row of each state is sound, and so is each edge of a sound row
 -- - `row_of_state`: the row of a state is sound, and belongs to that state
 use Rattle.std.proofs.Common.{◌≡◌, ℕ, zero, suc, ◌+◌, ◌≤◌, List, [], ◌∷◌, length, Some, sym, subst, arith, inl, inr}
 use Rattle.std.specs.List.{All, AllByRecursion, slice_get}

@@ -8,7 +8,7 @@ use Rattle.ps_hoa.specs.Tokens.{Sign}
 use Rattle.ps_hoa.specs.Causes.{HoaFault}
 use Rattle.ps_text.specs.declared.faults.Fault.TheVariants.{Text}
 
--- either the text ends here, or the next token is rejected
+-- either no token is left in the stream, or the next token is rejected
 abbrev pub EndsHere : Stream Sign → Result (Unit {0}) HoaFault → Type 0
 EndsHere stream (Ok u) = stream.pieces ≡ []
 EndsHere stream (Err e) =

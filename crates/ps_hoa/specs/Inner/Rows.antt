@@ -1,4 +1,4 @@
--- The abstract value of the stored rows.
+-- The abstract value of the stored rows, each of which has the edges of one state.
 use Rattle.std.specs.Prelude.{◌≡◌, Some, map}
 use Rattle.ps_hoa.specs.Files.{RowData}
 use Rattle.ps_hoa.specs.Header.{HeaderData}

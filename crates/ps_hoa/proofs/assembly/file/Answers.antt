@@ -1,4 +1,5 @@
--- Each field of the file comes from the header or the rows, with a default value if an item is missing.
+-- Each field of the file comes from the header or from the rows of the states, with a default value if an item is
+-- missing.
 use Rattle.std.proofs.Common.{arith, ◌≡◌, ℕ, List, Option, subst}
 use Rattle.ps_hoa.specs.Files.{RowData, count_of_states}
 use Rattle.ps_hoa.proofs.Soundness.SoundLaws.{aliases_ordered}
