@@ -17,7 +17,8 @@ abbrev pub own_place : ℕ → ℕ → ℕ
 own_place first id = id - first
 
 -- The index `place` of an id is the id's distance from `first`, or is recorded in the table at this distance, or is
--- recorded in the tree for the id. An entry of the table is one more than the index, or 0 if it records none.
+-- recorded in the tree for the id. An entry of the table is one more than the index that it records, or 0 if it records
+-- no index.
 abbrev pub IsRecordedAt : (first : ℕ) (near : List ℕ) (far : ℕ → Option ℕ) (id place : ℕ) → Type 0
 IsRecordedAt first near far id place = (own_place first id ≡ place) ⊎
     (((first ≤ id) × (slice_index near (own_place first id) ≡ place + 1)) ⊎ (far id ≡ Some place))
