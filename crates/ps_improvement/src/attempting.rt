@@ -39,7 +39,7 @@ pub enum Attempted {
     /// The fuel, or the number of stored cells that the fuel allows, was used up before a result was reached.
     OutOfFuel,
     /// The limit on stored cells, which no amount of fuel can raise any further, was too small, or the game is too
-    /// large. More fuel would not help.
+    /// large. Another attempt with more fuel would fail, too.
     OutOfRoom,
 }
 

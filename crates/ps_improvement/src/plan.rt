@@ -75,7 +75,7 @@ impl<'a, A: Arena> Plan<'a, A> {
     }
 
     /// Lowers the value of a vertex to the value that follows from the choice of the vertex's owner, if that value is
-    /// less. Returns whether the value was lowered. Fails if out of memory.
+    /// less. Returns whether the vertex's value was lowered. Fails if out of memory.
     pub fn lower(&mut self, vertex: usize, fuel: &mut Fuel) -> Result<bool, AllocError>
         requires { vertex < length self.old.rows.items }
         ensures { length self.new.rows.items ≡ length self.old.rows.items }

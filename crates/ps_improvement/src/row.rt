@@ -73,7 +73,7 @@ fn order_of_cells(cell: Cell, beside: Cell) -> Ordering {
     }
 }
 
-/// Whether a play that meets a priority once more is then worth more (`Greater`) or less (`Less`) to player 0.
+/// Whether a play is worth more (`Greater`) or less (`Less`) to player 0 if it meets a given priority once more.
 fn worth_of(priority: u64) -> Ordering {
     if priority % 2 == 0 {
         Ordering::Greater
