@@ -43,7 +43,7 @@ abbrev run : List Step → Stacks → Stacks
 run [] stacks = stacks
 run (step ∷ steps) stacks = run steps (after step stacks.0 stacks.1)
 
--- the steps that build an expression on the stacks, followed by the given steps
+-- the list of steps that first compute an expression on the stacks, and then do the given steps
 abbrev mutual
   steps_onto : Expression → List Step → List Step
   steps_onto (constant b) steps = inl (inl b) ∷ steps

@@ -76,8 +76,8 @@ impl Labels {
 }
 
 /// If each alias uses only earlier aliases, there is exactly one table of their truths at a letter: each entry is the
-/// truth of the alias's expression, computed with the same table. The truth of each label is its truth computed with
-/// this table.
+/// truth of the alias's expression, computed with the same table. The truth of each label at the letter is the truth
+/// that is computed with the table.
 pub fn one_table_of_truths()
     ensures table { (aliases : List Expression) (letter : ℕ) → AreOrdered aliases →
         AreTruths aliases letter (alias_truths aliases letter) }
