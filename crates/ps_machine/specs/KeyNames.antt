@@ -15,6 +15,7 @@ use Rattle.ps_machine.specs.declared.key.Key.TheVariants.{First, Second}
 abbrev pub state_name : ℕ → ℕ → List ℕ
 state_name states q = if nat_eq q states then codes "sink" else decimal q
 
+-- the digit of the proposition p in a letter of the first player, or no byte if p is not the first player's; the bytes
 -- 48 and 49 are the digits 0 and 1
 abbrev pub letter_digit : Board → ℕ → ℕ → List ℕ
 letter_digit board x p = if board.is_first p then (if is_in p x then 49 else 48) ∷ [] else []

@@ -1,9 +1,10 @@
--- The stored form of a player's finite machine: a decision diagram for each memory state, whose leaves are indices of
--- rows. A row has a letter to output and a next memory state.
+-- The stored form of a player's finite machine: a decision diagram for each memory state, and a table of rows. The
+-- leaves of the diagrams are indices of rows. A row of the table has a letter to output and a next memory state.
 -- - `MachineData`: a machine's propositions, its player, whether that player moves first, its diagrams and its rows
--- - `machine_row m memory x`: the row for a memory state, if x is the other player's letter
+-- - `machine_row m memory x`: the row of the machine's table that is used in a memory state, if x is the other player's
+--   letter
 -- - `behaviour m`: the behaviour of the machine, without its diagrams
--- - `IsWholeMachine m`: m is a machine whose diagrams lead to a row for each memory state and letter
+-- - `IsWholeMachine m`: m is a machine whose diagrams lead to a row of its table for each memory state and letter
 use Rattle.std.specs.Prelude.{◌≡◌, ℕ, ◌<◌, Bool, List, length, slice_index, slice_index_or, IsSomeAnd}
 use Rattle.std.specs.Option.{unwrap_or}
 use Rattle.ps_diagram.specs.Table.{Table, IsNode, leaf_of}
@@ -42,9 +43,9 @@ behaviour m =
       plays = λ memory x. (machine_row m memory x).letter;
     }
 
--- In the stored machine, the diagram of each memory state leads each letter to the index of a row. The index of the row
--- depends only on the propositions that the machine reads. Each row has a memory state to enter, and a letter of the
--- machine's player to output.
+-- In the stored machine, the diagram of each memory state leads each letter to the index of a row of the machine's
+-- table. The index of the row depends only on the propositions that the machine reads. Each row of the table has a
+-- memory state to enter, and a letter of the machine's player to output.
 pub record IsWholeMachine (m : MachineData) : Type 0 where
   pub is_machine : IsMachine (behaviour m)
   pub letters : m.store.propositions ≡ length m.names

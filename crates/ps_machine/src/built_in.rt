@@ -15,7 +15,8 @@ use ps_referee::{JudgeFault, certificate_of_solution, judge};
 use ps_zielonka::{regions, regions_within};
 use std::alloc::{AllocError, Global};
 
-/// The number of rounds in which the solver's work is limited. After these rounds, one more is made without a limit.
+/// The number of rounds in which the solver's work is limited. The rounds with limits are followed by one round without
+/// a limit.
 const ROUNDS: u64 = 8;
 
 /// The factor by which the limits on the solver's work grow from round to round.
@@ -43,13 +44,13 @@ const CELLS_EACH: u64 = 64;
 struct Budget {
     /// The number of times that the recursion may assign a vertex to a player.
     placed: u64,
-    /// The number of array cells that an attempt at strategy improvement may read or write. It is 0 after an attempt
-    /// has failed for a reason that more cells would not remove.
+    /// The number of array cells that an attempt at strategy improvement may read or write. This limit is 0 after an
+    /// attempt has failed for a reason that more cells would not remove.
     cells: u64,
 }
 
 impl Budget {
-    /// The limits of the first round.
+    /// The limits on the work of the built-in solver in its first round.
     fn first<A: Arena>(arena: &A) -> Budget {
         let count = arena.count() as u64;
         let linear = count
@@ -69,9 +70,10 @@ impl Budget {
     }
 }
 
-/// psyn's own solver. The solver computes the regions and the moves of both players. It then computes the certificate's
-/// counts, which prove that the moves win: the least counts that are valid for these moves. It is sure (each of its
-/// certificates is valid, and it fails only if memory runs out), and ignores every text that it is fed.
+/// psyn's own solver. The solver computes the regions and the moves of both players. The solver then computes the
+/// certificate's counts, which prove that the moves win: the least counts that are valid for these moves. The solver is
+/// sure (each of its certificates is valid, and it fails only if memory runs out), and ignores every text that it is
+/// fed.
 #[derive(Drop)]
 pub struct BuiltIn {
     alloc: Global,

@@ -13,7 +13,7 @@ use std::alloc::Global;
 pub struct Divided {
     /// The store of the classes' diagrams.
     pub store: Store,
-    /// For each state whose letters have been divided into classes, these classes.
+    /// For each state whose letters have been divided into classes, the list of the classes.
     pub classes: IndexMap<u32, Classes>,
 }
 

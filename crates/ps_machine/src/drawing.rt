@@ -24,7 +24,8 @@ use std::alloc::{AllocError, Global};
 
 /// The data from which a machine is made. The certificate has the moves of the machine's player. The keys state what
 /// the game's vertices stand for. The automaton gives the steps from each state. The field `memories` lists the game's
-/// vertices for which the machine has memory states. These data do not change while the machine's diagrams are made.
+/// vertices for which the machine has memory states. The data of a `Plan` do not change while the machine's diagrams
+/// are made.
 #[derive(Drop)]
 pub(crate) struct Plan<'a> {
     /// Who moves first.
@@ -49,10 +50,10 @@ pub(crate) struct Plan<'a> {
 pub(crate) struct Drawing {
     /// The store of the diagrams.
     pub store: Store,
-    /// The rows. Each leaf of the machine's diagrams is the index of a row.
+    /// The rows of the machine's table. Each leaf of the machine's diagrams is the index of a row of this table.
     pub rows: IndexSet<Row>,
-    /// For each leaf of the automaton's diagrams, the index of the row for the step that the leaf names. Only entries
-    /// that the last call of `place_rows` has set are valid.
+    /// Each leaf of the automaton's diagrams is the index of a step. For each leaf, this is the index of the machine's
+    /// row for that step. Only entries that the last call of `place_rows` has set are valid.
     pub places: Vec<u64>,
 }
 
@@ -117,8 +118,8 @@ impl Drawing {
     }
 
     /// Makes the diagram of a memory state for a player who moves first. The player's move leads to a class of letters.
-    /// The result is the diagram of the steps that can follow this class, with the index of a row in place of each
-    /// step.
+    /// The result is the diagram of the steps that can follow this class, with the index of a row of the machine's
+    /// table in place of each step.
     fn first_node(&mut self, plan: &Plan<'_>, vertex: usize, state: u32) -> Result<Node, AllocError>
         requires plan { IsPlanned plan.now }
         requires kept { Contains plan.now.memories.now.kept.items vertex }
@@ -140,8 +141,8 @@ impl Drawing {
             .relabel_from(&plan.divided.store, rest, &self.places)
     }
 
-    /// Adds a row, in which the machine outputs `letter`, for each of the given leaves of the automaton's diagrams, and
-    /// records the row's index.
+    /// For each of the given leaves of the automaton's diagrams, adds a row in which the machine outputs `letter` to
+    /// the machine's table, and records the row's index.
     fn place_rows(
         &mut self,
         plan: &Plan<'_>,
@@ -178,8 +179,8 @@ fn rest_of(classes: &[Class], letter: u64) -> Node
     }
 }
 
-/// Records the index of the row for a leaf of the automaton's diagrams. The list of indices grows as needed; new
-/// entries for smaller leaves are 0.
+/// Records the index of the machine's row for a leaf of the automaton's diagrams. The list of indices grows as needed;
+/// new entries for smaller leaves are 0.
 fn note(places: &mut Vec<u64>, leaf: u64, place: u64) -> Result<(), AllocError>
     ensures noted { OnOk result (slice_get places.new.items leaf ≡ Some place) }
     ensures others { OnOk result ((other n : ℕ) → other ≢ leaf → slice_get places.old.items other ≡ Some n →

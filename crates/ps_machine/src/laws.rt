@@ -99,8 +99,8 @@ pub fn one_machine_of_file()
 {}
 
 /// Each game has a certificate that psyn's own solver may return: it fits the game and is valid, and its counts (the
-/// numbers that prove it) are the least for its moves. This law does not say that a call of the solver returns it: a
-/// call may fail because memory runs out.
+/// numbers that prove it) are the least for its moves. This law does not say that a call of the solver returns this
+/// certificate: a call may fail because memory runs out.
 pub fn each_game_has_a_certificate()
     ensures { (game : NamedGameData) → IsGame game.game →
         (certificate : CertificateData) × AnswersLeast game (Ok certificate) }

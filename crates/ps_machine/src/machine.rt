@@ -38,14 +38,16 @@ pub(crate) struct Diagrams {
     pub store: Store,
     /// The diagram of each memory state.
     pub nodes: Vec<Node>,
-    /// The rows. Each leaf of the machine's diagrams is the index of a row.
+    /// The rows of the machine's table, each with a next memory state and an output letter. Each leaf of the machine's
+    /// diagrams is the index of a row.
     pub rows: IndexSet<Row>,
 }
 
 /// A player's finite machine. The machine begins in memory state 0. In each step the machine reads an input letter,
-/// which is a letter of the other player. The input letter and the memory state determine a row of the machine. The
-/// machine outputs the letter of the row, and enters the memory state of the row. If the machine's player moves first,
-/// the output letter does not depend on the input letter. Each leaf of the machine's diagrams is the index of a row.
+/// which is a letter of the other player. The input letter and the memory state determine a row of the machine's table.
+/// The machine outputs the letter of the row, and enters the memory state of the row. If the machine's player moves
+/// first, the output letter does not depend on the input letter. Each leaf of the machine's diagrams is the index of a
+/// row in the machine's table.
 #[derive(Drop)]
 pub struct Machine {
     names: Vec<Vec<u8>>,
@@ -170,8 +172,8 @@ impl Machine {
         &self.store
     }
 
-    /// The diagram of a memory state. The diagram's leaf at an input letter is the index of a row: the letter to
-    /// output, and the next memory state.
+    /// The diagram of a memory state. The diagram's leaf at an input letter is the index of a row of the machine's
+    /// table: the letter to output, and the next memory state.
     pub fn node(&self, memory: usize) -> Node
         requires { memory < (behaviour self.now).memories }
         ensures node { result ≡ slice_index self.now.nodes memory }
@@ -180,7 +182,7 @@ impl Machine {
         self.nodes[memory]
     }
 
-    /// The row (next memory state and output letter) whose index is the given leaf of a diagram.
+    /// The row of the machine's table (next memory state and output letter) whose index is the given leaf of a diagram.
     pub fn row(&self, leaf: u64) -> Row
         requires { leaf < length self.now.rows }
         ensures row { result ≡ row_at_leaf self.now leaf }
@@ -189,7 +191,8 @@ impl Machine {
         self.rows.as_slice()[leaf as usize]
     }
 
-    /// The rows. Each leaf of the machine's diagrams is the index of a row.
+    /// The rows of the machine's table, each with a next memory state and an output letter. Each leaf of the machine's
+    /// diagrams is the index of a row.
     pub fn rows(&self) -> &[Row]
         ensures rows { result.now ≡ self.now.rows }
         ensures machine { IsWholeMachine self.now }
@@ -197,7 +200,8 @@ impl Machine {
         self.rows.as_slice()
     }
 
-    /// The row for a memory state and an input letter: the next memory state, and the letter that is output.
+    /// The row of the machine's table for a memory state and an input letter: the next memory state, and the letter
+    /// that is output.
     pub fn step(&self, memory: usize, letter: u64) -> Row
         requires { memory < (behaviour self.now).memories }
         ensures step { result ≡ machine_row self.now memory letter }

@@ -39,7 +39,8 @@ impl Plan<'_> {
         }
     }
 
-    /// The row for a class of the first player's letters: the letter that is output, and the next memory state.
+    /// The row of the machine's table for a class of the first player's letters: the letter that is output, and the
+    /// next memory state.
     fn row_of_class(&self, state: u32, class: Class) -> Result<Row, AllocError>
         requires turn { self.now.moves_first ≡ false }
         requires entered { (p : ℕ) × CanEnterBy self.now state p }
@@ -58,7 +59,8 @@ impl Plan<'_> {
 
 impl Drawing {
     /// Makes the diagram of a memory state for a player who moves second. The result is the diagram that divides the
-    /// first player's letters into classes, with the index of a row in place of each class. Fails if out of memory.
+    /// first player's letters into classes, with the index of a row of the machine's table in place of each class.
+    /// Fails if out of memory.
     pub fn second_node(
         &mut self,
         alloc: Global,
@@ -84,7 +86,7 @@ impl Drawing {
             .relabel_from(&plan.divided.store, classes.places, &values)
     }
 
-    /// For each class of the first player's letters, the index of the row for that class.
+    /// For each class of the first player's letters, the index of the row that the machine's table has for that class.
     fn rows_of_classes(
         &mut self,
         alloc: Global,
@@ -114,8 +116,8 @@ impl Drawing {
     }
 }
 
-/// Each leaf in the list is the index of a step, and comes with a letter: the letter of the first leaf whose step is
-/// the given one.
+/// The letter that is listed with a given step of the automaton. Each entry of the list `leaves` has the index of a
+/// step and a letter; the first entry with the given step counts.
 fn letter_to(automaton: &Automaton, leaves: &[(u64, u64)], step: Step) -> u64
     requires named { All (λ leaf. leaf.0 < length automaton.now.steps) leaves.now }
     requires there { Any (λ leaf. pair_of automaton.now leaf.0 ≡ step) leaves.now }

@@ -1,6 +1,6 @@
 -- Lemmas for the diagrams of either player's machine: about the vertices of its memory states, the vertices that can be
--- reached, the successors of these vertices, and the machine's rows. (A row has a letter to output and a next memory
--- state.)
+-- reached, the successors of these vertices, and the machine's rows. (A row of a machine's table has a letter to output
+-- and a next memory state.)
 use Rattle.std.proofs.Common.{if◌then◌else◌, ◌≡◌, ◌≢◌, ℕ, ◌+◌, ◌<◌, Bool, true, List, length, get_or, map, Some, ap}
 use Rattle.std.proofs.Common.{sym, ◌∙◌, arith, rules, eqb}
 use Rattle.std.specs.Prelude.{slice_get}

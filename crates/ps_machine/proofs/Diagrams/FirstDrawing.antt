@@ -1,5 +1,5 @@
 -- If the machine's player moves first, the diagram that the code makes for a memory state leads each letter of the
--- other player to the right row.
+-- other player to the right row of the machine's table.
 use Rattle.std.proofs.Common.{not, is_some, ◌≡◌, ◌≢◌, ℕ, ◌+◌, ◌^◌, ◌<◌, Bool, true, List, length, get_or, option_map}
 use Rattle.std.proofs.Common.{Option, Some, None, refl, ap, sym, ◌∙◌, arith, rules}
 use Rattle.std.specs.Prelude.{IfSome, slice_get, slice_index}
@@ -46,14 +46,14 @@ pub record AreNoted (a : AutomatonData) (keys : List Key) (is_first : Bool) (boa
 
 module _ {a : AutomatonData} {keys : List Key} {is_first : Bool} {board : Board} {kept : List ℕ} {letter : ℕ}
     {found : List (ℕ × ℕ)} {old : List Row} where
-  -- each recorded index still leads to the row of its leaf when one more row is added
+  -- each recorded index is still the index of its leaf's row when one more row is added to the machine's table
   pub add_row : (eq : Row → Row → Bool) {rows : List Row} {places : List ℕ} {n : ℕ} {row : Row} {new : List Row} →
       AreNoted a keys is_first board kept letter found old rows places n → new ≡ insert_key eq rows row →
       IsRow is_first board kept row → AreNoted a keys is_first board kept letter found old new places n
   add_row eq {rows} {row} {new} h e is =
       grind (arith, keeps_rows eq row e, all_rows (IsRow is_first board kept) eq rows row e h.each is)
 
-  -- the index of one more leaf's row is recorded
+  -- the list `places` also has the index of the machine's row for one more leaf
   pub note_more : {rows : List Row} {places more : List ℕ} {n leaf place : ℕ} {row : Row} →
       AreNoted a keys is_first board kept letter found old rows places n → ((d : ℕ × ℕ) → (get_or found n d).0 ≡ leaf) →
       slice_get rows place ≡ Some row → row.letter ≡ letter → ((v : ℕ) → StandsAt keys v (step_key (pair_of a leaf)) →
@@ -89,7 +89,7 @@ module _ {order : Order} {a : AutomatonData} {keys : List Key} {certificate : Ce
         let m = move_at s at (kept_used plan is_kept) (first_owner s v at ∙ mover_wins) in
         grind (arith, class_at s v at m.edge)
 
-    -- the vertex to which the first player's move in the certificate leads stands for a class of letters
+    -- the certificate's move at a vertex of the first player leads to a vertex that stands for a class of letters
     class_chosen : (v : ℕ) {chosen : ℕ} {q p : ℕ} → Contains kept v → StandsAt keys v (First q p) →
         choice_of certificate v ≡ Some chosen → (letter : ℕ) × IsClassLetter (board_of order a) q letter ×
         StandsAt keys chosen (Second q letter)
@@ -150,7 +150,8 @@ module _ {order : Order} {a : AutomatonData} {keys : List Key} {certificate : Ce
         (plays : PlaysClass (board_of order a) keys certificate v q letter) (l : Left order a mask t q letter rest)
         (are : AreLeaves t rest found) (placed : All (λ leaf. IsPlaced a keys is_first kept rows places letter leaf.0)
         found) where
-      -- the letter x leads to `leaf` in the diagram of the class, and the index of the row for this leaf is recorded
+      -- the letter x leads to `leaf` in the diagram of the class, and the index of the machine's row for this leaf is
+      -- recorded
       record Noted (x : ℕ) : Type 0 where
         leaf : ℕ
         is_leaf : leaf_of t rest x ≡ Some leaf

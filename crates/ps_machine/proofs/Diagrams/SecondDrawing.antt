@@ -140,8 +140,8 @@ module _ {order : Order} {a : AutomatonData} {mask : ℕ} {t : Table} {keys : Li
         same_pair reply.state reply.priority,
       )
 
-  -- a row is right for the letter x at the state q if its letter is the least that makes the step of the winner's move,
-  -- and its memory state belongs to that step
+  -- a row of the machine's table is right for the letter x at the state q if it has the least letter for the winner's
+  -- step, and the memory state that the step leads to
   answer_by : {kept : List ℕ} (letter memory : ℕ) → IsClassLetter (board_of order a) q x →
       IsMove (board_of order a) q x letter → step_of a q (x + letter) ≡ step →
       ((v : ℕ) → StandsAt keys v (First step.state step.priority) → StandsFor false keys kept memory v step.state) →
@@ -230,8 +230,8 @@ module _ {board : Board} {keys : List Key} {kept : List ℕ} {certificate : Cert
       let here = rw is at answer in
       rw (e, take_more classes i d within) (grind (arith, AllZip-push, still_named))
 
-  -- if a row has the right output and next memory state for the first player's letter c, it also has them for each
-  -- letter x that leads to the same steps
+  -- if a row of the machine's table has the right output and next memory state for the first player's letter c, it also
+  -- has them for each letter x that leads to the same steps
   alike_row : {v x c : ℕ} {row : Row} → SameSteps board q x c → IsRowAt false board keys kept certificate v q c row →
       IsRowAt false board keys kept certificate v q x row
   alike_row {v} {x} {c} {row} same r =

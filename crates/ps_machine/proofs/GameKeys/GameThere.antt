@@ -218,7 +218,8 @@ module _ (board : Board) (mover : ℕ) (start : board.auto.start ≤ board.state
             (below_state q (suc board.states) k (omega arith) (at_letter q (2 ^ board.propositions) letter within).0),
       )
 
-  -- a vertex with this key has a list of successors; the list has only keys that vertices can have
+  -- a vertex with a given key (what it stands for) has a list of successors; the list has only keys that vertices can
+  -- have
   record Next (key : Key) : Type 0 where
     next : List Key
     leads_to : LeadsTo board key next

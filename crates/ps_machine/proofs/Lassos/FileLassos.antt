@@ -1,5 +1,5 @@
--- A valid certificate of a file's game has a machine: the winner of vertex 0 wins each word of this machine. This holds
--- for any automaton of the file, not only for the one that the code builds.
+-- A valid certificate of a file's game has a machine: the winner of vertex 0 wins each word of this machine. The lemmas
+-- hold for any automaton of the file, not only for the one that the code builds.
 use Rattle.std.proofs.Common.{rules, ◌≡◌, ℕ, ◌+◌, ◌*◌, ◌%◌, ◌^◌, ◌<◌, List, ◌++◌, length, ap, arith}
 use Rattle.std.specs.Prelude.{All, slice_index}
 use Rattle.std.proofs.Math.ListN.{get_or-append}

@@ -140,8 +140,8 @@ module _ (names : List (List ℕ)) {board : Board} {mover : ℕ} {keys : List Ke
     unfolding read
     read_itself x other = part_itself board.propositions (is_others first board) x (other_over first board x other)
 
-    -- if the machine is in memory state `memory`, and the other player's letter is z, the row has the right output and
-    -- next memory state
+    -- if the machine is in memory state `memory`, and the other player's letter is z, the machine's row has the right
+    -- output and next memory state
     record IsRowOf (memory z : ℕ) (row : Row) : Type 0 where
       state : ℕ
       priority : ℕ

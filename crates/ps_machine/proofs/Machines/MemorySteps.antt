@@ -1,5 +1,5 @@
--- The code makes memory states for the vertices visited so far. Visiting one more vertex keeps these memory states, and
--- adds one if the vertex needs it.
+-- The code makes memory states for the vertices visited so far. Visiting one more vertex keeps all earlier memory
+-- states, and adds a memory state if the vertex needs a new one.
 use Rattle.std.proofs.Common.{◌≡◌, ◌≢◌, ℕ, ◌+◌, ◌<◌, ◌≤◌, Bool, true, false, List, [], ◌∷◌, ◌++◌, length}
 use Rattle.std.proofs.Common.{get_or, refl, ap, sym, ◌∙◌, arith, not, nat_eq, rules}
 use Rattle.std.specs.List.{All, AllPairs, Contains, list_any}

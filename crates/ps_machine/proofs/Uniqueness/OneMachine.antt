@@ -119,7 +119,8 @@ module _ (names : List (List ℕ)) (board : Board) (mover : ℕ) (keys : List Ke
     same_memories : m.memories ≡ o.memories
     same_memories = cc (of.memories, same_kept, other.memories)
 
-    -- a step of the second machine, described by the vertices that the first machine keeps for its memory states
+    -- a step of the second of two machines for one certificate: the memory states before and after the step stand for
+    -- the game vertices that the first machine has for the same memory states
     record Steps (memory x : ℕ) : Type 0 where
       vertex : ℕ
       state : ℕ

@@ -1,5 +1,5 @@
--- The diagrams, rows and propositions from which a machine is assembled. A row has a letter to output and a next memory
--- state. (For private functions.)
+-- The diagrams, rows and propositions from which a machine is assembled. A row of the machine's table has a letter to
+-- output and a next memory state. (For private functions.)
 -- - `AreDrawn .. t rows nodes n`: the first n memory states have their diagrams, and each row has a letter of the
 --   machine's player and an existing memory state
 -- - `AreListedBelow n is list`: the list has the numbers less than n that pass the test `is`, ascending
@@ -23,8 +23,8 @@ use Rattle.ps_machine.specs.declared.machine.Diagrams.{Diagrams}
 use Rattle.ps_machine.specs.declared.machine.Propositions.{Propositions}
 use Rattle.ps_machine.specs.declared.machine.Row.{Row}
 
--- each of the first n memory states has a diagram that leads each letter to a row with the right output and next memory
--- state
+-- each of the first n memory states has a diagram that leads each letter to a row of the machine's table with the right
+-- output and next memory state
 pub record AreDrawn (is_first : Bool) (board : Board) (keys : List Key) (kept : List ℕ) (certificate : CertificateData)
     (t : Table) (rows : List Row) (nodes : List ℕ) (n : ℕ) : Type 0 where
   pub rows_are : All (IsRow is_first board kept) rows

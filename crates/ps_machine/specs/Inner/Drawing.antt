@@ -8,10 +8,12 @@
 --   memory state remembers
 -- - `IsPlan ..`: the data belong together: keys of an automaton's game, a valid certificate of this game, and the
 --   memory states of its machine
--- - `IsDrawn .. v node`: at each letter, the diagram leads to the row for the memory state of v
+-- - `IsDrawn .. v node`: at each letter, the leaf of the diagram `node` is the index of the machine's row for this
+--   letter and the memory state of v
 -- - `IsReply .. q x r p`: after the first player's letter x at the state q, the second player moves to the state r with
 --   the priority p
--- - `IsReplyRow .. q x row`: the row has the right output and next memory state after the letter x at the state q
+-- - `IsReplyRow .. q x row`: the machine's row has the right output and next memory state after the letter x at the
+--   state q
 use Rattle.std.specs.Prelude.{◌≡◌, ◌≢◌, ℕ, ◌+◌, ◌<◌, ◌≤◌, ◌↔◌, ◌==◌, Bool, true, false, List, [], ◌∷◌, length, Some}
 use Rattle.std.specs.Prelude.{◌++◌, slice_get, slice_index}
 use Rattle.std.specs.List.{All, AllPairs, Contains}
@@ -105,13 +107,13 @@ abbrev pub IsOwn : Bool → Board → ℕ → Type 0
 IsOwn true board y = IsFirstLetter board y
 IsOwn false board y = IsSecondLetter board y
 
--- the row has an existing memory state, and a letter of the machine's player
+-- the row of the machine's table has an existing memory state, and a letter of the machine's player
 pub record IsRow (is_first : Bool) (board : Board) (kept : List ℕ) (row : Row) : Type 0 where
   pub memory : row.memory < length kept
   pub letter : IsOwn is_first board row.letter
 
--- the row has the right output and next memory state for the vertex v, whose state is q, and the other player's letter
--- x
+-- the machine's row has the right output and next memory state for the vertex v, whose state is q, and the other
+-- player's letter x
 pub record IsRowAt (is_first : Bool) (board : Board) (keys : List Key) (kept : List ℕ) (certificate : CertificateData)
     (v q x : ℕ) (row : Row) : Type 0 where
   pub played : IsPlayed is_first board keys certificate v q x row.letter
@@ -119,7 +121,7 @@ pub record IsRowAt (is_first : Bool) (board : Board) (keys : List Key) (kept : L
   pub goes : GoesTo keys board q (x + row.letter) entered
   pub next : StandsFor is_first keys kept row.memory entered (board.auto.next q (x + row.letter))
 
--- the diagram leads the letter x to the index of the right row for the vertex v, whose state is q
+-- the diagram leads the letter x to the index of the machine's right row for the vertex v, whose state is q
 pub record LeadsToRow (is_first : Bool) (board : Board) (keys : List Key) (kept : List ℕ)
     (certificate : CertificateData) (t : Table) (rows : List Row) (node v q x : ℕ) : Type 0 where
   pub leaf : ℕ
@@ -140,7 +142,7 @@ pub record IsDrawn (is_first : Bool) (board : Board) (keys : List Key) (kept : L
   pub heeds : (x y : ℕ) → ((p : ℕ) → p < board.propositions → is_others is_first board p ≡ true → is_in p x ≡ is_in p y)
       → leaf_of t node x ≡ leaf_of t node y
 
--- every row of the old list keeps its index in the new list
+-- every row of the machine's old table has the same index in the new table
 pub record KeepsRows (old new : List Row) : Type 0 where
   pub same : (leaf : ℕ) (row : Row) → slice_get old leaf ≡ Some row → slice_get new leaf ≡ Some row
 
@@ -167,12 +169,13 @@ pub record IsReply (board : Board) (keys : List Key) (certificate : CertificateD
   pub state : board.auto.next q (x + letter) ≡ r
   pub priority : board.auto.priority q (x + letter) ≡ p
 
--- the row has the right output and next memory state at each vertex whose state is q, if the first player's letter is x
+-- the machine's row has the right output and next memory state at each vertex whose state is q, if the first player's
+-- letter is x
 abbrev pub IsReplyRow : Board → List Key → List ℕ → CertificateData → ℕ → ℕ → Row → Type 0
 IsReplyRow board keys kept certificate q x row = (v : ℕ) → IsRowAt false board keys kept certificate v q x row
 
--- `value` is the index of a row with the right output and next memory state at the state q, if the first player's
--- letter is x
+-- `value` is the index of a row of the machine's table that has the right output and next memory state at the state q,
+-- if the first player's letter is x
 pub record NamesAnswer (board : Board) (keys : List Key) (kept : List ℕ) (certificate : CertificateData)
     (rows : List Row) (q x value : ℕ) : Type 0 where
   pub row : Row

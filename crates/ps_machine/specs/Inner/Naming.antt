@@ -7,6 +7,6 @@ use Rattle.ps_game.specs.Games.{quote}
 abbrev pub IsPlain : List ℕ → Type 0
 IsPlain bytes = All (λ b. b ≢ quote) bytes
 
--- 48 and 49 are the digits 0 and 1
+-- the digit for a truth value, or no byte if `is_played` is false; the bytes 48 and 49 are the digits 0 and 1
 abbrev pub digit_if : Bool → Bool → List ℕ
 digit_if is_played is_true = if is_played then (if is_true then 49 else 48) ∷ [] else []

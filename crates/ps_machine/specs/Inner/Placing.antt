@@ -1,10 +1,10 @@
--- The steps that the machine of a player who moves first can take, and the rows that are stored for these steps. After
--- the player's letter, the automaton's diagram can lead to certain leaves, and `places` has the index of a row for each
--- of them. The machine's diagram is what remains of the automaton's diagram after this letter, with the indices of rows
--- in place of the leaves. (For private functions.)
+-- The steps that the machine of a player who moves first can take, and the rows that the machine's table has for them.
+-- After the player's letter, the automaton's diagram can lead to certain leaves, and `places` has the index of a row of
+-- the machine's table for each of them. The machine's diagram is what remains of the automaton's diagram after this
+-- letter, with the indices of rows in place of the leaves. (For private functions.)
 -- - `PlaysClass board keys certificate v q letter`: `letter` is output at the vertex v, whose state is q
 -- - `IsEntered .. leaf`: the machine can take the step that the leaf names
--- - `IsPlaced .. letter leaf`: `places` has the index of a stored row for the leaf
+-- - `IsPlaced .. letter leaf`: for the leaf, `places` has the index of a row of the machine's table
 use Rattle.std.specs.Prelude.{◌≡◌, ℕ, ◌<◌, Bool, List, length, Some, slice_get}
 use Rattle.ps_certificate.specs.Certificates.{CertificateData, choice_of}
 use Rattle.ps_automaton.specs.Automata.{AutomatonData, pair_of}
@@ -26,14 +26,14 @@ pub record PlaysClass (board : Board) (keys : List Key) (certificate : Certifica
   pub stands : StandsAt keys chosen (Second q letter)
   pub is_class : IsClassLetter board q letter
 
--- the step that the leaf of an automaton's diagram names leads to a reachable vertex
+-- a leaf of an automaton's diagram is the index of a step; this step leads to a reachable vertex of the game
 pub record IsEntered (order : Order) (a : AutomatonData) (keys : List Key) (certificate : CertificateData)
     (is_first : Bool) (kept anchors : List ℕ) (leaf : ℕ) : Type 0 where
   pub within : leaf < length a.steps
   pub enters : CanEnter order a keys certificate is_first kept anchors (pair_of a leaf).state (pair_of a leaf).priority
 
--- `places[leaf]` is the index of a row. In this row, the machine outputs `letter` and enters the memory state of the
--- vertex that stands for the leaf's step.
+-- `places[leaf]` is the index of a row of the machine's table. In this row, the machine outputs `letter` and enters the
+-- memory state of the vertex that stands for the leaf's step.
 pub record IsPlaced (a : AutomatonData) (keys : List Key) (is_first : Bool) (kept : List ℕ) (rows : List Row)
     (places : List ℕ) (letter leaf : ℕ) : Type 0 where
   pub place : ℕ

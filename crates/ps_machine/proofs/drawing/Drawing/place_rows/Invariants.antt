@@ -3,7 +3,7 @@ use Rattle.ps_machine.specs.BuiltBoards.{board_of}
 use Rattle.ps_machine.proofs.Diagrams.FirstDrawing.{AreNoted}
 use Rattle.ps_machine.proofs.drawing.Drawing.place_rows.Given as goal
 
--- for each leaf that was visited so far, the index of its row is recorded
+-- for each leaf that was visited so far, the index of the machine's row for this leaf is recorded
 abbrev pub invariant-loop-leaf : goal.invariant-loop-leaf
 invariant-loop-leaf l = record {
   store : l.self.store ≡ l.fn.self.store;

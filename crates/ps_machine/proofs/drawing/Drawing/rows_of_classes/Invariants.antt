@@ -5,8 +5,8 @@ use Rattle.ps_machine.specs.BuiltBoards.{board_of}
 use Rattle.ps_machine.specs.Inner.Drawing.{IsRow, KeepsRows, NamesAnswer}
 use Rattle.ps_machine.proofs.drawing.Drawing.rows_of_classes.Given as goal
 
--- for each class of letters that was visited so far, the list has the index of the row by which the machine answers
--- this class
+-- for each class of letters that was visited so far, the list has the index of the row of the machine's table that
+-- answers this class
 abbrev pub invariant-loop-class : goal.invariant-loop-class
 invariant-loop-class l = record {
   store : l.self.store ≡ l.fn.self.store;
