@@ -1,5 +1,5 @@
 -- Counts do not decrease along the paths of a graph. The total weight of the vertices in a component and in all later
--- components has a lower and an upper bound.
+-- components is at least the weight of each vertex of this component, and at most the total weight of all vertices.
 use Rattle.std.proofs.Common.{◌≡◌, ℕ, ◌+◌, ◌<◌, ◌≤◌, inl, inr, refl, ap, arith, Option, Some, rules, cond}
 use Rattle.std.specs.Prelude.{slice_get}
 use Rattle.std.proofs.lemmas.Bool.{le-leb, lt-leb}
@@ -28,8 +28,8 @@ one_count weight d {w = w} {v} {k} components counts from to = elim (components.
 pub met_below : {g : Digraph} {c : ComponentsData} {v k : ℕ} → AreComponents g c → IsIn c v k → v < g.count
 met_below {c = c} {v} {k} components met = omega (arith, slice_get_within c.numbers v (Some k) met, components.counted)
 
--- if m is at most k, a vertex adds at least as much to the total weight of the components from m on as to the total
--- weight of the components from k on
+-- let m be at most k: what a vertex adds to the total weight of the components from m on is at least what it adds to
+-- the total weight of the components from k on
 weight_from-later : (k m x : ℕ) (o : Option (Option ℕ)) → m ≤ k → weight_from k o x ≤ weight_from m o x
 weight_from-later k m x o h = search (rules, nat_tests)
 

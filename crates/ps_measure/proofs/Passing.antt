@@ -24,8 +24,8 @@ pub raised_before : (c : ComponentsData) {old new : List ℕ} (roots : List ℕ)
     AreRaised c old roots → AreRaised c new roots
 raised_before c roots grown raised i v k at is = omega (arith, raised i v k at is, grown.grows k)
 
--- the condition of a link on the values of components (`IsPassed`) still holds after values before index `place` have
--- grown, if `place` is at most the number of the source's component
+-- let values of components before index `place` grow: if the component of a link's source has a number of at least
+-- `place`, the values still meet the condition of the link (`IsPassed`)
 pub passed_on : {weight : ℕ → ℕ} {c : ComponentsData} {old new : List ℕ} {w v k : ℕ} → IsIn c w k → {place : ℕ} →
     place ≤ k → GrowsBelow old new place → IsPassed weight c old w v → IsPassed weight c new w v
 passed_on is later grown (inside n from to light) = inside n from to light
@@ -40,8 +40,8 @@ module _ {g : Digraph} {weight : ℕ → ℕ} {c : ComponentsData} {values : Lis
   pub number_within : m < length values
   number_within = omega (arith, components.below v m to, column.each)
 
-  -- the values of components stay correct (`IsColumn`) if one component gets a value x that is a lower bound for its
-  -- counts, and at most the total weight of this and all later components
+  -- Let one component get the new value x. The values stay correct (`IsColumn`) if x is a lower bound for the
+  -- component's counts, and at most the total weight of this component and all later ones.
   set_column : (x : ℕ) → ((d : ℕ → ℕ) → AreCounts g weight d → x ≤ d v) → x ≤ weights_from c weight m g.count →
       IsColumn g weight c (slice_set values m x)
   set_column x least bounded = record {

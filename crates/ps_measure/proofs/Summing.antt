@@ -8,8 +8,8 @@ pub sum_below-le : (f g : ℕ → ℕ) (n : ℕ) → ((v : ℕ) → v < n → f 
 sum_below-le f g zero each = omega arith
 sum_below-le f g (suc n) each = omega (arith, sum_below-le f g n (λ v below. grind arith), each n (omega arith))
 
--- if no term of f exceeds the term of g at the same number, and one is less by at least x, the sum of f is less than
--- the sum of g by at least x
+-- if f is at most g everywhere, and is less than g by at least x at some number, the sum of f is less than the sum of g
+-- by at least x
 pub sum_below-more : (f g : ℕ → ℕ) (n u x : ℕ) → u < n → ((v : ℕ) → v < n → f v ≤ g v) → f u + x ≤ g u →
     sum_below f n + x ≤ sum_below g n
 sum_below-more f g zero u x below each more = absurd (omega arith)

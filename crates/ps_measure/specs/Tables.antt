@@ -26,7 +26,7 @@ count_from cells (suc fuel) (suc i) k =
 abbrev pub row_from : ℕ → List CountCell → ℕ → List ℕ
 row_from width cells head = map (count_from cells head head) (range_with_len 0 width)
 
--- the rows of counts that the chains with the given first cells store
+-- for each given first cell of a chain, the row of counts that the chain stores
 unfoldable pub rows_in : ℕ → List ℕ → List CountCell → List (List ℕ)
 rows_in width heads cells = map (row_from width cells) heads
 

@@ -10,7 +10,7 @@
 //! one search follows the edges backwards from the vertices of that priority. One pass over the strongly connected
 //! components, from the last one that the search finishes to the first, then gives each vertex its count. For each
 //! priority, the search and the pass take time at most proportional to the number of vertices and edges. The memory is
-//! proportional to the numbers of vertices, edges and nonzero counts.
+//! proportional to the number of vertices, edges and nonzero counts.
 //!
 //! | Call | What it gives |
 //! |---|---|

@@ -80,8 +80,8 @@ impl CountTable {
     }
 }
 
-/// Raises each count of a row to the count that a chain of cells stores for the same index, if the stored count is
-/// larger.
+/// Raises each count of a vertex's row to the count that a chain of cells stores for the same index, if the stored
+/// count is larger.
 fn raise_by(cells: &CountCells, head: usize, row: &mut Vec<u64>)
     requires chained { AreChained (length row.old.items) cells.now }
     requires head { head ≤ length cells.now }

@@ -42,8 +42,8 @@ pub record IsCounting (g : Digraph) (weight : ℕ → ℕ) (c : ComponentsData) 
   pub column : IsColumn g weight c values
 
 -- The values of components meet the condition of the link from w to v in one of two cases. Either both vertices are in
--- the same component, and v has weight 0. Or the component of v is earlier than that of w, and its value is at least
--- the value of w's component plus v's weight
+-- the same component, and v has weight 0. Or the vertices are in different components: the component of v is earlier,
+-- and its value is at least the value of w's component plus the weight of v.
 pub data IsPassed (weight : ℕ → ℕ) (c : ComponentsData) (values : List ℕ) (w v : ℕ) : Type 0 where
   inside : (k : ℕ) → IsIn c w k → IsIn c v k → weight v ≡ 0 → IsPassed weight c values w v
   across : (k m : ℕ) → IsIn c w k → IsIn c v m → m < k → slice_index values k + weight v ≤ slice_index values m →

@@ -38,7 +38,8 @@ remaining_graph r = record {
 }
 
 -- A graph in two arrays: the targets of the links of all vertices, one vertex after another; and the index at which the
--- targets of each vertex begin. One more index states where the last targets end.
+-- targets of each vertex begin. The list of indices has one more entry, which states where the targets of the last
+-- vertex end.
 pub record StarData : Type 0 where
   pub count : ℕ
   pub starts : List ℕ
