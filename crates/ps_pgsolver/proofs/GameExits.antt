@@ -1,8 +1,8 @@
 -- When a function of the game parser returns, it has parsed a part of the grammar, or has found that part's first
 -- error.
 -- - `Done part old v new`: the grammar's part `part` was parsed from `old` to `new` with the value v
--- - `done_then`, `stops_left`, `stops_right`: of two parts in a row, both are parsed, the first has an error, or the
---   second has one
+-- - `done_then`, `stops_left`, `stops_right`: if one part follows another, both are parsed, or the first has an error,
+--   or the second has one
 -- - `done_mapped`, `stops_mapped`: a part of the grammar with a function applied to its value is parsed, or has an
 --   error
 -- - `exit`: at a `?`, the parsing function returns the error that was found

@@ -47,7 +47,7 @@ kept_vertices (id ∷ ids) (v ∷ vertices) [] i n = absurd (omega (arith, n))
 kept_vertices (id ∷ ids) (v ∷ vertices) (name ∷ names) i n =
     ap (λ xs. v ∷ xs) (kept_vertices ids vertices names (omega (arith, i)) (omega (arith, n)))
 
--- appending to each of the three lists stores one more node
+-- appending to the lists of ids, vertices and names stores one more node
 kept_push : (ids : List ℕ) (vertices : ParityGame) (names : List (Option (List ℕ))) (id : ℕ) (v : VertexData)
     (name : Option (List ℕ)) → length ids ≡ length vertices → length names ≡ length ids → nodes_kept (ids ++ id ∷ [])
     (vertices ++ v ∷ []) (names ++ name ∷ []) ≡ nodes_kept ids vertices names ++ node_kept id v name ∷ []

@@ -1,8 +1,8 @@
 -- The parts of the grammar of game texts obey the grammar laws of the crate `ps_text`, and so do the parts that are
 -- joined from them.
 -- - `laws_sign`: the grammar laws of the crate `ps_text` for a part that consists of one token
--- - `laws_number`, .., `laws_node`, `joint_more`, .., `joint_id`: the grammar laws for each part, and for parts that
---   follow one another
+-- - `laws_number` to `laws_node`, `joint_more` to `joint_id`: the grammar laws for each part, and for parts that follow
+--   one another
 use Rattle.std.proofs.Common.{◌≡◌, ℕ, List, [], ◌∷◌, ◌++◌, Option, None, Some, refl, sym, ◌∙◌, arith, rules}
 use Rattle.ps_text.specs.Parts.{Part, one, give, then_by, many, mapped, NoBad}
 use Rattle.ps_text.proofs.Laws.{Laws, Joint, Nothing, Or, Within, Apart, weaker}

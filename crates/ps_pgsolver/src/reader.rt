@@ -37,7 +37,7 @@ const TEXT_LIMIT: usize = 16_777_216;
 /// # Errors
 ///
 /// [`PgFault::Text`] with the first error of the text and its offset, or out of memory. If the text is too long, only
-/// this is reported. A successor that is not the id of a node is reported only if the text has no other error.
+/// this error is reported. A successor that is not the id of a node is reported only if the text has no other error.
 pub fn read(alloc: Global, text: &[u8]) -> Result<NamedGame, PgFault>
     ensures answer { IsGameAnswer text.now result }
     ensures within { IfErr result (StandsWithin (length text.now)) }
@@ -55,8 +55,8 @@ pub fn read(alloc: Global, text: &[u8]) -> Result<NamedGame, PgFault>
     named_game(alloc, nodes)
 }
 
-/// Parses the text a second time to locate the first successor that is not the id of a node, and returns the fault
-/// there.
+/// Parses the text a second time to locate the first successor that is not the id of a node, and returns the fault at
+/// this successor.
 fn unknown_successor(alloc: Global, text: &[u8], nodes: &Nodes) -> PgFault
     requires read { TextAnswers None (stream_of text.now) (Ok nodes.now) }
     requires some { KnowsAll (ids_of nodes.now) nodes.now → ⊥ }
@@ -308,7 +308,7 @@ fn semicolon(tokens: &mut Tokens) -> Result<(), PgFault>
     semicolon_of(tokens.next())
 }
 
-/// Checks that the text ends here.
+/// Checks that no token is left.
 fn finish(tokens: &Tokens) -> Result<(), PgFault>
     ensures { result ≡ end_answer (next_of tokens.now) (offset_of tokens.now.pieces tokens.now.end) }
 {

@@ -27,7 +27,7 @@ pub enum Kind<'a> {
     Number(u64),
     /// The digits of a number that does not fit in a `u64`.
     LargeNumber(&'a [u8]),
-    /// A run of letters.
+    /// A word: a longest run of letters, such as `parity`.
     Word(&'a [u8]),
     /// A name, without its quotes.
     Name(&'a [u8]),

@@ -36,7 +36,8 @@ abbrev pub names_with : List (Option (Vec ℕ Global)) → Option (Vec ℕ Globa
 names_with names None = names
 names_with names (Some name) = names ++ Some name ∷ []
 
--- the three lists have equal lengths, and the nodes that they store are well formed and have distinct ids
+-- the lists of ids, vertices and names have equal lengths, and the nodes that they store are well formed and have
+-- distinct ids
 pub record AreKept (ids : List ℕ) (vertices : ParityGame) (names : List (Option (List ℕ))) : Type 0 where
   pub id_each : length ids ≡ length vertices
   pub name_each : length names ≡ length ids
