@@ -21,12 +21,12 @@ use Rattle.ps_simulate.proofs.RowLemmas.{length-variables, no_latch}
 use Rattle.ps_simulate.proofs.ValueLemmas.{bit_of-definition}
 
 module _ {c : CircuitData} (is : IsCircuit c) where
-  -- a literal that refers to its variable by the place has the same bit as the original literal
+  -- a literal that refers to its variable by the variable's index has the same bit as the original literal
   pub read_is : (values : List Bool) (literal : ℕ) → IsKnown (definitions c) literal →
       read_at c values (wire_of c literal) ≡ bit_of values literal
   read_is values literal known = rw (place_known is literal known).1 refl
 
-  -- the value at the place of the k-th variable is the value of the literal that defines this variable
+  -- the value of the variable with the index k + 1 is the value of the literal that defines this variable
   value_defined : (values : List Bool) (k : ℕ) {literal : ℕ} → k < length (definitions c) →
       get_or (definitions c) k 0 ≡ literal → value_at c values (suc k) ≡ bit_of values literal
   value_defined values k {literal} lt e =
@@ -66,7 +66,7 @@ module _ {c : CircuitData} (is : IsCircuit c) where
       ∙ variables_at is (length c.inputs + length c.latches + i) 0 (omega (arith, length-definitions c))
       ∙ ap variable (definitions_gate c i lt)
 
-  -- the places of the variables that a gate reads come before the gate in the order of evaluation
+  -- the variables that a gate reads come before the gate in the order of evaluation
   lies_below : (i place literal : ℕ) → place ≡ front_of c + i → i < length c.gates → IsKnown (definitions c) literal →
       (variable (gate i).first ≡ variable literal) ⊎ (variable (gate i).second ≡ variable literal) →
       IsBelow c place (place_of_variable c (variable literal))

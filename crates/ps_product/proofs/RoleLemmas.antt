@@ -80,7 +80,8 @@ module _ (names : List (List ℕ)) (controllable : List ℕ) (wanted : Bool) (sy
 
   module _ (differ : AreNames names) {list : List ℕ}
       (h : IsListing names controllable wanted symbols (length symbols) list) where
-    -- the proposition that a symbol names is at this symbol's index in the list of propositions
+    -- the proposition that a symbol names is in the list of propositions, at the index that the symbol has in its own
+    -- list
     pub listed_at : (k p : ℕ) → IsSymbol names symbols k p → (k < length list) × (get_or list k 0 ≡ p)
     listed_at k p s =
         let lt : k < length list = omega (arith, h.one_each, within symbols k (get_or names p []) s.is) in

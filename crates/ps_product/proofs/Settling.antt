@@ -1,5 +1,5 @@
--- A stack has the variables that must still be evaluated, each given by its place (index). Each place on the stack has
--- a lower rank than those below it: it comes earlier in the order of evaluation.
+-- A stack has the variables that must still be evaluated, each given by its place (index). Each variable on the stack
+-- has a lower rank than the variables below it: it comes earlier in the order of evaluation.
 use Rattle.std.proofs.Common.{◌≡◌, ℕ, suc, ◌+◌, ◌-◌, ◌*◌, ◌<◌, inl, inr, List, [], ◌∷◌, ◌++◌, length, get_or, set}
 use Rattle.std.proofs.Common.{All, AllPairs, Option, None, Some, refl, take, ap, sym, ◌∙◌, arith}
 use Rattle.std.proofs.Common.{get_or-set_same, get_or-set_other, length-append}
@@ -19,7 +19,7 @@ use Rattle.ps_product.specs.declared.truth.Truth.{Truth}
 use Rattle.ps_product.proofs.UnknownPlaces.{rank, rank_bound, rank_falls, unknown, unknown-set}
 use Rattle.ps_simulate.specs.Plans.{variables}
 
--- the variable at this place has not been evaluated yet
+-- the variable with the index p has not been evaluated yet
 abbrev IsOpen : CircuitData → List (Option Truth) → ℕ → Type 0
 IsOpen c known p = (get_or known p None ≡ None) × (p < length (variables c))
 
@@ -32,7 +32,7 @@ pub record Waits (c : CircuitData) (order : List ℕ) (known : List (Option Trut
     pub root : (d : ℕ) → 0 < length stack → get_or stack 0 d ≡ place
     pub done : stack ≡ [] → IsSome (get_or known place None)
 
--- the rank of the place on top of the stack; the measure `left`, below, falls with each step of the evaluation
+-- the rank of the variable on top of the stack; with each step of the evaluation, the measure `left` falls
 abbrev pub top_rank : CircuitData → List ℕ → List ℕ → ℕ
 top_rank c order [] = 0
 top_rank c order (x ∷ xs) = rank c order (get_or (x ∷ xs) (length xs) 0)
@@ -63,7 +63,7 @@ module _ (c : CircuitData) (order : List ℕ) where
 
   module _ {known : List (Option Truth)} {place : ℕ} (top : ℕ) (stack : List ℕ)
       (w : Waits c order known place (stack ++ top ∷ [])) where
-    -- the place on top of the stack has the lowest rank
+    -- the variable on top of the stack has the lowest rank of all variables on the stack
     top_below : (k d : ℕ) → k < length stack → rank c order top < rank c order (get_or stack k d)
     top_below k d lt = rw (get_or_append_left stack (top ∷ []) d k lt, get_or_push stack top d (length stack) refl) at
         (w.falls k (length stack) d lt (omega (arith, many stack top)))

@@ -25,8 +25,7 @@ unknown-set (Some other ∷ xs) zero truth lt e = cc
 unknown-set (None ∷ xs) (suc p) truth lt e = ap suc (unknown-set xs p truth (omega arith) e)
 unknown-set (Some other ∷ xs) (suc p) truth lt e = unknown-set xs p truth (omega arith) e
 
--- the rank of a place is 0 if its variable is no gate, and otherwise one more than the gate's index in the order of
--- evaluation
+-- the rank of a variable is 0 if it is no gate, and otherwise one more than the gate's index in the order of evaluation
 abbrev pub rank : CircuitData → List ℕ → ℕ → ℕ
 rank c order place =
     if nat_lt place (front_of c) then 0 else suc (position_or_len (λ i. nat_eq i (place - front_of c)) order)

@@ -37,7 +37,8 @@ IsTruth t (Sometimes node) = IsVarying t node
 abbrev pub bit_by_wire : Wire → Bool → Bool
 bit_by_wire w b = if w.is_negated then not b else b
 
--- what a call returns that makes the function `bit`; all earlier nodes of the table remain, also if memory runs out
+-- The result of a call is the Boolean function `bit`, or the call has failed. All earlier nodes of the table remain,
+-- also if memory runs out.
 pub record MakesTruth {E : Type 0} (old new : Table) (result : Result Truth E) (bit : ℕ → Bool) : Type 0 where
   pub keeps : Keeps old new
   pub is_truth : IfOk result (IsTruth new)

@@ -51,7 +51,7 @@ impl Known {
         Ok(Known { entries, stamp: 1 })
     }
 
-    /// The function of the variable at a place, if it has been evaluated.
+    /// The Boolean function of the variable with the index `place`, if it has been computed.
     pub fn get(&self, place: u32) -> Option<Truth>
         requires { place < length self.now }
         ensures { result ≡ slice_index_or self.now place None }
@@ -64,7 +64,7 @@ impl Known {
         }
     }
 
-    /// Records the function of the variable at a place.
+    /// Records the Boolean function of the variable with the index `place`.
     pub fn put(&mut self, place: u32, truth: Truth)
         requires { place < length self.old }
         ensures { self.new ≡ slice_set self.old place (Some truth) }

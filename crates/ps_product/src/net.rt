@@ -1,4 +1,4 @@
-//! A circuit whose literals refer to variables by consecutive numbers, their places.
+//! A circuit whose literals refer to variables by consecutive numbers, the places (indices) of the variables.
 
 ghost use Rattle.std.specs.Prelude.{◌≡◌, ℕ, ◌<◌, length, map, IfOk, MatchOption};
 ghost use Rattle.ps_circuit.specs.Circuits.{CircuitData, IsCircuit};
@@ -20,7 +20,7 @@ pub(crate) struct Sides {
 }
 
 impl Sides {
-    /// The two literals, in the order of their variables' places.
+    /// The two literals, in the order of their variables' places (indices).
     pub fn lower_first(self) -> Self
         ensures { (c : CircuitData) (place : ℕ) → IsGateAt c place self → IsGateAt c place result }
     {
@@ -57,7 +57,7 @@ impl<'a> Model for Net<'a> {
 }
 
 impl<'a> Net<'a> {
-    /// The circuit, with literals that refer to variables by their places.
+    /// The circuit, with literals that refer to variables by their places (indices).
     pub fn new(alloc: Global, circuit: &'a Circuit) -> Result<Self, AllocError>
         ensures { IfOk result (λ net. net ≡ circuit.now) }
     {
@@ -65,7 +65,7 @@ impl<'a> Net<'a> {
         Net::by_places(alloc, &places)
     }
 
-    /// The circuit, with literals that refer to variables by the given places.
+    /// The circuit, with literals that refer to variables by the given places (indices).
     fn by_places(alloc: Global, places: &Places<'a>) -> Result<Self, AllocError>
         ensures { IfOk result (λ net. net ≡ places.now) }
     {
@@ -90,14 +90,15 @@ impl<'a> Net<'a> {
         self.circuit
     }
 
-    /// The number of the circuit's variables, each of which has a place.
+    /// The number of the circuit's variables, each of which has a place (index).
     pub fn size(&self) -> usize
         ensures { result ≡ length (variables self.now) }
     {
         self.front + self.gates.len()
     }
 
-    /// The literals that a gate reads, given the gate's place; `None` if the place is not a gate's.
+    /// The literals that a gate reads, given the place (index) of the gate; `None` if the variable with this index is
+    /// not a gate.
     pub fn gate(&self, place: u32) -> Option<Sides>
         requires { place < length (variables self.now) }
         ensures { MatchOption result (place < front_of self.now) (λ sides. IsGateAt self.now place sides) }

@@ -27,8 +27,8 @@ fn node_of(store: &mut Store, truth: Truth) -> Result<Node, AllocError>
     }
 }
 
-/// For each proposition, a diagram of its value as a function of the inputs. For the proposition of an output, this is
-/// the output's function; for any other, it is the proposition itself.
+/// For each proposition, a diagram of its value as a function of the inputs. For the proposition of an output, this
+/// value is the output's function; for any other proposition, it is the proposition itself.
 pub(crate) fn nodes_of(
     alloc: Global,
     store: &mut Store,

@@ -27,8 +27,8 @@ pub(crate) struct Site<'s, 'c> {
 }
 
 impl<'s, 'c> Site<'s, 'c> {
-    /// Evaluates the variable at a place as a Boolean function of the inputs, after the gates on which the variable
-    /// depends.
+    /// Computes the variable with the index `place` as a Boolean function of the inputs, after the gates on which the
+    /// variable depends.
     pub fn settle(
         self,
         known: &mut Known,
@@ -60,7 +60,7 @@ impl<'s, 'c> Site<'s, 'c> {
     }
 
     /// Makes one step in the evaluation of a variable that has not been evaluated. Either the variable is evaluated, or
-    /// the result is the place of a variable that must be evaluated first.
+    /// the result is the index of a variable that must be evaluated first.
     fn step(
         self,
         known: &mut Known,

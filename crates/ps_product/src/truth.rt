@@ -134,7 +134,7 @@ impl Truths {
         Ok(truth)
     }
 
-    /// The Boolean function of a diagram each of whose leaves is 1.
+    /// The Boolean function of a diagram in which each leaf is 1: it is true at the letters that have a leaf.
     fn truth_of(&self, node: Node) -> Truth
         requires held { IsNode self.now node }
         requires leaves { (letter : ℕ) → IsOneOrNone (leaf_of self.now node letter) }

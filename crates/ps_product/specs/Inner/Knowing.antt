@@ -23,7 +23,7 @@ pub record IsSite (s : Site) (t : Table) : Type 0 where
   pub named : All (λ p. p < t.propositions) s.propositions.now
   pub latches : length s.latches.now ≡ length s.net.now.latches
 
--- at each letter of the inputs, the function `truth` has the value of the variable at this place
+-- at each letter of the inputs, the function `truth` has the value of the variable with the index `place`
 pub record IsTruthAt (s : Site) (t : Table) (place : ℕ) (truth : Truth) : Type 0 where
   pub is_truth : IsTruth t truth
   pub holds : (letter : ℕ) (values : List Bool) → letter < 2 ^ t.propositions →

@@ -9,7 +9,7 @@ use Rattle.ps_product.specs.Truths.{bit_by_wire}
 use Rattle.ps_simulate.specs.declared.plan.Wire.{Wire}
 use Rattle.ps_simulate.specs.Plans.{variables, wire_of}
 
--- the place of the first gate: the number of variables that are not gates
+-- the place (index) of the first gate, which is the number of variables that are not gates
 abbrev pub front_of : CircuitData → ℕ
 front_of c = 1 + length c.inputs + length c.latches
 
@@ -23,7 +23,8 @@ pub record IsNet (c : CircuitData) (front : ℕ) (gates : List Sides) (outputs n
   pub outputs_are : outputs ≡ map (wire_of c) c.outputs
   pub nexts_are : nexts ≡ map (λ l. wire_of c l.next) c.latches
 
--- the value of the variable at a place, and the bit of a literal given by such a place
+-- the value of the variable with a given index; and the bit of a literal, given by the index of its variable and
+-- whether it is negated
 abbrev pub value_at : CircuitData → List Bool → ℕ → Bool
 value_at c values place = value_of values (slice_index_or (variables c) place 0)
 
@@ -37,7 +38,7 @@ pub record IsBelow (c : CircuitData) (place lower : ℕ) : Type 0 where
   pub below : (lower < front_of c) ⊎ ((front_of c ≤ lower) × ReadsGate c.gates (place - front_of c)
       (lower - front_of c))
 
--- the variable at this place is a gate, which reads the two given literals
+-- the variable with the index `place` is a gate that reads the two given literals
 pub record IsGateAt (c : CircuitData) (place : ℕ) (s : Sides) : Type 0 where
   pub first_below : IsBelow c place s.first.place
   pub second_below : IsBelow c place s.second.place

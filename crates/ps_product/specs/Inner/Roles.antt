@@ -6,8 +6,8 @@ use Rattle.ps_hoa.specs.Files.{is_among}
 use Rattle.ps_product.specs.declared.roles.Roles.{Roles}
 use Rattle.ps_simulate.specs.Symbols.{IsSymbol}
 
--- the list has the propositions that the first `count` symbols name, all of which differ. If `wanted` is true, all of
--- them are controllable, and otherwise none is controllable
+-- the list has the propositions that the first `count` symbols name; no proposition is named twice. If `wanted` is
+-- true, each proposition of the list is controllable, and otherwise none is.
 pub record IsListing (names : List (List ℕ)) (controllable : List ℕ) (wanted : Bool)
     (symbols : List (Option (List ℕ))) (count : ℕ) (list : List ℕ) : Type 0 where
   pub one_each : length list ≡ count

@@ -7,7 +7,7 @@ use Rattle.ps_product.proofs.TruthLemmas.{ready_on}
 use Rattle.ps_product.proofs.site.Site.settle.Goals as goal
 use Rattle.ps_product.proofs.site.Site.settle.Goals.{After-pop, In_ok-push-2}
 
--- the place for which the step was made is the top of the stack
+-- the variable for which the step was made is on top of the stack
 split : (c : In_ok-push-2) → c.loop-top.stack.items ≡ take (length c.loop-top.stack.items - 1)
     c.loop-top.stack.items ++ c.in-Some.field-0.now ∷ []
 split c =
@@ -33,7 +33,7 @@ loop-top-preserved c = record {
       (split c) (order c) (rw c.in-Some-2.is at c.in_ok-lower.ensures.step) c.in_ok-push-2.ensures.items;
 }
 
--- the stack before `pop` is the stack after it, followed by the place that was popped
+-- the stack before `pop` is the stack after it, followed by the entry that was popped
 rest : (c : After-pop) → c.loop-top.stack.items ≡ c.pop.new.self.items ++ c.in-Some.field-0.now ∷ []
 rest c =
     let xs = c.loop-top.stack.items in

@@ -6,7 +6,7 @@ use Rattle.ps_product.proofs.TruthLemmas.{known_kept, known_more, learnt}
 use Rattle.ps_product.proofs.site.Site.step.Goals as goal
 use Rattle.ps_product.proofs.site.Site.step.Goals.{After-lower_first-sides}
 
--- the gate still reads the same two literals after they have been put in the order of their places
+-- the gate still reads the same two literals after they have been put in the order of their variables' indices
 gate : (c : After-lower_first-sides) → IsGateAt c.args.self.net.now c.args.place c.lower_first-sides.result
 gate c = c.lower_first-sides.ensures c.args.self.net.now c.args.place c.in-Some.ensures
 
