@@ -1,4 +1,4 @@
--- Two steps in a row have at most one result if each of the two steps has at most one result.
+-- A step and the step after it have at most one result together if each of the two steps has at most one result.
 use Rattle.std.proofs.Common.{arith, ◌≡◌, ◌⊎◌, ◌∙◌, ℕ, Bool, true, false, List, Result, Ok, Err, refl, sym, ap, inl}
 use Rattle.std.proofs.Common.{inr}
 use Rattle.ps_text.specs.Answers.{Found}
@@ -39,7 +39,7 @@ then_one step next one more x y (inl (l, s, e)) (inr (v, t, n)) = absurd (ok_is_
 then_one step next one more x y (inr (v, s, n)) (inl (l, t, e)) = absurd (ok_is_not_err v l (one (Ok v) (Err l) s t))
 then_one {V} {W} step next one more x y (inr (v, s, n)) (inr (w, t, m)) = grind arith
 
--- two steps in a row have at most one result, unless the second step may have several
+-- a step and the step after it have at most one result together, unless the second step may have several
 pub then_one_or : {V W : Type 0} (step : Result V (List ℕ) → Type 0) (next : V → Result W (List ℕ) → Type 0)
     (Open : V → Type 0) → IsOne step
     → (x y : Result W (List ℕ)) → ((v : V) → next v x → next v y → (x ≡ y) ⊎ Open v)

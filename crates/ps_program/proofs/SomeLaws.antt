@@ -1,6 +1,6 @@
 -- The laws of lower crates from which it follows that each input has an answer.
 -- - `GoodOrFlawed`: a certificate passes the test `IsGood`, or has a first flaw
--- - `Below`: the laws
+-- - `Below`: the laws of lower crates, as the fields of a record
 use Rattle.std.proofs.Common.{◌≡◌, ◌≢◌, ◌<◌, ◌⊎◌, ℕ, Bool, List, length, Option, Result, Ok}
 use Rattle.ps_text.specs.Answers.{Found}
 use Rattle.ps_aiger.specs.Encoded.{Encodes}
@@ -68,7 +68,7 @@ pub record Below : Type 0 where
       ((given : CertificateData) × IsCertificateOf arena won first second given)) ⊎
       ((flaw : Flaw) × IsFirstFlaw arena (claimed arena won first second) flaw) ⊎
       ((player : ℕ) × (cycle : List ℕ) × IsCycleOf arena won first second player cycle)
-  -- the laws about automata and their games
+  -- the laws of other crates about automata and their games, as arguments of the proofs
   pub some_file : (text : List ℕ) → (answer : Result FileData (Found HoaCause)) × ReadsFile text answer
   pub file_sound : (text : List ℕ) (file : FileData) → ReadsFile text (Ok file) → IsSoundFile file
   pub some_refusal : (file : FileData) → IsAdmitted file ⊎ ((fault : AutomatonFault) × (fault ≢ OutOfMemory) ×

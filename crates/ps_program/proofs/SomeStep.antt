@@ -1,8 +1,8 @@
 -- Two steps in a row have a result if the first step has a result, and the second step has a result for each value that
 -- the first may give.
 -- - `HasSome step`: the step has an outcome
--- - `then_some`, `ended_some`, `reading_some`: two steps in a row, a step that ends with a value, and a parser have an
---   outcome
+-- - `then_some`, `ended_some`, `reading_some`: each of these has an outcome: two steps one after the other, a step that
+--   ends with a value, and a parser
 -- - `HasOnly`, `then_only`: each value that the step may return has a property
 use Rattle.std.proofs.Common.{◌≡◌, ℕ, List, Result, Ok, Err, refl, inl, inr}
 use Rattle.ps_text.specs.Answers.{Found}

@@ -213,7 +213,7 @@ IsLine first_line line = (IsUtf8 first_line × Says (words_of first_line) line)
 
 -- ---- the command lines that are accepted
 
--- whether a flag's name is in the list
+-- whether the name of a flag is among the given words
 abbrev pub is_among : List Text → Text → Bool
 is_among [] name = false
 is_among (flag ∷ flags) name = if bytes_eq name flag then true else is_among flags name

@@ -8,7 +8,8 @@ use Rattle.ps_program.specs.declared.answer.Refusal.TheVariants as refusal
 use Rattle.ps_program.specs.Faults.{fault_text, text_line}
 use Rattle.ps_program.specs.Replies.{Reply, reply_of, fault_reply}
 
--- two steps in a row: the second takes the value of the first; if the first fails, its fault is the result of both
+-- two steps one after the other: the second takes the value of the first; if the first fails, its fault is the result
+-- of both
 abbrev pub Then : {V W : Type 0} → (Result V (List ℕ) → Type 0) → (V → Result W (List ℕ) → Type 0) →
     Result W (List ℕ) → Type 0
 Then {V} {W} step next outcome = ((line : List ℕ) × step (Err line) × (outcome ≡ Err line))

@@ -12,8 +12,8 @@ stalls (Err e) bytes = false
 abbrev pub AppendsSome : Option (List ℕ) → Option (List ℕ) → List ℕ → Type 0
 AppendsSome before after text = (sent : List ℕ) × StartsWith text sent × Appends before after sent
 
--- Either a call to the sink failed, or a write accepted no bytes. Both can't happen, because nothing more is written
--- after the first of them.
+-- Either a call to the sink failed, or a write accepted no bytes. A failed call and a write that accepts no bytes can't
+-- both happen, because nothing more is written after the first of them.
 abbrev pub Breaks : (has_failed has_stalled : Bool) → Type 0
 Breaks has_failed has_stalled =
     ((has_failed ≡ true) × (has_stalled ≡ false)) ⊎ ((has_failed ≡ false) × (has_stalled ≡ true))

@@ -1,5 +1,5 @@
--- The command that asks whether an automaton accepts each lasso trace of a circuit (a controller), or none (an
--- environment).
+-- The command `verify`. The answer of `verify` states whether an automaton accepts each lasso trace of a controller, or
+-- no lasso trace of an environment.
 use Rattle.std.specs.Prelude.{◌≡◌, ◌⊎◌, ℕ, Bool, List, [], ◌++◌, flat_map, codes, Result, Ok, Err}
 use Rattle.ps_circuit.specs.Circuits.{CircuitData, IsCircuit}
 use Rattle.ps_hoa.specs.Files.{FileData}

@@ -2,7 +2,7 @@
 use Rattle.std.specs.Prelude.{◌≤◌, ℕ, List, length, Bool, Option, IfSome, None, Some, Result, Ok, Err}
 use Rattle.ps_program.specs.declared.watched.Watched.{Watched}
 
--- the reader or writer of std that is watched
+-- the reader or writer of std that a `Watched` uses
 abbrev pub watched_inner : {T : Type 0} → Watched T → T
 watched_inner watched = watched.inner
 

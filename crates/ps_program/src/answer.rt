@@ -36,7 +36,7 @@ pub const OUT_OF_MEMORY: &[u8] = b"fault 24 OutOfMemory\n";
 /// runs out.
 #[derive(Drop)]
 pub struct Answer {
-    /// The bytes that are written.
+    /// The bytes of the answer, which are written to standard output.
     pub text: Vec<u8>,
     /// The exit status.
     pub status: u8,

@@ -32,45 +32,46 @@ use std::alloc::Global;
 pub enum Line {
     /// No command: a line that is not a command's name with flags of that command, each given at most once.
     Refused,
-    /// Asks for the help text.
+    /// The input's first line asks for the help text.
     Help,
-    /// Asks whether a certificate is closed: each winner's move is an edge that stays in the winner's region, and so
-    /// does each edge of a vertex that the loser owns.
+    /// The input's first line asks whether a certificate is closed: each winner's move is an edge that stays in the
+    /// winner's region, and so does each edge of a vertex that the loser owns.
     Closed,
-    /// Asks whether a certificate of a game is valid.
+    /// The input's first line asks whether a certificate of a game is valid.
     Check,
-    /// Asks for the certificate that a solution of a game gives.
+    /// The input's first line asks for the certificate that a solution of a game gives.
     Judge {
         /// Whether the certificate is printed as a compact text.
         compact: bool,
     },
-    /// Asks for the trace of a circuit at given letters.
+    /// The input's first line asks for the trace of a circuit at given letters.
     Sim,
-    /// Asks whether an automaton accepts the word that a circuit (a controller or an environment) produces on a stem
-    /// and a repeated lap.
+    /// The input's first line asks whether an automaton accepts the word that a circuit (a controller or an
+    /// environment) produces on a stem and a repeated lap.
     Lasso(Role),
-    /// Asks whether an automaton accepts each lasso trace of a circuit (a controller), or none (an environment).
+    /// The input's first line asks whether an automaton accepts each lasso trace of a circuit that is a controller, or
+    /// no lasso trace of a circuit that is an environment.
     Verify {
         /// Who moves first.
         order: Order,
         /// The role of the circuit.
         role: Role,
     },
-    /// Asks for a certificate of a game.
+    /// The input's first line asks for a certificate of a game.
     Solve {
         /// Whether the certificate is printed as a compact text.
         compact: bool,
     },
-    /// Asks for the game of an automaton, in this order of moves.
+    /// The input's first line asks for the game of an automaton, in this order of moves.
     Game(Order),
-    /// Asks for a certificate of the game of an automaton.
+    /// The input's first line asks for a certificate of the game of an automaton.
     Cert {
         /// Who moves first.
         order: Order,
         /// Whether the certificate is printed as a compact text.
         compact: bool,
     },
-    /// Asks for a circuit for an automaton.
+    /// The input's first line asks for a circuit for an automaton.
     Synth(SynthLine),
 }
 

@@ -10,13 +10,13 @@ ghost use Rattle.ps_program.specs.Solvers.{solvers_of};
 use ps_machine::Solver;
 
 /// Whatever the solvers, an input has at most one answer: each program that meets the definitions writes the same bytes
-/// and ends with the same exit status, unless it runs out of memory. There are exceptions for five commands. If `judge`
-/// finds cycles that make a player lose, the law does not say which of them the answer names. If `verify` finds that
-/// the circuit loses, the law does not say which losing stimulus the answer shows. If `solve`, `cert` or `synth`
-/// accepts its text, any two answers that do not report a fault agree on the winners. Two answers to `synth` without a
-/// fault have the same status, first line and game; two answers to `solve` or `cert` without a fault have the same
-/// regions. With `synth --cert`, the whole answer is determined if the second solver only returns the certificate whose
-/// text it was fed.
+/// and ends with the same exit status, unless it runs out of memory. Five commands (`judge`, `verify`, `solve`, `cert`
+/// and `synth`) are exceptions. If `judge` finds cycles that make a player lose, the law does not say which of them the
+/// answer names. If `verify` finds that the circuit loses, the law does not say which losing stimulus the answer shows.
+/// If `solve`, `cert` or `synth` accepts its text, any two answers that do not report a fault agree on the winners. Two
+/// answers to `synth` without a fault have the same status, first line and game; two answers to `solve` or `cert`
+/// without a fault have the same regions. With `synth --cert`, the whole answer is determined if the second solver only
+/// returns the certificate whose text it was fed.
 pub fn one_answer<S: Solver, T: Solver>(built_in: &S, replay: &T)
     ensures answer { HasOneAnswer (solvers_of (S.known built_in.now) (T.known replay.now)) }
     ensures certified { HasOneCertified (solvers_of (S.known built_in.now) (T.known replay.now)) }

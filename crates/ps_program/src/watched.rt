@@ -10,8 +10,9 @@ use crate::stream::{Sink, Source};
 use std::io;
 use std::io::{Read, Write};
 
-/// A reader of std, and a relation, `read_gives`, between the states before and after each call. This trait requires
-/// nothing of that relation, so only code that knows the reader can learn from it what a call did.
+/// A reader of std, and a relation, `read_gives`, between the states before and after each call. The trait requires
+/// nothing of the relation `read_gives`, so only code that knows the reader can learn from the relation what a call
+/// did.
 pub trait Reader: Read {
     // Whether a call of `read` may return this count, and leave the reader and the buffer in this state. A call of
     // `read` that fails returns no count.

@@ -1,5 +1,5 @@
-//! The command that asks whether an automaton accepts each lasso trace of a circuit (a controller), or none (an
-//! environment).
+//! The command `verify`. The answer of `verify` states whether an automaton accepts each lasso trace of a controller,
+//! or no lasso trace of an environment.
 
 ghost use Rattle.std.specs.Prelude.{◌≡◌, ◌++◌, IfOk, OnOk};
 ghost use Rattle.ps_automaton.specs.Automata.{IsBuiltFrom};
