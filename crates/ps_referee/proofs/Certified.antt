@@ -45,8 +45,8 @@ some_within v is_game (Some w) is = is_game.within v w is
 module _ {game : ParityGame} (is_game : IsGame game) {player : ℕ} {set : ℕ → Bool} {table : ℕ → Option ℕ}
     {priorities : List ℕ} {rows : List (List ℕ)} {c : CertificateData} (holds : Holds game player set table)
     (ranks : AreRanks game player set table priorities rows) where
-  -- if the certificate states that the player wins v, each edge from v that remains for the certificate's moves also
-  -- remains for the player's table of moves
+  -- if the certificate states that the player wins v, each edge from v that the certificate's moves allow is also
+  -- allowed by the player's table of moves
   remains_for : {v w : ℕ} → IsSide game player set table priorities rows c v → Remains game c v w →
       RemainsFor game player table v w
   remains_for s r = search rules
