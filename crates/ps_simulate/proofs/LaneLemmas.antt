@@ -56,7 +56,7 @@ bit_in-flipped a b lane lt le =
       flipped b (bit_at x i) (bit_at-lt x i) (mask_bit b i (omega arith)),
     )
 
--- the words that are read for a literal have the value of the literal in each lane
+-- the words that are read from the table for a literal have, in the bit of each lane, the literal's value in that lane
 pub bit_in-read : (values : List (List ℕ)) (wire : Wire) {m : ℕ} (lane : ℕ) → lane < 256 → wire.place < length values →
     length (get_or values wire.place []) ≡ 4 → m ≡ all_or_none wire.is_negated →
     lane_bit (zip2 bit_xor (get_or values wire.place []) (replicate 4 m)) lane ≡ read (lane_of values lane) wire

@@ -89,7 +89,7 @@ module _ {c : CircuitData} (is : IsCircuit c) where
       pub AreMoved-rows : AreMoved (length (variables c)) front places
       AreMoved-rows = record { each = each; within = within_table; once = one_each; kept = kept }
 
-    -- the lemmas above, for a list of rows and a size that are equal to those of the plan, although written differently
+    -- these lemmas hold for any list and any size that are equal to the evaluation plan's list of rows and to its size
     pub gate_rows_at : {size f : ℕ} {given : List Row} → size ≡ length (variables c) → f ≡ front → given ≡ rows →
         All (IsGateRow f size) given
     gate_rows_at size_is front_is e k d lt = search (rules, gate_rows)
@@ -105,7 +105,7 @@ pub moved_small : {size front : ℕ} {places : List ℕ} → AreMoved size front
     All (λ p. p < 2 ^ 31) places
 moved_small {places} are few k d lt = search (rules, get_or_default)
 
--- `rows_from` gives one row for each gate
+-- `rows_from` gives one row of the evaluation plan for each gate
 pub length-rows_from : (place : ℕ) (gates : List Operands) → length (rows_from place gates) ≡ length gates
 length-rows_from place [] = refl
 length-rows_from place (g ∷ gates) = ap suc (length-rows_from (place + 1) gates)
@@ -130,8 +130,8 @@ rows_from-append : (place : ℕ) (gates : List Operands) (g : Operands) →
 rows_from-append place [] g = ap (λ n. row_of_operands n g ∷ []) (omega arith)
 rows_from-append place (h ∷ gates) g = grind (arith, rows_from-append (place + 1) gates g)
 
--- the entries of `gates` are the first k rows of the plan, with renumbered indices: if row k with renumbered indices is
--- appended, the entries are the first k + 1 rows
+-- let the list `gates` have the first k rows of the plan, with renumbered indices; if row k is appended with renumbered
+-- indices, the list has the first k + 1 rows
 pub rows_more : (rows : List Row) (places : List ℕ) (gates : List Operands) {more : List Operands}
     (first second front k : ℕ) → k < length rows → AreInOrder front places rows →
     wire_in first ≡ move_wire places (get_or rows k no_row).first →

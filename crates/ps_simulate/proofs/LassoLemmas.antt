@@ -171,8 +171,8 @@ pub HasRead-next : {names : List (List ℕ)} {c d : CircuitData} {stem lap seen 
     length from ≡ length c.latches → HasRead names c stem lap seen' new last
 HasRead-next seen' same at h s r wide = search (rules, HasRead-lap)
 
--- the lap is read repeatedly: each time it begins with new latch values, fewer of the possible lists of latch values
--- are left that were not seen
+-- a reading of the lap that begins with new latch values lowers the number of lists of latch values that were not seen
+-- before
 pub fewer : {names : List (List ℕ)} {c : CircuitData} {stem lap seen' : List (List Bool)} {new : List ℕ}
     {last : List Bool} (seen : List (List Bool)) (latches : List Bool) → HasRead names c stem lap seen' new last →
     IsSeen seen seen' latches None →

@@ -33,7 +33,8 @@ module _ {c : CircuitData} (is : IsCircuit c) where
       (get_or (variables c) (place_of_variable c (variable literal)) 0 ≡ variable literal)
   known_at literal k lt e = search (rules, place_of-at)
 
-  -- the variable of a literal has an index if the variable is 0 or the circuit defines it
+  -- if the variable of a literal is 0, or the circuit defines it, the list of the circuit's variables has an index for
+  -- it
   pub place_known : (literal : ℕ) → IsKnown (definitions c) literal
       → (place_of_variable c (variable literal) < length (variables c)) ×
       (get_or (variables c) (place_of_variable c (variable literal)) 0 ≡ variable literal)

@@ -99,7 +99,7 @@ module _ {c : CircuitData} (is : IsCircuit c) where
           (search (rules, gate_at, reads, sides_known, gate_within, row_is));
     }
 
-    -- the indices in a row are within the table of values
+    -- the indices that a row of the evaluation plan has are within the table of values
     pub IsRowInTable-row : (k : ℕ) → k < length rows → IsRowInTable (length (variables c)) (numbered_row rows k)
     IsRowInTable-row k lt =
         let sides = sides_known is (gate_place k) no_gate (gate_within k lt) in

@@ -1,4 +1,4 @@
--- What a step of a circuit reads from its table of values.
+-- Lemmas about the outputs and next latch values that a step of a circuit reads from its table of values.
 use Rattle.std.proofs.Common.{◌≡◌, ℕ, suc, ◌<◌, Bool, false, List, [], ◌∷◌, map, length, get_or, refl, sym, ap, ap₂}
 use Rattle.std.proofs.Common.{◌∙◌, arith, All}
 use Rattle.std.proofs.lemmas.List.Elements.{All-from_get_or, All-map}

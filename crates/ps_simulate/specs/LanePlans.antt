@@ -41,12 +41,12 @@ unmoved places values = map (λ p. slice_index_or values p false) places
 abbrev pub AreKept : ℕ → List ℕ → Type 0
 AreKept front places = (p : ℕ) → p < front → moved places p ≡ p
 
--- the targets of the rows get successive new indices, from `front` on
+-- the values that the rows (gates) of the evaluation plan compute get successive new indices, from `front` on
 abbrev pub AreInOrder : ℕ → List ℕ → List Row → Type 0
 AreInOrder front places rows =
     (k : ℕ) (d : Row) → k < length rows → moved places (slice_index_or rows k d).target ≡ front + k
 
--- the target of the row is an index after the indices of the constant, the inputs and the latches
+-- the value that the row (gate) computes has an index after the indices of the constant, the inputs and the latches
 pub record IsGateRow (front size : ℕ) (r : Row) : Type 0 where
   pub behind : front ≤ r.target
   pub within : r.target < size

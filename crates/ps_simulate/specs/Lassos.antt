@@ -4,8 +4,9 @@
 --   in the step m
 -- - `RepeatsLatches c stem lap i j trace`: the trace reads the stem once and the lap j times; its last latch values are
 --   those before reading number i of the lap, the first repetition
--- - `IsVerdictOf file c stem lap verdict`: the verdict tells whether the automaton accepts the trace when its letters
---   from reading number i of the lap on are repeated for ever
+-- - `IsVerdictOf file c stem lap verdict`: the verdict tells whether the automaton accepts the circuit's trace on the
+--   lasso. The readings i and j of the lap begin with the same latch values, so the letters between them repeat for
+--   ever.
 use Rattle.std.specs.Prelude.{◌≡◌, ◌≢◌, ℕ, zero, suc, ◌+◌, ◌-◌, ◌*◌, ◌^◌, ◌<◌, ◌↔◌, Bool, false, IsTrue, List, [], ◌∷◌}
 use Rattle.std.specs.Prelude.{◌++◌, length, map, take, drop, slice_index_or}
 use Rattle.ps_label.specs.Truth.{is_in}

@@ -58,7 +58,7 @@ abbrev pub work_out : List Row → List Bool → List Bool
 work_out [] values = values
 work_out (row ∷ rows) values = work_out rows (work_row values row)
 
--- the indices in the row are less than `size`, the length of the table of values
+-- the three indices that a row of the evaluation plan has are less than `size`, the length of the table of values
 pub record IsRowInTable (size : ℕ) (row : Row) : Type 0 where
   pub target : row.target < size
   pub first : row.first.place < size

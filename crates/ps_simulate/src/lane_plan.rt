@@ -24,7 +24,7 @@ pub struct Operands {
 /// depends on how much it reads from and writes to the table.
 #[derive(Drop)]
 pub struct LanePlan {
-    /// The length of the table of values.
+    /// The length of the table of values, which has an entry for each variable of the circuit, the constant 0 included.
     pub size: usize,
     /// The number of values before those of the gates: the constant 0, the inputs and the latches.
     pub front: usize,

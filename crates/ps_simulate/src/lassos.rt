@@ -194,7 +194,7 @@ impl<'a> Run<'a> {
     }
 
     /// Reads the stem once, and then the lap repeatedly, until a reading of the lap begins with the same latch values
-    /// as an earlier reading. Returns the number of that earlier reading of the lap, counted from 0. Fails if out of
+    /// as an earlier reading. Returns which reading of the lap was the earlier one, counted from 0. Fails if out of
     /// memory.
     fn first_repetition(
         &mut self,

@@ -20,7 +20,7 @@ pub struct Wire {
 /// A gate: the index of its value, and the two literals that it reads.
 #[derive(Clone, Copy)]
 pub struct Row {
-    /// The index of the gate's value.
+    /// The index of the gate's value in the table of values.
     pub target: u32,
     /// The first literal that the gate reads.
     pub first: Wire,
@@ -33,7 +33,7 @@ pub struct Row {
 /// gates.
 #[derive(Drop)]
 pub struct Plan {
-    /// The length of the table of values.
+    /// The length of the table of values, which has an entry for each variable of the circuit, the constant 0 included.
     pub size: usize,
     /// The gates, each after the gates that it reads.
     pub rows: Vec<Row>,

@@ -43,8 +43,8 @@ module _ {c : CircuitData} (is : IsCircuit c) {order : List ℕ}
       (sym (grind (arith, get_or-map)) ∙ ap (λ bits. get_or bits k false) (a.latches_are ∙ sym b.latches_are)
       ∙ get_or-map (λ (l : Latch). bit_of others l.literal) c.latches k no_latch false lt)
 
-  -- the variable of a literal is 0 or defined: if two lists of values agree at this variable in case a gate defines it,
-  -- they agree at it in any case
+  -- two lists of values agree at a literal's variable if it is 0, or if an input or a latch defines it; for a gate's
+  -- variable, their agreement is a premise of the lemma
   side_same : (literal : ℕ) → IsKnown (definitions c) literal
       → ((i : ℕ) → i < length c.gates → variable literal ≡ variable (get_or c.gates i no_gate).literal →
       Same (variable literal)) → Same (variable literal)
