@@ -15,7 +15,7 @@ pub record SolvedData : Type 0 where
 abbrev pub AreMoves : ℕ → List (Option ℕ) → Type 0
 AreMoves count moves = All (λ choice. IfSome choice (λ v. v < count)) moves
 
--- the three lists have one item for each vertex, and each move is the index of a vertex
+-- the lists `named`, `won` and `moves` have one item for each vertex, and each move is the index of a vertex
 pub record AreTables (s : SolvedData) : Type 0 where
   pub won_each : length s.won ≡ length s.named
   pub move_each : length s.moves ≡ length s.named

@@ -112,7 +112,7 @@ fn entry(tokens: &mut Tokens, ids: &Ids, solved: &mut Solved) -> Result<(), Cert
     Ok(())
 }
 
-/// Parses the id that begins an entry, of a vertex that has no entry yet. Returns the index of this vertex.
+/// Parses the id that begins an entry, of a vertex that has no entry yet. Returns the vertex's index.
 fn vertex(tokens: &mut Tokens, ids: &Ids, solved: &Solved) -> Result<usize, CertFault>
     requires { length solved.now.named ≡ length ids.now }
     ensures part { ReadsAs (λ v. v) (parts.vertex ids.now solved.now) tokens.old result tokens.new }
@@ -184,7 +184,7 @@ fn any_number(tokens: &mut Tokens) -> Result<u64, CertFault>
     }
 }
 
-/// Checks that the text ends here.
+/// Checks that no token is left.
 fn finish(tokens: &Tokens) -> Result<(), CertFault>
     ensures { result ≡ end_answer (next_of tokens.now) (offset_of tokens.now.pieces tokens.now.end) }
 {
