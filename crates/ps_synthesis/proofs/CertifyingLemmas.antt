@@ -12,7 +12,7 @@ use Rattle.ps_synthesis.specs.declared.fault.SynthFault.{SynthFault}
 use Rattle.ps_synthesis.specs.declared.fault.SynthFault.TheVariants.{Text, Automaton, BadCycle, Certificate}
 use Rattle.ps_synthesis.specs.declared.fault.SynthFault.TheVariants.{NotCertified, CircuitTooLarge, OutOfMemory}
 
--- P holds if each Ok result implies P and the result is known to be Ok
+-- a statement P holds if an Ok result implies it, and if it is known that the result is Ok
 pub where_ok : {X E : Type 0} (P : Type 0) (result : Result X E) (ok : Bool) → OnOk result P → ok ≡ is_ok result →
     IsTrue ok → P
 where_ok P (Ok value) ok stands same is = stands

@@ -1,5 +1,5 @@
--- The texts of a report. Each text is what psyn writes for a value, and parsing the text gives the value again. For a
--- game, this holds only if the text is not longer than the parser accepts.
+-- The texts of a report. Each text is what psyn writes for a value, and parsing the text gives the value again. The
+-- text of a game can be parsed again only if it is not longer than the parser accepts.
 -- - `PrintsGame text game`: `text` is the text that psyn writes for the game
 -- - `PrintsCertificate compact text game certificate`: `text` is the plain or the compact text of the certificate
 -- - `PrintsCircuit text circuit`: `text` is the text that psyn writes for the circuit

@@ -17,7 +17,7 @@ pub enum SynthFault {
     /// The HOA text has an error.
     #[error("{} at byte {offset}", .cause.name())]
     Text {
-        /// The error of the text.
+        /// The error of the HOA text.
         cause: HoaCause,
         /// The offset of the error in bytes, from 0.
         offset: usize,
@@ -32,7 +32,7 @@ pub enum SynthFault {
     /// The text that the solver was fed is not the text of a certificate of the game.
     #[error("{} of the certificate at byte {offset}", .cause.name())]
     Certificate {
-        /// The error of the text.
+        /// The error of the certificate's text.
         cause: CertCause,
         /// The offset of the error in bytes, from 0.
         offset: usize,
