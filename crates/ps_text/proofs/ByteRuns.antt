@@ -3,7 +3,7 @@
 -- - `run_len`, `run_all`, `run_ends`: `prefix_len` is the length of the longest run of passing bytes at the start of a
 --   text; all bytes of this run pass the test; the byte after the run does not
 -- - `run_whole`: if all bytes of a text pass the test, the longest run at its start is the whole text
--- - `same_run`: the longest run is unique
+-- - `same_run`: any two longest runs at the start of the same bytes are equal
 use Rattle.std.proofs.Common.{◌≡◌, ℕ, suc, Bool, List, [], ◌∷◌, ◌++◌, length, take, rules, drop, refl, ap₂}
 use Rattle.std.proofs.Common.{⊎_elim, append-nil, arith}
 use Rattle.std.specs.List.{prefix_len, take_while}

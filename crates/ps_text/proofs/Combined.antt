@@ -8,10 +8,10 @@
 --   its texts
 -- - `laws_all`, `laws_times_all`: any number, or a given number, of items satisfies the laws, if no item is empty and
 --   no symbol continues an item
--- - `laws_last`: two grammars in a row satisfy the laws, if no symbol both continues the first and begins the second.
---   The first grammar may have an empty text; no symbol continues a text of the second.
--- - `joint_tight`: if no symbol continues a text of the first of two grammars in a row, it is clear where the second
---   begins (`Joint`)
+-- - `laws_last`: a grammar and the grammar after it satisfy `Laws` together if no symbol both continues the first and
+--   begins the second. The first grammar may have an empty text; no symbol continues a text of the second.
+-- - `joint_tight`: if no symbol continues a text of the first of two grammars, it is clear where a text of the second
+--   begins after it (`Joint`)
 use Rattle.std.proofs.Common.{◌≡◌, ℕ, Option, Some, inl, inr, rules}
 use Rattle.ps_text.specs.Parts.{Part, give, one, then_by, either, times, many}
 use Rattle.ps_text.proofs.Laws.{Laws, Joint, Nothing, Or, Within, Apart, weaker}

@@ -1,4 +1,4 @@
--- Two grammars in a row satisfy the laws (`Laws`), with smaller sets of symbols than in `laws_then`.
+-- A grammar and the grammar after it satisfy `Laws` together, with smaller sets of symbols than in `laws_then`.
 -- - `laws_next`: the laws hold if neither grammar has an empty text, and no symbol both continues a text of the first
 --   and begins a text of the second
 -- - `laws_tight`: the laws hold if the first grammar has no empty text, and no symbol continues a text of it

@@ -1,11 +1,11 @@
 -- `then_by P Q` is parsed if P and then Q are parsed. The first fault of `then_by P Q` is the first fault of P, or the
 -- first fault of Q after P.
--- - `joint`: two grammars in a row satisfy `Joint`, if they satisfy the laws and no symbol both continues the first and
---   begins the second
--- - `text_behind`, `cause_behind`: after a text of P that can't continue with the next symbol, a text of P and Q
---   together is a text of Q, and an error of both together is an error of Q or of P
--- - `begins_left`, `begins_right`: a beginning of a text of P also begins a text of P and Q together; so does a text of
---   P, followed by a beginning of a text of Q
+-- - `joint`: two grammars satisfy `Joint` (it is clear where a text of the second begins after one of the first) if
+--   they satisfy `Laws`, and no symbol both continues the first and begins the second
+-- - `text_behind`, `cause_behind`: let a text of P be followed by a symbol with which it can't continue. In a text of P
+--   and Q together, the rest is a text of Q. An error of both together is an error of Q or of P.
+-- - `begins_left`, `begins_right`: a text of P and Q together begins with each beginning of a text of P, and with each
+--   text of P that is followed by a beginning of a text of Q
 -- - `read_then`, `fault_left`, `fault_right`: P and Q together are parsed if both are; they have the first fault of P,
 --   or of Q after a text of P
 use Rattle.std.proofs.Common.{◌≡◌, ◌⊎◌, List, [], ◌∷◌, ◌++◌, length, Option, Some, refl, ap, subst}
@@ -31,8 +31,8 @@ begins_on IsText front m t b =
 abbrev pub GoesOn : {T V F : Type 0} → Part T V F → List T → Option T → Type 0
 GoesOn {T} P front there = (t : T) × (there ≡ Some t) × Begins P.IsText (front ++ t ∷ [])
 
--- two grammars P and Q in a row satisfy `Joint`, if they satisfy the laws and no symbol both continues a text of P and
--- begins a text of Q
+-- the grammars P and Q satisfy `Joint` if they satisfy `Laws`, and no symbol both continues a text of P and begins a
+-- text of Q
 pub joint : {T A B F : Type 0} {odd : T → Type 0} {P : Part T A F} {Q : A → Part T B F} {F1 M1 F2 M2 : T → Type 0}
     {N1 N2 : Type 0} → Laws odd P F1 M1 N1 → ((value : A) → Laws odd (Q value) F2 M2 N2) → Apart M1 F2 → Joint P Q
 joint {T} {A} {P = P} {M1 = M1} l r apart = grind (arith, append_assoc)
@@ -81,7 +81,8 @@ module _ {T A B F : Type 0} {P : Part T A F} {Q : A → Part T B F} (j : Joint P
           stops_at P front (ap first_of f) s (begins_on P.IsText front m t (rw e at (text_begins P.IsText k.is_left)))
       go (longer t m e f) = not_inside m k.is_left begun e (text_begins (Q k.value).IsText k.is_right) f
 
-  -- after a beginning of a text of P, Q can have an error only if the beginning is itself a text of P
+  -- if the symbols `front` begin a text of P, and Q has an error at the symbol after them, `front` is itself a text of
+  -- P
   no_behind : (front : List T) (t : T) (f : F) → Begins P.IsText front →
       ((a : A) → P.IsText front a → (Q a).IsCause [] t f → ⊥) → IsBehind P.IsText (λ a. (Q a).IsCause) front t f → ⊥
   no_behind front t f begun none k = go k.right k.split k.is_cause

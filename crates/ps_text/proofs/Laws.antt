@@ -1,7 +1,7 @@
--- `Laws` has the laws that each grammar should satisfy. `Joint` states of two grammars in a row that it is clear where
--- the second begins.
--- - `Laws odd part First More Null`: the grammar satisfies the laws; each symbol that begins a text is in First, and
---   each symbol that continues a text is in More
+-- `Laws` states what each grammar should satisfy: for example, that each text has only one value. `Joint` states of two
+-- grammars, whose texts follow each other, that it is clear where a text of the second begins.
+-- - `Laws odd part First More Null`: each text of the grammar `part` has only one value. Each symbol that begins a text
+--   is in First. Each symbol that can follow a text inside a longer text is in More.
 -- - `Joint P Q`: no symbol both continues a text of P and begins a text of Q, so it is clear where Q begins; the lemma
 --   `joint` derives this from the laws
 --

@@ -1,7 +1,7 @@
 -- For each list of symbols, each grammar has an outcome: a text is parsed, or the first fault is found. The proof is by
 -- recursion on how the grammar is composed. There is something to decide only at a single symbol: which of the symbol's
 -- errors has the smallest number (Judged).
--- - `has_give`, `..`, `has_barred`: one lemma for each combinator: a grammar that the combinator makes has an outcome
+-- - `has_give` to `has_barred`: one lemma for each combinator: a grammar that the combinator makes has an outcome
 --   for each list of symbols
 -- - `entered_or_broken`: the next symbol begins a grammar without an empty text, or the grammar rejects the symbol
 -- - `has_refusal`: if the next symbol does not begin the grammar, which has no empty text, the outcome is a fault at
@@ -25,7 +25,7 @@ use Rattle.ps_text.proofs.Branches.{Stands, left_entered, right_otherwise, item_
 use Rattle.ps_text.proofs.Barred.{Bar, read_barred, fault_barred, fault_bar}
 use Rattle.ps_text.proofs.Whole.{Own, answers_ok, answers_fault, answers_trailing}
 
--- a decision about the errors that `Bad` states: there is one with the smallest number, or there is none
+-- it is decided which of the errors that `Bad` states has the smallest number, or that there is no such error
 pub data Judged {F : Type 0} (number : F → ℕ) (Bad : F → Type 0) : Type 0 where
   -- the error f occurs, and no error with a smaller number
   bad : (f : F) → Bad f → ((g : F) → Bad g → number f ≤ number g) → Judged number Bad

@@ -1,5 +1,5 @@
--- The combinators `times` and `many` repeat an item. The lemmas about them assume that no item is empty, and that no
--- symbol both continues an item and begins an item.
+-- The combinators `times` and `many` repeat an item. The lemmas about `times` and `many` assume that no item is empty,
+-- and that no symbol both continues an item and begins an item.
 -- - `laws_times`, `laws_many`: the grammars of repeated items satisfy the laws; their texts begin with symbols of the
 --   item's set First, and continue with symbols of More or First
 -- - `covers_item`: apart from the empty text, `many` has the texts and errors of an item followed by `many`

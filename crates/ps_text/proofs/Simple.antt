@@ -4,7 +4,7 @@
 --   laws; for `then_by`, no symbol may both continue the first grammar and begin the second
 -- - `refused`: the fault of a grammar without an empty text, if the next symbol does not begin the grammar
 -- - `read_give`: the grammar `give v` is parsed without taking a symbol
--- - `taken_byte`: the symbol that is taken for a byte is this byte
+-- - `taken_byte`: the grammar of a single given byte accepts only this byte
 -- - `read_one`, `bad_one`, `refused_one`: the result of parsing one symbol, if the symbol is accepted, if it is an
 --   error, and if it is not allowed or the text ends
 -- - `read_mapped`, `fault_mapped`: if P is parsed, `mapped h P` is parsed; the first fault of P is the first fault of

@@ -2,7 +2,7 @@
 -- shorter one.
 -- - `Compared`, `compared`: of two splits of a list, the first is at an earlier position than the second, at the same
 --   position, or at a later one
--- - `Placed`, `placed`: a symbol of a list that is split in two is in the first half, or after it
+-- - `Placed`, `placed`: if a list is split into `left` and `mid`, each symbol of the list is in `left` or in `mid`
 -- - `inside_of`: a symbol at a smaller index than the first half's length is in the first half
 -- - `all_taken_all`: if a list has at most v entries, a fact about its first v entries holds for all of its entries
 use Rattle.std.proofs.Common.{◌≡◌, ℕ, suc, ◌+◌, ◌<◌, ◌≤◌, List, [], ◌∷◌, ◌++◌, length, take, drop, refl, sym, ap, subst}

@@ -2,7 +2,8 @@
 -- make larger grammars of smaller ones, so that a format's grammar reads like the grammar in the format's standard.
 -- - `Part`: a grammar with its errors: which lists of symbols are texts, which value each has, and which errors a
 --   symbol can have after which symbols
--- - `Causes`: the numbers of a format's errors, and the errors that come from no single grammar
+-- - `Causes`: the errors of a format: their numbers, the error of each symbol that is wrong wherever it occurs, and the
+--   error for any other symbol that the grammar does not allow
 -- - `IsWrong causes part`: the errors that occur in the texts of a format with this grammar; the relation is passed to
 --   `Answers` as IsCause
 -- - `IsRead part all v rest`: the grammar was parsed at the start of `all`, and `rest` is left
@@ -50,8 +51,9 @@ abbrev pub refusal_of : {T F : Type 0} → Causes T F → Option T → F
 refusal_of causes None = causes.syntax
 refusal_of causes (Some t) = unwrap_or (causes.own t) causes.syntax
 
--- After the symbols `front`, f is an error at the next symbol or at the end. IsCause states f, or the symbol is the
--- error f wherever it occurs, or f is the error that the symbol or the end is not allowed.
+-- After the symbols `front`, f is an error at the next symbol or at the end. In one case, f is an error of the grammar
+-- (IsCause). In another case, the next symbol is the error f wherever it occurs. In the last case, f is the error for a
+-- symbol, or an end, that is not allowed.
 pub data IsWrong {T V F : Type 0} (causes : Causes T F) (part : Part T V F) (front : List T) (there : Option T)
     (f : F) : Type 0 where
   by_part : (t : T) → there ≡ Some t → part.IsCause front t f → IsWrong causes part front there f
@@ -95,8 +97,8 @@ pub record IsBroken {T V F : Type 0} (part : Part T V F) (front : List T) (there
   pub stops : StopsAt part front there
   pub no_cause : NoCauseAt part front there
 
--- After the symbols `front`, f is the fault at the next symbol or at the end. It is the grammar's error with the
--- smallest number there, or the error that this symbol or the end is not allowed.
+-- After the symbols `front`, f is the fault at the next symbol or at the end. The fault is the grammar's error with the
+-- smallest number at the next symbol, or the error that this symbol or the end is not allowed.
 pub data IsFaultAt {T V F : Type 0} (causes : Causes T F) (part : Part T V F) (front : List T) (there : Option T)
     (f : F) : Type 0 where
   is_cause : (t : T) → there ≡ Some t → part.IsCause front t f →

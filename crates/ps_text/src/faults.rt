@@ -28,7 +28,7 @@ pub trait Cause: Copy + Drop + fmt::Debug {
 #[derive(Clone, Copy, Debug, PartialEq, Eq, Error)]
 #[error_bound(C: Cause)]
 pub enum Fault<C> {
-    /// The text is rejected.
+    /// The text is rejected, for a reason and at an offset.
     #[error("{} at byte {offset}", .cause.name())]
     Text {
         /// The reason why the text is rejected.

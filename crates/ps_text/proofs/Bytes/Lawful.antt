@@ -2,11 +2,12 @@
 -- larger grammars of this kind from smaller ones.
 -- - `Lawful number syntax part First More Null`: the grammar satisfies the laws with the sets First and More and the
 --   condition Null, and has an outcome for each list of symbols
--- - `Chain number syntax P Q First More Null`: the grammars P and Q in a row satisfy `Joint`, and `then_by P Q`
---   satisfies `Lawful`
+-- - `Chain number syntax P Q First More Null`: the grammars P and Q, one after the other, satisfy `Joint`, and `then_by
+--   P Q` satisfies `Lawful`
 -- - `larger`: `Lawful` still holds with larger sets of symbols
--- - `chained`, `next`, `tight`: `Chain` holds if no symbol both continues a text of P and begins a text of Q. In
---   `next`, neither grammar has an empty text; in `tight`, P has no empty text, and no symbol continues a text of P.
+-- - `chained`, `next`, `tight`: `Chain` holds if no symbol both continues a text of P and begins a text of Q. The lemma
+--   `next` requires that neither grammar has an empty text; the lemma `tight` requires that P has no empty text, and
+--   that no symbol continues a text of P.
 -- - `given`, `mapped_by`, `either_of`, `or_nothing`, `many_by`, `many_of`, `one_sign`, `run_by`: `Lawful` holds for
 --   grammars made by the other combinators
 -- - `byte_of`, `word_of`, `chain_word`: `Lawful` holds for the grammars of a byte and of a word

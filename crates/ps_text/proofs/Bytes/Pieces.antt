@@ -2,8 +2,8 @@
 -- - `bytes_append`, `bytes_at`, `length_pieces`: two lists of symbols in a row have the bytes of both; the pieces of a
 --   list of bytes have these bytes, one piece for each byte
 -- - `pieces_with at bytes rest`: the pieces of `bytes`, if `rest` follows these bytes
--- - `pieces_split`: the pieces of two lists of bytes in a row are the pieces of the first list, and then those of the
---   second
+-- - `pieces_split`: the pieces of a list of bytes that is followed by another list are the pieces of the first list,
+--   and then the pieces of the second list
 -- - `next_at`, `first_sees`: the first symbol of a text has the text's first byte, and its field `behind` has the other
 --   bytes
 use Rattle.std.proofs.Common.{◌≡◌, ℕ, suc, ◌+◌, ◌<◌, List, [], ◌∷◌, ◌++◌, length, refl, ap, ◌∙◌, arith, rules}

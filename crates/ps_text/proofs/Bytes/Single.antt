@@ -1,5 +1,5 @@
--- The grammar of a single byte satisfies the laws (`Laws`), and has an outcome for each list of symbols. It is parsed
--- if the byte is the next one; otherwise it fails.
+-- The grammar of a single byte satisfies the laws (`Laws`), and has an outcome for each list of symbols. Parsing this
+-- grammar succeeds if the next byte is the given byte, and otherwise fails.
 -- - `Odd`: the symbols that are errors wherever they occur; for texts of bytes, this set is empty
 -- - `At b, Any`: the set of the symbols with the byte b, and the set of all symbols
 -- - `stops_here`: if the next symbol does not begin the grammar, parsing stops at this symbol with the error `syntax`
