@@ -32,8 +32,8 @@ pub record IsWitness (order : Order) (file : FileData) (player : ℕ) (c : Circu
   pub shape : HasShape order (role_of player) file c
   pub accepted : player ≡ 0 → AllAccepted file c
   pub rejected : player ≢ 0 → NoneAccepted file c
-  -- Each periodic input extends to a lasso trace, and each trace has letters. So the two fields above speak of at least
-  -- one word.
+  -- Each periodic input extends to a lasso trace, and each trace has letters. So the fields `accepted` and `rejected`
+  -- speak of at least one word.
   pub goes_on : EachInputGoesOn c
   pub letters : (moments : List Moment) → HasLetters file.names c moments
   pub meetings : player ≢ 0 → (k : FiniteController) → IsController order c k → LosesMeeting file c k

@@ -132,8 +132,8 @@ pub fn circuit_answers()
 }
 
 /// If player 0 wins vertex 0, where plays begin, the circuit made from a valid certificate of an automaton's game is a
-/// controller, all of whose lasso traces the automaton accepts. If player 1 wins vertex 0, the circuit is an
-/// environment, none of whose lasso traces the automaton accepts.
+/// controller: the automaton accepts each of its lasso traces. If player 1 wins vertex 0, the circuit is an
+/// environment: the automaton accepts none of its lasso traces.
 pub fn certified_circuit_answers()
     ensures { (file : FileData) (chain : Chain) (a : AutomatonData) (order : Order) (keys : List Key)
         (game : ParityGame) (certificate : CertificateData) (m : Behaviour) (c : CircuitData) →
