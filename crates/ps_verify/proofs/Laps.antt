@@ -62,8 +62,8 @@ module _ {owner : ℕ} {names : List (List ℕ)} {auto : Auto} {c : CircuitData}
   abbrev greatest_behind : ℕ → ℕ → ℕ
   greatest_behind from laps = greatest_of_laps auto (state_after auto start lap from) lap laps
 
-  -- with one more lap (repetition of the lasso's repeated part), the greatest priority is the maximum of two: the
-  -- greatest priority on the earlier laps, and the greatest on the new lap
+  -- the greatest priority on some laps (repetitions of the lasso's repeated part) and one more lap is the maximum of
+  -- the greatest priority on the earlier laps and the greatest priority on the new lap
   greatest_more : (from laps : ℕ) → greatest_behind from (suc laps) ≡ max (greatest_behind from laps)
       (greatest_along auto (reached (from + laps)).vertex.state lap)
   greatest_more from laps = ap (λ q. max (greatest_behind from laps) (greatest_along auto q lap))

@@ -25,8 +25,8 @@ use Rattle.ps_traces.specs.Traces.{AllAccepted, NoneAccepted}
 use Rattle.ps_verify.specs.declared.judgement.Judgement.{Judgement}
 use Rattle.ps_verify.specs.declared.judgement.Judgement.TheVariants.{Wins, Loses}
 
--- The circuit has all properties of the circuits that psyn prints, with one exception. If it moves first, its outputs
--- need be independent of the inputs only at latch values that a trace reaches.
+-- The circuit has all properties of the circuits that psyn prints, with one exception. If the circuit's player moves
+-- first, the circuit's outputs must not depend on its inputs, but only at latch values that a trace reaches.
 pub record IsWinning (order : Order) (role : Role) (file : FileData) (c : CircuitData) : Type 0 where
   pub symbols : HasSymbols role file.names file.controllable c
   pub in_time : IsInTimeWhereReached order role c

@@ -15,8 +15,8 @@ use ps_automaton::automaton_is_there;
 use ps_simulate::circuit_has_one_values;
 
 /// A circuit either wins or loses, but not both. If a circuit wins, no stimulus shows that it loses. If no stimulus
-/// shows that a circuit loses, the circuit wins. This holds for a file that was parsed and that psyn admits, and for a
-/// circuit with the inputs and outputs of its role. If the circuit moves first, its outputs must not depend on its
+/// shows that a circuit loses, the circuit wins. The law holds for a file that was parsed and that psyn admits, and for
+/// a circuit with the inputs and outputs of its role. If the circuit moves first, its outputs must not depend on its
 /// inputs at any latch values that a trace reaches.
 pub fn judgement_is_one()
     ensures wins { (order : Order) (role : Role) (file : FileData) (c : CircuitData) → IsSoundFile file →

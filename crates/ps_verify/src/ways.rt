@@ -26,7 +26,8 @@ fn numbers(alloc: Global, count: usize) -> Result<Vec<usize>, AllocError>
     (0..count).collect(alloc)
 }
 
-/// Replaces the entry of each successor of the vertex in `firsts` by the vertex, if the entry is larger.
+/// For each successor of the vertex: if the entry that `firsts` has for the successor is larger than the vertex,
+/// replaces the entry by the vertex.
 fn lower_successors(game: &Game, vertex: usize, firsts: &mut [usize])
     requires is_game { IsGame game.now }
     requires vertex { vertex < vertex_count game.now }
