@@ -97,8 +97,8 @@ module _ {game : ParityGame} {a : ℕ} {frame : Frame} {old mid new : TablesData
 
   -- ## The sets of the turn
 
-  -- the sets of the step: the vertices undecided before it and after it; the vertices undecided before it that the
-  -- player, or the opponent, has won so far; and the vertices that are decided now
+  -- Five sets of vertices describe the step. They are the undecided vertices before the step, and after the step; of
+  -- the undecided vertices before it, those that the player or the opponent has won; and the vertices decided now.
   abbrev open_then : ℕ → Bool
   open_then = from old.level (a + 2)
 

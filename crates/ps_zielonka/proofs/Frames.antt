@@ -81,8 +81,8 @@ pub segment_below : {b : ℕ} (c m : ℕ) {t : ℕ} {old : TablesData} (new : Ta
     ((c ≤ level_of new v) × (level_of new v < UNPLACED → StandsFrom new m v))) → IsSegment old t b → IsSegment new t b
 segment_below {b} c m {old} new less before inside within front behind each segment = grind (arith, cases_lt)
 
--- if the levels and the trail are unchanged, the end of the trail from index t on is still the segment (`IsSegment`) of
--- the placed vertices of level b or higher
+-- if a step changes neither the levels nor the trail, the placed vertices of level b or higher are still exactly those
+-- at the indices from t on in the trail (`IsSegment`)
 pub segment_moved : {b t : ℕ} {old : TablesData} (new : TablesData) → new.level ≡ old.level → new.trail ≡ old.trail →
     IsSegment old t b → IsSegment new t b
 segment_moved {b} {t} {old} new level trail segment = search (rules, stands_longer)

@@ -85,8 +85,8 @@ HoldsWithin-same {game} {set} other {table} moves there back same holds = record
   wins = λ walk k top round is_top. holds.wins walk k top (search rules) is_top;
 }
 
--- a player who holds a set within a smaller subgame also holds it within a larger one, if each edge of the other player
--- from the set into the larger subgame leads into the smaller one
+-- Let a player hold a set within a subgame. The player also holds the set within a larger subgame, if each edge of the
+-- other player from the set into the larger subgame leads into the smaller subgame.
 pub HoldsWithin-larger : {game : ParityGame} {smaller : ℕ → Bool} (larger : ℕ → Bool) {player : ℕ} {set : ℕ → Bool}
     {table : ℕ → Option ℕ} → IsWithin smaller larger → ((v w : ℕ) → IsTrue (set v) → owner_of game v ≢ player →
     LeadsInto game larger v w → IsTrue (smaller w)) → HoldsWithin game smaller player set table →
@@ -139,7 +139,7 @@ HoldsWithin-attracted {game} {subgame} {player} {target} {set} {table} {rank} ha
   ];
 }
 
--- a player holds a whole subgame by a table under three conditions. By this table, the player holds the part of the
+-- a player holds a whole subgame by a table under three conditions. By the table, the player holds the part of the
 -- subgame outside the player's attractor to certain vertices, the tops. The table's moves at the player's tops stay in
 -- the subgame. The priority of each top has the player's parity, and is greater than all priorities of the other parity
 -- in the subgame

@@ -32,7 +32,8 @@ module _ (game : ParityGame) (subgame : ℕ → Bool) where
         ];
       }
 
-      -- the case in which the last vertex is outside the subgame or has no greater priority than an earlier vertex
+      -- if the last vertex is outside the subgame, or its priority is at most that of v, then v, which has the greatest
+      -- priority among the earlier vertices, also has it among all
       earlier : (v : ℕ) → IsGreatest n v → (IsTrue (subgame n) → priority_of game n ≤ priority_of game v) →
           IsGreatest (suc n) v
       earlier v g at_most = record {

@@ -5,11 +5,11 @@
 //! subgame. The player who wins by the greatest priority attracts vertices to the tops, which are the vertices of that
 //! priority. In all calls except the first, the tops also include undecided vertices of lower priorities, down to, but
 //! not including, the first priority of the other parity. The undecided vertices outside the attractor are solved next,
-//! by a recursive call. The player keeps a top of its own if it can move from there to a vertex that it won. The player
-//! keeps a top of the opponent if no edge leads from there to a vertex that the opponent won. If the player keeps each
-//! top, the player wins all vertices that the opponent did not win in the recursive call. If the player can't keep
-//! some top, the opponent attracts vertices to those that it won in the recursive call, and the call continues with the
-//! vertices that are still undecided.
+//! by a recursive call. The player keeps a top that it owns if it can move from this top to a vertex that it won. The
+//! player keeps a top that the opponent owns if no edge leads from this top to a vertex that the opponent won. If the
+//! player keeps each top, the player wins all vertices that the opponent did not win in the recursive call. If the
+//! player can't keep some top, the opponent attracts vertices to those that it won in the recursive call, and the call
+//! continues with the vertices that are still undecided.
 //!
 //! | Call | What it gives |
 //! |---|---|
@@ -24,8 +24,8 @@
 //! vertices of this priority.
 //!
 //! The number of recursive calls can grow exponentially with the number of priorities. Apart from its recursive call,
-//! one iteration of a call takes time at most proportional to the numbers of vertices and edges. The memory is
-//! proportional to the numbers of vertices and edges.
+//! one iteration of a call takes time at most proportional to the number of vertices and edges. The memory is
+//! proportional to the number of vertices and edges.
 #![tactic(auto)]
 
 mod answer;

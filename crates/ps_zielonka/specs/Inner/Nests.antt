@@ -130,7 +130,7 @@ steps_left levels k solved = waiting_steps levels k + cond solved 0 (steps (size
 
 -- ## The parts of a step
 
--- v is in the list before index `end`
+-- v is an entry of the list at an index less than `end`
 pub record StandsBefore (list : List ℕ) (end v : ℕ) : Type 0 where
   pub place : ℕ
   pub before : place < end
@@ -168,7 +168,8 @@ pub record IsWonStep (game : ParityGame) (tables : TablesData) (winner : List �
   pub won : slice_index winner w ≡ player
 
 -- The player keeps v. If the player owns v, the move at v leads to a vertex of a higher level than `level` that the
--- player won. Otherwise no edge leads from v to a vertex of a higher level than `level` that the opponent won
+-- player won. If the opponent owns v, no edge leads from v to a vertex of a higher level than `level` that the opponent
+-- won.
 pub record IsKeptAt (game : ParityGame) (tables : TablesData) (winner : List ℕ) (level player other v : ℕ) : Type 0
   where
     pub own : owner_of game v ≡ player → IsWonStep game tables winner level player v (slice_index tables.moves v)
@@ -176,14 +177,15 @@ pub record IsKeptAt (game : ParityGame) (tables : TablesData) (winner : List ℕ
         slice_index winner w ≢ other
 
 -- The player can't keep v. If the player owns v, no edge leads from v to a vertex of a higher level than `level` that
--- the player won. Otherwise an edge leads from v to a vertex of a higher level than `level` that the opponent won
+-- the player won. If the opponent owns v, an edge leads from v to a vertex of a higher level than `level` that the
+-- opponent won.
 pub record IsLostAt (game : ParityGame) (tables : TablesData) (winner : List ℕ) (level player other v : ℕ) : Type 0
   where
     pub own : owner_of game v ≡ player → (w : ℕ) → HasEdge game v w → level < level_of tables w →
         slice_index winner w ≢ player
     pub foreign : owner_of game v ≢ player → (w : ℕ) × IsWonStep game tables winner level other v w
 
--- nothing changed in the tables except moves at vertices that satisfy `Some`
+-- nothing changed in the tables except the moves at vertices with the property `Some`
 pub record IsMoved (old new : TablesData) (Some : ℕ → Type 0) : Type 0 where
   pub level : new.level ≡ old.level
   pub trail : new.trail ≡ old.trail
