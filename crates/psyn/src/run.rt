@@ -16,9 +16,10 @@ use std::alloc::Global;
 /// Reads the whole input, writes the answer to it, and returns the exit status.
 ///
 /// Reading stops at the first read that fails, or at the first byte past `INPUT_LIMIT`. Nothing is written after a
-/// write or a flush that failed, or after a write that accepted no bytes. In this case the exit status is 1, and what
-/// was written is a beginning of the answer, or all of it if only the flush failed. The solver `built_in` solves games;
-/// the solver `replay` is used if the input contains a certificate.
+/// write or a flush that failed, or after a write that accepted no bytes. If a write or the flush failed, or if a write
+/// accepted no bytes, the exit status is 1. Then the output is a beginning of the answer, or the whole answer if only
+/// the flush failed. The solver `built_in` solves games; the solver `replay` is used if the input contains a
+/// certificate.
 pub fn run<R: Source, W: Sink>(
     alloc: Global,
     reader: &mut R,
