@@ -84,7 +84,7 @@ def acceptance_line(_behind, _request, texts):
 
 
 def byte_place(text, place):
-    """The byte offset at which the character with this index begins."""
+    """The byte offset at which the character with the given index begins."""
     return len(text.string[:place].encode("utf-8", "surrogateescape"))
 
 

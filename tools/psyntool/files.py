@@ -118,8 +118,8 @@ class Reader:
         return data
 
     def text(self, kind, path):
-        """The text of a file (`-` is standard input), normalised. If the kind is FILE, the text's beginning decides the
-        kind."""
+        """Reads a file (for the path `-`, standard input) and returns its text, normalised as the flags ask. If the
+        kind is FILE, the text's beginning decides the kind."""
         name, original = title_of(path), self.bytes_of(path)
         return self.mended((kind_of(original) or kind) if kind is Kind.FILE else kind, name, original)
 

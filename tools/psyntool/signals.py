@@ -42,7 +42,7 @@ def name_of(number):
 
 
 def end_by(number):
-    """Ends the process by this signal, so that a shell sees what ended it; returns an exit status if the signal is
+    """Ends the process by the given signal, so that a shell sees what ended it; returns an exit status if the signal is
     ignored."""
     give_back()
     os.kill(os.getpid(), number)

@@ -24,7 +24,7 @@ def places(text):
 
 
 def negated(text, place):
-    """The circuit with the literal at this position negated."""
+    """The circuit with the literal at the given position negated."""
     (line, word), lines = place, text.split("\n")
     words = lines[line].split(" ")
     words[word] = str(int(words[word]) ^ 1)

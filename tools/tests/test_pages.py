@@ -55,7 +55,7 @@ RUNS = []
 
 
 def found(names):
-    """The first of these programs that is installed, or None."""
+    """The first of the given programs that is installed, or None."""
     return next(filter(None, map(shutil.which, names)), None)
 
 

@@ -133,7 +133,8 @@ def filled_text(text):
 # description.
 COMMENT = re.compile(r"(\s*--)(\s*)(.*)")
 ENTRY = re.compile(r"\S.*?\s{2,}\S")
-# In .rt files, only lines that begin so are laid out here; `rt fmt` lays out all other lines.
+# In .rt files, only lines that begin with one of these words are laid out by this module; `rt fmt` lays out all other
+# lines.
 CLAUSE = re.compile(r"\s*(ghost|requires|ensures)\b")
 IMPORT = re.compile(r"(\s*(?:pub |ghost )?use [^{]*\{)(.*)(\}.*)")
 

@@ -56,7 +56,8 @@ def contents(program, release, lines):
 
 
 def packed(files, folder, when):
-    """The bytes of a compressed tar file with these files in a folder; the same files always give the same bytes."""
+    """The bytes of a compressed tar file that has the given files in a folder; the same files always give the same
+    bytes."""
     whole = io.BytesIO()
     with gzip.GzipFile(fileobj=whole, mode="wb", mtime=when, filename="") as stream, tarfile.open(fileobj=stream, mode="w") as archive:
         for name, (data, is_program) in sorted(files.items()):

@@ -29,7 +29,7 @@ OTHER_KEYS = {"from", "to", "answer", "status"}
 
 
 class Malformed(Exception):
-    """A file of rows has an error, which the message describes."""
+    """A file of `examples/rows` has an error, which the message describes."""
 
 
 class Row:

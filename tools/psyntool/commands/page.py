@@ -47,8 +47,8 @@ def of_parts(request):
 
 
 def refuse_other(given):
-    """Refuses a game or a circuit that the program does not print for this certificate, since nothing is proved of
-    it."""
+    """Refuses a game or a circuit that the program does not print for the given certificate, since nothing is proved of
+    such a game or circuit."""
     flags = ["--cert", "--full", *([] if given.board.game.vertices[0].owner else ["--moore"])]
     specified = files.Text(Kind.AUTOMATON, given.specification.name, given.automaton.encode("utf-8", "surrogateescape"))
     answer = program.ask(files.joined("synth", flags, [specified, given.printed[2]]))

@@ -54,8 +54,9 @@ def core_of(asking):
 
 
 def shrunk(parts, stays):
-    """Parts with which the answer is the same as with all parts, and none of which can be left out. Long runs of parts
-    are left out first, where the answer stays the same, and then shorter runs."""
+    """Parts with which the answer is the same as with all parts, and none of which can be left out. Tries to leave out
+    many successive parts at once, and then fewer and fewer; parts are left out if the answer stays the same without
+    them."""
     parts, size = tuple(parts), max(1, len(parts) // 2)
     while size:
         place = 0

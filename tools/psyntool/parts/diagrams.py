@@ -52,8 +52,8 @@ class Diagrams:
         return (self.lows[one], self.highs[one]) if self.propositions[one] == proposition else (one, one)
 
     def joined(self, first, second, function, known):
-        """The diagram whose value at each letter is the function of the two diagrams' values there; `known` caches
-        results."""
+        """The diagram that results from applying a function of two arguments to the values of two diagrams; `known`
+        caches results."""
         key = first, second
         found = known.get(key)
         if found is None:
@@ -69,7 +69,7 @@ class Diagrams:
         return found
 
     def mapped(self, one, function, known):
-        """The diagram whose value at each letter is the function of the given diagram's value there."""
+        """The diagram that results from applying the function to each value of the given diagram."""
         found = known.get(one)
         if found is None:
             if self.is_leaf(one):

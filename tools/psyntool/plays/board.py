@@ -97,7 +97,8 @@ class Board:
         return tuple(entry.counts.get(priority, 0) for priority in sorted(self.certificate.opposing(entry.winner), reverse=True))
 
     def choices(self, vertex, theirs, states):
-        """The user's choices; those without an edge come last. `states` are the present states of the guarantees."""
+        """The letters that the user can choose at a vertex. Letters for which the automaton has no edge come last.
+        `states` are the present states of the guarantees."""
         found = self.classes(vertex) if self.am_first else self.answers(vertex, theirs, states)
         return sorted(found, key=lambda choice: choice.target is None)
 

@@ -16,8 +16,8 @@ class Chain:
     base: bool
 
     def priority(self, marks):
-        """The priority of an edge, which is in the sets `marks`: that of the first link whose set is among them or, if
-        there is none, that of `base`."""
+        """The priority of an edge that is in the acceptance sets `marks`: the priority of the chain's first link whose
+        set is in `marks` or, if there is no such link, the priority of `base`."""
         numbers, number = [], 0 if self.base else 1
         for _, accepts in reversed(self.links):
             number += accepts != (number % 2 == 0)

@@ -133,7 +133,7 @@ def label_of(reader):
 
 
 def known_label(reader, aliases):
-    """Parses a label, all of whose aliases must be defined before it."""
+    """Parses a label. Each alias in the label must be defined before it."""
     label = label_of(reader)
     reader.refuse_if(any(isinstance(part, Alias) and part.name not in aliases for part in label))
     return label
