@@ -23,9 +23,10 @@
 //! | `refusal_is_one` | each file is either admitted, or refused for exactly one fault |
 //! | `greatest_level_decides` | in a part of a run, the greatest priority is even exactly if the part is accepted |
 //!
-//! `build` joins the edges of a state one after another, as decision diagrams, so it does not visit every letter if a
-//! label uses only a few of many propositions. For an automaton with n states, `accepts` reads the word's repeated part
-//! (lap) at most 2 * (n + 1) times.
+//! If there are at most 6 propositions, `build` joins the edges of a state letter by letter: a set of letters is then a
+//! bit mask of 64 bits. Otherwise, or if two edges clash, `build` joins the edges one after another, as decision
+//! diagrams, so it does not visit every letter if a label uses only a few of many propositions. For an automaton with n
+//! states, `accepts` reads the word's repeated part (lap) at most 2 * (n + 1) times.
 #![tactic(auto)]
 
 mod automaton;
