@@ -30,9 +30,12 @@ const PLACED_EACH: u64 = 256;
 /// times for each vertex of the game.
 const PLACED_BESIDE: u64 = 1024;
 
-/// In a game with n vertices, the recursion may make at least n * n / 2 assignments in the first round, or
-/// `PLACED_SQUARE` if n * n / 2 is greater. In games with few priorities, the number of assignments may grow with n *
-/// n.
+/// The priorities of a game are few if each of them is less than this number. On such a game the recursion does not take
+/// exponential time, but the number of its assignments may grow with the square of the number of vertices.
+const FEW_PRIORITIES: u64 = 4;
+
+/// In a game with n vertices and few priorities, the recursion may make at least n * n / 2 assignments in the first
+/// round, or `PLACED_SQUARE` if n * n / 2 is greater.
 const PLACED_SQUARE: u64 = 1 << 26;
 
 /// For each assignment that `PLACED_EACH` and `PLACED_BESIDE` allow the recursion in the first round, an attempt at
@@ -57,8 +60,13 @@ impl Budget {
             .saturating_mul(PLACED_EACH)
             .saturating_add(PLACED_BESIDE);
         let square = count.saturating_mul(count) / 2;
+        let placed = if has_few_priorities(arena) {
+            linear.max(square.min(PLACED_SQUARE))
+        } else {
+            linear
+        };
         Budget {
-            placed: linear.max(square.min(PLACED_SQUARE)),
+            placed,
             cells: linear.saturating_mul(CELLS_EACH),
         }
     }
@@ -68,6 +76,16 @@ impl Budget {
         self.placed = self.placed.saturating_mul(GROWTH);
         self.cells = self.cells.saturating_mul(GROWTH);
     }
+}
+
+/// Whether each priority of a game is less than `FEW_PRIORITIES`.
+fn has_few_priorities<A: Arena>(arena: &A) -> bool {
+    for vertex in 0..arena.count() {
+        if arena.priority(vertex) >= FEW_PRIORITIES {
+            return false;
+        }
+    }
+    true
 }
 
 /// psyn's own solver. The solver computes the regions and the moves of both players. The solver then computes the
