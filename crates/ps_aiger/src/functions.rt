@@ -84,7 +84,7 @@ fn node_at(machine: &Machine, code: usize) -> Node
     }
 }
 
-/// The literal of the bit `wanted` of the machine's step from one memory state, given the memory state's decision
+/// The literal of one bit, `wanted`, of the machine's step from a memory state; `node` is the memory state's decision
 /// diagram. The table `known` has the literals that were already built for diagram nodes.
 fn over_inputs(
     builder: &mut Builder,
