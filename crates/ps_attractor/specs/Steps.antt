@@ -45,8 +45,7 @@ pub record HasOpenSuccessor (game : ParityGame) (aim : Aim) (tables : TablesData
   pub edge : HasEdge game v to
   pub there : (level_of tables to ≡ aim.free) ⊎ StandsFrom tables aim.begin to
 
--- w is in the worklist, and P holds for v and the index of w, which means that the edge from v to w is still to be
--- examined
+-- the edge from v to w is still to be examined: w is in the worklist, and P holds for v and the index of w
 pub record IsUnexamined (aim : Aim) (tables : TablesData) (P : ℕ → ℕ → Type 0) (v w : ℕ) : Type 0 where
   pub place : ℕ
   pub after : aim.begin ≤ place
