@@ -1,4 +1,5 @@
--- The first edge of a row at each letter: what it states of the row's edges, and how it changes with one more edge.
+-- The first edge of a row at a letter is the first of the row's edges that is taken there. Lemmas about a list that has
+-- the index of the first edge at each letter, and about the list after one more edge.
 use Rattle.std.proofs.Common.{arith, ◌≡◌, ◌∙◌, ℕ, ◌+◌, ◌%◌, ◌^◌, ◌<◌, inl, inr, Bool, true, false, List, length, Option}
 use Rattle.std.proofs.Common.{Some, None, refl, sym, ap, map, take, ◌++◌, [], ◌∷◌, zero, suc}
 use Rattle.std.proofs.Math.Seq.{take-append_seam}

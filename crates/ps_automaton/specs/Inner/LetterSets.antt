@@ -38,7 +38,7 @@ IsAdded targets place false old new = new ≡ old
 IsAdded targets place true None new = new ≡ Some place
 IsAdded targets place true (Some first) new = (new ≡ Some first) × (slice_get targets first ≡ slice_get targets place)
 
--- the entry of a list for the first edge at a letter, or 0 without an edge
+-- the entry of the list `places` for an edge, given by its index; 0 if there is no edge
 abbrev pub entry_for : List ℕ → Option ℕ → ℕ
 entry_for places edge = unwrap_or (option_map (λ k. slice_index places k) edge) 0
 
