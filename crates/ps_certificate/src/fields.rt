@@ -63,8 +63,8 @@ pub(crate) fn priorities(cursor: &mut Cursor, priorities: &[u64]) -> Result<(), 
     line_end(cursor, left)
 }
 
-/// Moves past a space and a number, which must be the first of the listed priorities. Returns the list of priorities
-/// without the one that was read.
+/// Moves past a space and a number, which must be the first of the listed priorities. Returns the list without its
+/// first priority.
 fn listed<'p>(cursor: &mut Cursor, priorities: &'p [u64]) -> Result<&'p [u64], CertFault>
     ensures { Tells (λ left. left.now) (parts.priority priorities.now) cursor.old result cursor.new }
 {
