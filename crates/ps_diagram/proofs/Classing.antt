@@ -65,9 +65,9 @@ leaves_kept k {node} h all = record {
   rising = all.rising;
 }
 
--- The diagrams that are made from a node of the table s. The diagram `divided` leads each letter to the number of the
--- node that remains after this letter has been read; each leaf of `divided` gives a class of the list. The diagram `at`
--- leads each letter to the index of its class.
+-- The diagrams `divided` and `at`, and the list of classes, which are computed from a node of the diagram table s. The
+-- diagram `divided` leads each letter to the number of the node that remains after this letter has been read; each leaf
+-- of `divided` gives a class of the list. The diagram `at` leads each letter to the index of its class.
 record Made (s u : Table) : Type 0 where
   pub mask : ℕ
   pub node : ℕ
@@ -195,9 +195,9 @@ module _ {s u : Table} (m : Made s u) where
         (m.listed.rising i j lt below));
   }
 
--- Three tables of nodes are involved. The table s has the node whose letters are divided into classes. The table v has
--- a diagram that leads each letter to the node that remains after this letter. The table u has the nodes of v, and a
--- diagram whose leaves are the indices of the classes.
+-- Three tables of nodes are involved. The table s has the diagram whose letters are divided into classes. The table v
+-- has a diagram that leads each letter to the node that remains after this letter. The table u has the nodes of v, and
+-- a diagram whose leaves are the indices of the classes.
 pub classes_of : {s v u : Table} → Keeps v u → IsSoundTable s → IsSoundTable u → u.propositions ≡ s.propositions →
     (mask : ℕ) {node divided at : ℕ} {places : ℕ → Option ℕ} {leaves : List (ℕ × ℕ)} {list : List Class} →
     IsNode s node → IsNode v divided → IsNode u at → IsDivided v mask (tree_of s node) (tree_of v divided) →

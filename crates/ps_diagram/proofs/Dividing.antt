@@ -37,8 +37,8 @@ pub tested_kept : {t u : Table} → Keeps t u → {test : (ℕ → Bool) → Boo
 tested_kept k h = are_tested h.low_is h.high_is h.made_is (k.held h.low h.low_held) (k.held h.high h.high_held)
     (search rules) (λ g. rw (k.same h.made h.held, k.same h.high h.high_held, k.same h.low h.low_held) (h.leaf g))
 
--- Nodes with the same leaves are equal. If what remains of a diagram after one letter has the same leaves as what
--- remains after another letter, the diagram of the remaining nodes' numbers therefore has the same leaf at both
+-- Nodes with the same leaves are equal. Let a diagram lead each letter to the number of the node that remains after
+-- this letter. If the nodes that remain after two letters have the same leaves, the diagram has the same leaf at both
 -- letters.
 
 pub divided_alike : {t : Table} → IsSoundTable t → (mask : ℕ) (a d : Tree) → IsDivided t mask a d → (f g : ℕ → Bool) →
@@ -165,8 +165,8 @@ leading_side b {t} {p = p} k s l = record {
     held true s = s.high_held
     held false s = s.low_held
 
--- the test of p is moved into the leaves of two diagrams' low sides first, and then into those of their high sides,
--- while the table grows; a test of the two results is made last
+-- `IsTested` holds for two diagrams after three steps, in which the table grows. The first step makes a diagram for
+-- their low sides, and the second step one for their high sides. The third step makes a test of these two diagrams
 pub sides_tested : {E : Type 0} {t u v w : Table} (p : ℕ) {a b low high made : ℕ} {s : Split} → IsSplit t a b s →
     MakesTree {E = E} t u (Ok low) (IsTested u p (tree_of t s.left.low) (tree_of t s.right.low)) →
     MakesTree {E = E} u v (Ok high) (IsTested v p (tree_of u s.left.high) (tree_of u s.right.high)) →

@@ -1,4 +1,5 @@
--- Diagrams whose leaves are the indices of pairs of two diagrams' leaves.
+-- Two diagrams are combined into one, whose leaves are indices in a list of pairs. Each pair has a leaf of the first
+-- diagram and a leaf of the second.
 use Rattle.std.proofs.Common.{◌≡◌, ℕ, Bool, true, false, cond, List, Ok, Option, None, Some, ◌∙◌, sym, ap, inl, inr}
 use Rattle.std.proofs.Common.{rules}
 use Rattle.std.specs.Bool.{Decides}

@@ -19,7 +19,7 @@ use std::alloc::AllocError;
 pub(crate) struct Cut {
     /// The proposition.
     pub proposition: u32,
-    /// The sides of the first node, which decides between the other two.
+    /// The sides of the first node, which decides between the second and the third node.
     pub truth: Sides,
     /// The sides of the second node, whose leaf is taken at each letter at which the first node has a leaf.
     pub one: Sides,

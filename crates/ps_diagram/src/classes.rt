@@ -248,7 +248,8 @@ impl Store {
     }
 }
 
-/// Makes a class of each leaf, with the leaf's least letter, and a table of the index of each leaf's class.
+/// Makes a list with one class for each leaf; the class has the leaf's least letter. Also makes a table, which maps
+/// each leaf to the index of its class.
 fn numbered(
     alloc: Global,
     leaves: &[(u64, u64)],

@@ -6,7 +6,7 @@ ghost use Rattle.std.specs.Prelude.{◌≡◌};
 use std::alloc::{AllocError, AllocFailed};
 use thiserror::Error;
 
-/// Why two diagrams are not joined.
+/// The reason why two diagrams can't be joined into one.
 #[derive(Debug, Drop, Error)]
 pub enum OverlayError {
     /// At some letter the two diagrams have different leaves.

@@ -39,7 +39,7 @@ pub enum View {
     },
 }
 
-/// At most two numbers of a view are hashed, to save time: a store hashes a view for each node that it looks up.
+/// Hashes at most two numbers for a view, to save time: a store hashes a view for each node that it looks up.
 impl Hash for View {
     ghost use Rattle.ps_diagram.specs.Inner.Hashed.{hashed};
 

@@ -10,7 +10,8 @@ abbrev pub AreBitsAt : Table → List ℕ → ℕ → (ℕ → Bool) → Type 0
 AreBitsAt t truths letter f =
     (p : ℕ) → p < length truths → f p ≡ is_some (leaf_of t (slice_index truths p) letter)
 
--- at each letter, the second tree has the leaf of the first tree at the letter that consists of the values of `truths`
+-- at each letter, the nodes `truths` give the bits of a letter f, and the second tree has the leaf that the first tree
+-- has at f
 abbrev pub IsComposed : Table → List ℕ → Tree → Tree → Type 0
 IsComposed t truths a b =
     (letter : ℕ) (f : ℕ → Bool) → AreBitsAt t truths letter f → leaf_at b (assignment letter) ≡ leaf_at a f
