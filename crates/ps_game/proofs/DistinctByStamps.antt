@@ -30,8 +30,8 @@ distinct-push [] x = refl
 distinct-push (y ∷ ys) x = search (rules, filter-cond, filter-append, kept_or_not, distinct-push ys x)
 
 -- The positions before `place` were visited. The first `kept` numbers are the distinct numbers at the visited
--- positions, in order of first occurrence. The numbers at the index `place` and after it are unchanged. A number is
--- marked with the stamp if and only if it occurred at a visited position
+-- positions, in order of first occurrence. The numbers at the index `place` and after it are unchanged. For each
+-- number, the list `seen` has the value `stamp` if and only if the number occurred at a visited position
 pub record IsKept (before numbers seen : List ℕ) (stamp place kept : ℕ) : Type 0 where
   pub few : kept ≤ place
   pub front : take kept numbers ≡ distinct (take place before)

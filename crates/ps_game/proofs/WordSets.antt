@@ -168,7 +168,7 @@ pub record IsMade (places : ℕ) (new : List ℕ) (region other : List Bool) (ru
 module _ {places others_places : ℕ} {words others : List ℕ} {region other : List Bool} (packed : ArePacked places words)
     (is : members places words ≡ region) (other_packed : ArePacked others_places others)
     (other_is : members others_places others ≡ other) (same : length other ≡ length region) where
-  -- sets of vertices less than the same bound `places` have equally many words
+  -- two sets that have the same bound `places` on their vertices are stored in equally many words
   pub same_words : length others ≡ length words
   same_words = omega (arith, places_are packed is, places_are other_packed other_is)
 

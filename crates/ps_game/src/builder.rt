@@ -205,8 +205,8 @@ fn unknown_successor(vertex: &Vertex, count: usize) -> Option<usize>
         .find(|successor| count <= *successor)
 }
 
-/// Drops all repeated successors, in time proportional to the number of vertices and edges. For each vertex, `seen`
-/// has the stamp of the last processed vertex with an edge to it, or 0. The stamp of a vertex is its number plus one.
+/// Drops all repeated successors, in time proportional to the number of vertices and edges. For each vertex w, `seen`
+/// has v + 1 (a stamp), if v is the last processed vertex with an edge to w, and 0 if no such vertex was processed.
 #[tactic(auto, unfolding(crate::specs::Games::vertex_count, crate::specs::Games::successors_of))]
 fn drop_repeats(vertices: &mut [Vertex], seen: &mut [usize])
     requires known { NoneUnknown vertices.old }
