@@ -1,5 +1,5 @@
--- Each meaning of an HOA text has a code, and different meanings have different codes. An acceptance condition has the
--- code of an expression, which is the type of labels.
+-- Each meaning of an HOA text has a code, and different meanings have different codes. An acceptance condition is
+-- encoded as an expression, which is the type that labels have.
 use Rattle.std.specs.Prelude.{◌≡◌, ℕ, ◌⊎◌, Bool, true, false, List, Option, None, Some, refl}
 use Rattle.std.proofs.Common.{inl, inr, ap}
 use Rattle.std.specs.Coded.{Coded, code_by, coded_list, coded_option, coded×, coded⊎, coded_ℕ}

@@ -2,7 +2,8 @@
 -- and operands that contain other operands.
 -- - `expect test`: a single token whose kind passes the test
 -- - `inner part`: the given part between parentheses
--- - `row sign join operand`: operands with the sign between them; a single operand keeps its value
+-- - `row sign join operand`: one or more operands, separated by tokens whose kind passes the test `sign`; a single
+--   operand keeps its value
 -- - `rows together connective operand`: operands with connectives between them; `&` binds tighter than `|`
 -- - `operand g room`: an operand of this grammar, in which `!` and `(` may be nested to the depth `room`
 use Rattle.std.specs.Prelude.{ℕ, ◌≡◌, zero, suc, Bool, true, false, List, [], ◌∷◌, ◌++◌, if◌then◌else◌, Option, None}

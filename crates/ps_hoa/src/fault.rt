@@ -9,38 +9,38 @@ use ps_text::faults::{Cause, Fault};
 /// limits and the rules for names are psyn's own, not those of HOA v1.
 #[derive(Clone, Copy, Debug, PartialEq, Eq)]
 pub enum HoaCause {
-    /// The text does not begin with `HOA:` (header).
+    /// The text does not begin with `HOA:` (HOA v1: header).
     NotHoa,
-    /// The version is not `v1` (header).
+    /// The version is not `v1` (HOA v1: header).
     Version,
-    /// No token begins here, or a string or a comment is not closed (tokens).
+    /// No token begins here, or a string or a comment is not closed (HOA v1: tokens).
     Token,
     /// A token is not allowed here, or the text ends too early.
     Syntax,
     /// A number has several digits and begins with `0` (the token `INT`).
     Number,
-    /// A header item that may occur only once occurs a second time (header).
+    /// A header item that may occur only once occurs a second time (HOA v1: header).
     HeaderTwice,
-    /// There is no `Acceptance:` (acceptance).
+    /// There is no `Acceptance:` (HOA v1: acceptance).
     MissingAcceptance,
-    /// The header has an unknown item whose name begins with a capital letter (header).
+    /// The header has an unknown item whose name begins with a capital letter (HOA v1: header).
     UnknownHeader,
     /// A limit is exceeded.
     Limit,
     /// The body has the token `--ABORT--`, so the text was aborted.
     Aborted,
-    /// `&` follows a state, so the automaton is alternating (body).
+    /// `&` follows a state, so the automaton is alternating (HOA v1: body).
     Alternating,
     /// There is no start state, or there is a second start state.
     Start,
     /// A number is not the number of a proposition, a set or a state.
     Range,
-    /// An alias is not defined before its use, or is defined twice (labels).
+    /// An alias is not defined before its use, or is defined twice (HOA v1: labels).
     Alias,
-    /// A label of an edge is missing or not allowed, or the number of edges without labels is wrong (body: implicit
-    /// labels).
+    /// A label of an edge is missing or not allowed, or the number of edges without labels is wrong (HOA v1, body:
+    /// implicit labels).
     Labels,
-    /// A state has a second row (body).
+    /// A state has a second row (HOA v1: body).
     StateTwice,
     /// There is no `controllable-AP:` (extended HOA).
     Controllable,

@@ -7,7 +7,7 @@
 -- - `laws_sign`: the grammar of a token whose kind is in a set satisfies `Laws`
 -- - `laws_value`: `Laws` for a token whose kind is in a set, and which has no error unless it has a value
 -- - `laws_expect`: `Laws` for a token whose kind is in a set, and which has no value
--- - `laws_behind_option`: `Laws` for a part that may be empty and the part after it
+-- - `laws_behind_option`: `Laws` for a grammar in which an optional part is followed by another part
 use Rattle.std.proofs.Common.{rules, ◌≡◌, ℕ, zero, suc, ◌<◌, Bool, true, not, cond, List, [], ◌∷◌, length, get_or}
 use Rattle.std.proofs.Common.{Option, None, Some, is_some, sym, ap, subst, ◌∙◌, arith, ◌&&◌, ◌||◌}
 use Rattle.std.proofs.lemmas.Bool.{and_parts, or_left, or_right}

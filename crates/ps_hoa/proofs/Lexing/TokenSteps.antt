@@ -1,4 +1,4 @@
--- The step that a scan of the bytes takes at a token, by the form of the token.
+-- At a token, a step of the scan over the bytes finds the whole token; there are lemmas for each form of tokens.
 -- - `run_len`, `run_sound`: the scan finds the length of a run of bytes
 -- - `comment_found`, `quoted_found`: the scan finds the end of a comment or a string
 -- - `stand_step`: the step at a token finds the token

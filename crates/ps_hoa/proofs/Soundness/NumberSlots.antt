@@ -1,4 +1,5 @@
--- Each number that `controllable-AP:` lists belongs to a slot, and only one number is kept for each slot.
+-- Of the numbers that `controllable-AP:` lists, each number below 64 is kept once. Only the first of all other numbers
+-- is kept: they share one slot (`slot_of`).
 -- - `different_kept`: the kept numbers differ from each other
 use Rattle.std.proofs.Common.{◌≡◌, ℕ, false, List, [], ◌∷◌, refl, rules}
 use Rattle.std.specs.Prelude.{nat_eq}
