@@ -38,8 +38,8 @@ pub enum Attempted {
     },
     /// The fuel, or the number of stored cells that the fuel allows, was used up before a result was reached.
     OutOfFuel,
-    /// The limit on stored cells, which no amount of fuel can raise any further, was too small, or the game is too
-    /// large. Another attempt with more fuel would fail, too.
+    /// More cells would be needed than any amount of fuel allows for this game, or the game's edges or levels exceed
+    /// the type `usize`. Another attempt with more fuel would fail, too.
     OutOfRoom,
 }
 
