@@ -3,7 +3,8 @@
 -- - `MachineData`: a machine's propositions, its player, whether that player moves first, its diagrams and its rows
 -- - `machine_row m memory x`: the row of the machine's table that is used in a memory state, if x is the other player's
 --   letter
--- - `behaviour m`: the behaviour of the machine, without its diagrams
+-- - `behaviour m`: the machine as functions, which give the output letter and the next memory state for a memory state
+--   and a letter of the other player
 -- - `IsWholeMachine m`: m is a machine whose diagrams lead to a row of its table for each memory state and letter
 use Rattle.std.specs.Prelude.{◌≡◌, ℕ, ◌<◌, Bool, List, length, slice_index, slice_index_or, IsSomeAnd}
 use Rattle.std.specs.Option.{unwrap_or}

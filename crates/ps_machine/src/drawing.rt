@@ -52,8 +52,8 @@ pub(crate) struct Drawing {
     pub store: Store,
     /// The rows of the machine's table. Each leaf of the machine's diagrams is the index of a row of this table.
     pub rows: IndexSet<Row>,
-    /// Each leaf of the automaton's diagrams is the index of a step. For each leaf, this is the index of the machine's
-    /// row for that step. Only entries that the last call of `place_rows` has set are valid.
+    /// Each leaf of the automaton's diagrams is the index of a step. For each leaf, `places` has the index of the
+    /// machine's row for the leaf's step. Only entries that the last call of `place_rows` has set are valid.
     pub places: Vec<u64>,
 }
 

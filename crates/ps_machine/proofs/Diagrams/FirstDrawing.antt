@@ -118,7 +118,7 @@ module _ {order : Order} {a : AutomatonData} {keys : List Key} {certificate : Ce
     plays_class v chosen r letter is_kept choice is q p at =
         search (rules, class_chosen, same_letter, get_or_from_slice_get)
 
-    -- each step that the automaton can make after the letter which the machine outputs leads to a reachable vertex
+    -- after the letter that the machine outputs, each possible step of the automaton leads to a reachable vertex
     pub entered : {mask : ℕ} {t : Table} {v q p letter rest : ℕ} {found : List (ℕ × ℕ)} → Contains kept v →
         StandsAt keys v (First q p) → PlaysClass (board_of order a) keys certificate v q letter →
         Left order a mask t q letter rest → AreLeaves t rest found →

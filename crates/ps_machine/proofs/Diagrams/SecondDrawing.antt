@@ -140,8 +140,8 @@ module _ {order : Order} {a : AutomatonData} {mask : ℕ} {t : Table} {keys : Li
         same_pair reply.state reply.priority,
       )
 
-  -- a row of the machine's table is right for the letter x at the state q if it has the least letter for the winner's
-  -- step, and the memory state that the step leads to
+  -- the letter x at the state q is answered rightly by a row of the machine's table with two properties. The row's
+  -- letter is the least one that makes the winner's step. The row's memory state is the one to which this step leads
   answer_by : {kept : List ℕ} (letter memory : ℕ) → IsClassLetter (board_of order a) q x →
       IsMove (board_of order a) q x letter → step_of a q (x + letter) ≡ step →
       ((v : ℕ) → StandsAt keys v (First step.state step.priority) → StandsFor false keys kept memory v step.state) →

@@ -29,7 +29,7 @@ anchor_shares is_first v q w r h = search rules
 module _ {is_first : Bool} {keys : List Key} {used kept anchors : List ℕ}
     (m : AreMemories is_first keys used kept anchors)
   where
-    -- two memory states with the same anchor (that remember the same) are equal
+    -- different memory states have different anchors (an anchor is what a memory state remembers)
     one_memory : {i j x : ℕ} → slice_get anchors i ≡ Some x → slice_get anchors j ≡ Some x → i ≡ j
     one_memory {i} {j} at there = one_place anchors m.different i j at there
 

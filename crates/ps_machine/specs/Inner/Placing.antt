@@ -3,7 +3,7 @@
 -- the machine's table for each of them. The machine's diagram is what remains of the automaton's diagram after this
 -- letter, with the indices of rows in place of the leaves. (For private functions.)
 -- - `PlaysClass board keys certificate v q letter`: `letter` is output at the vertex v, whose state is q
--- - `IsEntered .. leaf`: the machine can take the step that the leaf names
+-- - `IsEntered .. leaf`: the leaf is the index of a step, and the vertex to which this step leads is reachable
 -- - `IsPlaced .. letter leaf`: for the leaf, `places` has the index of a row of the machine's table
 use Rattle.std.specs.Prelude.{◌≡◌, ℕ, ◌<◌, Bool, List, length, Some, slice_get}
 use Rattle.ps_certificate.specs.Certificates.{CertificateData, choice_of}
