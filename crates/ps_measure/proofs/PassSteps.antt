@@ -1,4 +1,5 @@
--- The steps, on lists of numbers, of the pass that raises the values of components along all links.
+-- Lemmas about the steps of a pass that raises the values of components along all links. The values are stored in lists
+-- of numbers.
 use Rattle.std.proofs.Common.{◌≡◌, ℕ, ◌+◌, ◌-◌, ◌*◌, ◌<◌, ◌≤◌, ◌∙◌, List, length, get_or, inl, inr, sym, ap, rules}
 use Rattle.std.proofs.Common.{arith, refl, Option, None, Some, eqb, unwrap_or}
 use Rattle.std.specs.Prelude.{slice_get, slice_index, slice_set}

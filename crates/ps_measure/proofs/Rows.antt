@@ -27,8 +27,7 @@ pub raised-le-total : (rows : List Row) (count width : ℕ) → raised_of rows c
 raised-le-total rows count width = grind (arith, sum_below-le, positive_bound)
 
 module _ {game : ParityGame} {player : ℕ} {set : ℕ → Bool} {table : ℕ → Option ℕ} where
-  -- the number of nonzero counts for one priority is at most the size of the set times the number of the set's vertices
-  -- with this priority
+  -- let the set have s vertices, of which k have the priority p; then at most s · k of the least counts for p are not 0
   column_most : {p : ℕ} {counts : ℕ → ℕ} → AreLeastFor game player set table p counts →
       raised_below counts (vertex_count game) ≤ count_below set (vertex_count game) * count_with game set p
   column_most {p} {counts} least = elim (cases_lt 0 (count_with game set p)) [

@@ -35,8 +35,9 @@ impl Column {
     }
 
     /// Computes the least counts for the priority of `low`, from the components of the vertices reachable from the
-    /// roots. The initial value is 1 for the components of roots, and 0 for all others. If no counts keep the rule of
-    /// counts (`KeepsRule`), returns a link that leads to a vertex of this priority and lies on a cycle.
+    /// roots. The count of a component begins with 1 if the component has a root, and with 0 otherwise. If no counts
+    /// keep the rule of counts (`KeepsRule`), returns a link that leads to a vertex of this priority and lies on a
+    /// cycle.
     pub(crate) fn work_out(
         &mut self,
         low: &Low,

@@ -34,7 +34,7 @@ impl<'a, G: Graph> Model for Layer<'a, G> {
 }
 
 impl<'a, G: Graph> Layer<'a, G> {
-    /// The vertices of the priority from which an edge leads to a vertex of the same or a smaller priority.
+    /// Returns each vertex of this priority that has an edge to a vertex of the same or a smaller priority.
     pub(crate) fn roots(&self, alloc: Global) -> Result<Vec<usize>, AllocError>
         ensures { IfOk result (λ roots. AreRoots (low_graph self.now.low) (low_weight self.now.low) roots.items) }
     {
