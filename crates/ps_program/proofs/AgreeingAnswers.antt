@@ -241,8 +241,8 @@ module _ (games : OneGame) (certificates : OneCertificate) (flaws : OneFlaw) (ci
             (λ a b agree. (parts.0, (parts.1, cuts), agree)) alike,
       )
 
-  -- any two results of a command line are equal, or its result is not determined; in the second case, one of the two is
-  -- a fault, or the two agree as `Agree` states
+  -- any two results of a command line are equal, or the command allows several results; in the second case, one of the
+  -- two is a fault, or the two agree as `Agree` states
   line_one : (solvers : Solvers) (l : Line) (texts : List ℕ) (x y : Result Reply (List ℕ)) →
       AnswersLine solvers l texts x → AnswersLine solvers l texts y →
       (x ≡ y) ⊎ (IsUndetermined l texts × Alike (Agree l texts) x y)

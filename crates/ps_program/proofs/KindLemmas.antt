@@ -23,7 +23,7 @@ use Rattle.ps_program.specs.declared.commands.Line.{Line}
 use Rattle.ps_program.specs.declared.commands.Line.TheVariants.{Refused}
 use Rattle.ps_program.specs.CommandLine.{line_refused}
 
--- all errors of the given kinds mean the same `Line`
+-- whichever of the given kinds of errors a command line has, the meaning of the command line is the same `Line`
 pub record MakeOne (kinds : Kinds) : Type 0 where
   pub line : Line
   pub same : (k : ErrorKind) → IsAmong k kinds → line_refused k ≡ line

@@ -3,12 +3,14 @@
 -- - `IsPlainLine line`: the line calls no solver, and is not `verify`
 -- - `HasSomeLine`: each first line has a meaning as a `Line`
 -- - `HasSomeAnswer solvers`: each input has an answer, if its first line is plain (`IsPlainLine`)
--- - `MayCertify solver`: the solver may answer a valid certificate of each game
--- - `MayReplay solver`: the solver may answer the result of parsing any text that it is fed, even a wrong certificate
--- - `HasSomeSolved solvers`: if the first solver may certify, each input with `solve` or `cert` has an answer
+-- - `MayCertify solver`: for each game, some valid certificate is a possible answer of the solver
+-- - `MayReplay solver`: once the solver was given the text of a certificate, the result of parsing this text is a
+--   possible answer of the solver, even if the certificate is wrong
+-- - `HasSomeSolved solvers`: if `MayCertify` holds for the built-in solver, each input with the command `solve` or
+--   `cert` has an answer
 -- - `IsPrintable compact game certificate circuit`: a report can hold the texts that psyn writes for these three
--- - `HasSomeSynthesis solvers`: if the solver may certify or replay, and what it answers is printable, each input with
---   `synth` has an answer
+-- - `HasSomeSynthesis solvers`: if `MayCertify` or `MayReplay` holds for the solver, and the texts of the answer fit a
+--   report, each input with the command `synth` has an answer
 use Rattle.std.specs.Prelude.{◌≡◌, ◌↔◌, ⊤, ℕ, Bool, true, false, IsTrue, List, Some, Result, Ok}
 use Rattle.ps_certificate.specs.Certificates.{CertificateData}
 use Rattle.ps_circuit.specs.Circuits.{CircuitData}

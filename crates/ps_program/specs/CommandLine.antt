@@ -202,7 +202,7 @@ abbrev pub Says : List Text → Line → Type 0
 Says words line = ((fault_of table words ≡ []) × (line ≡ line_said (subcommand_of table words)))
     ⊎ ((kind : ErrorKind) × IsAmong kind (fault_of table words) × (line ≡ line_refused kind))
 
--- the word is longer than the name of every command, and does not begin with a hyphen (45)
+-- the word is longer than the name of every command, and does not begin with a hyphen (the byte 45)
 abbrev pub NamesNothing : Text → Type 0
 NamesNothing word = All (λ usage. length usage.name < length word) commands × (slice_index word 0 ≢ 45)
 

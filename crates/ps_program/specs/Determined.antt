@@ -52,9 +52,9 @@ abbrev pub AsksFor : (cert : Bool) → List ℕ → List ℕ → Type 0
 AsksFor false texts text = texts ≡ text
 AsksFor true texts text = (certificate : List ℕ) × CutsInTwo texts (Ok (text, certificate))
 
--- The answer to a command is not determined in three cases. If a solver is called for a game or an automaton, any
--- winning moves may be printed. If a judged solution allows a cycle that makes a player lose, any cycle of this kind
--- may be reported. If a verified circuit loses, any stimulus on which it loses may be reported.
+-- A command allows several answers in three cases. If a solver is called for a game or an automaton, any winning moves
+-- may be printed. If a judged solution allows a cycle that makes a player lose, any cycle of this kind may be reported.
+-- If a verified circuit loses, any stimulus on which it loses may be reported.
 abbrev pub IsUndetermined : Line → List ℕ → Type 0
 IsUndetermined (Judge compact) texts =
     (named : NamedGameData) × (given : SolutionData) × ReadsSolved texts (Ok (named, given)) × LosesCycle named given
@@ -119,8 +119,8 @@ Agree line texts a b = a ≡ b
 abbrev pub IsFaultReply : Reply → Type 0
 IsFaultReply reply = (line : List ℕ) × (reply ≡ fault_reply line)
 
--- Any two answers to one input are equal, unless the answer to its command is not determined. If the answer is not
--- determined, two answers agree as `Agree` states, or one of them is the line of a fault.
+-- Any two answers to the same input are equal, unless the input's command allows several answers (`IsUndetermined`).
+-- Two answers to such a command agree as `Agree` states, or one of them is the line of a fault.
 abbrev pub HasOneAnswer : Solvers → Type 0
 HasOneAnswer solvers = (input : List ℕ) (a b : Reply) → AnswersWhole solvers input a → AnswersWhole solvers input b
     → (a ≡ b) ⊎ ((line : Line) × IsLine (first_line input) line × IsUndetermined line (behind_line input) ×

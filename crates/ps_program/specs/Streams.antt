@@ -1,4 +1,4 @@
--- What calls do to a sink, to which the answer is written, and the state of a sink.
+-- The sink, which is the stream to which the program writes its answer: its state, and what each call changes.
 use Rattle.std.specs.Prelude.{◌≡◌, ◌⊎◌, ◌==◌, ◌&&◌, ℕ, Bool, true, false, List, length, Option, Result, Ok, Err, nat_lt}
 use Rattle.std.specs.Io.{StartsWith}
 use Rattle.std.specs.Io.KnownBytes.{Appends}

@@ -55,8 +55,8 @@ fn verify_text(
     tell(alloc, order, role, automaton, &circuit)
 }
 
-/// The judgement on a circuit, or the fault that its symbols are wrong, or that it moves first but its outputs depend
-/// on inputs.
+/// The judgement on a circuit, or a fault: the circuit's symbols are wrong, or the circuit moves first but its outputs
+/// depend on its inputs.
 fn tell(
     alloc: Global,
     order: Order,
