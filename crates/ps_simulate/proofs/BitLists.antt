@@ -17,7 +17,7 @@ length-letters_in width (suc count) bits = ap suc (length-letters_in width count
 mul_suc : (m n : ℕ) → suc m * n ≡ n + m * n
 mul_suc m n = grind arith
 
--- the number of bits that remain after the bits of the first letter
+-- if `bits` has the bits of count + 1 letters, those of the last `count` letters remain after the first letter's bits
 rest_length : (width count : ℕ) (bits : List Bool) → length bits ≡ suc count * width →
     (length (drop width bits) ≡ count * width) × (width ≤ length bits)
 rest_length width count bits whole = grind (arith, mul_suc, length-drop)

@@ -12,7 +12,8 @@ use Rattle.ps_simulate.specs.Tables.{IsValueTable}
 abbrev pub all_or_none : Bool → ℕ
 all_or_none is_set = if is_set then 2 ^ 64 - 1 else 0
 
--- the bit that a value's words have for one lane
+-- the bit of a value in one lane (one of the runs that are simulated together); the value's words have a bit for each
+-- lane
 abbrev pub lane_bit : List ℕ → ℕ → Bool
 lane_bit words lane = bit_at (slice_index words (lane / 64)) (lane % 64) == 1
 

@@ -1,4 +1,4 @@
--- Runs of a circuit that reads words. Only private contracts use these definitions.
+-- Runs of a circuit that reads words, which are lists of input letters. Only private contracts use these definitions.
 use Rattle.std.specs.Prelude.{◌≡◌, ◌≢◌, ℕ, ◌<◌, ◌++◌, Bool, List, [], ◌∷◌, Option, None, Some, length, map, slice_get}
 use Rattle.std.specs.Prelude.{slice_index_or, Vec}
 use Rattle.std.specs.BTreeMap.{BTreeMap, btree_map_len, get}
