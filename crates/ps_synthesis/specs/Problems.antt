@@ -4,7 +4,8 @@
 -- - `IsProblem p`: the problem's game is the game of its automaton, in its order of moves
 -- - `IsProblemOf order text p`: the problem has the automaton and the game of the text, in the given order of moves
 -- - `ReturnsOnly game certificate`: the possible answers of a solver that returns only this certificate for a game
--- - `IsReportFault p certificate fault`: why a certificate for the problem's game gives no report
+-- - `IsReportFault p certificate fault`: `fault` is a possible reason why no report is made for the problem from the
+--   certificate that the solver returned
 use Rattle.std.specs.Prelude.{◌≡◌, ℕ, ◌<◌, List, Ok}
 use Rattle.ps_automaton.specs.Automata.{AutomatonData}
 use Rattle.ps_certificate.specs.Certificates.{CertificateData}
