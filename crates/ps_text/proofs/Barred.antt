@@ -51,7 +51,7 @@ module _ {T V F : Type 0} {odd : T → Type 0} {P : Part T V F} (Bad : V → T �
     clean_barred rest e b clean fr r t f x n (inr c) =
         let i = inside_of rest fr r t e x n in no_bar fr i.0 t c.0 f (rw i.1 at b) c.1 c.2
 
-    -- a text of P has only one value, so each error that `Bad` states at the symbol after it is stated for this value
+    -- if a text of P has the values v and w, they are equal, so each error that `Bad` states for w is also stated for v
     bar_value : (text : List T) (t : T) (v w : V) (f : F) → P.IsText text v → P.IsText text w → Bad w t f → Bad v t f
     bar_value text t v w f h k c = subst (λ z. Bad z t f) (l.one_value text w v k h) c
 

@@ -2,12 +2,13 @@
 -- first fault of Q after P.
 -- - `joint`: two grammars satisfy `Joint` (it is clear where a text of the second begins after one of the first) if
 --   they satisfy `Laws`, and no symbol both continues the first and begins the second
--- - `text_behind`, `cause_behind`: let a text of P be followed by a symbol with which it can't continue. In a text of P
---   and Q together, the rest is a text of Q. An error of both together is an error of Q or of P.
--- - `begins_left`, `begins_right`: a text of P and Q together begins with each beginning of a text of P, and with each
---   text of P that is followed by a beginning of a text of Q
--- - `read_then`, `fault_left`, `fault_right`: P and Q together are parsed if both are; they have the first fault of P,
---   or of Q after a text of P
+-- - `text_behind`, `cause_behind`: let a text of P be followed by a symbol with which it can't continue. If the whole
+--   is a text of `then_by P Q`, the rest is a text of Q. If the whole ends in an error of `then_by P Q`, this is an
+--   error of Q or of P.
+-- - `begins_left`, `begins_right`: `then_by P Q` has a text that begins with any given beginning of a text of P, and
+--   one that begins with any text of P followed by a beginning of a text of Q
+-- - `read_then`, `fault_left`, `fault_right`: `then_by P Q` is parsed if P and then Q are parsed; its first fault is
+--   the first fault of P, or that of Q after a text of P
 use Rattle.std.proofs.Common.{◌≡◌, ◌⊎◌, List, [], ◌∷◌, ◌++◌, length, Option, Some, refl, ap, subst}
 use Rattle.std.proofs.Common.{inl, inr, append_assoc, append-nil, arith, rules}
 use Rattle.ps_text.specs.Answers.{Begins, first_of}
@@ -43,8 +44,8 @@ module _ {T A B F : Type 0} {P : Part T A F} {Q : A → Part T B F} (j : Joint P
       front ≡ left ++ t ∷ m → Begins (Q a).IsText right → right ≡ t ∷ z → ⊥
   not_inside {left = left} {z = z} {t = t} {a = a} m h b e c f = j.text_apart left m z t a h (rw e at b) (rw f at c)
 
-  -- If a text of P and Q together begins with a text of P, its rest is a text of Q, unless the text of P can continue
-  -- with the next symbol.
+  -- If a text of `then_by P Q` begins with a text of P, its rest is a text of Q, unless the text of P can continue with
+  -- the next symbol.
   pub text_behind : (left y : List T) (a : A) (b : B) → P.IsText left a → (then_by P Q).IsText (left ++ y) b →
       (Q a).IsText y b ⊎ GoesOn P left (first_of y)
   text_behind left y a b h k = go (compared left y k.left k.right k.split)
@@ -54,8 +55,8 @@ module _ {T A B F : Type 0} {P : Part T A F} {Q : A → Part T B F} (j : Joint P
       go (shorter t m e f) = grind (arith, begins_on P.IsText left m t (rw e at (text_begins P.IsText k.is_left)))
       go (longer t m e f) = search (rules, not_inside, text_begins)
 
-  -- An error of P and Q together, after a text of P, is an error of Q, unless a text of P continues with the next
-  -- symbol or P has this error itself.
+  -- An error of `then_by P Q`, after a text of P, is an error of Q, unless a text of P continues with the next symbol
+  -- or P has this error itself.
   pub cause_behind : (left y : List T) (t : T) (a : A) (f : F) → P.IsText left a → (then_by P Q).IsCause
       (left ++ y) t f → (Q a).IsCause y t f ⊎ (GoesOn P left (first_of (y ++ t ∷ [])) ⊎ ((y ≡ []) × P.IsCause left t f))
   cause_behind left [] t a f h (inl c) = inr (inr (refl, rw append-nil at c))
@@ -70,7 +71,7 @@ module _ {T A B F : Type 0} {P : Part T A F} {Q : A → Part T B F} (j : Joint P
           (not_inside m k.is_left (text_begins P.IsText h) e (j.behind_right k.value k.right t f k.is_cause) g)
 
   -- Let `front` begin a text of P but be no text of P itself, and let no text of P continue with the next symbol. Then
-  -- no text of P and Q together begins with `front` and the next symbol.
+  -- no text of `then_by P Q` begins with `front` and the next symbol.
   no_text_on : (front y : List T) (b : B) → Begins P.IsText front → ((a : A) → P.IsText front a → ⊥) →
       StopsAt P front (first_of y) → (then_by P Q).IsText (front ++ y) b → ⊥
   no_text_on front y b begun none s k = go (compared front y k.left k.right k.split)
@@ -100,7 +101,7 @@ module _ {T A B F : Type 0} {P : Part T A F} {Q : A → Part T B F} (j : Joint P
       go [] c b = j.cause_apart k.left m t k.value f k.is_left b c
       go (s ∷ right) c b = not_inside (right ++ t ∷ m) k.is_left b refl (j.behind_right k.value (s ∷ right) t f c) refl
 
-  -- a beginning of a text of P is a beginning of a text of P and Q together
+  -- a list of symbols that begins a text of P also begins a text of `then_by P Q`
   pub begins_left : (front : List T) → Begins P.IsText front → Begins (then_by P Q).IsText front
   begins_left front b = let c = j.some_right b.value in record {
     more = b.more ++ c.more;
@@ -112,14 +113,14 @@ module _ {T A B F : Type 0} {P : Part T A F} {Q : A → Part T B F} (j : Joint P
       Begins (then_by P Q).IsText (left ++ right)
   begins_right left right a h b = grind (arith, append_assoc)
 
-  -- if P has no error in `front`, which begins a text of P, then P and Q together have no error in `front`
+  -- if `front` begins a text of P, and P has no error in `front`, then `then_by P Q` has no error in `front`
   clean_left : {all front : List T} (rest : List T) → all ≡ front ++ rest → Begins P.IsText front →
       CleanUpTo P all (length front) → CleanUpTo (then_by P Q) all (length front)
   clean_left rest e b clean fr r t f x l (inl c) = clean fr r t f x l c
   clean_left rest e b clean fr r t f x l (inr k) =
       let i = inside_of rest fr r t e x l in no_inner fr i.0 t f k (rw i.1 at b)
 
-  -- after P was parsed, parsing P and Q together has the result of parsing Q
+  -- after P was parsed, the result of parsing `then_by P Q` is the result of parsing Q
   module _ {all mid : List T} {a : A} (p : IsRead P all a mid) where
     clean_text : CleanUpTo (then_by P Q) all (length p.text)
     clean_text = clean_left mid p.split (text_begins P.IsText p.is_text) (λ front r t f e l. grind arith)

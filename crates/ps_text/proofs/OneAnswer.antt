@@ -13,7 +13,8 @@ not_both : {T V F : Type 0} (IsText : List T → V → Type 0) (IsCause : List T
     (stream : Stream T) (f : Found F) → IsClean IsCause (signs stream.pieces) → IsFirstAt number IsCause stream f → ⊥
 not_both IsText IsCause number stream f c h = search (rules, signs_split)
 
--- two first errors of the same text are at the same position and have the same number: neither precedes the other
+-- if each of two errors of a text is a first error, neither precedes the other: they are at the same position and have
+-- the same number
 tied : (m n i j : ℕ) (P Q : Type 0) → (m < n) ⊎ (P × (i ≤ j)) → (n < m) ⊎ (Q × (j ≤ i)) → (P → m ≡ n) → (Q → n ≡ m) →
     (m ≡ n) × (i ≡ j)
 tied m n i j P Q cases given p q = search rules

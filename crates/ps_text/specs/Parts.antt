@@ -70,7 +70,8 @@ abbrev pub CleanUpTo : {T V F : Type 0} → Part T V F → List T → ℕ → Ty
 CleanUpTo {T} {V} {F} part all n =
     (front rest : List T) (t : T) (f : F) → all ≡ front ++ t ∷ rest → length front < n → part.IsCause front t f → ⊥
 
--- no text of the grammar begins with `front` and then the next symbol `there`, if there is a next symbol
+-- `there` is the next symbol after `front`, or None at the end. No text of the grammar begins with `front` and this
+-- symbol, if there is one
 abbrev pub StopsAt : {T V F : Type 0} → Part T V F → List T → Option T → Type 0
 StopsAt part front None = Unit {0}
 StopsAt part front (Some t) = Begins part.IsText (front ++ t ∷ []) → ⊥

@@ -7,7 +7,8 @@
 -- - `stops_last`, `exits_last`, `reads_last`: the results if only one grammar is left, and a function is applied to its
 --   value
 -- - `branch`: if the next symbol decides for one of several alternatives, only this alternative is left
--- - `word_left`, `word_read`: a word is parsed byte by byte
+-- - `word_left`, `word_read`: a loop parses a word byte by byte; before each byte, the rest of the word is left, and
+--   after the last byte, the word has been read
 use Rattle.std.proofs.Common.{◌≡◌, ℕ, ◌+◌, ◌<◌, ◌≤◌, List, ◌∷◌, length, get_or, drop, Option, Result, Ok, Err, IsErrAnd}
 use Rattle.std.proofs.Common.{sym, subst, rules}
 use Rattle.std.proofs.lemmas.List.{drop_more, drop_all}
