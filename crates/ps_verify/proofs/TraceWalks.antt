@@ -47,7 +47,7 @@ module _ {owner : ℕ} {names : List (List ℕ)} {auto : Auto} {c : CircuitData}
   some_along q [] more = absurd (omega arith)
   some_along q (x ∷ xs) more = omega arith
 
-  -- the vertex w, with the index j, to which the letters lead from the vertex v, with the index i
+  -- the letters lead from the vertex v, whose index is i, to the vertex w, whose index is j
   pub record Walk (i : ℕ) (v : ProductVertex) (letters : List ℕ) (last : List Bool) : Type 0 where
     pub j : ℕ
     pub w : ProductVertex
