@@ -85,8 +85,8 @@ HoldsWithin-same {game} {set} other {table} moves there back same holds = record
   wins = λ walk k top round is_top. holds.wins walk k top (search rules) is_top;
 }
 
--- Let a player hold a set within a subgame. The player also holds the set within a larger subgame, if each edge of the
--- other player from the set into the larger subgame leads into the smaller subgame.
+-- A player who holds a set within a subgame also holds it within a larger subgame under one condition. Each edge of the
+-- other player from the set into the larger subgame must lead into the smaller subgame.
 pub HoldsWithin-larger : {game : ParityGame} {smaller : ℕ → Bool} (larger : ℕ → Bool) {player : ℕ} {set : ℕ → Bool}
     {table : ℕ → Option ℕ} → IsWithin smaller larger → ((v w : ℕ) → IsTrue (set v) → owner_of game v ≢ player →
     LeadsInto game larger v w → IsTrue (smaller w)) → HoldsWithin game smaller player set table →

@@ -136,9 +136,9 @@ pub record StandsBefore (list : List ℕ) (end v : ℕ) : Type 0 where
   pub before : place < end
   pub is : slice_index list place ≡ v
 
--- v may be a top, in the target of an iteration's attractor. The vertex v is before index `behind` of `order`. The
--- priority of v has the same parity as the priority of the vertex at index `cursor` of `order`, and equals that
--- priority if `just_greatest` is true
+-- The vertex v may be a top, which is a target vertex of an iteration's attractor. The vertex v is before index
+-- `behind` of `order`. The priority of v has the same parity as the priority of the vertex at index `cursor` of
+-- `order`, and equals that priority if `just_greatest` is true
 pub record IsTop (game : ParityGame) (order : List ℕ) (cursor behind : ℕ) (just_greatest : Bool) (v : ℕ) : Type 0 where
   pub stands : StandsBefore order behind v
   pub parity : priority_of game v % 2 ≡ priority_of game (slice_index order cursor) % 2
@@ -167,9 +167,9 @@ pub record IsWonStep (game : ParityGame) (tables : TablesData) (winner : List �
   pub above : level < level_of tables w
   pub won : slice_index winner w ≡ player
 
--- The player keeps v. If the player owns v, the move at v leads to a vertex of a higher level than `level` that the
--- player won. If the opponent owns v, no edge leads from v to a vertex of a higher level than `level` that the opponent
--- won.
+-- The player keeps the vertex v under a condition that depends on the owner of v. If the player owns v, the move at v
+-- leads to a vertex of a higher level than `level` that the player won. If the opponent owns v, no edge leads from v to
+-- a vertex of a higher level than `level` that the opponent won.
 pub record IsKeptAt (game : ParityGame) (tables : TablesData) (winner : List ℕ) (level player other v : ℕ) : Type 0
   where
     pub own : owner_of game v ≡ player → IsWonStep game tables winner level player v (slice_index tables.moves v)
