@@ -1,5 +1,6 @@
 """Tests that each public name of the definitions has one meaning: a name that two files define must be listed in
-FAMILIES. Players are of the type `Player`, and no two crates have a lemma file of one name, but for those listed."""
+FAMILIES. Players are of the type `Player`. Lemma files of different crates have different names, except the listed
+ones."""
 import collections
 import glob
 import os

@@ -89,7 +89,7 @@ class Rules(unittest.TestCase):
         draw = random.Random(SEED)
         drawn = list(boards(draw, BOARDS))
         letters = [["".join(draw.choices("01", k=len(board.mine))) for _ in range(LETTERS)] for *_, board in drawn for _ in range(PLAYS)]
-        # for each specification, no letters are given for one play, which takes the choices with the greatest counts;
+        # for each specification, the first play is given no letters, so it takes the choices with the greatest counts;
         # the letters of the other plays are random
         plays = [[[], *letters[at + 1 : at + PLAYS]] for at in range(0, len(letters), PLAYS)]
         said, kinds = self.played([(contents.of(board), moves) for (*_, board), moves in zip(drawn, plays)]), {}

@@ -39,7 +39,8 @@ SECONDS = 300
 RUNGS = 300
 FILES = ("arbiter.hoa", "grant.hoa", "delay.hoa", "loop.pg", "loop.cert", "stays.cert", "toggle.aag", "lamp.aag", "presses.stim")
 # Programs that stand in for psyn: one that runs long, psyn itself after it has written its process id, and one that is
-# killed during its answer. Others give no answer, a strange answer or half an answer, and the last file is no program.
+# killed during its answer. Further programs give no answer, a strange answer or half an answer. The last file is no
+# program.
 PROGRAMS = {
     "slow": "#!/bin/sh\necho $$ > pid\nexec sleep 60\n",
     "real": '#!/bin/sh\necho $$ > pid\nexec "$REAL"\n',

@@ -197,8 +197,8 @@ def comments_of(lines):
 
 
 def cut_entries(comment):
-    """The lines at which a list entry of a comment is cut: the next line is indented further, and is not an example
-    after a colon."""
+    """The lines of a comment at which a list entry seems to be cut: the next line is indented further, and no colon
+    announces it as an example."""
     kinds, gaps = kinds_of(comment), [len(COMMENT.fullmatch(line)[2]) for line in comment]
     cut, entry = [], 0
     for at in range(len(comment) - 1):

@@ -48,8 +48,8 @@ def sweep(program, shim, path, expected):
     calls and the answer."""
     spoiled, wrong = 0, []
     for way in WAYS:
-        # Each call of the run is disturbed in turn; with the last number no call is disturbed. In the way `one`, the
-        # number 0 means that every call is disturbed.
+        # Each call of the run is disturbed in turn; with the last number no call is disturbed. For the disturbance
+        # `one`, the number 0 means that every call is disturbed.
         numbers = [0] if way == "one" else []
         calls = run(program, shim, path, 0, "not")[1]
         numbers += range(1, len(calls) + 2)

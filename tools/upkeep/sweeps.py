@@ -1,5 +1,5 @@
-"""What the tools share that let one allocation, read or write of a run fail (sweeps): their inputs, the program, and
-the C library that LD_PRELOAD loads."""
+"""A sweep is a series of runs of psyn, in each of which one allocation, read or write fails. The tools for sweeps share
+this module: the inputs, the program, and the C library that LD_PRELOAD loads."""
 import concurrent.futures
 import contextlib
 import os

@@ -40,7 +40,7 @@ GAME = (
     "moves of the certificate ({both_hold}).",
     "No strategy wins from the other vertices, whatever its memory ({none_wins_outside}).",
 )
-# Two lists of sentences: for a circuit of the controller, and for one of the environment.
+# Two lists of sentences: the first is about a controller's circuit, and the second about an environment's circuit.
 SENTENCES = (
     ("The automaton accepts each lasso trace of this circuit ({accepted}), and each input that repeats goes on in such a trace ({goes_on}).", *GAME),
     ("The automaton accepts no lasso trace of this circuit ({rejected}), and each finite-state controller meets it in such a trace ({meetings}).", *GAME),

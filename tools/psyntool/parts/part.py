@@ -98,7 +98,8 @@ def quoted(text):
 
 
 def from_item(title, sentence, text, names):
-    """The part that a header item `part:` stores; its propositions must be among the given names."""
+    """The part of a specification that a composed automaton stores in a header item `part:`. The part's propositions
+    must be among `names`, the automaton's propositions."""
     try:
         read = automaton.read(text)
     except Unreadable:

@@ -25,7 +25,7 @@ class Key:
 
     @property
     def is_choice(self):
-        """Whether the vertex is a state in which the first player has already chosen a letter."""
+        """Whether the vertex stands for a state and a letter that the first player has chosen there."""
         return self.state is not None and self.letter is not None
 
 
@@ -93,8 +93,8 @@ class Names:
 
 
 class Drawing:
-    """The drawn vertices of a game, with their colours and names. If there are many edges, their letters go into
-    tables, so that no letter covers another."""
+    """The drawn vertices of a game, with their colours and names. If there are many edges, their letters are listed in
+    tables, so that no letter is drawn over another."""
 
     def __init__(self, game, certificate, automaton, reach, cycle=()):
         self.game, self.entries = game, certificate.entries if certificate else {}

@@ -43,8 +43,8 @@ def ended(play):
 
 
 def of_part(play, side, moves):
-    """Lines about a part that was violated, or whose accepting edges the loop never takes, with the sentence that
-    describes the part."""
+    """A line which says that a part was violated, or that the loop never takes the part's accepting edges. The next
+    line is the sentence that describes the part."""
     found, part = run(moves, play.steps), moves.part
     if found.broke is not None:
         said = f"step {found.broke} breaks the {side} {part.title}"
