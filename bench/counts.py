@@ -12,10 +12,10 @@ names a program that was built before.
 GAMES is a Python file. Its FAMILIES maps a name to a function that gives a list of (priority, owner, successors); its
 SUITE maps a size (medium, large) to lines of a family's name and its numbers. `YARDSTICK solve --out sol --stats FILE`
 prints the winners and moves of the game in FILE, and on standard error `counts_ms` and other words with their values.
-psyn computes the counts for these winners and moves. A line for each game has its vertices, edges and different
-priorities, and for each program the least time of --runs (3) runs in milliseconds (for both players, without reading
-and writing). Then the line has psyn's time divided by that of YARDSTICK, and psyn's nanoseconds for each edge. Both
-programs must find the same sum of the counts and the same number of nonzero counts.
+psyn computes the counts for these winners and moves. The line of each game begins with the numbers of its vertices,
+edges and different priorities. For each program, the line has the least time of --runs (3) runs in milliseconds, for
+both players and without reading and writing. Then the line has psyn's time divided by that of YARDSTICK, and psyn's
+nanoseconds for each edge. Both programs must find the same sum of the counts and the same number of nonzero counts.
 
 --random makes N small games with random winners and moves, which need not be right, after some games whose counts are
 known. The counts and the number of nonzero counts, or the existence of a lost cycle, must be those that a plain search

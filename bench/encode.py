@@ -101,7 +101,8 @@ def made(folder):
 
 
 def figures(program, text):
-    """The nanoseconds, and how many memory states, latches and gates there are."""
+    """The four numbers that the program prints for the text: the nanoseconds, the memory states, the latches and the
+    gates."""
     run = subprocess.run([program], input=text.encode(), capture_output=True, check=False)
     if run.returncode != 0:
         sys.exit(f"status {run.returncode}: {run.stderr[:200]!r}\n{text[:2000]}")

@@ -44,7 +44,8 @@ def small_stack():
 
 
 def answer(program, text, limit=None):
-    """The nanoseconds, the depth of the recursion and, for a small game, a line for each vertex."""
+    """What the program prints for a game: the nanoseconds, the depth of the recursion and, for a small game, a line for
+    each vertex."""
     run = subprocess.run([program], input=text.encode(), capture_output=True, check=False, preexec_fn=limit)
     if run.returncode != 0:
         sys.exit(f"status {run.returncode}: {run.stderr[:200]!r}\n{text[:2000]}")

@@ -49,8 +49,8 @@ def inputs(count):
 
 
 def priorities(count):
-    """A state for each acceptance set of a chain condition. The environment can move to the next set's state; otherwise
-    the controller chooses the state with a half or a third of the present number."""
+    """An automaton with a state for each acceptance set of a chain condition. The environment can move to the next
+    set's state; otherwise the controller chooses the state with a half or a third of the present number."""
     chain = "t"
     for k in reversed(range(count)):
         chain = f"Inf({k}) | ({chain})" if k % 2 == 0 else f"Fin({k}) & ({chain})"

@@ -125,8 +125,8 @@ def timed(psyn, given):
 
 
 def copies(psyn, count=20):
-    """An automaton that in each state requires one output to equal one input, with the circuit of `synth` and with a
-    circuit without gates."""
+    """Two cases with the same automaton, which in each state requires one output to equal one input. The first case has
+    the circuit that `synth` prints, and the second case has a circuit without gates."""
     states = [f"State: {q} [{q}&{count + q} | !{q}&!{count + q}] {(q + 1) % count}\n" for q in range(count)]
     spec = synth.head(count, count, "0 t") + "".join(states) + "--END--\n"
     case = changes.case_of(psyn, spec, False)
