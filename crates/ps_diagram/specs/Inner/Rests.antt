@@ -15,8 +15,9 @@ pub record IsLent (t other : Table) (node : ℕ) : Type 0 where
 abbrev pub mixed : ℕ → (ℕ → Bool) → (ℕ → Bool) → ℕ → Bool
 mixed mask f g p = cond (is_in p mask) (f p) (g p)
 
--- The second tree has a leaf at every letter, which is the number of a node of the table. The node to which it leads
--- the letter f has, at each letter g, the leaf of the first tree at the letter `mixed` of f and g.
+-- The second tree has a leaf at every letter, which is the number of a node of the table. Let the second tree lead the
+-- letter f to a node. At each letter g, this node has the leaf that the first tree has at the letter `mixed` of f and
+-- g.
 abbrev pub IsDivided : Table → ℕ → Tree → Tree → Type 0
 IsDivided t mask a d =
     (f : ℕ → Bool) → (rest : ℕ) × (leaf_at d f ≡ Some rest) × IsNode t rest ×
