@@ -22,7 +22,7 @@ pub record SolverData : Type 1 where
   pub is_sure : Bool
   -- the text that the solver was fed last, at first the empty text; None for a solver that ignores every text
   pub fed : Option (List ℕ)
-  -- what the solver may answer for a game, if the given text was the last one that it was fed
+  -- the possible answers of the solver for a game, if the given text was the last one that it was fed
   pub may_answer : Option (List ℕ) → MayAnswer
   -- the relation that holds for a game and an answer if the solver gave this answer last; it always holds if the solver
   -- keeps no record
