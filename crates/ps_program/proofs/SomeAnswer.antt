@@ -1,4 +1,5 @@
--- Each input has an answer, if its command calls no solver and is not `verify`, or if a solver may answer its game.
+-- Each input has an answer, if its command calls no solver and is not `verify`, or if some certificate of its game is a
+-- possible answer of the solver.
 use Rattle.std.proofs.Common.{ℕ, List, Ok, refl}
 use Rattle.std.specs.Prelude.{codes}
 use Rattle.ps_certificate.specs.Certificates.{IsClosed, IsValid}

@@ -1,6 +1,6 @@
 -- The commands `solve`, `cert` and `synth` have results, if their solver may return a certificate.
--- - `certifies_surely`, `certifies_fed`: solving a game has a result if the solver may certify each game, or may replay
---   the text that it was fed
+-- - `certifies_surely`, `certifies_fed`: solving a game has a result if the solver satisfies `MayCertify`, or if it
+--   satisfies `MayReplay` and was fed a text
 -- - `solve_some`, `cert_some`: the commands `solve` and `cert` have a result
 -- - `synthesises_some`: synthesis has a result, which is a report or the line of a fault
 -- - `synth_some`: the command `synth` has a result

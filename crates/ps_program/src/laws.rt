@@ -50,13 +50,14 @@ pub fn missing_text_is_told<S: Solver, T: Solver>(built_in: &S, replay: &T)
 /// is a right answer, not about calls, so a lack of memory is not one of the answers.
 ///
 /// Whatever the solvers, an input has an answer if its first line is refused, or asks for `help`, `closed`, `check`,
-/// `judge`, `sim`, `lasso` or `game`. An input with `solve` or `cert` has an answer if the first solver may answer a
-/// valid certificate of each game. An input with `synth` has an answer under two conditions. First, the first solver
-/// may answer a valid certificate of each game or, with `--cert`, the second solver may answer the result of parsing
-/// the text that it was fed. Second, each report's texts of the game, the certificate and the circuit can be stored,
-/// and parsing the last two gives the certificate and the circuit again. psyn's own solvers meet the conditions on
-/// solvers (`own_solvers_may_answer`). The command `verify` is left out, because a proof for it would have to decide,
-/// as the code does, whether an automaton accepts all lasso traces of a circuit.
+/// `judge`, `sim`, `lasso` or `game`. An input with `solve` or `cert` has an answer if, for each game, some valid
+/// certificate is a possible answer of the first solver. An input with `synth` has an answer under two conditions.
+/// First, for each game, some valid certificate is a possible answer of the first solver. With `--cert`, the result of
+/// parsing the text that the second solver was fed must instead be a possible answer of the second solver. Second, each
+/// report's texts of the game, the certificate and the circuit can be stored, and parsing the last two gives the
+/// certificate and the circuit again. psyn's own solvers meet the conditions on solvers (`own_solvers_may_answer`). The
+/// command `verify` is left out, because a proof for it would have to decide, as the code does, whether an automaton
+/// accepts all lasso traces of a circuit.
 pub fn some_answer<S: Solver, T: Solver>(built_in: &S, replay: &T)
     ensures line { HasSomeLine }
     ensures answer { HasSomeAnswer (solvers_of (S.known built_in.now) (T.known replay.now)) }
@@ -87,8 +88,8 @@ pub fn some_answer<S: Solver, T: Solver>(built_in: &S, replay: &T)
     ps_synthesis::winners_circuit_is_there();
 }
 
-/// psyn's own solvers meet the conditions of `some_answer`: the first may answer a valid certificate of each game, and
-/// the second may answer the result of parsing any text that it is fed.
+/// psyn's own solvers meet the conditions of `some_answer`. For each game, some valid certificate is a possible answer
+/// of the first solver. The second solver can answer with the result of parsing any text that it is fed.
 pub fn own_solvers_may_answer()
     ensures certify { MayCertify own_solver }
     ensures replay { (text : List ℕ) → MayReplay (replay_of text) }
