@@ -1,4 +1,4 @@
-//! The relation between the inputs and outputs of a circuit and the propositions of an automaton, by name.
+//! The inputs and outputs of a circuit, and the propositions of an automaton that have the same names.
 
 ghost use Rattle.std.specs.Prelude.{◌≡◌, ◌≢◌, ◌^◌, ◌<◌, ◌≤◌, ◌||◌, ℕ, true, false, None, Some, IfOk, IfSome, IfNone};
 ghost use Rattle.std.specs.Prelude.{length, map, slice_index_or};
