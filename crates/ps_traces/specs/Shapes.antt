@@ -1,6 +1,6 @@
 -- The inputs, the outputs and the order of moves that a circuit must have in its role, as controller or as environment.
--- - `HasShape order role file c`: the circuit has the inputs and outputs of its role, by name; if it moves first, its
---   outputs do not depend on its inputs
+-- - `HasShape order role file c`: the names of the circuit's inputs and outputs are those that its role requires; if
+--   the circuit moves first, its outputs do not depend on its inputs
 -- - `SeesNoInputWhereReached c`: at latch values that some trace reaches, the circuit's outputs do not depend on its
 --   inputs
 use Rattle.std.specs.Prelude.{◌≡◌, Bool, true, false, IsTrue, List}
