@@ -26,7 +26,8 @@ use Rattle.ps_verify.specs.declared.judgement.Judgement.{Judgement}
 use Rattle.ps_verify.specs.declared.judgement.Judgement.TheVariants.{Wins, Loses}
 
 -- The circuit has all properties of the circuits that psyn prints, with one exception. If the circuit's player moves
--- first, the circuit's outputs must not depend on its inputs, but only at latch values that a trace reaches.
+-- first, the outputs must not depend on the inputs at latch values that a trace reaches; at other latch values they
+-- may.
 pub record IsWinning (order : Order) (role : Role) (file : FileData) (c : CircuitData) : Type 0 where
   pub symbols : HasSymbols role file.names file.controllable c
   pub in_time : IsInTimeWhereReached order role c
