@@ -87,8 +87,8 @@ module _ {game : ParityGame} {aim : Aim} {old mid : TablesData} (list : List ℕ
     back = so_far.back;
   }
 
-  -- if examining an edge appends the edge's origin to the worklist, the origin leads to earlier vertices of the
-  -- worklist
+  -- if examining an edge appends the edge's origin to the worklist, and the origin leads to earlier vertices of the
+  -- worklist (`LeadsBack`), the loop's invariant still holds
   look_places : {new : TablesData} → aim.level ≢ aim.free → aim.begin ≤ length mid.trail → k < length mid.trail →
       Places aim mid new u → LeadsBack game aim old new (length mid.trail) u →
       Reaching game aim old new (FromSource k list (n + 1))
