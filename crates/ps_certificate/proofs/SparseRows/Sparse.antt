@@ -65,7 +65,7 @@ count_missing [] k h = refl
 count_missing (p ∷ ps) k h =
     other_place p ps k (h 0 (omega arith)) ∙ count_missing ps k (λ i within. h (suc i) (omega (arith, within)))
 
--- a vertex's count at the index of a stored count is that stored count
+-- if a vertex has a stored count for an index, the vertex's count at this index is the stored count
 pub count_here : (ps : List PlacedCount) (i : ℕ) → AreRising ps → i < length ps →
     count_at ps (place_at ps i) ≡ number_at ps i
 count_here [] i h within = absurd (omega (arith, within))
