@@ -1,5 +1,5 @@
--- The relations between the trees that `choose` and `both` make and the trees that these calls are given. (For private
--- functions.)
+-- The calls `choose` and `both` make trees from given trees. The definitions relate the made trees to the given ones.
+-- (For private functions.)
 use Rattle.std.specs.Prelude.{◌≡◌, ℕ, ◌+◌, ◌<◌, Bool, List, Option, Some}
 use Rattle.ps_diagram.specs.declared.choose.Cut.{Cut}
 use Rattle.ps_diagram.specs.Leaves.{chosen}
