@@ -1,5 +1,6 @@
 -- Properties of the states and edges of a parsed body.
--- - `edges_within`: after the edges of a state are parsed, its row still belongs to it, and the limit on edges is kept
+-- - `edges_within`: after the edges of a state are parsed, the state's row still belongs to the state, and the number
+--   of edges is within its limit
 -- - `keeps_body`: the states and edges of each parsed body have the properties that this file proves
 use Rattle.std.proofs.Common.{◌≡◌, ℕ, suc, ◌+◌, ◌-◌, ◌<◌, ◌≤◌, ◌⊎◌, false, List, [], ◌∷◌, ◌++◌, length, Option, None}
 use Rattle.std.proofs.Common.{Some, refl, sym, ap, subst, inl, inr, ◌∙◌, arith, length-append, rules}
