@@ -247,8 +247,9 @@ module _ (b : Begun) where
       falls_begun b.old.level b.new.level (length frames) (length more) size (λ i less. size_from-same (2 * i + 2)
       b.old.level b.new.level sizes (agrees_at (2 * i + 2) (agrees b) (omega arith))) (grind (arith, fewer))
 
-  -- the first iteration leaves to the next call each vertex outside a set that has all vertices of the greatest
-  -- priority and is closed under attraction (`IsClosedToTops`), since the set contains the attractor
+  -- Let a set have all vertices of the greatest priority, and be closed under attraction (`IsClosedToTops`). Then the
+  -- set contains the attractor of the first iteration, so the iteration leaves each vertex outside the set to the next
+  -- call
   pub begun_left : {set : ℕ → Bool} (v : ℕ) → b.depth ≡ 0 →
       ((u : ℕ) → u < vertex_count b.game → level_of b.old u ≡ UNPLACED) → IsClosedToTops b.game set →
       v < vertex_count b.game → ¬ IsTrue (set v) → level_of b.new v ≡ UNPLACED

@@ -11,7 +11,7 @@ pub record IsBoardOf {W : Type 0} (game : ParityGame) (board : Board W) : Type 0
   pub fits : FitsGame game board.tables
   pub winners : length board.winner.items ≡ vertex_count game
 
--- nothing changed on the board except moves at vertices that satisfy `Some`
+-- in the solver's tables and list of winners (the board), only moves at vertices that satisfy `Some` changed
 pub record OnlyMoves {W : Type 0} (game : ParityGame) (old new : Board W) (Some : ℕ → Type 0) : Type 0 where
   pub moved : IsMoved old.tables new.tables Some
   pub winner : new.winner.items ≡ old.winner.items
