@@ -177,8 +177,8 @@ def one_of(first, second):
 
 
 def either(name, low, high):
-    """A label that holds if the proposition is false and `low` holds, or if it is true and `high` holds. None is the
-    label that never holds."""
+    """A label that holds if the proposition is false and `low` holds, or if it is true and `high` holds. The value None
+    stands for the label that never holds."""
     if low is None or high is None:
         sign, (text, binds) = (name, high) if low is None else (f"!{name}", low)
         return (sign, "") if text == "t" else (f"{sign} & {nested(text, binds, '&')}", "&")
