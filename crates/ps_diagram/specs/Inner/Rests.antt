@@ -45,7 +45,8 @@ IsPlace t level leaf = (node : ℕ) × (leaf ≡ Some node) × IsNode t node × 
 abbrev pub LeadsToNodes : Table → ℕ → Tree → Type 0
 LeadsToNodes t level d = (f : ℕ → Bool) → IsPlace t level (leaf_at d f)
 
--- p is a proposition, and the leaves of two nodes are nodes that depend only on propositions after p
+-- p is a proposition. The nodes `low` and `high` have leaves that are themselves numbers of nodes; these nodes depend
+-- only on propositions after p
 pub record AreLeading (t : Table) (p low high : ℕ) : Type 0 where
   pub named : p < t.propositions
   pub low_held : IsNode t low
