@@ -39,7 +39,8 @@ roots_skip {low} {members} {n = n} {v} is none so_far = record {
   ];
 }
 
--- all roots are found if all vertices of the priority's group are tried, or, without groups, all vertices of the graph
+-- all roots of a priority are found if each vertex of the priority's group is tried. If vertices are not grouped by
+-- priority, each vertex of the graph must be tried
 pub roots_all : {low : LowData} (members : Option StarData) (place : ℕ) {roots : List ℕ} {n : ℕ} →
     candidates_in members low.star.count place ≤ n → ((w v : ℕ) → Link (low_graph low) w v → v < low.star.count) →
     IfSome members (λ group. IsGroup group place low) → RootsAmong low (candidate_in members place) roots n →
