@@ -176,9 +176,9 @@ pub record IsKeptAt (game : ParityGame) (tables : TablesData) (winner : List ℕ
     pub foreign : owner_of game v ≢ player → (w : ℕ) → HasEdge game v w → level < level_of tables w →
         slice_index winner w ≢ other
 
--- The player can't keep v. If the player owns v, no edge leads from v to a vertex of a higher level than `level` that
--- the player won. If the opponent owns v, an edge leads from v to a vertex of a higher level than `level` that the
--- opponent won.
+-- The player can't keep the vertex v, under a condition that depends on the owner of v. If the player owns v, no edge
+-- leads from v to a vertex of a higher level than `level` that the player won. If the opponent owns v, an edge leads
+-- from v to a vertex of a higher level than `level` that the opponent won.
 pub record IsLostAt (game : ParityGame) (tables : TablesData) (winner : List ℕ) (level player other v : ℕ) : Type 0
   where
     pub own : owner_of game v ≡ player → (w : ℕ) → HasEdge game v w → level < level_of tables w →
