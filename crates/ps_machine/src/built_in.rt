@@ -1,10 +1,9 @@
 //! psyn's own solver.
 
-ghost use Rattle.std.specs.Prelude.{◌≡◌, true, None, IfOk, IfErr, IfNone, IfSome};
+ghost use Rattle.std.specs.Prelude.{◌≡◌, true, None, IfOk, IfNone, IfSome};
 ghost use Rattle.ps_game.specs.Flat.{FitsWithin};
 ghost use Rattle.ps_referee.specs.Solutions.{AreSizedFor, IsSolution};
-ghost use Rattle.ps_machine.specs.Inner.Certificates.{IsLeastCertificate};
-ghost use Rattle.ps_machine.specs.declared.fault.SolveFault.TheVariants as faults;
+ghost use Rattle.ps_machine.specs.Inner.Certificates.{Finds, IsLeastCertificate};
 
 use crate::fault::SolveFault;
 use crate::solver::Solver;
@@ -129,8 +128,7 @@ impl Solver for BuiltIn {
 /// The certificate of a game, computed on flat arrays whose numbers have the width `W`.
 fn certificate_in<W: Width>(alloc: Global, game: &Game) -> Result<Certificate, SolveFault>
     requires { FitsWithin game.now W.LIMIT }
-    ensures certificate { IfOk result (IsLeastCertificate game.now) }
-    ensures memory { IfErr result (λ fault. fault ≡ faults.OutOfMemory) }
+    ensures { Finds result (IsLeastCertificate game.now) }
 {
     let flat = FlatGame::<W>::of(alloc, game)?;
     certificate_of(alloc, &flat)
@@ -142,8 +140,7 @@ fn certificate_in<W: Width>(alloc: Global, game: &Game) -> Result<Certificate, S
 /// guarantees that an attempt's result is right, so it is checked. Both limits grow from round to round, and the last
 /// round has no limit.
 fn certificate_of<A: Arena>(alloc: Global, arena: &A) -> Result<Certificate, SolveFault>
-    ensures certificate { IfOk result (IsLeastCertificate (A.game arena.now)) }
-    ensures memory { IfErr result (λ fault. fault ≡ faults.OutOfMemory) }
+    ensures { Finds result (IsLeastCertificate (A.game arena.now)) }
 {
     let mut budget = Budget::first(arena);
     for _ in 0..ROUNDS {
@@ -162,8 +159,7 @@ fn certificate_within<A: Arena>(
     arena: &A,
     budget: &mut Budget,
 ) -> Result<Option<Certificate>, SolveFault>
-    ensures certificate { IfOk result (λ found. IfSome found (IsLeastCertificate (A.game arena.now))) }
-    ensures memory { IfErr result (λ fault. fault ≡ faults.OutOfMemory) }
+    ensures { Finds result (λ found. IfSome found (IsLeastCertificate (A.game arena.now))) }
 {
     match solved_within(alloc, arena, budget.placed)? {
         Some(certificate) => Ok(Some(certificate)),
@@ -178,8 +174,7 @@ fn solved_within<A: Arena>(
     arena: &A,
     budget: u64,
 ) -> Result<Option<Certificate>, SolveFault>
-    ensures certificate { IfOk result (λ found. IfSome found (IsLeastCertificate (A.game arena.now))) }
-    ensures memory { IfErr result (λ fault. fault ≡ faults.OutOfMemory) }
+    ensures { Finds result (λ found. IfSome found (IsLeastCertificate (A.game arena.now))) }
 {
     let mut counts = Counts::default();
     let Some((won, first, second)) = regions_within(alloc, arena, &mut counts, budget)? else {
@@ -197,8 +192,7 @@ fn attempted<A: Arena>(
     arena: &A,
     budget: &mut Budget,
 ) -> Result<Option<Certificate>, SolveFault>
-    ensures certificate { IfOk result (λ found. IfSome found (IsLeastCertificate (A.game arena.now))) }
-    ensures memory { IfErr result (λ fault. fault ≡ faults.OutOfMemory) }
+    ensures { Finds result (λ found. IfSome found (IsLeastCertificate (A.game arena.now))) }
 {
     match attempt(alloc, arena, budget.cells)? {
         Attempted::OutOfFuel => Ok(None),
@@ -224,10 +218,9 @@ fn tried<A: Arena>(
     second: &Strategy,
 ) -> Result<Option<Certificate>, SolveFault>
     requires sized { AreSizedFor (A.game arena.now) won.now first.now second.now }
-    ensures certificate { IfOk result (λ found. IfSome found (IsLeastCertificate (A.game arena.now))) }
+    ensures found { Finds result (λ found. IfSome found (IsLeastCertificate (A.game arena.now))) }
     ensures none { IfOk result (λ found. IfNone found
         (¬ IsSolution (A.game arena.now) won.now first.now second.now)) }
-    ensures memory { IfErr result (λ fault. fault ≡ faults.OutOfMemory) }
 {
     match judge(alloc, arena, won, first, second) {
         Ok(certificate) => Ok(Some(certificate)),
@@ -244,8 +237,7 @@ fn tried<A: Arena>(
 
 /// The certificate that the recursion finds for a game, however long the recursion takes.
 fn certificate_without_bound<A: Arena>(alloc: Global, arena: &A) -> Result<Certificate, SolveFault>
-    ensures certificate { IfOk result (IsLeastCertificate (A.game arena.now)) }
-    ensures memory { IfErr result (λ fault. fault ≡ faults.OutOfMemory) }
+    ensures { Finds result (IsLeastCertificate (A.game arena.now)) }
 {
     let mut counts = Counts::default();
     let (won, first, second) = regions(alloc, arena, &mut counts)?;

@@ -1,15 +1,14 @@
 //! Makes the diagrams of a machine. Each memory state has a diagram that leads each letter of the other player to a
 //! row: a letter to output, and a next memory state.
 
-ghost use Rattle.std.specs.Prelude.{◌≡◌, ◌≢◌, ℕ, ◌<◌, true, false, Any, IfOk, OnOk, Some, length, slice_get};
+ghost use Rattle.std.specs.Prelude.{◌≡◌, ◌≢◌, ℕ, ◌<◌, true, Any, OnOk, Some, length, slice_get};
 ghost use Rattle.std.specs.List.{All, Contains};
-ghost use Rattle.ps_diagram.specs.Table.{Keeps};
-ghost use Rattle.ps_machine.specs.Inner.Drawing.{IsOwn, KeepsRows};
+ghost use Rattle.ps_machine.specs.Inner.Drawing.{IsOwn};
 ghost use Rattle.ps_machine.specs.Extracting.{StandsFor};
 ghost use Rattle.ps_machine.specs.Numbering.{StandsAt};
 ghost use Rattle.ps_machine.specs.Inner.Placing.{PlaysClass};
-ghost use Rattle.ps_machine.specs.Inner.Planning.{AreDividedBy, AreRowsBy, CanEnterBy, IsDrawnBy, IsEnteredBy};
-ghost use Rattle.ps_machine.specs.Inner.Planning.{IsPlacedBy, IsPlanned, board_by};
+ghost use Rattle.ps_machine.specs.Inner.Planning.{AddsRows, AreRowsBy, CanDraw, CanDrawAt, CanEnterBy};
+ghost use Rattle.ps_machine.specs.Inner.Planning.{Draws, IsEnteredBy, IsPlacedBy, IsPlanned, board_by};
 ghost use Rattle.ps_machine.specs.declared.key.Key.TheVariants.{First};
 
 use crate::divided::Divided;
@@ -97,15 +96,8 @@ impl Drawing {
         plan: &Plan<'_>,
         vertex: usize,
     ) -> Result<Node, AllocError>
-        requires plan { IsPlanned plan.now }
-        requires kept { Contains plan.now.memories.now.kept.items vertex }
-        requires divided { AreDividedBy plan.now }
-        requires letters { plan.now.divided.now.store.propositions ≡ self.old.store.propositions }
-        requires rows { AreRowsBy plan.now self.old.rows.keys }
-        ensures keeps { Keeps self.old.store self.new.store }
-        ensures same_rows { KeepsRows self.old.rows.keys self.new.rows.keys }
-        ensures rows { AreRowsBy plan.now self.new.rows.keys }
-        ensures drawn { IfOk result (λ node. IsDrawnBy plan.now self.new.store self.new.rows.keys vertex node) }
+        requires { CanDraw plan.now self.old vertex }
+        ensures { Draws plan.now self.old self.new vertex result }
     {
         match plan.keys.as_slice()[vertex] {
             Key::First { state, .. } => if plan.moves_first {
@@ -121,17 +113,8 @@ impl Drawing {
     /// The result is the diagram of the steps that can follow this class, with the index of a row of the machine's
     /// table in place of each step.
     fn first_node(&mut self, plan: &Plan<'_>, vertex: usize, state: u32) -> Result<Node, AllocError>
-        requires plan { IsPlanned plan.now }
-        requires kept { Contains plan.now.memories.now.kept.items vertex }
-        requires turn { plan.now.moves_first ≡ true }
-        requires stands { (p : ℕ) × StandsAt plan.now.keys.now.keys vertex (First state p) }
-        requires divided { AreDividedBy plan.now }
-        requires letters { plan.now.divided.now.store.propositions ≡ self.old.store.propositions }
-        requires rows { AreRowsBy plan.now self.old.rows.keys }
-        ensures keeps { Keeps self.old.store self.new.store }
-        ensures same_rows { KeepsRows self.old.rows.keys self.new.rows.keys }
-        ensures rows { AreRowsBy plan.now self.new.rows.keys }
-        ensures drawn { IfOk result (λ node. IsDrawnBy plan.now self.new.store self.new.rows.keys vertex node) }
+        requires { CanDrawAt true plan.now self.old vertex state }
+        ensures { Draws plan.now self.old self.new vertex result }
     {
         let letter = plan.letter_at(vertex);
         let rest = rest_of(&plan.divided.of(state).list, letter);
@@ -152,9 +135,7 @@ impl Drawing {
         requires entered { All (λ leaf. IsEnteredBy plan.now leaf.0) leaves.now }
         requires own { IsOwn plan.now.moves_first (board_by plan.now) letter }
         requires rows { AreRowsBy plan.now self.old.rows.keys }
-        ensures store { self.new.store ≡ self.old.store }
-        ensures same_rows { KeepsRows self.old.rows.keys self.new.rows.keys }
-        ensures rows { AreRowsBy plan.now self.new.rows.keys }
+        ensures added { AddsRows plan.now self.old self.new }
         ensures placed { OnOk result
             (All (λ leaf. IsPlacedBy plan.now self.new.rows.keys self.new.places.items letter leaf.0) leaves.now) }
     {

@@ -1,10 +1,10 @@
 //! The machine of a certificate.
 
-ghost use Rattle.std.specs.Prelude.{◌≡◌, ◌<◌, ◌≤◌, ℕ, List, IfOk, OnOk, length, map};
+ghost use Rattle.std.specs.Prelude.{◌≡◌, ◌≤◌, ℕ, List, IfOk, OnOk, length, map};
 ghost use Rattle.ps_automaton.specs.Automata.{IsBuiltFrom};
 ghost use Rattle.ps_automaton.specs.Chains.{Chain};
 ghost use Rattle.ps_certificate.specs.Certificates.{Fits, IsValid};
-ghost use Rattle.ps_game.specs.Games.{ParityGame, vertex_count};
+ghost use Rattle.ps_game.specs.Games.{ParityGame};
 ghost use Rattle.ps_hoa.specs.Files.{FileData};
 ghost use Rattle.ps_hoa.specs.Memory.{bytes_of};
 ghost use Rattle.ps_hoa.specs.Sound.{AreNames};
@@ -13,11 +13,12 @@ ghost use Rattle.ps_machine.specs.Behaviours.{LassosWon};
 ghost use Rattle.ps_machine.specs.Boards.{IsGameOf};
 ghost use Rattle.ps_machine.specs.BuiltBoards.{board_of};
 ghost use Rattle.ps_machine.specs.Dividing.{HasClasses};
+ghost use Rattle.ps_machine.specs.Inner.Certificates.{IsValidFor};
 ghost use Rattle.ps_machine.specs.Inner.Drawing.{AreMemories, AreUsed};
 ghost use Rattle.ps_machine.specs.Extracting.{HasPropositions, IsMachineOf};
 ghost use Rattle.ps_machine.specs.Keys.{mover_of};
 ghost use Rattle.ps_machine.specs.Machines.{behaviour};
-ghost use Rattle.ps_machine.specs.Inner.Planning.{AreDividedBy, AreDrawnBy, AreRowsBy, IsPlanned, board_by};
+ghost use Rattle.ps_machine.specs.Inner.Planning.{AreDrawnBy, AreRowsBy, IsReadyPlan, board_by};
 ghost use Rattle.ps_machine.specs.declared.key.Key.{Key};
 
 use crate::drawing::{Drawing, Plan};
@@ -114,9 +115,7 @@ fn memories_of(
     certificate: &Certificate,
     moves_first: bool,
 ) -> Result<Memories, AllocError>
-    requires some { 0 < vertex_count game.now }
-    requires fits { Fits game.now certificate.now }
-    requires valid { IsValid game.now certificate.now }
+    requires { IsValidFor game.now certificate.now }
     ensures { IfOk result (λ memories. (used : List ℕ) × AreUsed game.now certificate.now used ×
         AreMemories moves_first keys.now used memories.kept.items memories.anchors.keys) }
 {
@@ -126,8 +125,7 @@ fn memories_of(
 
 /// Builds the machine from the data of a `Plan`.
 fn machine_by(alloc: Global, plan: &Plan<'_>) -> Result<Machine, AllocError>
-    requires plan { IsPlanned plan.now }
-    requires divided { AreDividedBy plan.now }
+    requires { IsReadyPlan plan.now }
     ensures machine { IfOk result (λ m. (game : ParityGame)
         → IsGameOf (board_by plan.now) (mover_of plan.now.order) plan.now.keys.now.keys game
         → IsMachineOf (board_by plan.now) (mover_of plan.now.order) plan.now.keys.now.keys game plan.now.certificate.now
@@ -146,8 +144,7 @@ fn machine_by(alloc: Global, plan: &Plan<'_>) -> Result<Machine, AllocError>
 /// Makes the diagrams of all memory states, and the rows (output letter and next memory state) to which these diagrams
 /// lead.
 fn draw(alloc: Global, plan: &Plan<'_>) -> Result<Diagrams, AllocError>
-    requires plan { IsPlanned plan.now }
-    requires divided { AreDividedBy plan.now }
+    requires { IsReadyPlan plan.now }
     ensures letters { IfOk result (λ made. made.store.propositions ≡ length plan.now.automaton.now.names) }
     ensures drawn { IfOk result (λ made. AreDrawnBy plan.now made.store made.rows.keys made.nodes.items
         (length plan.now.memories.now.kept.items)) }
@@ -167,8 +164,7 @@ fn draw(alloc: Global, plan: &Plan<'_>) -> Result<Diagrams, AllocError>
 
 /// Makes the diagrams of all memory states.
 fn nodes_of(alloc: Global, plan: &Plan<'_>, drawing: &mut Drawing) -> Result<Vec<Node>, AllocError>
-    requires plan { IsPlanned plan.now }
-    requires divided { AreDividedBy plan.now }
+    requires ready { IsReadyPlan plan.now }
     requires letters { plan.now.divided.now.store.propositions ≡ drawing.old.store.propositions }
     requires rows { AreRowsBy plan.now drawing.old.rows.keys }
     ensures letters { OnOk result (drawing.new.store.propositions ≡ drawing.old.store.propositions) }

@@ -1,15 +1,12 @@
 //! The diagrams of a machine whose player moves second.
 
 ghost use Rattle.std.specs.Prelude.{◌≡◌, ℕ, ◌<◌, false, Any, IfOk, length};
-ghost use Rattle.std.specs.List.{All, AllZip, Contains};
+ghost use Rattle.std.specs.List.{All, AllZip};
 ghost use Rattle.ps_automaton.specs.Automata.{pair_of};
-ghost use Rattle.ps_diagram.specs.Table.{Keeps};
 ghost use Rattle.ps_machine.specs.Boards.{IsClassLetter};
-ghost use Rattle.ps_machine.specs.Inner.Drawing.{IsReply, KeepsRows};
-ghost use Rattle.ps_machine.specs.Numbering.{StandsAt};
-ghost use Rattle.ps_machine.specs.Inner.Planning.{AreDividedBy, AreRowsBy, CanEnterBy, IsAnswerBy, IsDrawnBy};
-ghost use Rattle.ps_machine.specs.Inner.Planning.{IsPlanned, IsRestBy, NamesAnswerBy, board_by};
-ghost use Rattle.ps_machine.specs.declared.key.Key.TheVariants.{First};
+ghost use Rattle.ps_machine.specs.Inner.Drawing.{IsReply};
+ghost use Rattle.ps_machine.specs.Inner.Planning.{AddsRows, AreRowsBy, CanDrawAt, CanEnterBy, CanReply};
+ghost use Rattle.ps_machine.specs.Inner.Planning.{Draws, IsAnswerBy, IsRestBy, NamesAnswerBy, board_by};
 
 use crate::drawing::{Drawing, Plan};
 use crate::key::Key;
@@ -21,9 +18,7 @@ use std::alloc::{AllocError, Global};
 impl Plan<'_> {
     /// The step of the automaton that the winner, who moves second, chooses after the least letter of a class.
     fn reply(&self, state: u32, letter: u64) -> Step
-        requires turn { self.now.moves_first ≡ false }
-        requires entered { (p : ℕ) × CanEnterBy self.now state p }
-        requires class { IsClassLetter (board_by self.now) state letter }
+        requires { CanReply self.now state letter }
         ensures reply { IsReply (board_by self.now) self.now.keys.now.keys self.now.certificate.now state letter
             result.state result.priority }
         ensures enters { CanEnterBy self.now result.state result.priority }
@@ -42,9 +37,7 @@ impl Plan<'_> {
     /// The row of the machine's table for a class of the first player's letters: the letter that is output, and the
     /// next memory state.
     fn row_of_class(&self, state: u32, class: Class) -> Result<Row, AllocError>
-        requires turn { self.now.moves_first ≡ false }
-        requires entered { (p : ℕ) × CanEnterBy self.now state p }
-        requires class { IsClassLetter (board_by self.now) state class.letter }
+        requires ready { CanReply self.now state class.letter }
         requires rest { IsRestBy self.now state class.letter class.rest }
         ensures { IfOk result (IsAnswerBy self.now state class.letter) }
     {
@@ -68,17 +61,8 @@ impl Drawing {
         vertex: usize,
         state: u32,
     ) -> Result<Node, AllocError>
-        requires plan { IsPlanned plan.now }
-        requires kept { Contains plan.now.memories.now.kept.items vertex }
-        requires turn { plan.now.moves_first ≡ false }
-        requires stands { (p : ℕ) × StandsAt plan.now.keys.now.keys vertex (First state p) }
-        requires divided { AreDividedBy plan.now }
-        requires letters { plan.now.divided.now.store.propositions ≡ self.old.store.propositions }
-        requires rows { AreRowsBy plan.now self.old.rows.keys }
-        ensures keeps { Keeps self.old.store self.new.store }
-        ensures same_rows { KeepsRows self.old.rows.keys self.new.rows.keys }
-        ensures rows { AreRowsBy plan.now self.new.rows.keys }
-        ensures drawn { IfOk result (λ node. IsDrawnBy plan.now self.new.store self.new.rows.keys vertex node) }
+        requires { CanDrawAt false plan.now self.old vertex state }
+        ensures { Draws plan.now self.old self.new vertex result }
     {
         let classes = plan.divided.of(state);
         let values = self.rows_of_classes(alloc, plan, state, &classes.list)?;
@@ -99,9 +83,7 @@ impl Drawing {
         requires classes { All (λ class. IsClassLetter (board_by plan.now) state class.letter) classes.now }
         requires rests { All (λ class. IsRestBy plan.now state class.letter class.rest) classes.now }
         requires rows { AreRowsBy plan.now self.old.rows.keys }
-        ensures store { self.new.store ≡ self.old.store }
-        ensures same_rows { KeepsRows self.old.rows.keys self.new.rows.keys }
-        ensures rows { AreRowsBy plan.now self.new.rows.keys }
+        ensures added { AddsRows plan.now self.old self.new }
         ensures values { IfOk result
             (λ values. AllZip (λ class value. NamesAnswerBy plan.now self.new.rows.keys state class.letter value)
             classes.now values.items) }

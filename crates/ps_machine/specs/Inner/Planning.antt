@@ -2,19 +2,25 @@
 -- functions.)
 -- - `IsPlanned plan`: the machine can be made from the plan
 -- - `AreDividedBy plan`: the plan has the classes of letters of each state at which the first player moves
-use Rattle.std.specs.Prelude.{ℕ, nat_eq, List}
-use Rattle.std.specs.List.{All}
+-- - `IsReadyPlan plan`: both of these hold
+-- - `CanDraw plan drawing v`: the diagram of the memory state of the vertex v can be added to the drawing
+-- - `Draws plan old new v result`: the call has made this diagram, or memory has run out
+use Rattle.std.specs.Prelude.{◌≡◌, ℕ, nat_eq, Bool, false, IfOk, List, Result}
+use Rattle.std.specs.List.{All, Contains}
 use Rattle.indexmap.specs.IndexMap.{get}
-use Rattle.ps_diagram.specs.Table.{Table}
+use Rattle.ps_diagram.specs.Table.{Keeps, Table}
 use Rattle.ps_machine.specs.Inner.Assembling.{AreDrawn}
-use Rattle.ps_machine.specs.Boards.{Board}
+use Rattle.ps_machine.specs.Boards.{Board, IsClassLetter}
 use Rattle.ps_machine.specs.BuiltBoards.{board_of}
 use Rattle.ps_machine.specs.Dividing.{AreDivided}
-use Rattle.ps_machine.specs.Inner.Drawing.{CanEnter, IsReplyRow, IsDrawn, IsPlan, IsRow, NamesAnswer}
+use Rattle.ps_machine.specs.Inner.Drawing.{CanEnter, IsReplyRow, IsDrawn, IsPlan, IsRow, KeepsRows, NamesAnswer}
 use Rattle.ps_machine.specs.Dividing.{IsFit}
 use Rattle.ps_machine.specs.Inner.Moving.{IsRest}
 use Rattle.ps_machine.specs.Inner.Placing.{IsEntered, IsPlaced}
+use Rattle.ps_machine.specs.Numbering.{StandsAt}
+use Rattle.ps_machine.specs.declared.drawing.Drawing.{Drawing}
 use Rattle.ps_machine.specs.declared.drawing.Plan.{Plan}
+use Rattle.ps_machine.specs.declared.key.Key.TheVariants.{First}
 use Rattle.ps_machine.specs.declared.machine.Row.{Row}
 
 abbrev pub board_by : Plan → Board
@@ -64,3 +70,41 @@ IsAnswerBy p = IsReplyRow (board_by p) p.keys.now.keys p.memories.now.kept.items
 
 abbrev pub NamesAnswerBy : Plan → List Row → ℕ → ℕ → ℕ → Type 0
 NamesAnswerBy p = NamesAnswer (board_by p) p.keys.now.keys p.memories.now.kept.items p.certificate.now
+
+-- ## What functions that draw require, and what they give
+
+pub record IsReadyPlan (p : Plan) : Type 0 where
+  pub plan : IsPlanned p
+  pub divided : AreDividedBy p
+
+pub record CanDraw (p : Plan) (drawing : Drawing) (v : ℕ) : Type 0 where
+  pub plan : IsPlanned p
+  pub kept : Contains p.memories.now.kept.items v
+  pub divided : AreDividedBy p
+  pub letters : p.divided.now.store.propositions ≡ drawing.store.propositions
+  pub rows : AreRowsBy p drawing.rows.keys
+
+-- as `CanDraw`; also, the vertex v stands for the state q, and `is_first` states whether the machine's player moves
+-- first
+pub record CanDrawAt (is_first : Bool) (p : Plan) (drawing : Drawing) (v q : ℕ) : Type 0 where
+  pub ready : CanDraw p drawing v
+  pub turn : p.moves_first ≡ is_first
+  pub stands : (priority : ℕ) × StandsAt p.keys.now.keys v (First q priority)
+
+-- the machine's player moves second, and answers the least letter x of a class at the state q, which can be entered
+pub record CanReply (p : Plan) (q x : ℕ) : Type 0 where
+  pub turn : p.moves_first ≡ false
+  pub entered : (priority : ℕ) × CanEnterBy p q priority
+  pub class : IsClassLetter (board_by p) q x
+
+-- only rows of the plan are added, and each earlier row keeps its index
+pub record AddsRows (p : Plan) (old new : Drawing) : Type 0 where
+  pub store : new.store ≡ old.store
+  pub same_rows : KeepsRows old.rows.keys new.rows.keys
+  pub rows : AreRowsBy p new.rows.keys
+
+pub record Draws {E : Type 0} (p : Plan) (old new : Drawing) (v : ℕ) (result : Result ℕ E) : Type 0 where
+  pub keeps : Keeps old.store new.store
+  pub same_rows : KeepsRows old.rows.keys new.rows.keys
+  pub rows : AreRowsBy p new.rows.keys
+  pub drawn : IfOk result (IsDrawnBy p new.store new.rows.keys v)

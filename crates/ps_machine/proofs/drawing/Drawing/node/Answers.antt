@@ -13,17 +13,25 @@ bounds-as_slice-vertex c = rw c.as_slice.ensures.keys (kept_within c.requires.pl
 pub offset_bounds-as_slice-vertex : goal.offset_bounds-as_slice-vertex
 offset_bounds-as_slice-vertex c = grind (arith, kept_within c.requires.plan c.args.vertex c.requires.kept)
 
-pub first_node-requires-clause-stands : goal.first_node-requires-clause-stands
-first_node-requires-clause-stands c = (
-  c.in-First.priority,
-  kept_stands c.requires.plan c.args.vertex c.requires.kept (cc (c.as_slice.ensures.keys, c.in-First.is)),
-)
+pub first_node-requires : goal.first_node-requires
+first_node-requires c = record {
+  ready = c.requires;
+  turn = grind arith;
+  stands = (
+    c.in-First.priority,
+    kept_stands c.requires.plan c.args.vertex c.requires.kept (cc (c.as_slice.ensures.keys, c.in-First.is)),
+  );
+}
 
-pub second_node-requires-clause-stands : goal.second_node-requires-clause-stands
-second_node-requires-clause-stands c = (
-  c.in-First.priority,
-  kept_stands c.requires.plan c.args.vertex c.requires.kept (cc (c.as_slice.ensures.keys, c.in-First.is)),
-)
+pub second_node-requires : goal.second_node-requires
+second_node-requires c = record {
+  ready = c.requires;
+  turn = grind arith;
+  stands = (
+    c.in-First.priority,
+    kept_stands c.requires.plan c.args.vertex c.requires.kept (cc (c.as_slice.ensures.keys, c.in-First.is)),
+  );
+}
 
 pub unreachable-requires : goal.unreachable-requires
 unreachable-requires c = kept_not_second c.requires.plan c.args.vertex c.requires.kept

@@ -7,13 +7,11 @@ use Rattle.ps_machine.proofs.Diagrams.FirstDrawing.{add_row, note_more}
 use Rattle.ps_machine.proofs.Diagrams.RowTests.{same_row}
 use Rattle.ps_machine.proofs.drawing.Drawing.place_rows.Goals as goal
 
-pub returns-in_err-note-clause-same_rows : goal.returns-in_err-note-clause-same_rows
-returns-in_err-note-clause-same_rows c =
-    (add_row (row_eq.eq-value).it c.loop-leaf.invariant.noted c.in_ok-place.ensures.keys (grind arith)).same_rows
-
-pub returns-in_err-note-clause-rows : goal.returns-in_err-note-clause-rows
-returns-in_err-note-clause-rows c = (add_row (row_eq.eq-value).it c.loop-leaf.invariant.noted c.in_ok-place.ensures.keys
-    (record { memory = c.memory_behind-memory.ensures.within; letter = c.requires.own })).each
+pub returns-in_err-note-clause-added : goal.returns-in_err-note-clause-added
+returns-in_err-note-clause-added c =
+    let added = add_row (row_eq.eq-value).it c.loop-leaf.invariant.noted c.in_ok-place.ensures.keys
+    (record { memory = c.memory_behind-memory.ensures.within; letter = c.requires.own }) in
+    record { store = c.loop-leaf.invariant.store; same_rows = added.same_rows; rows = added.each }
 
 pub loop-leaf-preserved : goal.loop-leaf-preserved
 loop-leaf-preserved c =

@@ -7,18 +7,20 @@ use Rattle.ps_machine.proofs.Diagrams.DrawingLemmas.{all_rows, keeps_rows, keeps
 use Rattle.ps_machine.proofs.Diagrams.SecondDrawing.{Names, answer_row, named_next}
 use Rattle.ps_machine.proofs.drawing.Drawing.rows_of_classes.Goals as goal
 
-pub returns-in_err-push-clause-same_rows : goal.returns-in_err-push-clause-same_rows
-returns-in_err-push-clause-same_rows c = keeps_rows_trans c.loop-class.invariant.same_rows
-    (keeps_rows (row_eq.eq-value).it c.in_ok-row.row c.in_ok-place.ensures.keys)
-
-pub returns-in_err-push-clause-rows : goal.returns-in_err-push-clause-rows
-returns-in_err-push-clause-rows c =
+pub returns-in_err-push-clause-added : goal.returns-in_err-push-clause-added
+returns-in_err-push-clause-added c =
     let plan = c.args.plan.now in
     let board = board_of plan.order plan.automaton.now in
     let kept = plan.memories.now.kept.items in
     let row = c.in_ok-row.row in
-    all_rows (IsRow plan.moves_first board kept) (row_eq.eq-value).it c.loop-class.self.rows.keys row
-    c.in_ok-place.ensures.keys c.loop-class.invariant.rows (answer_row c.requires.turn c.in_ok-row.ensures)
+    let inv = c.loop-class.invariant in
+    let keys = c.in_ok-place.ensures.keys in
+    record {
+      store = inv.store;
+      same_rows = keeps_rows_trans inv.same_rows (keeps_rows (row_eq.eq-value).it row keys);
+      rows = all_rows (IsRow plan.moves_first board kept) (row_eq.eq-value).it c.loop-class.self.rows.keys row keys
+          inv.rows (answer_row c.requires.turn c.in_ok-row.ensures);
+    }
 
 pub loop-class-preserved : goal.loop-class-preserved
 loop-class-preserved c =

@@ -12,20 +12,20 @@ pub rows_of_classes-requires-clause-entered : goal.rows_of_classes-requires-clau
 rows_of_classes-requires-clause-entered c = (
   c.requires.stands.0,
   record {
-    plan = c.requires.plan;
+    plan = c.requires.ready.plan;
     vertex = c.args.vertex;
     stands = c.requires.stands.1;
-    is_used = kept_used c.requires.plan c.requires.kept;
+    is_used = kept_used c.requires.ready.plan c.requires.ready.kept;
   },
 )
 
 pub rows_of_classes-requires-clause-classes : goal.rows_of_classes-requires-clause-classes
-rows_of_classes-requires-clause-classes c = rw c.deref.ensures.value (class_each c.requires.divided.fit
-    (classes_there c.args.vertex c.requires.divided c.requires.stands.1 c.of-classes.ensures))
+rows_of_classes-requires-clause-classes c = rw c.deref.ensures.value (class_each c.requires.ready.divided.fit
+    (classes_there c.args.vertex c.requires.ready.divided c.requires.stands.1 c.of-classes.ensures))
 
 pub rows_of_classes-requires-clause-rests : goal.rows_of_classes-requires-clause-rests
 rows_of_classes-requires-clause-rests c =
-    let d = c.requires.divided in
+    let d = c.requires.ready.divided in
     rw c.deref.ensures.value (λ i x within. search (rules, class_rests, classes_there))
 
 pub relabel_from-requires-clause-held : goal.relabel_from-requires-clause-held
@@ -34,21 +34,28 @@ relabel_from-requires-clause-held c = grind (arith, classes_there)
 pub relabel_from-requires-clause-within : goal.relabel_from-requires-clause-within
 relabel_from-requires-clause-within c letter within =
     let plan = c.args.plan.now in
-    let of = classes_there c.args.vertex c.requires.divided c.requires.stands.1 c.of-classes.ensures in
+    let of = classes_there c.args.vertex c.requires.ready.divided c.requires.stands.1 c.of-classes.ensures in
     let rows = c.rows_of_classes.new.self.rows.keys in
     places_within plan.keys.now.keys plan.memories.now.kept.items plan.certificate.now rows c.deref-2.result.now
-    c.requires.divided.fit of
+    c.requires.ready.divided.fit of
     (grind arith) letter
 
-pub returns-clause-drawn : goal.returns-clause-drawn
-returns-clause-drawn c =
+pub returns : goal.returns
+returns c =
     let plan = c.args.plan.now in
-    let of = classes_there c.args.vertex c.requires.divided c.requires.stands.1 c.of-classes.ensures in
+    let of = classes_there c.args.vertex c.requires.ready.divided c.requires.stands.1 c.of-classes.ensures in
     let rows = c.rows_of_classes.new.self.rows.keys in
     let named = named_as (λ (class : Class) value. NamesAnswerBy plan rows c.args.state class.letter value)
     c.deref.ensures.value c.deref-2.ensures.value c.in_ok-values.ensures.values in
     let u = c.relabel_from.new.self in
-    both_ok _ _ (IsDrawnBy plan u rows c.args.vertex) c.relabel_from.result c.relabel_from.ensures.held
-    c.relabel_from.ensures.leaf (λ node held leaf. rw c.requires.turn
-    (drawn_second plan.keys.now.keys plan.memories.now.kept.items plan.certificate.now rows c.deref-2.result.now
-    c.requires.divided.fit of named u node leaf c.args.vertex c.requires.stands.0 c.requires.stands.1 held))
+    let added = c.in_ok-values.ensures.added in
+    record {
+      keeps = rw added.store at c.relabel_from.ensures.keeps;
+      same_rows = added.same_rows;
+      rows = added.rows;
+      drawn = both_ok _ _ (IsDrawnBy plan u rows c.args.vertex) c.relabel_from.result c.relabel_from.ensures.held
+          c.relabel_from.ensures.leaf (λ node held leaf. rw c.requires.turn
+          (drawn_second plan.keys.now.keys plan.memories.now.kept.items plan.certificate.now rows c.deref-2.result.now
+          c.requires.ready.divided.fit of named u node leaf c.args.vertex c.requires.stands.0 c.requires.stands.1
+          held));
+    }

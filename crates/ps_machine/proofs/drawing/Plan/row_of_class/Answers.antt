@@ -17,5 +17,5 @@ returns c =
     let step = c.reply-step.result in
     let are = rw (← c.deref.ensures.value) at c.in_ok-leaves.ensures in
     answered c.reply-step.ensures.reply c.requires.rest.1 c.requires.rest.2 are c.letter_to.result
-    c.memory_behind.result c.requires.class c.letter_to.ensures
-    (λ v at. rw c.requires.turn at (c.memory_behind.ensures.stands v at))
+    c.memory_behind.result c.requires.ready.class c.letter_to.ensures
+    (λ v at. rw c.requires.ready.turn at (c.memory_behind.ensures.stands v at))
