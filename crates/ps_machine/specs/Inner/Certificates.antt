@@ -1,4 +1,4 @@
--- The certificates that psyn's own solver makes.
+-- The certificates that psyn's own solver makes, and those from which a machine is made. (For private functions.)
 use Rattle.std.specs.Prelude.{◌≡◌, ◌<◌, IfErr, IfOk, Result}
 use Rattle.ps_certificate.specs.Certificates.{CertificateData, Fits, IsValid}
 use Rattle.ps_certificate.specs.Least.{HasLeastCounts}
