@@ -193,8 +193,8 @@ fn node_by_letters(pairs: &mut Pairs, levels: &Levels, guards: &Guards) -> Resul
     Ok(node)
 }
 
-/// The diagram of the steps of a state, made letter by letter. The result is None, and nothing has changed, only if two
-/// edges with different targets are taken at one letter.
+/// The diagram of the steps of a state, made letter by letter, or None if `edges_by_letter` returns None. If the result
+/// is None, nothing has changed.
 fn node_by_sets(
     pairs: &mut Pairs,
     levels: &Levels,

@@ -13,8 +13,9 @@ use crate::targets::Target;
 use ps_hoa::{HoaFile, Row};
 use std::alloc::{AllocError, Global};
 
-/// For each letter, the index of the first edge of a row that is taken there, if there is one. The result is None only
-/// if two edges with different targets are taken at one letter. Fails if out of memory.
+/// For each letter, the index of the first edge of a row that is taken there, if there is one. If two edges with
+/// different targets are taken at one letter, the result is None. The clauses allow None for every row: it costs time
+/// only, since the edges are then joined as diagrams. Fails if out of memory.
 pub(crate) fn edges_by_letter(
     alloc: Global,
     sets: &LetterSets,

@@ -29,8 +29,8 @@ pub(crate) struct LetterSets {
 }
 
 impl LetterSets {
-    /// The sets of a file's propositions and aliases, or None if the file has more than 6 propositions. Fails if out of
-    /// memory.
+    /// The sets of a file's propositions and aliases, or None if the file has more than 6 propositions. The clauses
+    /// allow None for every file: it costs time only, since edges are then joined as diagrams. Fails if out of memory.
     pub(crate) fn of(alloc: Global, file: &HoaFile) -> Result<Option<LetterSets>, AllocError>
         ensures { IfOk result (λ made. IfSome made (AreLetterSets file.now)) }
     {

@@ -44,7 +44,7 @@ fn base_number(base: bool) -> u64
     if base { 0 } else { 1 }
 }
 
-/// Whether an acceptance set is in a bit mask.
+/// Whether a number, such as that of an acceptance set or a letter, is in a bit mask.
 pub(crate) fn is_in(set: usize, sets: u64) -> bool
     requires { set < 64 }
     ensures { result ≡ labels.is_in set sets }
