@@ -1,5 +1,5 @@
 -- Lemmas for the functions that parse the symbol table and the comment, including the cases in which they fail.
--- - `AtLetter`: the next byte is the letter of a symbol, and the parser has moved past this byte
+-- - `AtLetter`: the parser has just read a letter that begins a symbol (`i`, `l` or `o`)
 -- - `past_letter`, `past_number`, `past_space`, `past_name`: what is still to be parsed of a symbol's line after each
 --   of its parts
 use Rattle.std.proofs.Common.{◌≡◌, ◌≢◌, ℕ, zero, suc, ◌+◌, ◌^◌, ◌<◌, true, false, List, [], ◌∷◌, ◌++◌, length, map, set}

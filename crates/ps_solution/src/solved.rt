@@ -63,7 +63,7 @@ impl Solved {
         }
     }
 
-    /// Whether an entry was read for each vertex.
+    /// Whether every vertex has an entry.
     pub(crate) fn is_whole(&self) -> bool
         ensures { IsTrue result ↔ IsFilled self.now }
     {

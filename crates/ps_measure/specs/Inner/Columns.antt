@@ -74,7 +74,8 @@ abbrev pub ArePassedFrom : Digraph → (ℕ → ℕ) → ComponentsData → List
 ArePassedFrom g weight c values i =
     (j w v : ℕ) → i ≤ j → slice_get c.order j ≡ Some w → Link g w v → IsPassed weight c values w v
 
--- a link within a component to a vertex of weight 1; no counts can grow along it
+-- a link within a component to a vertex of weight 1: such a link lies on a cycle, around which no numbers can grow as
+-- `AreCounts` requires
 pub record IsLost (g : Digraph) (weight : ℕ → ℕ) (c : ComponentsData) (w v : ℕ) : Type 0 where
   pub link : Link g w v
   pub number : ℕ
