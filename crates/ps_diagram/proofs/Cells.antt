@@ -67,7 +67,7 @@ bool_cases b = cases_Bool b
 pub true_is_not_false : true ≡ false → ⊥
 true_is_not_false e = cc
 
--- each table keeps all its own nodes
+-- keeping nodes is reflexive: t keeps the nodes of t
 pub keeps_refl : (t : Table) → Keeps t t
 keeps_refl t = record { propositions = refl; held = λ node h. h; same = λ node h. refl }
 

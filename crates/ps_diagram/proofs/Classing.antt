@@ -130,7 +130,7 @@ module _ {s u : Table} (m : Made s u) where
   same_letters : (f g : ℕ → Bool) → ((q : ℕ) → f q ≡ g q) → leaf_at (tree_of s m.node) f ≡ leaf_at (tree_of s m.node) g
   same_letters f g e = search (rules, blind-from)
 
-  -- `divided`, which leads each letter to the node that remains after it, depends only on propositions of the mask
+  -- the leaves of `divided`, which are the numbers of the cofactors' nodes, depend only on propositions of the mask
   heeds_mask : (f g : ℕ → Bool) → ((q : ℕ) → is_in q m.mask ≡ true → f q ≡ g q) →
       leaf_at (tree_of u m.divided) f ≡ leaf_at (tree_of u m.divided) g
   heeds_mask f g on = search (rules, divided_alike, same_letters, mixed_alike)
@@ -195,9 +195,9 @@ module _ {s u : Table} (m : Made s u) where
         (m.listed.rising i j lt below));
   }
 
--- Three tables of nodes are involved. The table s has the diagram whose letters are divided into classes. The table v
--- has a diagram that leads each letter to the node that remains after this letter. The table u has the nodes of v, and
--- a diagram whose leaves are the indices of the classes.
+-- The lemma relates three tables of nodes. The table s has `node`, for which the letters are divided into classes. The
+-- table v has `divided`, whose leaf at a letter is the number of a node: the cofactor of `node` for this letter. The
+-- table u has the nodes of v, and the diagram `at`, whose leaves are the indices of the classes.
 pub classes_of : {s v u : Table} → Keeps v u → IsSoundTable s → IsSoundTable u → u.propositions ≡ s.propositions →
     (mask : ℕ) {node divided at : ℕ} {places : ℕ → Option ℕ} {leaves : List (ℕ × ℕ)} {list : List Class} →
     IsNode s node → IsNode v divided → IsNode u at → IsDivided v mask (tree_of s node) (tree_of v divided) →

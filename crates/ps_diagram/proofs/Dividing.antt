@@ -37,9 +37,9 @@ pub tested_kept : {t u : Table} → Keeps t u → {test : (ℕ → Bool) → Boo
 tested_kept k h = are_tested h.low_is h.high_is h.made_is (k.held h.low h.low_held) (k.held h.high h.high_held)
     (search rules) (λ g. rw (k.same h.made h.held, k.same h.high h.high_held, k.same h.low h.low_held) (h.leaf g))
 
--- Nodes with the same leaves are equal. Let a diagram lead each letter to the number of the node that remains after
--- this letter. If the nodes that remain after two letters have the same leaves, the diagram has the same leaf at both
--- letters.
+-- Nodes with the same leaves are equal. The leaf of a diagram of cofactors (`IsDivided`) at a letter is the number of
+-- the node for the letter's cofactor. So the diagram has the same leaf at two letters whose cofactors have the same
+-- leaves.
 
 pub divided_alike : {t : Table} → IsSoundTable t → (mask : ℕ) (a d : Tree) → IsDivided t mask a d → (f g : ℕ → Bool) →
     ((w : ℕ → Bool) → leaf_at a (mixed mask f w) ≡ leaf_at a (mixed mask g w)) → leaf_at d f ≡ leaf_at d g
@@ -74,7 +74,7 @@ tested_blind {t} s p level a b d h ba bb f g e = tested_alike s p a b d h f g (b
 -- to divide a node, its low side and its high side are divided, and from the two diagrams, whose leaves are numbers of
 -- nodes, one diagram is made
 
--- what remains of a diagram that tests no proposition has the diagram's leaf
+-- if a tree has the same leaf at every letter, or no leaf at any, it is its own cofactor for each letter
 pub divided_here : {t u : Table} → Keeps t u → (mask : ℕ) {node place : ℕ} (a : Tree) {d : Tree} (leaf : Option ℕ) →
     ((f : ℕ → Bool) → leaf_at a f ≡ leaf) → IsNode t node → ((f : ℕ → Bool) → leaf_at (tree_of t node) f ≡ leaf) →
     place ≡ node → d ≡ final place → IsDivided u mask a d
@@ -101,8 +101,8 @@ tested_same t p level a h f =
     let x = h f in
     are_tested x.1 x.1 x.1 x.2 x.2 x.2 (λ g. same_cond (g p) (leaf_at (tree_of t x.0) g))
 
--- the entries of memo tables for diagrams whose leaves are numbers of nodes still hold when the table grows, and when
--- an entry is added
+-- the memo tables `known` and `tests` of `divided` stay right when the table of nodes grows, and `tests` also when an
+-- entry is added
 
 pub known_divided_kept : (s : Table) {t u : Table} (mask : ℕ) (known : ℕ → Option ℕ) → Keeps t u →
     Knows (IsDivided t mask) s t known → Knows (IsDivided u mask) s u known
@@ -150,7 +150,8 @@ side_kept : {t u : Table} → Keeps t u → (p : ℕ) {node : ℕ} → IsNode t 
     LeadsToNodes t (p + 1) (tree_of t node) → LeadsToNodes u (p + 1) (tree_of u node)
 side_kept {t} k p {node} held h = rw (k.same node held) (leads_kept k (p + 1) (tree_of t node) h)
 
--- what holds of two nodes holds of their sides, in a table that may have grown
+-- if two nodes meet the condition `AreLeading`, so do their low sides, and so do their high sides, also in a table that
+-- has grown
 pub leading_side : (b : Bool) {t u : Table} {p low high : ℕ} {s : Split} → Keeps t u → IsSplit t low high s →
     AreLeading t p low high → AreLeading u p (cond b s.left.high s.left.low) (cond b s.right.high s.right.low)
 leading_side b {t} {p = p} k s l = record {
@@ -165,8 +166,9 @@ leading_side b {t} {p = p} k s l = record {
     held true s = s.high_held
     held false s = s.low_held
 
--- `IsTested` holds for two diagrams after three steps, in which the table grows. The first step makes a diagram for
--- their low sides, and the second step one for their high sides. The third step makes a test of these two diagrams
+-- The diagram `made` meets the condition `IsTested` for the nodes a and b. It is made in three steps, in which the
+-- table may grow: `low` from the low sides of a and b, `high` from their high sides, and then a test with the sides
+-- `low` and `high`
 pub sides_tested : {E : Type 0} {t u v w : Table} (p : ℕ) {a b low high made : ℕ} {s : Split} → IsSplit t a b s →
     MakesTree {E = E} t u (Ok low) (IsTested u p (tree_of t s.left.low) (tree_of t s.right.low)) →
     MakesTree {E = E} u v (Ok high) (IsTested v p (tree_of u s.left.high) (tree_of u s.right.high)) →
@@ -182,8 +184,8 @@ sides_tested p {s = s} sides l h test =
       | inr is ↦ rw (is, m.same _ l.held) (tested_kept test.keeps (tested_kept m (l.leaf f)))
     ]))
 
--- The diagram that leads each letter to the node that remains after it stays right when the table grows. The diagrams
--- that are made for a node's two sides give the diagram for the node.
+-- A diagram of cofactors (`IsDivided`) stays right when the table grows. The diagram of a node's cofactors is made from
+-- those of its two sides.
 pub divided_side : {t u : Table} → Keeps t u → (mask : ℕ) (a : Tree) {node : ℕ} → IsNode t node →
     IsDivided t mask a (tree_of t node) → IsDivided u mask a (tree_of u node)
 divided_side {t} k mask a {node} held h = rw (k.same node held) (divided_kept k mask a (tree_of t node) h)

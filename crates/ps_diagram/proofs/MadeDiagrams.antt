@@ -2,7 +2,7 @@
 --
 -- - `fails`: an earlier step of the call failed
 -- - `gives`: the result is a node that the table had
--- - `after`, `by-last`: the last step makes the node
+-- - `after`, `by-last`: earlier steps keep all nodes, and the last step makes the node that the call returns
 -- - `by-sides`: two nodes are made first, and the result is made from them
 use Rattle.std.proofs.Common.{ℕ, IfOk, Ok, Result}
 use Rattle.std.specs.Result.{IsErr}

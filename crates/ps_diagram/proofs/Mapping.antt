@@ -37,7 +37,8 @@ pub on_side : (P : Option ℕ → Type 0) (v : Bool) {t : Table} {node p low hig
     ((f : ℕ → Bool) → P (leaf_at (tree_of t node) f)) → (f : ℕ → Bool) → P (leaf_at (tree_of t (cond v high low)) f)
 on_side P v {p} s h f = rw (← side_at v s f) (h (changed f p v))
 
--- a property of a node's leaf at all letters, as numbers, also holds for all letters as functions
+-- if a property holds of a node's leaf at each letter that is given as a number, it holds at each letter that is given
+-- as a function
 pub by_numbers : (P : Option ℕ → Type 0) {s t : Table} {node : ℕ} → IsSoundTable s → IsNode s node →
     s.propositions ≤ t.propositions → ((letter : ℕ) → letter < 2 ^ s.propositions → P (leaf_of s node letter)) →
     IsChangeable P s t node

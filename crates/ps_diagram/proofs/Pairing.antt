@@ -1,5 +1,5 @@
--- Two diagrams are combined into one, whose leaves are indices in a list of pairs. Each pair has a leaf of the first
--- diagram and a leaf of the second.
+-- The call `both` combines two diagrams into one. Each leaf of the combined diagram is the index of a pair in a list;
+-- the pair has a leaf of the first diagram and a leaf of the second.
 use Rattle.std.proofs.Common.{◌≡◌, ℕ, Bool, true, false, cond, List, Ok, Option, None, Some, ◌∙◌, sym, ap, inl, inr}
 use Rattle.std.proofs.Common.{rules}
 use Rattle.std.specs.Bool.{Decides}
@@ -70,8 +70,8 @@ knows_with_more t known h k a b made e =
     let r = k a b made e in
     (r.0, r.1, r.2, pair_of_more h (tree_of t a) (tree_of t b) (tree_of t made) r.3)
 
--- A pair has only one index in the list, and so the diagram of pairs depends only on propositions on which one of the
--- two diagrams depends.
+-- A pair has only one index in the list. So if two diagrams depend only on propositions from `level` on, the diagram of
+-- their pairs does, too.
 pair_decides : (a b : ℕ × ℕ) → Decides (pair_eq a b) (a ≡ b)
 pair_decides a b = ((λ e. pair_same a b e), (λ e. search (rules, eq-eqb)))
 
@@ -106,7 +106,8 @@ pair_sides {s = s} sides more l h test =
       | inr is ↦ rw (is, m.same _ l.held) (pair_of_more more _ _ _ l.leaf f)
     ]))
 
--- if the sides of two nodes have a pair of leaves at one letter, the two nodes have it at some letter
+-- if the low sides of two nodes, or their high sides, have the two leaves of a pair at some letter, the two nodes have
+-- them at some letter
 pub meet_side : {t : Table} {a b p al ah bl bh : ℕ} → IsSides t a p al ah → IsSides t b p bl bh → (v : Bool)
     (pair : ℕ × ℕ) → Meet (tree_of t (cond v ah al)) (tree_of t (cond v bh bl)) pair →
     Meet (tree_of t a) (tree_of t b) pair

@@ -52,7 +52,7 @@ cofactor_sides mask letter isnt sides l h test = by-sides l h test (λ g. rw (
 
 -- ## All letters
 
--- what remains of a diagram after `letter` also remains after each letter that agrees with `letter` on the mask
+-- the cofactor of a diagram for `letter` is also its cofactor for each letter that agrees with `letter` on the mask
 pub spread_here : (t : Table) (n mask letter : ℕ) (a : Tree) {d : Tree} {rest : ℕ} → IsFrom 0 n a → IsNode t rest →
     IsCofactor mask letter a (tree_of t rest) → d ≡ final rest → IsSpread t mask n letter a d
 spread_here t n mask letter a {d} {rest} o held h is f agree = (

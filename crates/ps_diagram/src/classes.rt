@@ -111,8 +111,8 @@ impl Store {
     }
 
     /// Like `rests`, but with memo tables of the nodes that were made before. The resulting diagram's leaf at a letter
-    /// x is the number of a node. At each letter y over the other propositions, that node has the leaf which the given
-    /// node has at the letter made of x and y.
+    /// x is the number of a node, the cofactor for x. At each letter y, this cofactor has the leaf that the given node
+    /// has at the letter that agrees with x on `split`, and with y elsewhere.
     fn divided(
         &mut self,
         other: &Store,

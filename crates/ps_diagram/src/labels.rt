@@ -57,8 +57,8 @@ impl Store {
     }
 
     /// The diagram that has the leaf `value` at letters at which the label is true, made from the diagrams of its
-    /// aliases. The result equals the `guard` of `of_label_by`, but if the label is a product of literals, the diagram
-    /// is made in one step.
+    /// aliases. Calling `of_label_by`, and `guard` on its result, would give the same diagram; for a product of
+    /// literals, this call makes it in one step.
     pub fn of_label_as(
         &mut self,
         aliases: &[Node],

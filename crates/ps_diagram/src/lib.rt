@@ -37,10 +37,11 @@
 //! table indexed by the leaf. `negated`, `guard`, `fill`, `relabel` and `relabel_from` visit each node of the given
 //! diagram once. `overlay` and `both` visit each reachable pair of nodes once, and `choose` visits each reachable
 //! triple once. `composed_from` visits each node once, and chooses between its sides by the function that replaces its
-//! proposition. If this function is constant, only one side is visited, and the node may be visited again from other
-//! nodes. Most calls visit only a few nodes, so the first few nodes are not kept in a memo table, and may be visited
-//! more often. `of_letter` makes one node for each proposition. `of_label` makes a node for each literal of a product;
-//! it joins the diagrams of other operands in halves. `classes` first copies the store.
+//! proposition. If that function is constant, only one side is needed, and the node's result is not kept: the node is
+//! visited again if another node leads to it. Most calls visit only a few nodes, so the first few nodes are not kept in
+//! a memo table, and may be visited more often. `of_letter` makes one node for each proposition. `of_label` makes a
+//! node for each literal of a product; it joins the diagrams of other operands in halves. `classes` first copies the
+//! store.
 #![tactic(auto)]
 
 mod both;

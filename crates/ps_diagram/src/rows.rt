@@ -11,7 +11,7 @@ use std::alloc::AllocError;
 
 impl Store {
     /// The diagram whose leaf at a letter is the list's entry at the index `letter` (letters are numbers). Letters past
-    /// the end of the list have no leaf. Each entry of the list is read once.
+    /// the end of the list have no leaf. The call reads each entry of `leaves` only once.
     pub fn of_leaves(&mut self, leaves: &[u64]) -> Result<Node, AllocError>
         ensures { MakesDiagram self.old self.new result
             (λ letter. slice_get leaves.now (letter % 2 ^ self.old.propositions)) }

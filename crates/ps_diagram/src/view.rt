@@ -39,7 +39,8 @@ pub enum View {
     },
 }
 
-/// Hashes at most two numbers for a view, to save time: a store hashes a view for each node that it looks up.
+/// A store finds a node by the hash of its view, except a small leaf whose index is in a table. To save time, a view is
+/// hashed as at most two numbers.
 impl Hash for View {
     ghost use Rattle.ps_diagram.specs.Inner.Hashed.{hashed};
 

@@ -1,5 +1,5 @@
--- The calls `choose` and `both` make trees from given trees. The definitions relate the made trees to the given ones.
--- (For private functions.)
+-- How the tree of a node that `choose` or `both` makes is related to the trees of the given nodes. (For private
+-- functions.)
 use Rattle.std.specs.Prelude.{◌≡◌, ℕ, ◌+◌, ◌<◌, Bool, List, Option, Some}
 use Rattle.ps_diagram.specs.declared.choose.Cut.{Cut}
 use Rattle.ps_diagram.specs.Leaves.{chosen}

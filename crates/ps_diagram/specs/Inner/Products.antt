@@ -8,7 +8,8 @@ use Rattle.ps_diagram.specs.declared.products.Product.{Product}
 abbrev pub allows : Product → ℕ → Bool → Bool
 allows product p b = cond b (cond (is_in p product.negative) false true) (cond (is_in p product.positive) false true)
 
--- whether the rule `may` allows the truth values of the `count` propositions from `level` on
+-- whether the rule `may` allows, for each of the `count` propositions from `level` on, the truth value that f gives to
+-- the proposition
 unfoldable pub all_allowed : (ℕ → Bool → Bool) → (ℕ → Bool) → (level count : ℕ) → Bool
 all_allowed may f level zero = true
 all_allowed may f level (suc count) = may level (f level) && all_allowed may f (level + 1) count

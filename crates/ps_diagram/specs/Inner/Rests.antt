@@ -1,5 +1,5 @@
--- What remains of a diagram (the rest) after the propositions of a mask have been read. A second diagram leads each
--- letter to the rest after this letter: its leaves are numbers of nodes.
+-- The cofactor (`rest`) of a diagram for a letter: what remains of the diagram if the propositions of a mask are fixed
+-- to their values in the letter. A second diagram has, at each letter, the number of the cofactor's node as its leaf.
 use Rattle.std.specs.Prelude.{◌≡◌, ℕ, ◌+◌, ◌<◌, Bool, true, ◌&&◌, nat_eq, cond, Option, Some}
 use Rattle.ps_label.specs.Truth.{is_in}
 use Rattle.ps_diagram.specs.Letters.{assignment}
@@ -54,8 +54,8 @@ pub record AreLeading (t : Table) (p low high : ℕ) : Type 0 where
   pub low_leads : LeadsToNodes t (p + 1) (tree_of t low)
   pub high_leads : LeadsToNodes t (p + 1) (tree_of t high)
 
--- Three leaves are numbers of nodes. The third node has the leaf of the second at letters for which `test` is true, and
--- the leaf of the first at other letters.
+-- The leaves x, y and z are numbers of nodes. At letters for which `test` is true, the node of z has the leaf of the
+-- node of y; at other letters, it has the leaf of the node of x.
 pub record AreTested (t : Table) (test : (ℕ → Bool) → Bool) (x y z : Option ℕ) : Type 0 where
   pub low : ℕ
   pub high : ℕ
