@@ -74,7 +74,8 @@ table aliases letter o =
       each = λ k h. rw zero-add at (table_from [] letter aliases o k h);
     }
 
--- if a table has the truths of the aliases after `front`, it is the table that `truths_behind` computes from `front`
+-- if a table begins with `front`, and each later entry is the truth of its alias in `es`, computed with the same table,
+-- `truths_behind` computes this table from `front`
 only_from : (front back : List Bool) (letter : ℕ) (es : List Expression) → AreOverFrom (length front) 64 es →
     length back ≡ length es →
     ((k : ℕ) → k < length es → get_or (front ++ back) (length front + k) false ≡ truth (front ++ back) letter
