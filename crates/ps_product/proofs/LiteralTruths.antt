@@ -46,8 +46,8 @@ along_kept s {t} ws ms k h = record {
       };
 }
 
--- let the list `ms` have the Boolean functions of the literals in the list `ws`; if the function of one more literal is
--- appended to `ms`, and the literal to `ws`, this stays so
+-- if `ms` lists the Boolean functions of the literals in `ws`, it still does after one more literal is appended to `ws`
+-- and its function to `ms`
 pub along_more : (s : Site) {t : Table} (ws : List Wire) (ms : List Truth) {ws' : List Wire} {ms' : List Truth}
     (w : Wire) (m : Truth) → AreTruthsAlong s t ws ms → IsTruthAlong s t w m → ws' ≡ ws ++ w ∷ [] →
     ms' ≡ ms ++ m ∷ [] → AreTruthsAlong s t ws' ms'

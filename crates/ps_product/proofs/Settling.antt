@@ -32,11 +32,13 @@ pub record Waits (c : CircuitData) (order : List ℕ) (known : List (Option Trut
     pub root : (d : ℕ) → 0 < length stack → get_or stack 0 d ≡ place
     pub done : stack ≡ [] → IsSome (get_or known place None)
 
--- the rank of the variable on top of the stack; with each step of the evaluation, the measure `left` falls
+-- the rank of the variable on top of the stack, or 0 if the stack is empty
 abbrev pub top_rank : CircuitData → List ℕ → List ℕ → ℕ
 top_rank c order [] = 0
 top_rank c order (x ∷ xs) = rank c order (get_or (x ∷ xs) (length xs) 0)
 
+-- a measure that falls with each step of the evaluation: fewer variables are unknown, or as many, but the variable on
+-- top of the stack has a lower rank
 abbrev pub left : CircuitData → List ℕ → List (Option Truth) → List ℕ → ℕ
 left c order known stack = unknown known * (length order + 2) + top_rank c order stack
 
