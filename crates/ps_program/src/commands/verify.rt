@@ -30,8 +30,8 @@ use std::alloc::{AllocError, Global};
 /// # Errors
 ///
 /// Fails with the first of these faults: a missing text, a fault of the automaton, an error in the circuit's text,
-/// wrong symbols for its role (`Symbols`), outputs that depend on inputs too early (`Timing`). Fails at any time if
-/// memory runs out.
+/// wrong symbols for its role (`Symbols`), outputs that depend on inputs which come later (`Timing`). Fails at any time
+/// if memory runs out.
 pub fn verify(alloc: Global, order: Order, role: Role, texts: &[u8]) -> Result<Answer, Refusal>
     ensures { Gives reply_of (AnswersVerify order role texts.now) result }
 {
