@@ -1,4 +1,4 @@
--- Conditions on the answer r of a solver for a game, and the data of two solvers.
+-- Conditions on certificates and on a solver's answer r for a game, and the data (`SolverData`) of two solvers.
 -- - `IsCertified game c`: the certificate fits the game and is valid
 -- - `winner_at_start c`: the winner of vertex 0
 -- - `AnswersSurely game r`: r is what a sure solver answers: a valid certificate that fits the game, or out of memory

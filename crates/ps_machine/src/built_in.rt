@@ -29,12 +29,13 @@ const PLACED_EACH: u64 = 256;
 /// times for each vertex of the game.
 const PLACED_BESIDE: u64 = 1024;
 
-/// The priorities of a game are few if each of them is less than this number. On such a game the recursion does not take
-/// exponential time, but the number of its assignments may grow with the square of the number of vertices.
+/// The priorities of a game are few if each of them is less than this number. On a game with few priorities the
+/// recursion does not take exponential time, but the number of its assignments may grow with the square of the number
+/// of vertices.
 const FEW_PRIORITIES: u64 = 4;
 
-/// In a game with n vertices and few priorities, the recursion may make at least n * n / 2 assignments in the first
-/// round, or `PLACED_SQUARE` if n * n / 2 is greater.
+/// In a game with n vertices and few priorities, the recursion's limit on assignments in the first round is at least
+/// the lesser of n * n / 2 and `PLACED_SQUARE`.
 const PLACED_SQUARE: u64 = 1 << 26;
 
 /// For each assignment that `PLACED_EACH` and `PLACED_BESIDE` allow the recursion in the first round, an attempt at
@@ -46,8 +47,8 @@ const CELLS_EACH: u64 = 64;
 struct Budget {
     /// The number of times that the recursion may assign a vertex to a player.
     placed: u64,
-    /// The number of array cells that an attempt at strategy improvement may read or write. This limit is 0 after an
-    /// attempt has failed for a reason that more cells would not remove.
+    /// The number of array cells that an attempt at strategy improvement may read or write. An attempt that fails for
+    /// another reason than this limit sets the limit to 0, and no other attempt follows.
     cells: u64,
 }
 
@@ -185,8 +186,8 @@ fn solved_within<A: Arena>(
 }
 
 /// The certificate that an attempt at strategy improvement finds, or None if the limit on array cells does not suffice,
-/// the game is too large for an attempt, or the result is wrong. If a higher limit would not help, the limit is 0
-/// afterwards.
+/// the game is too large for an attempt, or the result is wrong. In the last two cases a higher limit on array cells
+/// would not help, so the limit becomes 0.
 fn attempted<A: Arena>(
     alloc: Global,
     arena: &A,
@@ -208,8 +209,8 @@ fn attempted<A: Arena>(
 }
 
 /// The certificate for two regions, into which the vertices are divided, and for two tables of moves, one for each
-/// player. The regions and the moves may be wrong. If each player, moving by that player's table, wins from every
-/// vertex of that player's region, the result is a certificate; otherwise it is None.
+/// player. A player need not win from the vertices of that player's region. If each player, moving by that player's
+/// table, wins from every vertex of that player's region, the result is a certificate; otherwise it is None.
 fn tried<A: Arena>(
     alloc: Global,
     arena: &A,

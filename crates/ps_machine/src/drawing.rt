@@ -124,8 +124,8 @@ impl Drawing {
             .relabel_from(&plan.divided.store, rest, &self.places)
     }
 
-    /// For each of the given leaves of the automaton's diagrams, adds a row in which the machine outputs `letter` to
-    /// the machine's table, and records the row's index.
+    /// For each of the given leaves of the automaton's diagrams, adds to the machine's table the leaf's row, with the
+    /// output `letter`, unless the table has it, and records the row's index.
     fn place_rows(
         &mut self,
         plan: &Plan<'_>,
@@ -160,8 +160,8 @@ fn rest_of(classes: &[Class], letter: u64) -> Node
     }
 }
 
-/// Records the index of the machine's row for a leaf of the automaton's diagrams. The list of indices grows as needed;
-/// new entries for smaller leaves are 0.
+/// Records the index of the machine's row for a leaf of the automaton's diagrams. If the list of indices is too short
+/// to have an entry for the leaf, it is first extended with zeros.
 fn note(places: &mut Vec<u64>, leaf: u64, place: u64) -> Result<(), AllocError>
     ensures noted { OnOk result (slice_get places.new.items leaf ≡ Some place) }
     ensures others { OnOk result ((other n : ℕ) → other ≢ leaf → slice_get places.old.items other ≡ Some n →

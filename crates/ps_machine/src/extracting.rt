@@ -39,8 +39,8 @@ use std::alloc::{AllocError, Global};
 /// valid certificate. If the winner moves first, the machine remembers the current vertex. If the winner moves second,
 /// the machine remembers only the current state of the automaton. If the winner is player 0, the automaton accepts
 /// every word of the machine; if the winner is player 1, the automaton accepts none. This function builds the game
-/// again, to get the keys of its vertices, which state what the vertices stand for. The function
-/// `machine_of_certificate` takes a game with its keys instead.
+/// again, to get the keys of its vertices, which state what the vertices stand for. A caller that has the keys can call
+/// `machine_of_certificate`, which does not build the game again.
 ///
 /// # Errors
 ///

@@ -12,7 +12,7 @@ use thiserror::Error;
 /// Why a solver gives no certificate.
 #[derive(Debug, Drop, Error)]
 pub enum SolveFault {
-    /// The moves that the solver found for a player allow a cycle. The player loses a play that repeats the cycle for
+    /// The solver reported a cycle that its moves for a player allow; this player loses if a play repeats the cycle for
     /// ever. The cycle is a list of vertex numbers.
     #[error("a cycle that its player loses")]
     BadCycle(Vec<usize>),

@@ -59,7 +59,8 @@ pub fn game_is_there()
         (game : NamedGameData) × IsGameOfFile order file game }
 {}
 
-/// The game that a file defines meets the definition of a game: each vertex has a successor, for example.
+/// The game that a file defines meets the definition of a game: each vertex has the owner 0 or 1 and at least one
+/// successor, and its successors are different vertices of the game.
 pub fn game_of_file_is_game()
     ensures { (order : Order) (file : FileData) (game : NamedGameData) → IsGameOfFile order file game →
         IsGame game.game }

@@ -105,8 +105,8 @@ module _ {order : Order} {a : AutomatonData} {mask : ℕ} {t : Table} {q : ℕ} 
       let at : slice_get classes.list.items any.0 ≡ Some c = search (rules, slice_get-get_or) in
       grind (arith, class_rest f of any.0 at, class_heeds any.0 c at)
 
--- if each leaf of a diagram is replaced by the entry that a list has at the leaf's index, replacing by an equal list
--- gives the same leaves
+-- let `made` be the diagram `rest` with each leaf k replaced by `values[k]`; if `values` equals `places`, each leaf k
+-- is replaced by `places[k]`
 pub renamed : (t u : Table) (places values : List ℕ) (rest made : ℕ) → values ≡ places →
     ((x : ℕ) → leaf_of u made x ≡ option_map (λ k. slice_index values k) (leaf_of t rest x)) →
     (x : ℕ) → leaf_of u made x ≡ option_map (λ k. slice_index places k) (leaf_of t rest x)
@@ -122,8 +122,8 @@ pub any_class : (list : List Class) {letter : ℕ} {c : Class} → c.letter ≡ 
     ((d : Class) → get_or list k d ≡ c) → Any (λ (d : Class). (d.letter ≡ letter) × (d.rest ≡ c.rest)) list
 any_class list {c} is k within at = (k, c, within, at c, (is, refl))
 
--- if the move at a vertex leads to the vertex of a class, then this class is stored for the state, with its diagram of
--- steps
+-- if the certificate's move at a vertex leads to the vertex of a class, this class is stored for the vertex's state;
+-- the diagram stored with a class is that of the steps after its letter
 module _ {order : Order} {a : AutomatonData} {keys : List Key} {t : Table} {classes : ℕ → Option Classes} (v : ℕ)
     {q p : ℕ} {c : Classes} {l : List Class} (d : AreDivided order a keys t classes) (at : StandsAt keys v (First q p))
     (of : classes q ≡ Some c) (same : l ≡ c.list.items) where

@@ -37,7 +37,7 @@ module _ {order : Order} {a : AutomatonData} {mask : ℕ} {t u : Table} {rests n
   }
 
   module _ {classes : ℕ → Option Classes} {key : Key} (is : KnowsMoves order a mask t rests classes key) where
-    -- the successors of a vertex can still be computed if no classes are added
+    -- the successors of a vertex can still be computed if the stored classes of all states stay the same
     pub moves_kept : {new : ℕ → Option Classes} → ((r : ℕ) → new r ≡ classes r) → KnowsMoves order a mask u now new key
     moves_kept same = record {
       is_known = before key is.is_known;

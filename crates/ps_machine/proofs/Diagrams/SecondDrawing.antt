@@ -140,8 +140,8 @@ module _ {order : Order} {a : AutomatonData} {mask : ℕ} {t : Table} {keys : Li
         same_pair reply.state reply.priority,
       )
 
-  -- the letter x at the state q is answered rightly by a row of the machine's table with two properties. The row's
-  -- letter is the least one that makes the winner's step. The row's memory state is the one to which this step leads
+  -- a row answers the letter x at the state q correctly if its letter is the least for the winner's step and its memory
+  -- state is that of the vertex to which this step leads
   answer_by : {kept : List ℕ} (letter memory : ℕ) → IsClassLetter (board_of order a) q x →
       IsMove (board_of order a) q x letter → step_of a q (x + letter) ≡ step →
       ((v : ℕ) → StandsAt keys v (First step.state step.priority) → StandsFor false keys kept memory v step.state) →
@@ -258,8 +258,8 @@ module _ {board : Board} {keys : List Key} {kept : List ℕ} {certificate : Cert
 
 -- ## The diagram
 
--- if the relation N holds between the entries of two lists at each index, it also holds between the entries of two
--- equal lists
+-- if the relation N holds between the entries of two lists at each index, it also holds if each list is replaced by an
+-- equal one
 pub named_as : {X : Type 0} (N : X → ℕ → Type 0) {xs ys : List X} {values same : List ℕ} → ys ≡ xs → same ≡ values →
     AllZip N ys values → AllZip N xs same
 named_as N {ys} {same} is are zip = subst (λ l. AllZip N l same) is (subst (λ v. AllZip N ys v) (sym are) zip)

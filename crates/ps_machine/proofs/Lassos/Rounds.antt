@@ -31,7 +31,8 @@ map_contains f letters k {y} within is = grind (arith, length-map letters f, get
 
 -- ## Edges
 
--- a game that is made of keys, with a certificate that fits it and is valid
+-- the game has one vertex for each key, with the edges that the keys determine; the certificate fits the game and is
+-- valid
 pub record Setting (board : Board) (mover : ℕ) (keys : List Key) (game : ParityGame)
     (certificate : CertificateData) : Type 0 where
   pub is_mover : mover < 2
@@ -121,7 +122,8 @@ module _ {board : Board} {mover : ℕ} {keys : List Key} {game : ParityGame} {ce
   pub second_owner : (v : ℕ) {q x : ℕ} → StandsAt keys v (Second q x) → owner_of game v ≡ 1 - mover
   second_owner v {q} {x} at = owner_at v at
 
-  -- a step of the machine is two moves in the game, because the winner of vertex 0 also wins each reachable vertex
+  -- a step of the machine is two moves in the game if the winner of vertex 0 also wins the vertex at which this player
+  -- moves, so that the certificate's move there is an edge
   pub round_first : (v q p x letter w : ℕ) → mover ≡ winner_at_start certificate →
       winner_of certificate v ≡ winner_at_start certificate →
       StandsAt keys v (First q p) → StepsFirst board keys certificate v q x letter → IsSecondLetter board x →

@@ -15,7 +15,7 @@ none_in z c = omega (arith, c.1)
 abbrev pub Within : List ℕ → List ℕ → Type 0
 Within xs ys = (z : ℕ) → Contains xs z → Contains ys z
 
--- in the following lemmas, `Before` is an order: of two numbers, at most one comes before the other
+-- in the following lemmas, `Before` is any asymmetric relation: if x comes before y, then y does not come before x
 module _ (Before : ℕ → ℕ → Type 0) (one_way : (x y : ℕ) → Before x y → Before y x → ⊥) where
   rising_tail : (x : ℕ) (xs : List ℕ) → AllPairs Before (x ∷ xs) → AllPairs Before xs
   rising_tail x xs r i j d less within = r (suc i) (suc j) d (omega arith) (omega arith)

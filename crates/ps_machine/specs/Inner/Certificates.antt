@@ -13,7 +13,7 @@ pub record IsLeastCertificate (game : ParityGame) (certificate : CertificateData
   pub valid : IsValid game certificate
   pub least : HasLeastCounts game certificate
 
--- a result has the property P, and the only error is that memory runs out
+-- if a call succeeds, its result has the property P; if it fails, memory has run out
 pub record Finds {X : Type 0} (result : Result X SolveFault) (P : X → Type 0) : Type 0 where
   pub certificate : IfOk result P
   pub memory : IfErr result (λ fault. fault ≡ OutOfMemory)

@@ -2,9 +2,10 @@
 -- functions.)
 -- - `IsPlanned plan`: the machine can be made from the plan
 -- - `AreDividedBy plan`: the plan has the classes of letters of each state at which the first player moves
--- - `IsReadyPlan plan`: both of these hold
+-- - `IsReadyPlan plan`: the plan satisfies `IsPlanned` and `AreDividedBy`
 -- - `CanDraw plan drawing v`: the diagram of the memory state of the vertex v can be added to the drawing
--- - `Draws plan old new v result`: the call has made this diagram, or memory has run out
+-- - `Draws plan old new v result`: a call keeps the diagrams and the rows of the drawing, and returns the diagram of
+--   the memory state of the vertex v, or fails
 use Rattle.std.specs.Prelude.{◌≡◌, ℕ, nat_eq, Bool, false, IfOk, List, Result}
 use Rattle.std.specs.List.{All, Contains}
 use Rattle.indexmap.specs.IndexMap.{get}
@@ -84,20 +85,21 @@ pub record CanDraw (p : Plan) (drawing : Drawing) (v : ℕ) : Type 0 where
   pub letters : p.divided.now.store.propositions ≡ drawing.store.propositions
   pub rows : AreRowsBy p drawing.rows.keys
 
--- as `CanDraw`; also, the vertex v stands for the state q, and `is_first` states whether the machine's player moves
--- first
+-- `CanDraw` holds, the vertex v stands for the state q, and `is_first` states whether the machine's player moves first
 pub record CanDrawAt (is_first : Bool) (p : Plan) (drawing : Drawing) (v q : ℕ) : Type 0 where
   pub ready : CanDraw p drawing v
   pub turn : p.moves_first ≡ is_first
   pub stands : (priority : ℕ) × StandsAt p.keys.now.keys v (First q priority)
 
--- the machine's player moves second, and answers the least letter x of a class at the state q, which can be entered
+-- the machine's player moves second, some reachable vertex stands for the state q, and x is the least letter of its
+-- class at q
 pub record CanReply (p : Plan) (q x : ℕ) : Type 0 where
   pub turn : p.moves_first ≡ false
   pub entered : (priority : ℕ) × CanEnterBy p q priority
   pub class : IsClassLetter (board_by p) q x
 
--- only rows of the plan are added, and each earlier row keeps its index
+-- a call adds no diagrams; each earlier row keeps its index, and each row has an existing memory state and a letter of
+-- the machine's player
 pub record AddsRows (p : Plan) (old new : Drawing) : Type 0 where
   pub store : new.store ≡ old.store
   pub same_rows : KeepsRows old.rows.keys new.rows.keys
