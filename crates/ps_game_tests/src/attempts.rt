@@ -1,6 +1,6 @@
-//! Tests of the solvers that stop without a result when their budget or fuel is used up. The tests check whether a
-//! given budget or fuel suffices, and whether a result has the same winning region as that of the exact solver
-//! `regions`.
+//! Tests of two solvers that stop without a result when their limit on work is used up: the budget of `regions_within`,
+//! or the fuel of `attempt`. The tests check whether a given budget or fuel suffices for a result, and whether the
+//! result has the same winning region as that of the exact solver `regions`.
 
 use ps_game::{Counts, Game, Region, Strategy};
 use ps_improvement::{Attempted, attempt};
@@ -68,10 +68,10 @@ fn attempts_end_with_their_fuel(rt: HostRuntime) -> Result<(), Fail> {
     Ok(())
 }
 
-/// A path of 1,000 vertices of player 0. The last vertex leads to itself and has the priority 1. Each other vertex has
-/// an even priority, which is greater than the priority of the next vertex on the path. The value of a vertex has an
-/// entry for each priority that the play from this vertex meets, so the values of the 1,000 vertices would have about
-/// 500,000 entries in total.
+/// A path of 1,000 vertices of player 0. The last vertex leads to itself and has the priority 1. Every vertex except
+/// the last has an even priority, which is greater than the priority of the next vertex on the path. The value of a
+/// vertex has an entry for each priority that the play from this vertex meets, so the values of the 1,000 vertices
+/// would have about 500,000 entries in total.
 #[test]
 fn attempts_end_where_there_is_no_room(rt: HostRuntime) -> Result<(), Fail> {
     let mut text = String::new(rt.alloc());

@@ -13,7 +13,7 @@ const TEXT: &[u8] = b"psyncert 1\nvertices 2\nodd 1\neven 0\n7 1 9 0\n9 1 - 12\n
 /// The certificate of the text `TEXT`, written as a compact text.
 const COMPACT: &[u8] = b"psyncert 2\nvertices 2\nodd 1\neven 0\n7 1 9\n9 1 - 0:12\n";
 
-/// The expected property of a certificate that a test reads.
+/// What a test expects of a certificate: the text that is written for it, or the flaw that is found in it.
 #[derive(Clone, Copy)]
 enum Wanted<'a> {
     /// Writing the certificate gives the given text.
@@ -28,7 +28,7 @@ enum Wanted<'a> {
 }
 
 impl Wanted<'_> {
-    /// Whether a certificate of a game has the expected property.
+    /// Whether a certificate fits a game and meets this expectation.
     fn is_met(self, alloc: Global, game: &NamedGame, certificate: &Certificate) -> bool {
         if !fits(game.game(), certificate) {
             return false;
@@ -68,7 +68,7 @@ fn has_flaw_in_arrays(alloc: Global, game: &Game, certificate: &Certificate, fla
     }
 }
 
-/// Whether a certificate has the expected property, for a game and a certificate that are given by their texts.
+/// Whether the texts of a game and of its certificate can be read, and the certificate meets the expectation `wanted`.
 fn is_read(alloc: Global, game: &[u8], certificate: &[u8], wanted: Wanted) -> bool {
     let Ok(game) = ps_pgsolver::read(alloc, game) else {
         return false;

@@ -249,7 +249,8 @@ fn moving(
 /// The expected result of computing the least counts of a region: the counts, or a cycle that the player loses.
 #[derive(Clone, Copy)]
 enum Wanted<'a> {
-    /// The only priority by which the player loses, and the count for it at each of three vertices.
+    /// The only priority of the game that has the opponent's parity, and the count for this priority at each of three
+    /// vertices.
     Counts(u64, [u64; 3]),
     /// A cycle that the player loses.
     Cycle(&'a [usize]),
@@ -279,7 +280,7 @@ fn are_counts(alloc: Global, ranks: &Ranks, priority: u64, counts: [u64; 3]) -> 
         && is_count(alloc, ranks, 2, counts[2])
 }
 
-/// Whether the row of counts of a vertex has only one count, which is the given one.
+/// Whether the row of counts of a vertex has exactly one entry, the given count.
 fn is_count(alloc: Global, ranks: &Ranks, vertex: usize, count: u64) -> bool {
     if vertex >= ranks.counts.len() {
         return false;
@@ -391,8 +392,8 @@ fn add_attracted<A: Arena>(
     Ok(())
 }
 
-/// Appends to the list `found`: the winning region of player 0, the moves of both players, and the least counts of the
-/// region.
+/// Appends to the list `found`: the winning region of player 0, the moves of both players, and each vertex's least
+/// counts (progress measure) for player 0's moves.
 fn add_won<A: Arena>(
     alloc: Global,
     arena: &A,
