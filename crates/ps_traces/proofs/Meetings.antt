@@ -89,7 +89,7 @@ module _ (order : Order) (c : CircuitData) (k : FiniteController) (one : HasOneV
         (step_at (place t)).outputs_wide;
   }
 
-  -- the circuit's steps in the joint run, from one pair of latch values and memory state to another
+  -- the circuit's steps in its joint run with the controller, from one pair of latch values and memory state to another
 
   abbrev At : Type 0
   At = List Bool × ℕ

@@ -1,8 +1,9 @@
 -- The properties of the circuit of the player who wins an automaton's game. The winner's circuit is a controller if
 -- player 0 wins, and otherwise an environment.
 -- - `role_of player`: player 0 is the controller
--- - `IsWitness order file player c`: the circuit has the inputs, outputs and order of moves of its role. The automaton
---   accepts all words of a controller's lasso traces, or no word of an environment's lasso traces.
+-- - `IsWitness order file player c`: the circuit has the inputs, outputs and order of moves of its role. If the circuit
+--   is a controller, the automaton accepts the words of all its lasso traces. If the circuit is an environment, the
+--   automaton accepts the word of none of its lasso traces.
 use Rattle.std.specs.Prelude.{◌≡◌, ◌≢◌, ℕ, List, if◌then◌else◌, nat_eq}
 use Rattle.ps_hoa.specs.Files.{FileData}
 use Rattle.ps_circuit.specs.Circuits.{CircuitData, IsCircuit}
@@ -32,8 +33,8 @@ pub record IsWitness (order : Order) (file : FileData) (player : ℕ) (c : Circu
   pub shape : HasShape order (role_of player) file c
   pub accepted : player ≡ 0 → AllAccepted file c
   pub rejected : player ≢ 0 → NoneAccepted file c
-  -- Each periodic input extends to a lasso trace, and each trace has letters. So the fields `accepted` and `rejected`
-  -- speak of at least one word.
+  -- Each periodic input extends to a lasso trace, and each trace has letters. So the circuit has at least one lasso
+  -- word, and what the fields `accepted` and `rejected` state is not vacuous.
   pub goes_on : EachInputGoesOn c
   pub letters : (moments : List Moment) → HasLetters file.names c moments
   pub meetings : player ≢ 0 → (k : FiniteController) → IsController order c k → LosesMeeting file c k

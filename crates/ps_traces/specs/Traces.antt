@@ -2,7 +2,8 @@
 -- - `IsLassoTrace c stem lap`: the stem and then the lap, the part that repeats, are a trace; the latches are the same
 --   before and after the lap
 -- - `IsLassoWord names c stem lap`: the lists of letters `stem` and `lap` are the word of a lasso trace of the circuit
--- - `AllAccepted file c, NoneAccepted file c`: the automaton accepts each lasso word of the circuit, or none
+-- - `AllAccepted file c`: the automaton accepts each lasso word of the circuit
+-- - `NoneAccepted file c`: the automaton accepts no lasso word of the circuit
 use Rattle.std.specs.Prelude.{ℕ, ◌<◌, Bool, List, length}
 use Rattle.ps_hoa.specs.Files.{FileData}
 use Rattle.ps_automaton.specs.Acceptance.{IsAccepted}
