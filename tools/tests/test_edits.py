@@ -9,6 +9,7 @@ import glob
 import importlib.machinery
 import importlib.util
 import os
+import subprocess
 import tempfile
 import unittest
 from unittest import mock
@@ -102,6 +103,16 @@ class Edits(unittest.TestCase):
         self.assertEqual([tuple(row[:2]) for row in rows], sorted(edits_in("more-edits")))
         self.assertLessEqual({row[3] for row in rows}, VERDICTS)
         self.assertEqual([row[:2] for row in rows if (row[2] == "-") != (row[3] == "to be tried")], [])
+
+    def test_each_commit_is_in_the_history(self):
+        """Tests that the table of verdicts names no commit that was replaced, as by a cherry-pick."""
+        asked = {"cwd": TOP, "capture_output": True, "text": True}
+        if subprocess.run(["git", "rev-parse", "--is-shallow-repository"], **asked).stdout.strip() != "false":
+            self.skipTest("the whole history is not here")
+        with open(os.path.join(TOP, "docs", "EDITS.tsv"), encoding="utf-8") as file:
+            names = {line.split("\t")[2].rstrip("+") for line in file.read().splitlines()[1:]} - {"-"}
+        history = subprocess.run(["git", "rev-list", "HEAD"], **asked).stdout.split()
+        self.assertEqual([name for name in sorted(names) if not any(it.startswith(name) for it in history)], [])
 
     def test_one_that_does_not_apply_is_seen(self):
         with tempfile.TemporaryDirectory() as crate:
