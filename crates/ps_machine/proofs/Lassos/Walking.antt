@@ -47,7 +47,7 @@ same_vertex first h k m = search (rules, same_number)
 
 -- ## The walk
 
--- the priority of the edge by which the automaton entered the state in which it reads the t-th letter; 0 at the start
+-- the priority of the step that led to the state in which the automaton reads the t-th letter; 0 at the start
 pub entering : Auto → (ℕ → ℕ) → ℕ → ℕ
 entering a w zero = 0
 entering a w (suc t) = priority_at a w t
