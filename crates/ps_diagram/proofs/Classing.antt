@@ -1,4 +1,4 @@
--- The letters over the propositions of a mask are divided into classes, by a diagram whose leaves are numbers of nodes.
+-- The letters over the propositions of a mask are divided into classes, by a diagram whose leaves are node numbers.
 -- At each letter, the leaf is the number of the node that remains of the given node after the mask's propositions have
 -- been read.
 use Rattle.std.proofs.Common.{◌≡◌, ◌↔◌, ℕ, ◌<◌, ◌^◌, Bool, true, false, List, length, Option, Some, rules}

@@ -1,4 +1,4 @@
--- Diagrams whose leaves are numbers of nodes.
+-- Diagrams whose leaves are node numbers.
 use Rattle.std.proofs.Common.{◌≡◌, ℕ, ◌+◌, Bool, true, false, cond, Ok, Option, Some, ap, inl, inr, sym, ◌∙◌, rules}
 use Rattle.std.specs.Prelude.{IsSome}
 use Rattle.std.proofs.lemmas.Bool.{eqb-true}

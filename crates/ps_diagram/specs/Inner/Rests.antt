@@ -45,8 +45,8 @@ IsPlace t level leaf = (node : ℕ) × (leaf ≡ Some node) × IsNode t node × 
 abbrev pub LeadsToNodes : Table → ℕ → Tree → Type 0
 LeadsToNodes t level d = (f : ℕ → Bool) → IsPlace t level (leaf_at d f)
 
--- p is a proposition. The nodes `low` and `high` have leaves that are themselves numbers of nodes; these nodes depend
--- only on propositions after p
+-- p is a proposition. The nodes `low` and `high` have leaves that are themselves node numbers; the nodes with these
+-- numbers depend only on propositions after p
 pub record AreLeading (t : Table) (p low high : ℕ) : Type 0 where
   pub named : p < t.propositions
   pub low_held : IsNode t low
@@ -69,8 +69,8 @@ pub record AreTested (t : Table) (test : (ℕ → Bool) → Bool) (x y z : Optio
   pub leaf : (g : ℕ → Bool) → leaf_at (tree_of t made) g ≡ cond (test g) (leaf_at (tree_of t high) g)
       (leaf_at (tree_of t low) g)
 
--- At each letter, the leaves of the three trees are numbers of nodes. The third node has the leaf of the second at
--- letters in which p is true, and the leaf of the first at other letters.
+-- At each letter, the leaves of the three trees are node numbers. The third node has the leaf of the second at letters
+-- in which p is true, and the leaf of the first at other letters.
 abbrev pub IsTested : Table → ℕ → Tree → Tree → Tree → Type 0
 IsTested t p a b d = (f : ℕ → Bool) → AreTested t (λ g. g p) (leaf_at a f) (leaf_at b f) (leaf_at d f)
 
