@@ -14,13 +14,14 @@ use ps_game::{Arena, Region, Strategy};
 use std::alloc::{AllocError, Global};
 
 /// The number of cells that may be stored, whatever the game and the fuel are. A cell is an entry of a row, and a row
-/// is the value of a play.
+/// is the value of a play that stops.
 const ROOM: u64 = 1 << 18;
 
-/// How many units of fuel allow one further cell to be stored.
+/// How many units of fuel allow one more cell to be stored, in addition to `ROOM` cells.
 const FUEL_EACH: u64 = 256;
 
-/// However much fuel there is, at most this many further cells are stored for each vertex and each edge.
+/// However much fuel there is, at most this many cells for each vertex, and as many for each edge, are stored in
+/// addition to `ROOM` cells.
 const ROOM_EACH: u64 = 64;
 
 /// The result of an attempt to solve a game by strategy improvement.
@@ -38,8 +39,8 @@ pub enum Attempted {
     },
     /// The fuel, or the number of stored cells that the fuel allows, was used up before a result was reached.
     OutOfFuel,
-    /// More cells would be needed than any amount of fuel allows for this game, or the game's edges or levels exceed
-    /// the type `usize`. Another attempt with more fuel would fail, too.
+    /// This game needs more cells than any amount of fuel allows, or the type `usize` can't hold the number of edges or
+    /// the number 2n + 4 for n vertices. Another attempt with more fuel would fail, too.
     OutOfRoom,
 }
 
@@ -68,7 +69,7 @@ pub fn attempt<A: Arena>(alloc: Global, arena: &A, fuel: u64) -> Result<Attempte
     }
 }
 
-/// The greatest number of further cells that may be stored for a game, however much fuel there is.
+/// The greatest number of cells that may be stored for a game in addition to `ROOM` cells, however much fuel there is.
 fn most_room<A: Arena>(arena: &A) -> u64 {
     let mut room: u64 = 0;
     for vertex in 0..arena.count() {

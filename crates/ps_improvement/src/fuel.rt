@@ -1,7 +1,7 @@
 //! The limits on the time and the memory of an attempt.
 
 /// The number of cells that may still be read or written, and the number of cells that may be stored in addition to
-/// those that are stored now. A cell is an entry of a row, and a row is the value of a play.
+/// those that are stored now. A cell is an entry of a row, and a row is the value of a play that stops.
 #[derive(Drop)]
 pub struct Fuel {
     /// The number of cells of rows that may still be read or written.

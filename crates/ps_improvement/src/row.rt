@@ -20,7 +20,7 @@ pub type Row = Vec<Cell>;
 /// The value of a play for player 0.
 #[derive(Clone, Copy)]
 pub enum Value<'a> {
-    /// The play never stops; an endless play is worth most.
+    /// The play never stops. An endless play is worth more to player 0 than any play that stops.
     Endless,
     /// The play stops after it has met the priorities in the given row.
     Stops(&'a [Cell]),
@@ -109,7 +109,7 @@ impl<'a> Raised<'a> {
         }
     }
 
-    /// Whether this row is worth less to player 0 than a value.
+    /// Whether a play with this row is worth less to player 0 than a play with the given value.
     pub fn is_below(&self, value: Value<'_>, fuel: &mut Fuel) -> bool {
         match value {
             Value::Endless => true,

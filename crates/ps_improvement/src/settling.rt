@@ -148,7 +148,7 @@ impl<'a, A: Arena> Settling<'a, A> {
     }
 
     /// Opens each closed vertex of player 1 in the current component that is worth more than stopping, so that plays
-    /// may enter the vertex. Returns whether plays may now enter a further vertex.
+    /// may enter the vertex. Returns whether a vertex was opened.
     fn open_up(&mut self, fuel: &mut Fuel) -> bool
         ensures { self.new.ground ≡ self.old.ground }
     {

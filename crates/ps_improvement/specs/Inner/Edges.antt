@@ -3,7 +3,7 @@ use Rattle.std.specs.Prelude.{length, Some, slice_index}
 use Rattle.ps_components.specs.Graphs.{Digraph}
 use Rattle.ps_game.specs.Games.{ParityGame, vertex_count, successors_of}
 
--- the graph with a link for each edge of the game
+-- the graph whose links (edges) are the edges of the game
 abbrev pub edge_graph : ParityGame → Digraph
 edge_graph game = record {
   count = vertex_count game;
