@@ -1,5 +1,6 @@
 -- The end of an iteration in which the player keeps all tops (the attractor's target vertices): plays go on from the
--- tops to vertices that the player won. The pending call is solved, and the moves at the tops are written.
+-- tops to vertices that the player won. The last pending call is then solved, and the table has a move to such a vertex
+-- at each target vertex that the player owns.
 use Rattle.std.proofs.Common.{◌≡◌, ◌≢◌, ℕ, ◌+◌, ◌-◌, ◌*◌, ◌<◌, ◌≤◌, ◌⊎◌, inl, inr, List, [], ◌∷◌, ◌++◌, true, length}
 use Rattle.std.proofs.Common.{Some, get_or, refl, sym, ap, arith, rules}
 use Rattle.std.specs.Prelude.{IsTrue}

@@ -97,7 +97,7 @@ update-other f v x {u} e = grind (arith, nat_tests)
 -- ## Attractors
 
 module _ (game : ParityGame) (subgame : ℕ → Bool) (player : ℕ) where
-  -- some edge of a vertex leads to a vertex that passes the test, or no edge does
+  -- a search through the edges of a vertex finds one to a vertex for which `test` is true, or shows that there is none
   find_edge : (test : ℕ → Bool) (v : ℕ) → v < vertex_count game →
       ((w : ℕ) × HasEdge game v w × IsTrue (test w)) ⊎ ((w : ℕ) → HasEdge game v w → test w ≡ false)
   find_edge test v below = elim (some_or_none test (λ t. get_or (successors_of game v) t 0)

@@ -83,7 +83,8 @@ reopened_more {winner = winner} {player = player} {turn = turn} {spare = spare} 
       sizes = sizes ∙ so_far.sizes;
     }
 
--- the case in which the player won the next vertex that was taken off the trail; the vertex becomes `UNPLACED`
+-- the vertices of `spare`, which were taken off the trail, are handled in order: a vertex that the player won becomes
+-- `UNPLACED`
 pub reopened_free : {winner : List ℕ} {player level turn : ℕ} (spare : List ℕ) (k u : ℕ) {old mid : TablesData}
     (new : TablesData) → get_or spare k 0 ≡ u → u < length mid.level → get_or winner u 0 ≡ player →
     new.level ≡ slice_set mid.level u UNPLACED → new.moves ≡ mid.moves → new.trail ≡ mid.trail →
@@ -92,7 +93,8 @@ pub reopened_free : {winner : List ℕ} {player level turn : ℕ} (spare : List 
 reopened_free spare k u {mid = mid} new at_k within won levels moves trail so_far =
     search (rules, reopened_more, get_or-set_other, get_or-set_same, length-set)
 
--- the case in which the opponent won the next vertex that was taken off the trail; the vertex is placed again
+-- the vertices of `spare`, which were taken off the trail, are handled in order: a vertex that the opponent won is
+-- placed again
 pub reopened_lost : {winner : List ℕ} {player level turn : ℕ} (spare : List ℕ) (k u : ℕ) {old mid : TablesData}
     (new : TablesData) → get_or spare k 0 ≡ u → u < length mid.level → get_or winner u 0 ≢ player →
     new ≡ with_placed mid u level → IsReopened winner player level turn (StandsBefore spare k) old mid →

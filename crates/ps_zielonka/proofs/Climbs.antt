@@ -97,9 +97,9 @@ module _ {game : ParityGame} {a : ℕ} {frame : Frame} {old mid new : TablesData
 
   -- ## The sets of the turn
 
-  -- Five sets of vertices describe the step. The vertices in `open_then` are undecided before the step, and those in
-  -- `open_now` after it. Of the vertices in `open_then`, the player has won those in `the_kept`, the opponent has won
-  -- those in `the_lost`, and those in `the_gone` are decided now.
+  -- The following sets of vertices describe the step in which the pending call continues. The vertices in `open_then`
+  -- are undecided before the step, and those in `open_now` after it. Of the vertices in `open_then`, the player has won
+  -- those in `the_kept`, the opponent has won those in `the_lost`, and those in `the_gone` are decided now.
   abbrev open_then : ℕ → Bool
   open_then = from old.level (a + 2)
 

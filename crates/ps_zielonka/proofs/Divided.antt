@@ -3,8 +3,8 @@
 -- - `Divided`: a subgame whose vertices are divided between the players, each of whom holds its vertices by a table
 --   of moves.
 -- - `all_mine`: if the opponent wins no vertex outside the attractor, the player holds the whole subgame.
--- - `both_parts`: otherwise, the opponent holds its attractor to the vertices that it wins, and the vertices outside
---   this attractor are divided between the players.
+-- - `both_parts`: if the opponent wins vertices outside the attractor, the opponent holds its own attractor to them,
+--   and the vertices outside this second attractor are divided between the players.
 -- - `game_divided`: the law `each_game_is_divided`.
 use Rattle.std.proofs.Common.{◌≡◌, ◌≢◌, ℕ, zero, suc, ◌-◌, ◌%◌, ◌<◌, ◌⊎◌, inl, inr, Bool, true, false, not, ◌&&◌}
 use Rattle.std.proofs.Common.{◌||◌, Option, None, Some, IsSomeAnd, nat_eq, replicate, refl, sym, subst, ap, ◌∙◌, arith}

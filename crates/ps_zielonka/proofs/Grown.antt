@@ -1,5 +1,5 @@
 -- If the attractor's tables grow in two steps, the change from the first tables to the last ones is also one step of
--- growth. A vertex that is placed in either of the two steps is placed in this one step.
+-- growth. A vertex that is placed in either of the two steps is also placed in the combined step.
 use Rattle.std.proofs.Common.{◌≢◌, ℕ, rules}
 use Rattle.std.proofs.lemmas.Bool.{cases_lt}
 use Rattle.ps_attractor.specs.declared.aim.Aim.{Aim}

@@ -85,8 +85,8 @@ HoldsWithin-same {game} {set} other {table} moves there back same holds = record
   wins = λ walk k top round is_top. holds.wins walk k top (search rules) is_top;
 }
 
--- A player who holds a set within a subgame also holds it within a larger subgame under one condition. Each edge of the
--- other player from the set into the larger subgame must lead into the smaller subgame.
+-- A player who holds a set within a subgame also holds it within a larger subgame if each of the other player's edges
+-- from the set into the larger subgame leads into the smaller one.
 pub HoldsWithin-larger : {game : ParityGame} {smaller : ℕ → Bool} (larger : ℕ → Bool) {player : ℕ} {set : ℕ → Bool}
     {table : ℕ → Option ℕ} → IsWithin smaller larger → ((v w : ℕ) → IsTrue (set v) → owner_of game v ≢ player →
     LeadsInto game larger v w → IsTrue (smaller w)) → HoldsWithin game smaller player set table →
@@ -98,9 +98,9 @@ pub HoldsWithin-none : (game : ParityGame) (subgame : ℕ → Bool) (player : �
     ((v : ℕ) → ¬ IsTrue (set v)) → HoldsWithin game subgame player set table
 HoldsWithin-none game subgame player set table none = search rules
 
--- the player holds the union of two sets within a larger subgame under three conditions. The player holds the first set
--- within the larger subgame, and the second set within the smaller subgame. The other player's edges from the second
--- set lead into the smaller subgame or to the first set
+-- Let a player hold, by the same table, a first set within a larger subgame, and a second set within a smaller one.
+-- Then the player holds their union within the larger subgame if the other player's edges from the second set within
+-- the larger subgame all lead into the smaller one or to the first set.
 pub HoldsWithin-beside : {game : ParityGame} {smaller larger : ℕ → Bool} {player : ℕ} {first second : ℕ → Bool}
     (set : ℕ → Bool) {table : ℕ → Option ℕ} → IsWithin smaller larger → IsWithin first set → IsWithin second set →
     ((v : ℕ) → IsTrue (set v) → IsTrue (first v) ⊎ IsTrue (second v)) →
@@ -139,10 +139,9 @@ HoldsWithin-attracted {game} {subgame} {player} {target} {set} {table} {rank} ha
   ];
 }
 
--- a player holds a whole subgame by a table under three conditions. By the table, the player holds the part of the
--- subgame outside the player's attractor to certain vertices, the tops. The table's moves at the player's tops stay in
--- the subgame. The priority of each top has the player's parity, and is greater than all priorities of the other parity
--- in the subgame
+-- Let certain vertices of a subgame, the tops, have priorities of the player's parity that are greater than all
+-- priorities of the other parity in the subgame. Let a table's moves at the player's tops stay in the subgame. If the
+-- player holds by this table all vertices outside its attractor to the tops, it holds the whole subgame by this table.
 pub HoldsWithin-all : {game : ParityGame} {subgame : ℕ → Bool} {player : ℕ} {tops set rest nested : ℕ → Bool}
     {table : ℕ → Option ℕ} {rank : ℕ → ℕ} → ((v w : ℕ) → IsTrue (tops v) → IsTrue (subgame w) →
     priority_of game w % 2 ≢ player → priority_of game w < priority_of game v) →

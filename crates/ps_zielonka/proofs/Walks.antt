@@ -49,7 +49,7 @@ all_or_none set walk k closes steps =
       | inr not_there ↦ inr (λ t less. same t less ∙ not_there)
     ]
 
--- one of the first k vertices of a walk is in the set, or none of them is
+-- a search through the first k vertices of a walk finds one that is in the set, or shows that none of them is
 pub some_or_none : (set : ℕ → Bool) (walk : ℕ → ℕ) (k : ℕ) →
     ((t : ℕ) × (t < k) × IsTrue (set (walk t))) ⊎ ((t : ℕ) → t < k → set (walk t) ≡ false)
 some_or_none set walk zero = inr (λ t less. absurd (omega arith))

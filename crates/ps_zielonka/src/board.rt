@@ -116,10 +116,11 @@ impl<W: Width> Board<W> {
         true
     }
 
-    /// Whether the player keeps a vertex. The player keeps a vertex of its own if the vertex has a successor of a
-    /// higher level than `level` that the player won. The player keeps a vertex of the opponent if the vertex has no
-    /// successor of a higher level than `level` that the opponent won. Writes the move at a vertex that the player owns
-    /// and keeps.
+    /// Whether the player keeps a vertex, that is, can make each play within the subgame go on from it to a vertex that
+    /// the player won. The player keeps a vertex of its own if the vertex has a successor of a higher level than
+    /// `placed` that the player won. The player keeps a vertex of the opponent if the vertex has no successor of a
+    /// higher level than `placed` that the opponent won. If the player keeps a vertex of its own, the move to such a
+    /// successor is written.
     fn keeps<A: Arena>(
         &mut self,
         edges: &Adjacency<'_, A, W>,

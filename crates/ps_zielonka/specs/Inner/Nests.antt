@@ -167,18 +167,18 @@ pub record IsWonStep (game : ParityGame) (tables : TablesData) (winner : List �
   pub above : level < level_of tables w
   pub won : slice_index winner w ≡ player
 
--- The player keeps the vertex v under a condition that depends on the owner of v. If the player owns v, the move at v
--- leads to a vertex of a higher level than `level` that the player won. If the opponent owns v, no edge leads from v to
--- a vertex of a higher level than `level` that the opponent won.
+-- The player keeps a vertex v of its own if the move at v leads to a vertex of a higher level than `level` that the
+-- player won. The player keeps a vertex v of the opponent if no edge leads from v to a vertex of a higher level than
+-- `level` that the opponent won.
 pub record IsKeptAt (game : ParityGame) (tables : TablesData) (winner : List ℕ) (level player other v : ℕ) : Type 0
   where
     pub own : owner_of game v ≡ player → IsWonStep game tables winner level player v (slice_index tables.moves v)
     pub foreign : owner_of game v ≢ player → (w : ℕ) → HasEdge game v w → level < level_of tables w →
         slice_index winner w ≢ other
 
--- The player can't keep the vertex v, under a condition that depends on the owner of v. If the player owns v, no edge
--- leads from v to a vertex of a higher level than `level` that the player won. If the opponent owns v, an edge leads
--- from v to a vertex of a higher level than `level` that the opponent won.
+-- The player can't keep a vertex v of its own if no edge leads from v to a vertex of a higher level than `level` that
+-- the player won. The player can't keep a vertex v of the opponent if an edge leads from v to a vertex of a higher
+-- level than `level` that the opponent won.
 pub record IsLostAt (game : ParityGame) (tables : TablesData) (winner : List ℕ) (level player other v : ℕ) : Type 0
   where
     pub own : owner_of game v ≡ player → (w : ℕ) → HasEdge game v w → level < level_of tables w →
