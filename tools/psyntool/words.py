@@ -19,7 +19,7 @@ def split(words, flags):
     """The given flags with their values, and the other words. After `--`, no word is a flag. An unknown word with a
     dash counts as a file if a file has this name.
 
-    The values of a flag with many values have their positions among the words.
+    If a flag may have many values, each value is paired with its position in `words`.
     """
     given, others, at = {}, [], 0
     while at < len(words):

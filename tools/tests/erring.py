@@ -1,7 +1,7 @@
 #!/usr/bin/env python3
-"""A solver that makes mistakes: erring.py GAME SOLUTION winner|move|half. By its last argument, the solver gives the
-first vertex to the wrong player (winner), makes other moves inside each player's region (move), or leaves out the
-second half of the vertices (half)."""
+"""A solver that makes mistakes: erring.py GAME SOLUTION winner|move|half. The last argument chooses the mistake: the
+solver gives the first vertex to the wrong player (winner), makes other moves inside each player's region (move), or
+leaves out the second half of the vertices (half)."""
 import sys
 
 import improving

@@ -6,7 +6,7 @@ A priority outweighs all lower ones on a play; it counts for the player of its p
 player's strategy may stop the play at each of the player's vertices, and stops everywhere at first. A play that stops
 is worth the sum of the weights of its priorities. As long as a vertex of the player has an edge to a vertex of greater
 value than the target of its move, this edge becomes the move. When no edge improves the strategy, the player wins from
-the vertices from which no play stops or is lost.
+the vertices from which the opponent can neither make a play stop nor win it.
 """
 import re
 import sys
@@ -30,7 +30,8 @@ def values(weights, edges, most):
         worth.update((v, least[v]) for v in changed)
         if not changed:
             break
-    # a value that still falls belongs to a vertex from which the opponent reaches a cycle that the player loses
+    # a value that still fell in the last round belongs to a vertex from which the opponent can reach a cycle that the
+    # player loses
     while changed:
         worth.update(dict.fromkeys(changed, -most))
         changed = [v for v, to in edges.items() if worth[v] > -most and min(map(worth.get, to)) == -most]

@@ -115,8 +115,8 @@ class Circuits(OnFiles):
 
 
 class Sets(unittest.TestCase):
-    """The program is asked again about each core of a random specification, and about the core without each one of its
-    parts."""
+    """A core is a minimal set of parts that decides whether there is a controller. The program is asked again about
+    each core of a random specification, and about the core with each of its parts left out in turn."""
 
     def test_drawn_specifications(self):
         draw, names, asked, wanted = random.Random(6), ["a", "b", "c"], [], []

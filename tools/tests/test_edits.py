@@ -16,8 +16,8 @@ from unittest import mock
 
 from upkeep.sweeps import TOOLS, TOP
 
-# The edits (wrong function bodies) that matter most to psyn's promises. To try the edits in must-fail, the gate proves
-# each crate that has one once more.
+# The edits (wrong function bodies) that matter most to psyn's promises. The gate proves a crate once more, to try its
+# edits, if the crate's folder must-fail has an edit.
 NAMED = (
     "always_not_certified",
     "always_too_large",

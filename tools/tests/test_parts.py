@@ -28,7 +28,7 @@ class Table:
         self.names = draw.sample(names, draw.randint(0, 2))
         self.is_buchi = draw.random() < 0.6
         count, letters = draw.randint(1, 3), 2 ** len(self.names)
-        # a set on a state belongs to all edges of the state
+        # the acceptance set of a state belongs to each edge that leaves the state
         self.marked = {state for state in range(count) if draw.random() < 0.2}
         self.moves = [[None if draw.random() < 0.12 else (draw.randrange(count), draw.random() < 0.3) for _ in range(letters)] for _ in range(count)]
         self.hopeless = {state for state in range(count) if self.is_buchi and not self.sees_mark(state)}

@@ -175,8 +175,8 @@ class Drawn(unittest.TestCase):
         self.assertEqual(set(ends), {(0, False), (1, False), (1, True)})
 
     def look_at(self, play, told):
-        """What is told about the parts agrees with the play's winner: if the environment wins, a guarantee fails; else
-        a guarantee fails only if an assumption does."""
+        """The lines about violated parts, which `play` prints at the end, agree with the winner. If the environment
+        wins, a guarantee fails; if the controller wins, a guarantee fails only if an assumption fails too."""
         broken = [line for line in told[1:] if " the guarantee " in line]
         failed = [line for line in told[1:] if " the assumption " in line]
         if play.board.winner == 1:

@@ -17,8 +17,8 @@ def without_comments(text):
 
 
 def tokens_of(text):
-    """The tokens of a text, each with its start and its end; the point after the binders of a `λ` is a token of its
-    own."""
+    """The tokens of a text, each with its start and its end. A `.` at the end of a word, as after the binders of a
+    `λ`, is a token of its own."""
     tokens = []
     for found in TOKEN.finditer(without_comments(text)):
         start, end, token = found.start(), found.end(), found[0]
@@ -177,7 +177,7 @@ def places_of(body):
             found.setdefault((tokens[first][0], tokens[end - 1][1]), kind)
 
     def point(at):
-        """The index of the point after the binders of a `λ`."""
+        """The index of the token `.` that follows the binders of a `λ`."""
         while at < len(tokens) and tokens[at][2] != ".":
             at = closing(tokens, at) + 1 if tokens[at][2] in ("(", "[", "{") else at + 1
         return at

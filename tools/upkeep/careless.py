@@ -35,12 +35,12 @@ import hostile_texts  # noqa: E402
 KEYS = {"name", "defect", "command", "cut", "output", "error", "status", "files"}
 SIGNALS = {"TERM": signal.SIGTERM, "HUP": signal.SIGHUP, "KILL": signal.SIGKILL}
 SECONDS = 300
-# The number of rungs of a game on which psyn works for minutes.
+# The number of rungs (parts of equal form) in a game that psyn needs minutes to solve.
 RUNGS = 300
 FILES = ("arbiter.hoa", "grant.hoa", "delay.hoa", "loop.pg", "loop.cert", "stays.cert", "toggle.aag", "lamp.aag", "presses.stim")
 # Programs that stand in for psyn: one that runs long, psyn itself after it has written its process id, and one that is
-# killed during its answer. Further programs give no answer, a strange answer or half an answer. The last file is no
-# program.
+# killed during its answer. Further programs give no answer, a strange answer or half an answer. The last file, `text`,
+# can't be executed.
 PROGRAMS = {
     "slow": "#!/bin/sh\necho $$ > pid\nexec sleep 60\n",
     "real": '#!/bin/sh\necho $$ > pid\nexec "$REAL"\n',
@@ -182,7 +182,8 @@ def shell_status(status):
 
 
 def wrong_of(room, line, program):
-    """A message that says what is wrong with a run of the line, or None if nothing is."""
+    """Runs one command line of careless.toml in the folder `room`. Returns a message that says what is wrong with the
+    run, or None if nothing is."""
     furnish(room)
     before = set(os.listdir(room))
     run = Run(room, line, program)

@@ -5,7 +5,7 @@ import re
 from upkeep.antt import indent_of
 
 WIDTH = 120
-# The cost of a line break after a word, or before a word: less is better, and other words cost 3.
+# The costs of a line break after a word and before a word; a lower cost is better. A word that a table lacks costs 3.
 BEHIND = {"=": 0, "→": 0, "in": 0, ";": 0, ",": 0, "↦": 1, "×": 1, "⊎": 1, "++": 2, "&&": 2}
 BEFORE = {"∙": 0, "|": 0, "where": 0, "[": 2, "→": 1, "⊎": 1, "×": 1, "++": 1}
 ENDS = re.compile(r"(\bin|[;{\[(]|\bwhere)$")

@@ -33,7 +33,8 @@ def run(program, shim, path, number, way, others=None):
 
 
 def is_right(way, calls, answer, expected):
-    """Whether an answer is right if one call was disturbed; `calls` has the letters of the run's calls."""
+    """Whether an answer is right for the given disturbance of one read or write. `calls` has a letter for each read
+    and write of the run, as `run` returns them."""
     spoiled = [place for place, letter in enumerate(calls) if letter.isupper()]
     if way == "one" or not spoiled:
         return answer == expected
@@ -62,8 +63,8 @@ def sweep(program, shim, path, expected):
 
 
 def by_bytes(length, number, expected):
-    """The right answer, and the letters of the calls, if each call moves one byte and the call with the given number
-    fails (0: none fails)."""
+    """The right results of `run`, the answer and the letters of the calls, if each read and write moves at most one
+    byte and the call with the given number fails (0: none fails)."""
     reads = "r" * (length + 1)
     if number == 0:
         return expected, reads + "w" * len(expected[0])
@@ -74,8 +75,8 @@ def by_bytes(length, number, expected):
 
 
 def sweep_by_bytes(program, shim, path, expected, at_once):
-    """The number of runs in which each call moves one byte, and the wrong runs: once no call fails, and then each call
-    in turn."""
+    """Runs the program with reads and writes of at most one byte: once undisturbed, and then with each read and write
+    disturbed in turn. Returns the number of runs, and those whose results are wrong."""
     length = os.path.getsize(path)
     calls = length + 1 + len(expected[0])
     runs = [("not", 0), *((way, number) for way in ("fails", "interrupted") for number in range(1, calls + 1))]
