@@ -68,8 +68,8 @@ abbrev joined : Bool → Bool → Bool → Bool
 joined true a b = cond a true b
 joined false a b = cond a b false
 
--- the first operand of a disjunction or conjunction is a link: if the link's acceptance set is met, the whole has the
--- truth value of the link's flag, and otherwise that of the other operands
+-- The first operand of a disjunction or conjunction is a link. If `met` holds for the link's acceptance set, the truth
+-- value of the whole is the link's flag. Otherwise it is the truth value of the other operands.
 link_decides : (met : ℕ → Bool) (accepts : Bool) (c : Condition) {link : ChainLink} (b : Bool) →
     link_of accepts c ≡ Some link → joined accepts (holds met c) b ≡ cond (met link.colour) link.accepts b
 link_decides met accepts c b e = grind arith

@@ -38,7 +38,7 @@ some_or_none P tell n within = grind (arith, least_below P tell n)
 least_of : (P : ℕ → Type 0) → ((k : ℕ) → Decided (P k)) → (k : ℕ) → P k → (m : ℕ) × P m × ((k : ℕ) → P k → m ≤ k)
 least_of P tell k h = elim (least_below P tell (suc k)) [ inl m ↦ m | inr none ↦ absurd (none k (omega arith) h) ]
 
--- a property that is decidable for each value is decidable for an optional value
+-- if a property is decidable for each value, it is decidable whether an option has a value with this property
 pub decide_some : {X : Type 0} (o : Option X) (P : X → Type 0) → ((x : X) → Decided (P x)) →
     Decided ((x : X) × (o ≡ Some x) × P x)
 decide_some None P tell = inr (λ h. (let e = h.1 in cc))

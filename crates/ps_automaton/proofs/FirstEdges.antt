@@ -25,7 +25,7 @@ use Rattle.ps_automaton.proofs.EdgeUnions.{wider}
 abbrev pub AreFirsts : ℕ → List (Option ℕ) → Type 0
 AreFirsts count edges = All (λ edge. IfSome edge (λ first. first < count)) edges
 
--- a list that is written back over the first elements of a list of the same length
+-- if a list begins with the n elements of `new`, its first n elements are `new`
 pub written_back : (new rest : List (Option ℕ)) (n : ℕ) → length new ≡ n → take n (new ++ rest) ≡ new
 written_back new rest n size = rw (sym size) (take-append_seam new rest)
 
@@ -128,7 +128,7 @@ module _ {file : FileData} {row : RowData} (row_sound : IsSoundRow file row) {ta
       within = joined.within;
     }
 
--- the letters may be taken modulo the number of letters
+-- if f describes the joined edges, so does the function that first reduces its argument modulo the number of letters
 pub joined_mod : {file : FileData} {row : RowData} {count : ℕ} {targets : List Target} (f : ℕ → Option ℕ) →
     AreJoined file row count targets f → AreJoined file row count targets (λ letter. f (letter % 2 ^ length file.names))
 joined_mod {file} f j = record {

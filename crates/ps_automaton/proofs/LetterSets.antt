@@ -64,7 +64,8 @@ module _ (known : List Bool) (letter set operand_set : ℕ) (items : List Label)
       more (expression item) (operands_in (expressions (drop (k + 1) items)))
   from_item = ap (λ (ls : List Label). operands_in (expressions ls)) from
 
-  -- one more operand of a conjunction joins the set
+  -- if the set is intersected with the letters of the next operand, the set and the operands after it give a
+  -- conjunction the same truth value as before
   pub all_with : cond (is_in letter (bit_and set operand_set))
       (all_true known letter (operands_in (expressions (drop (k + 1) items)))) false ≡ cond (is_in letter set)
       (all_true known letter (operands_in (expressions (drop k items)))) false
@@ -75,7 +76,8 @@ module _ (known : List Bool) (letter set operand_set : ℕ) (items : List Label)
       both true b c = refl
       both false b c = refl
 
-  -- one more operand of a disjunction joins the set
+  -- if the set is united with the letters of the next operand, the set and the operands after it give a disjunction
+  -- the same truth value as before
   pub any_with : cond (is_in letter (bit_or set operand_set)) true
       (any_true known letter (operands_in (expressions (drop (k + 1) items)))) ≡ cond (is_in letter set) true
       (any_true known letter (operands_in (expressions (drop k items))))

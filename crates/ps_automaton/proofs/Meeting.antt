@@ -24,8 +24,8 @@ pub mapped_some : (f : ℕ → ℕ) (o : Option ℕ) {x : ℕ} → option_map f 
 mapped_some f None {x} e = absurd (none_is_some x e)
 mapped_some f (Some y) e = (y, refl)
 
--- in copies of two diagrams, all leaves were replaced by 0 or by 1: if both copies have a leaf at a letter, both
--- original diagrams have a leaf there
+-- each leaf of one diagram was replaced by 0, and each leaf of another by 1: if both resulting diagrams have a leaf at
+-- a letter, the two original diagrams have a leaf there too
 pub guarded_meet : {t u v : Table} {one other zero_node : ℕ} (one_node : ℕ) {x y : ℕ} (letter : ℕ) → Keeps t u →
     Keeps u v → IsNode t one → IsNode t other → IsNode u zero_node →
     ((n : ℕ) → leaf_of u zero_node n ≡ option_map (λ _. 0) (leaf_of t one n)) →

@@ -1,5 +1,5 @@
--- In the joined diagram of a state's edges, each leaf is the index of a target. The code replaces each leaf by the
--- index of the step to this target.
+-- In the joined diagram of a state's edges, each leaf is the index of a target. The code replaces the index of each
+-- target by the index of the step to the target.
 use Rattle.std.proofs.Common.{◌≡◌, ℕ, suc, ◌^◌, ◌<◌, ◌⊎◌, inl, inr, Bool, List, [], ◌∷◌, length, get_or, Option, rules}
 use Rattle.std.proofs.Common.{Some, None, refl, sym, ap, subst, ◌∙◌, arith}
 use Rattle.std.specs.List.{slice_get}

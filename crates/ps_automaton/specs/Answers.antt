@@ -42,8 +42,9 @@ pub record Clash (file : FileData) (q first second : ℕ) : Type 0 where
 abbrev pub IsDeterministic : FileData → Type 0
 IsDeterministic file = (q first second : ℕ) → Clash file q first second → ⊥
 
--- The first pair of clashing edges in a file belongs to the first state with a clash. Of this state's clashing pairs,
--- it is the pair whose later edge comes first, and among these the pair whose earlier edge comes first.
+-- The first pair of clashing edges in a file belongs to the first state with a clash. The later edge of the pair is the
+-- state's first edge that clashes with an earlier one. The earlier edge of the pair is the first edge with which the
+-- later edge clashes.
 pub record IsFirstClash (file : FileData) (q first second : ℕ) : Type 0 where
   pub clash : Clash file q first second
   pub least_state : (p a b : ℕ) → Clash file p a b → q ≤ p

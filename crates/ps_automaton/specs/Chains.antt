@@ -1,7 +1,7 @@
 -- Acceptance conditions that are chains, and the priorities that a chain gives to edges. A chain is a list of links and
--- a Boolean value, its base. A link is an acceptance set together with a flag. A part of a run is accepted if the flag
--- is true in the first link whose set the part meets. If the part meets no link's set, the base states whether the part
--- is accepted.
+-- a Boolean value, its base. A link is an acceptance set together with a flag. A run is accepted if the flag is true in
+-- the first link whose set the run meets infinitely often. If the run meets no link's set infinitely often, the base
+-- states whether the run is accepted.
 -- - `chain_of condition`: the chain of the condition, if the condition is a chain
 -- - `level chain has`: the priority of an edge, given by the first link whose set the edge has, or by the base
 use Rattle.std.specs.Prelude.{ℕ, ◌+◌, ◌%◌, max, Bool, true, false, not, List, [], ◌∷◌, ◌++◌, Option, None, Some}
@@ -9,7 +9,7 @@ use Rattle.std.specs.Prelude.{if◌then◌else◌, nat_eq}
 use Rattle.ps_hoa.specs.Conditions.{SetData, Condition, Conditions, constant, infinitely, finitely, all_hold, any_holds}
 use Rattle.ps_hoa.specs.Conditions.{last, more}
 
--- an acceptance set, and whether a part of a run is accepted if it meets this set but no set of an earlier link
+-- an acceptance set, and whether a run is accepted if it meets this set infinitely often, but no set of an earlier link
 pub record ChainLink : Type 0 where
   pub colour : ℕ
   pub accepts : Bool
@@ -104,7 +104,8 @@ abbrev mutual
   one_of_them met last = false
   one_of_them met (more c cs) = if holds met c then true else one_of_them met cs
 
--- the truth value of a chain: that of the first link whose set is met, or that of the base if the set of no link is met
+-- the truth value of a chain if exactly the given sets are met infinitely often: the flag of the first link whose set
+-- is met infinitely often or, if there is no such link, the base
 abbrev pub chain_holds : Bool → List ChainLink → (ℕ → Bool) → Bool
 chain_holds base [] met = base
 chain_holds base (link ∷ links) met = if met link.colour then link.accepts else chain_holds base links met

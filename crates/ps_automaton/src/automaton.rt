@@ -153,7 +153,7 @@ impl Automaton {
     }
 
     /// The decision diagram of the steps of a state, or of the sink. The diagram's leaf at a letter is the index of a
-    /// step, which the method `pair` returns.
+    /// step; the method `pair` returns the step with a given index.
     pub fn node(&self, state: u32) -> Node
         requires { state ≤ self.now.states }
         ensures node { result ≡ node_of self.now state }

@@ -10,23 +10,23 @@ ghost use Rattle.ps_automaton.specs.Inner.Views.{chain_data, link_data};
 use ps_hoa::Cond;
 use std::alloc::{AllocError, Global};
 
-/// A link of a chain: an acceptance set, and whether a part of a run is accepted if it meets this set, but no earlier
-/// link's set.
+/// A link of a chain: an acceptance set, and whether a run is accepted if it meets this set infinitely often, but no
+/// earlier link's set.
 #[derive(Clone, Copy)]
 pub(crate) struct Link {
     /// The number of the set.
     pub set: u32,
-    /// Whether a part of a run is accepted if it meets the set, but no earlier link's set.
+    /// Whether a run is accepted if it meets the set infinitely often, but no earlier link's set.
     pub accepts: bool,
 }
 
-/// The first link whose set a part of a run meets decides whether the part is accepted. If the part of the run meets no
-/// link's set, the chain's base states whether the part is accepted.
+/// The first link whose set a run meets infinitely often decides whether the run is accepted. If the run meets no
+/// link's set infinitely often, the chain's base states whether the run is accepted.
 #[derive(Drop)]
 pub(crate) struct Chain {
     /// The links of the chain, in order.
     pub links: Vec<Link>,
-    /// Whether a part of a run is accepted if it meets no link's set.
+    /// Whether a run is accepted if it meets no link's set infinitely often.
     pub base: bool,
 }
 

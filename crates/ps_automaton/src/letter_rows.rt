@@ -14,8 +14,8 @@ use ps_hoa::{HoaFile, Row};
 use std::alloc::{AllocError, Global};
 
 /// For each letter, the index of the first edge of a row that is taken there, if there is one. If two edges with
-/// different targets are taken at one letter, the result is None. The clauses allow None for every row: it costs time
-/// only, since the edges are then joined as diagrams. Fails if out of memory.
+/// different targets are taken at one letter, the result is None. The contract allows None for every row, because the
+/// edges are then joined as diagrams, which is slower, but as correct. Fails if out of memory.
 pub(crate) fn edges_by_letter(
     alloc: Global,
     sets: &LetterSets,
@@ -45,7 +45,7 @@ pub(crate) fn edges_by_letter(
     Ok(Some(edges))
 }
 
-/// A list without an edge for so many letters. Fails if out of memory.
+/// A list of the given length whose entries are all None, because no letter has an edge yet. Fails if out of memory.
 fn no_edges(alloc: Global, letters: usize) -> Result<Vec<Option<usize>>, AllocError>
     ensures letters { IfOk result (λ edges. length edges.items ≡ letters) }
     ensures none { IfOk result (λ edges. (letter : ℕ) → edge_at edges.items letter ≡ None) }

@@ -22,15 +22,16 @@ const MOST: usize = 6;
 /// For each proposition and each alias of a file, the set of letters at which it is true.
 #[derive(Drop)]
 pub(crate) struct LetterSets {
-    /// The set of each proposition.
+    /// For each proposition, the set of letters at which it is true.
     pub propositions: Vec<u64>,
-    /// The set of each alias.
+    /// For each alias, the set of letters at which it is true.
     pub aliases: Vec<u64>,
 }
 
 impl LetterSets {
-    /// The sets of a file's propositions and aliases, or None if the file has more than 6 propositions. The clauses
-    /// allow None for every file: it costs time only, since edges are then joined as diagrams. Fails if out of memory.
+    /// The sets of a file's propositions and aliases, or None if the file has more than 6 propositions. The contract
+    /// allows None for every file, because without these sets the edges are joined as diagrams, which is slower, but
+    /// as correct. Fails if out of memory.
     pub(crate) fn of(alloc: Global, file: &HoaFile) -> Result<Option<LetterSets>, AllocError>
         ensures { IfOk result (λ made. IfSome made (AreLetterSets file.now)) }
     {

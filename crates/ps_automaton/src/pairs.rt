@@ -8,7 +8,7 @@ use ps_diagram::{Node, Store};
 use ps_hoa::HoaFile;
 use std::alloc::Global;
 
-/// Decision diagrams whose leaves are indices of the automaton's steps. The first step leads to the sink.
+/// Decision diagrams whose leaves are indices of the automaton's steps. The step with the index 0 leads to the sink.
 #[derive(Drop)]
 pub(crate) struct Pairs {
     /// The allocator.

@@ -29,7 +29,7 @@ pub(crate) fn target_of(row: &Row, edge: &Edge) -> Target
     }
 }
 
-/// A list of acceptance sets as a bit mask, in which bit k is set k.
+/// A list of acceptance sets as a bit mask, in which bit k is 1 if the set k is in the list.
 fn mask_of(sets: &[u32]) -> u64
     requires { All (λ set. set < 64) sets.now }
     ensures { (set : ℕ) → set < 64 → is_in set result ≡ is_among set sets.now }

@@ -48,7 +48,8 @@ pub record IsReady (t : Table) (g : Guards) : Type 0 where
   pub aliases : AreNodesOf t g.file.now.aliases g.aliases.now
   pub label : IsLabelNode t g.file.now (row_data g.row.now).label g.label
 
--- the diagrams for the guards are in the table, and the index is that of an edge of the row
+-- the diagram store has the diagrams of the file's aliases and of the row's label, and `place` is the index of an edge
+-- of the row
 pub record IsReadyAt (t : Table) (g : Guards) (place : ℕ) : Type 0 where
   pub ready : IsReady t g
   pub within : place < length g.row.now.edges.items
@@ -60,7 +61,8 @@ IsFit file (stated e) = IsLabelOf file e
 IsFit file of_state = Unit {0}
 IsFit file (at_letter letter) = letter < 2 ^ length file.names
 
--- the diagrams for the guards are in the table, and the guard of the edge is valid
+-- the diagram store has the diagrams of the file's aliases and of the row's label, and the edge's own label or letter
+-- fits the file (`IsFit`)
 pub record IsReadyTo (t : Table) (g : Guards) (edge : Edge) : Type 0 where
   pub ready : IsReady t g
   pub fit : IsFit g.file.now (edge_data edge).guard
@@ -109,7 +111,8 @@ pub record IsUnion (file : FileData) (row : RowData) (count : ℕ) (targets : Li
     pub held : IsNode t node
     pub joined : AreJoined file row count targets (leaf_of t node)
 
--- the first `count` edges of a row are joined, and the diagrams for its guards are in the table
+-- the first `count` edges of a row are joined, and the diagram store has the diagrams of the file's aliases and of the
+-- row's label
 pub record IsJoining (g : Guards) (count : ℕ) (t : Table) (u : Union) : Type 0 where
   pub ready : IsReady t g
   pub union : IsUnion g.file.now (row_data g.row.now) count u.targets t u.node
@@ -148,7 +151,7 @@ pub record Joins {X : Type 0} (g : Guards) (count : ℕ) (old new : Table) (u : 
 abbrev pub Extends : List Step → List Step → Type 0
 Extends old new = (place : ℕ) (step : Step) → slice_get old place ≡ Some step → slice_get new place ≡ Some step
 
--- the first step leads to the sink, and every step leads to a state or to the sink
+-- the step with the index 0 leads to the sink, and every step leads to a state or to the sink
 pub record AreSteps (states : ℕ) (steps : List Step) : Type 0 where
   pub sink : slice_get steps 0 ≡ Some (record { state = states; priority = 1 })
   pub within : (place : ℕ) (step : Step) → slice_get steps place ≡ Some step → step.state ≤ states
@@ -204,7 +207,8 @@ pub record AreReady (pairs : Pairs) (g : Guards) : Type 0 where
   pub ready : IsReady pairs.store g
   pub steps : AreSteps g.file.now.states pairs.steps.keys
 
--- the steps of the state of a row are made
+-- if the result is no error, it is the diagram of the steps of the row's state, and the diagram store and the list of
+-- steps have only grown
 pub record MakesSteps {E : Type 0} (g : Guards) (levels : Levels) (old new : Pairs) (result : Result ℕ E) : Type 0 where
   pub grows : OnOk result (Grows g.file.now.states old new)
   pub node : IfOk result (λ node. (q : ℕ) → row_of g.file.now q ≡ Some (row_data g.row.now) → IsStepsOf g.file.now

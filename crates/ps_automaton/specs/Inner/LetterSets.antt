@@ -21,7 +21,8 @@ membership letter sets = map (λ set. is_in letter set) sets
 abbrev pub AreAliasSets : List Expression → List ℕ → Type 0
 AreAliasSets aliases sets = (letter : ℕ) → letter < 64 → membership letter sets ≡ alias_truths aliases letter
 
--- the sets of a file's propositions, of which there are at most 6, and of its aliases
+-- the file has at most 6 propositions; for each proposition and each alias, `sets` has the set of letters at which it
+-- is true
 pub record AreLetterSets (file : FileData) (sets : LetterSets) : Type 0 where
   pub few : length file.names ≤ 6
   pub one_each : length sets.propositions.items ≡ length file.names

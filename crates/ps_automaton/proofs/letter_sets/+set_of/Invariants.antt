@@ -7,7 +7,7 @@ use Rattle.ps_automaton.proofs.letter_sets.+set_of.Given as goal
 abbrev pub decreases-set_of : goal.decreases-set_of
 decreases-set_of l = goal.size-set_of l
 
--- the set and the remaining operands determine the truth of the label
+-- a conjunction is true at a letter exactly if the letter is in `set` and all remaining operands are true at the letter
 abbrev pub invariant-loop-operand : goal.invariant-loop-operand
 invariant-loop-operand l = record {
   decides : (letter : ℕ) → letter < 64 → cond (is_in letter l.set) (all_true (membership letter l.aliases) letter
@@ -17,6 +17,7 @@ invariant-loop-operand l = record {
       (drop l.operand-index l.operand-items)));
 }
 
+-- a disjunction is true at a letter exactly if the letter is in `set` or a remaining operand is true at the letter
 abbrev pub invariant-loop-operand-2 : goal.invariant-loop-operand-2
 invariant-loop-operand-2 l = record {
   decides : (letter : ℕ) → letter < 64 → cond (is_in letter l.set) true (any_true (membership letter l.aliases) letter
