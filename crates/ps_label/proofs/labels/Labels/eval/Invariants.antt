@@ -3,8 +3,8 @@ use Rattle.ps_label.specs.Expression.{AreOverFrom}
 use Rattle.ps_label.specs.Truth.{alias_truths, expressions, truths_behind}
 use Rattle.ps_label.proofs.labels.Labels.eval.Given as goal
 
--- `scratch` begins with the truths of the first k aliases, so that evaluating the remaining aliases completes the table
--- of truths
+-- `scratch` begins with the truth values of the first k aliases, so evaluating the remaining aliases gives the truth
+-- values of all aliases
 abbrev pub invariant-loop-k : goal.invariant-loop-k
 invariant-loop-k l = record {
   room : length l.scratch ≡ length l.alias-items;
