@@ -30,8 +30,8 @@ def game_of(text):
 
 
 def counts_of(said, losing, is_compact):
-    """A vertex's count for each priority of the parity by which its winner loses. The text lists all counts or, in the
-    compact form, each nonzero count after its priority."""
+    """A vertex's count for each priority of the parity by which its winner loses. The certificate lists all these
+    counts or, in the compact form, only those other than 0, as `priority:count`."""
     if not is_compact:
         return dict(zip(losing, map(int, said), strict=True))
     pairs = [tuple(map(int, word.split(":"))) for word in said]

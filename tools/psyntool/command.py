@@ -56,7 +56,7 @@ OUTS = Flag("--outs", "the controller's propositions, where the parts do not say
 STRICT = Flag("--strict", "a guarantee that breaks while no assumption has broken loses at once")
 PARTS = Flag("--parts", "a list of parts in the place of the automaton")
 OF_PARTS = (ASSUME, GUARANTEE, AS, OUTS, STRICT)
-# Flags of every command.
+# Flags that every command takes.
 QUIET = Flag("--quiet", "explain nothing")
 KEEP_RETURNS = Flag("--keep-returns", "leave carriage returns where they are")
 ZERO_RESETS = Flag("--zero-resets", "unset latches of a circuit (their own literal as reset) begin with 0")
@@ -117,8 +117,8 @@ def of_the_program(name, says, run, own=(), instead=None):
 
 
 def flags_told(commands):
-    """Each flag as it is written, with its description and the commands that have it. The flags of all commands come
-    last."""
+    """Each flag as it is written, with its description and the commands that have it. The flags that every command
+    takes come last."""
     having = {}
     for command in commands.values():
         for flag in command.all_flags:

@@ -14,8 +14,8 @@ class Refused(Exception):
 
 
 class Unwritten(Exception):
-    """The program's answer is missing or could not be written completely. The message says why; it is empty if the
-    reader has closed the pipe."""
+    """The program's answer is missing or could not be written completely. The message gives the reason, and is empty if
+    the reader of standard output has closed the pipe."""
 
 
 class Stopped(KeyboardInterrupt):

@@ -15,7 +15,7 @@ READ_FAULT, OTHER_GAME, SYMBOLS = 25, 54, 72
 # A text of more bytes than this is not parsed to explain a fault, because parsing it in Python would take longer than
 # the program's own run.
 LONGEST = 1 << 21
-# A fault of a certificate can also be found in a solution.
+# Some faults of certificates are also reported for solutions; their place is then in the solution.
 SPEAKS_TOO = {Kind.CERTIFICATE: Kind.SOLUTION}
 PLAYERS_OF_A_GAME = b"spot-state-player:"
 

@@ -101,8 +101,8 @@ def other_game(offset, texts):
 
 
 def check_picture(request):
-    """Refuses --picture without --by, because only the solution of another solver can have a cycle that its winner
-    loses."""
+    """Refuses --picture without --by. The picture shows a cycle that a player loses although the solution says that
+    this player wins its vertices; only another solver's solution can have such a cycle."""
     if request.has(PICTURE) and not request.has(BY):
         raise Refused(f"{request.command.name} {PICTURE.name} wants {BY.shown}")
 

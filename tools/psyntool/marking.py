@@ -20,7 +20,8 @@ def shown(data, offset, width=WIDTH):
 
 
 def placed(text, offset, what):
-    """The position in the file of a byte of the text, and the marked line."""
+    """A message about a byte of the text: its file, line and column with the words `what`, and then the line of the
+    file, with a mark below the byte."""
     at = text.place_in_file(offset)
     row, column = line_and_column(text.original, at)
     return [f"{text.name}:{row}:{column}: {what}", *shown(text.original, at)]

@@ -55,8 +55,8 @@ def title():
 
 
 def before_it_runs():
-    """Returns a function that a child process calls before `exec`. The returned function asks the system, if it can, to
-    kill the child when the tool ends."""
+    """Returns a function by which a child process prepares itself before `exec`: it restores how signals are handled,
+    and asks the system, if it can, to kill the child when the tool ends."""
     control, tool = getattr(ctypes.CDLL(None), "prctl", None) if ctypes else None, os.getpid()
 
     def prepare():

@@ -32,7 +32,8 @@ def git(*words):
 
 
 def of_repository():
-    """The release in a checkout: its version, its commit, whether files differ from the commit, and the kit."""
+    """The release in a checkout: its version, its commit, whether files differ from the commit, and the kit of the
+    prover, as docs/PROVED.md names it."""
     commit = git("rev-parse", "HEAD") or UNKNOWN
     changes = " with changes" if commit != UNKNOWN and git("status", "--porcelain") else ""
     kit = re.search(r"`(rattle-kit\S* logic \w+)`", places.stored("docs", "PROVED.md"))

@@ -30,8 +30,8 @@ def run(request):
 
 
 def automatic(play):
-    """Plays for the user until the play ends. Each step takes the choice with the greatest counts in the certificate,
-    which should delay the user's loss longest."""
+    """Plays for the user until the play ends. Each step takes the choice that should delay the user's loss longest
+    (`Board.longest`)."""
     while not play.is_over:
         if len(play.steps) == LONGEST:
             raise Refused(f"the play has {LONGEST:,} steps and no end")

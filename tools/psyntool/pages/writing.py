@@ -86,7 +86,8 @@ def specification_of(board):
 
 
 def proved_of(board):
-    """The statement of what is proved, in three sentences with links to the clauses, and the name of the prover."""
+    """What is proved, as HTML: three sentences with links to the page's list of proved clauses, and then a paragraph
+    that names the prover and psyn's version."""
     links = {name: f'<a href="#clause-{name}"><code>{name}</code></a>' for name in CLAUSES}
     release = releases.here()
     said = [
@@ -103,5 +104,5 @@ def clause_entry(name):
 
 
 def link_of(title, name, data):
-    """A link that saves a text, byte by byte."""
+    """A link by which a browser saves exactly the given bytes as a file."""
     return f'<a download="{escaped(name)}" href="data:text/plain;base64,{base64.b64encode(data).decode()}">the {escaped(title)}</a>'

@@ -47,8 +47,8 @@ class Diagrams:
         return self.lows[leaf]
 
     def sides(self, one, proposition):
-        """The diagram that is left if a proposition is false, and the one if it is true; the proposition is not greater
-        than the diagram's own."""
+        """The diagram that is left if a proposition is false, and the one that is left if it is true. The proposition
+        must not be greater than the one at the diagram's root."""
         return (self.lows[one], self.highs[one]) if self.propositions[one] == proposition else (one, one)
 
     def joined(self, first, second, function, known):
@@ -115,7 +115,8 @@ class Diagrams:
         return list(found)
 
     def letter(self, one, is_wanted):
-        """The first letter with a wanted value, as a truth for each proposition; None if there is none."""
+        """The first letter with a wanted value, as a dictionary from propositions to truth values, or None if there is
+        no such letter. Propositions that do not affect the value are left out."""
         waiting, seen = [(one, ())], set()
         while waiting:
             now, path = waiting.pop()

@@ -46,7 +46,8 @@ class Part:
         return "controllable-AP:" in self.automaton.headers
 
     def state_name(self, state):
-        """A state's name, or the part's title and the state's number; empty for an only state without a name."""
+        """A state's name or, if it has none, the part's title and the state's number. If a part has only one state, and
+        this state has no name, the result is empty."""
         name = self.automaton.state_names.get(state)
         return name or (f"{self.title}:{state}" if len(self.automaton.states) > 1 else "")
 

@@ -90,8 +90,8 @@ class Wishes:
 
 
 def listed(text, wishes):
-    """Reads a list, which consists of words of a command line on several lines. A comment is the sentence of the parts
-    below it, up to an empty line or to the next comment."""
+    """Reads a list, which consists of words of a command line on several lines. A comment is the sentence that
+    describes each part below it, up to an empty line or to the next comment."""
     said, sentences, comment, was_comment = [], {}, [], False
     for row, line in enumerate(text.string.split("\n"), 1):
         bare = line.strip()

@@ -150,8 +150,8 @@ class Board:
         return whole
 
     def longest(self, choices):
-        """The choice that should delay the user's loss longest: it leads to the vertex with the greatest counts in the
-        certificate and, of several such vertices, to the smallest."""
+        """The choice that should delay the user's loss longest. It leads to the vertex whose counts in the certificate,
+        compared from the greatest priority down, are greatest; among equals, to the vertex with the smallest id."""
         return max(choices, key=lambda choice: (choice.counts, -choice.vertex))
 
 

@@ -8,9 +8,9 @@ from dataclasses import dataclass
 
 @dataclass(frozen=True)
 class Chain:
-    """A chain: a list of links. A link is an acceptance set, and a flag that states whether the run is accepted if it
-    meets the set infinitely often. The first link whose set is met infinitely often decides; if there is none, `base`
-    says whether the run is accepted."""
+    """An acceptance condition as a list of links and a base. A link is an acceptance set, and a flag that states
+    whether the run is accepted if it meets the set infinitely often. The first link whose set is met infinitely often
+    decides; if there is none, `base` says whether the run is accepted."""
 
     links: tuple
     base: bool
