@@ -21,7 +21,7 @@
 //! |---|---|
 //! | `automaton_is_there` | an admitted file has an automaton, with a step for each state and letter |
 //! | `refusal_is_one` | each file is either admitted, or refused for exactly one fault |
-//! | `greatest_level_decides` | in a part of a run, the greatest priority is even exactly if the part is accepted |
+//! | `greatest_level_decides` | a part of a run meets the acceptance condition exactly if its greatest priority is even |
 //!
 //! If there are at most 6 propositions, `build` joins the edges of a state letter by letter: a set of letters is then a
 //! bit mask of 64 bits. Otherwise, or if two edges clash, `build` joins the edges one after another, as decision
