@@ -1,6 +1,6 @@
 -- If one player holds a set by a table of moves, each history table (history-dependent strategy) of the other player
--- loses from each vertex of the set. The proof builds a path that follows the table and the history table, so that the
--- player who holds the set wins each loop of the path.
+-- loses from each vertex of the set. The proof builds a path on which the player who holds the set moves by the table,
+-- and the other player by the history table. The player who holds the set wins each loop of this path.
 use Rattle.std.proofs.Common.{◌≡◌, ℕ, zero, suc, ◌+◌, ◌-◌, ◌<◌, ◌≤◌, inl, inr, List, [], ◌∷◌, ◌++◌, Bool, length, rules}
 use Rattle.std.proofs.Common.{get_or, Option, Some, refl, sym, ◌∙◌, arith}
 use Rattle.std.specs.Prelude.{IsTrue, IsSomeAnd}
@@ -31,7 +31,8 @@ players_differ player is_player same = omega arith
 
 module _ (game : ParityGame) (player : ℕ) (set : ℕ → Bool) (table : ℕ → Option ℕ) (is_game : IsGame game)
     (is_player : player < 2) (holds : Holds game (other_player player) set table) where
-  -- a path of k + 1 vertices that follows the table and the history table can be extended by one vertex
+  -- a path of k + 1 vertices, on which one player moves by the table and the other by the history table, can be
+  -- extended by one vertex
   meets_more : (n : ℕ) (history : List ℕ → ℕ) → IsHistoryTable game player n history → (v k : ℕ) → IsTrue (set v) →
       k < n → Meets game player table history v k → Meets game player table history v (suc k)
   meets_more n history is_table v k inside more met =

@@ -39,7 +39,7 @@ pub record IsGame (game : ParityGame) : Type 0 where
   pub different : (v : ℕ) → v < vertex_count game → AllPairs (λ x y. x ≢ y) (successors_of game v)
   pub within : (v w : ℕ) → HasEdge game v w → w < vertex_count game
 
--- a game with an id and an optional name, a list of bytes, for each vertex
+-- a game with an id and an optional name for each vertex; a name is a list of bytes
 pub record NamedGameData : Type 0 where
   pub game : ParityGame
   pub ids : List ℕ

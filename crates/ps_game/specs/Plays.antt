@@ -48,8 +48,8 @@ pub record KeepsTo (game : ParityGame) (player : ℕ) (set : ℕ → Bool) (tabl
   pub stays : (path : List ℕ) → IsPath game path → IsTrue (set (slice_index path 0)) → Follows game player table path →
       (k : ℕ) → k < length path → IsTrue (set (slice_index path k))
 
--- the player holds the set by the table: each path that begins in the set and follows the table stays in the set, and
--- the player wins each loop of the path
+-- the player holds the set by the table: the player keeps to the set (`KeepsTo`), and wins each loop of each path that
+-- begins in the set and follows the table
 pub record Holds (game : ParityGame) (player : ℕ) (set : ℕ → Bool) (table : ℕ → Option ℕ) : Type 0 where
   pub keeps : KeepsTo game player set table
   pub wins : (path : List ℕ) (i j : ℕ) → IsPath game path → IsTrue (set (slice_index path 0)) →

@@ -11,7 +11,7 @@ pub record RemainsFor (game : ParityGame) (player : ℕ) (table : ℕ → Option
   pub edge : HasEdge game v w
   pub chosen : owner_of game v ≡ player → table v ≡ Some w
 
--- an edge that remains for a player who moves by the table (`RemainsFor`) and has both ends in the set
+-- an edge that remains if the player moves by the table (`RemainsFor`), and that has both ends in the set
 pub record RemainsWithin (game : ParityGame) (player : ℕ) (set : ℕ → Bool) (table : ℕ → Option ℕ) (v w : ℕ) : Type 0
   where
     pub from : IsTrue (set v)
@@ -30,8 +30,8 @@ pub record ListsPriorities (game : ParityGame) (parity : ℕ) (list : List ℕ) 
   pub present : All (HasPriority game) list
 
 -- the rule of counts: the condition that a progress measure (the counts for one priority) must meet on one edge. If
--- neither end of the edge has a greater priority, the count does not rise along the edge; if the edge also leaves a
--- vertex of the given priority, the count decreases
+-- neither end of the edge has a priority above the given one, the target's count is at most the source's count. If, in
+-- addition, the source has the given priority, the target's count is smaller
 pub record KeepsRule (priority from_priority to_priority from_count to_count : ℕ) : Type 0 where
   pub never_rises : from_priority ≤ priority → to_priority ≤ priority → to_count ≤ from_count
   pub falls : from_priority ≡ priority → to_priority ≤ priority → to_count < from_count

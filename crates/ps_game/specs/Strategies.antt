@@ -29,8 +29,8 @@ Agrees game player strategy path =
     (k : ℕ) → k + 1 < length path → owner_of game (slice_index path k) ≡ player →
     strategy.choice (memory_at strategy path k) (slice_index path k) ≡ slice_index path (k + 1)
 
--- on each path from v that agrees with the strategy, the player wins each loop that has the same memory state at both
--- of its positions
+-- on each path from v that agrees with the strategy, the player wins each loop that begins and ends in the same memory
+-- state
 abbrev pub WinsFrom : ParityGame → ℕ → FiniteMemory → ℕ → Type 0
 WinsFrom game player strategy v =
     (path : List ℕ) (i j : ℕ) → IsPath game path → slice_index path 0 ≡ v → Agrees game player strategy path →

@@ -1,9 +1,10 @@
 //! Parity games: their definition, storage and construction, and laws about plays and strategies.
 //!
-//! In clauses, a game is a `ParityGame`, the list of its vertices, which are numbered from 0. Player 0 wins a loop
-//! whose greatest priority is even, and player 1 wins a loop whose greatest priority is odd. In clauses, sets of
-//! vertices and tables of moves are lists with an entry for each vertex. A call that takes a set or a table *requires*
-//! that it has one entry for each vertex of the game.
+//! In the clauses of contracts, a game is a `ParityGame`: a list of vertices, which are numbered from 0. Player 0 wins
+//! a loop whose greatest priority is even, and player 1 wins a loop whose greatest priority is odd. In clauses, a
+//! `Region` (a set of vertices) and a `Strategy` (a table of moves) are lists with an entry for each vertex; in the
+//! laws, sets and tables are functions. `Subgame::find` and `Subgame::known` *require* a region with one entry for each
+//! vertex of the game.
 //!
 //! | Call | What it gives |
 //! |---|---|
