@@ -1,4 +1,4 @@
--- The index of the first entry that passes a test, after an entry is appended.
+-- How the index of the first entry that passes a test changes when an entry is appended.
 -- - `pushed_position`: after an entry is appended, the first entry that passes is the same as before, or it is the new
 --   entry
 use Rattle.std.proofs.Common.{◌≡◌, ℕ, ◌+◌, ◌≤◌, Bool, true, cond, eqb, List, [], ◌∷◌, ◌++◌, length}

@@ -10,8 +10,8 @@ use Rattle.ps_hoa.specs.Conditions.{Condition, Conditions, constant, infinitely,
 use Rattle.ps_hoa.specs.Conditions.{more}
 use Rattle.ps_hoa.specs.Files.{GuardData, EdgeData, RowData, FileData, stated, of_state, at_letter}
 
--- In the code of an acceptance condition, a proposition stands for `Inf` of a set, and an alias for `Fin` of a set. A
--- negation stands for the complement of a set.
+-- In the expression that encodes an acceptance condition, a proposition stands for `Inf` of a set, and an alias for
+-- `Fin` of a set. The proposition or the alias is negated if the condition takes the complement of the set.
 abbrev expression_of_set : Bool → Expression → Expression
 expression_of_set true e = expressions.not_of e
 expression_of_set false e = e

@@ -19,8 +19,8 @@ row_among (row ∷ rows) q = if nat_eq q row.state then Some row else row_among 
 abbrev pub row_of : FileData → ℕ → Option RowData
 row_of file q = row_among file.rows q
 
--- An edge is enabled at the letters at which its own label is true, at those at which its state's label is true, or at
--- a single letter. The guard of an edge tells which of these three kinds of letters enables the edge.
+-- The guard of an edge tells which letters enable the edge: those at which its own label is true, those at which its
+-- state's label is true, or a single letter.
 abbrev pub IsEnabled : List Expression → Option Expression → GuardData → ℕ → Type 0
 IsEnabled aliases label (stated e) letter = IsTrue (label_truth aliases letter e)
 IsEnabled aliases None of_state letter = ⊥

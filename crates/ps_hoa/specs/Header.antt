@@ -245,8 +245,9 @@ abbrev pub counted_condition : HeaderData → Part Sign HeaderData HoaCause
 counted_condition h =
     then_by (int set_limit) (λ n. mapped (with_acceptance h n) (conditions.condition nesting_limit))
 
--- Among the numbers of `controllable-AP:`, each number less than 64 has a slot of its own. All other numbers share one
--- slot: none of them is a proposition, so it only matters whether there is such a number.
+-- Of the numbers of `controllable-AP:` with the same slot, only the first is kept. Each number less than 64 has a slot
+-- of its own. All numbers from 64 on share one slot: none of them is a proposition, so it only matters whether there is
+-- such a number.
 abbrev pub slot_of : ℕ → ℕ
 slot_of n = if nat_lt n proposition_limit then n else proposition_limit
 
@@ -254,7 +255,7 @@ abbrev pub has_place : ℕ → List ℕ → Bool
 has_place place [] = false
 has_place place (n ∷ ns) = if nat_eq place (slot_of n) then true else has_place place ns
 
--- a number is kept if its slot is free, so a repeated proposition counts once
+-- a number is kept if no earlier number has the same slot (`slot_of`), so a repeated proposition counts once
 abbrev pub kept : List ℕ → ℕ → List ℕ
 kept ns n = if has_place (slot_of n) ns then ns else ns ++ n ∷ []
 

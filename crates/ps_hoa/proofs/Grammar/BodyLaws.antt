@@ -39,8 +39,8 @@ use Rattle.ps_hoa.proofs.Grammar.TokenLaws.{laws_alternating}
 abbrev pub lengthens_edge : Kind → Bool
 lengthens_edge = union is_and is_left_brace
 
--- where the number of a target, a set or a state is expected, only an `INT` is accepted, and only an `INT` can have an
--- error in `Bad`
+-- where the number of a target, a set or a state is expected, only an `INT` is accepted; only an `INT` can have an
+-- error there, and the relation `Bad` tells which errors its number has
 pub laws_target_number : (Bad : ℕ → HoaCause → Type 0) → Tight (one int_in (BadIn Bad)) is_int
 laws_target_number Bad = laws_value is_int Int [] _ refl (λ _. refl) (λ t f b. b.1)
 

@@ -1,6 +1,6 @@
 -- For each list of tokens, the body and the whole text after the version have an outcome: they are parsed, or they have
 -- a first error.
--- - `has_file`: the whole text after the version has an outcome
+-- - `has_file`: the whole text after the version is parsed, or has a first error
 use Rattle.std.proofs.Common.{ℕ, List, [], Option, None, rules}
 use Rattle.ps_label.specs.Expression.{Expression}
 use Rattle.ps_text.specs.Parts.{one, mapped, barred}

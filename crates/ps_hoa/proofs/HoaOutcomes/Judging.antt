@@ -1,6 +1,6 @@
 -- The errors that a token can have in labels, conditions, the header and the body. It is decidable whether a token has
 -- an error, and which of its errors has the smallest number.
--- - `decide_kind`: the kind of a token is decided by a test
+-- - `decide_kind`: if a test accepts only one kind of tokens, it is decidable whether a token has this kind
 -- - `judge_above` to `judge_close`: a token of each form has an error with the smallest number, or no error
 use Rattle.std.proofs.Common.{◌≡◌, ℕ, suc, ◌+◌, ◌<◌, ◌≤◌, Bool, true, List, length, Option, None, Some, rules, refl}
 use Rattle.std.proofs.Common.{sym, inr, ◌∙◌, subst}
@@ -103,7 +103,7 @@ may_have_no_label l = search rules
 may_have_label : (l : Labelling) → Decided (MayHaveLabel l)
 may_have_label l = search rules
 
--- it is decidable whether a text already has the largest number of edges
+-- it is decidable whether a text already has as many edges as allowed (`edge_limit`)
 full : (before : ℕ) (row : RowData) →
     Judged cause_number (λ f. (edge_limit ≤ before + length row.edges) × (f ≡ causes.Limit))
 full before row = judge_cause cause_number causes.Limit (decide_below edge_limit (before + length row.edges))

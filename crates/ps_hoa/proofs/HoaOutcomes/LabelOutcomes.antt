@@ -1,8 +1,9 @@
 -- For each list of tokens, labels and acceptance conditions have an outcome: they are parsed, or they have a first
 -- error.
--- - `has_signs`, `has_int`, `has_string`, `has_expect`, `has_loop`: tokens, numbers, strings and loops have an outcome
--- - `has_infix`: rows of the operands of a grammar have an outcome
--- - `has_label`, `has_condition`: labels and acceptance conditions have an outcome
+-- - `has_signs`, `has_int`, `has_string`, `has_expect`, `has_loop`: parsing a token, a number, a string or a repetition
+--   gives a value or a first error
+-- - `has_infix`: parsing a row of operands gives a value or a first error
+-- - `has_label`, `has_condition`: parsing a label or an acceptance condition gives a value or a first error
 use Rattle.std.proofs.Common.{arith, Option, None, Some, ℕ, zero, suc, Bool, true, false, List}
 use Rattle.ps_text.specs.Parts.{Part, one, many}
 use Rattle.ps_text.specs.Outcomes.{HasOutcomes}
@@ -46,7 +47,7 @@ Has part = HasOutcomes hoa_causes part
 
 -- ## Single tokens, parentheses and rows
 
--- a grammar of one token gives each list of tokens an outcome
+-- for each list of tokens, parsing a grammar of one token gives a value or a first error
 pub has_signs : {V : Type 0} {take : Sign → Option V} {Bad : Sign → HoaCause → Type 0} → IsOfSigns take Bad →
     JudgesAll Bad → Has (one take Bad)
 has_signs {take = take} {Bad = Bad} o judge = has_one hoa_causes take Bad o.sign o.value o.taken judge

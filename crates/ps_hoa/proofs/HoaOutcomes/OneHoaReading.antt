@@ -89,8 +89,8 @@ same_meaning : (end : ℕ) (ps qs : List (Piece Sign)) (a b : Answer) → ps ≡
 same_meaning end ps qs a b e h k = has_one_answer file.IsText (IsWrong hoa_causes file) cause_number laws_file.one_value
     numbered (record { pieces = in_context fresh qs; end = end }) a b (grind arith) k
 
--- a text that begins with `HOA:` and a version has only one version, one rest after the version, and one length for
--- each gap before the version
+-- a text that has `HOA:` and a version determines the version, the rest after it, and the lengths of the blanks and
+-- comments before `HOA:` and before the version
 place : (bytes a b m n f g x y t u v w : List ℕ) → IsBehindBlanks bytes a (codes "HOA:" ++ m) →
     IsBehindBlanks bytes b (codes "HOA:" ++ n) → IsBehindBlanks m f x → IsBehindBlanks n g y →
     IsVersion x v t → IsVersion y w u → (length a ≡ length b) × (length f ≡ length g) × (v ≡ w) × (t ≡ u)

@@ -1,6 +1,7 @@
 -- Each HOA text has an answer: its meaning, or its first error.
 -- - `blanks_from`: the blanks at an offset of the text end at some offset
--- - `some_reading`: each text has an answer, which is found stage by stage
+-- - `some_reading`: each text has an answer; the proof examines the length of the text, then `HOA:`, then the version,
+--   and then the tokens
 use Rattle.std.proofs.Common.{◌≡◌, ℕ, zero, suc, ◌+◌, ◌<◌, ◌≤◌, ◌⊎◌, Bool, true, false, List, length, take, drop, refl}
 use Rattle.std.proofs.Common.{sym, ap, subst, ◌∙◌, arith, length-drop, inl, inr}
 use Rattle.std.specs.Prelude.{codes, Result}

@@ -1,9 +1,9 @@
 -- The meaning or the first error of an HOA text follows from the results of the parsing functions. There is a lemma for
 -- each way in which the parser of whole texts can return.
--- - `refused_answers`: the start of the text is rejected
--- - `header_fails`, `body_fails`: the header, or the body after it, has a first error
--- - `ends_answers`: header and body were parsed, and the text ends after them
--- - `trails_answers`: header and body were parsed, and a token follows them
+-- - `refused_answers`: if the start of the text has an error, this error is the answer to the text
+-- - `header_fails`, `body_fails`: if the header, or the body after it, has a first error, this error is the answer
+-- - `ends_answers`: if header and body were parsed, and the text ends after them, their meaning is the answer
+-- - `trails_answers`: if header and body were parsed, and a token follows them, an error at this token is the answer
 --
 -- The hypothesis `reads` states that the meaning of the tokens after the version, or the first error in them, is the
 -- answer to the text.

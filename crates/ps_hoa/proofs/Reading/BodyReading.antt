@@ -7,7 +7,7 @@
 --   begins with `[`
 -- - `braces_serve`, `no_braces_serve`: lemmas for a next token `{`, which begins acceptance sets, and for any other
 --   next token, so that the edge or state names no acceptance set
--- - `pushed_edge`: the edges of a state's row after an edge is appended
+-- - `pushed_edge`: appending an edge to a state's row appends its abstract value to those of the row's edges
 use Rattle.std.proofs.Common.{◌⊎◌, ◌++◌, map, ◌≡◌, true, inl, ℕ, List, [], ◌∷◌, Option, Some, Ok, Err, refl, sym, inr}
 use Rattle.std.proofs.Common.{ap, ◌∙◌, rules}
 use Rattle.std.proofs.lemmas.List.{map-append}
@@ -112,7 +112,7 @@ module _ (h : HeaderData) (s : Stream Sign) where
   no_braces_serve differs = serves_as s (right_otherwise (laws_sets (sets_of h)) laws_no_sets (there_of s)
       (expect_elsewhere tests_left_brace s differs) (λ k. k))
 
--- the abstract values of the edges of a state's row, after an edge is appended
+-- appending an edge to a state's row appends its abstract value to those of the row's edges
 pub pushed_edge : (es new : List Edge) (e : Edge) → new ≡ es ++ e ∷ [] →
     map edge_data es ++ edge_data e ∷ [] ≡ map edge_data new
 pushed_edge es new e q = sym (ap (map edge_data) q ∙ map-append edge_data es (e ∷ []))

@@ -4,7 +4,7 @@
 --   in a set of tokens (`avoids_kind`)
 -- - `expect_read`, `expect_begins`, `expect_elsewhere`: a next token of the expected kind is parsed, and begins the
 --   grammar; a next token of another kind does not pass the test for the expected kind
--- - `tests_not` to `tests_string`: only tokens of one kind pass each of these tests
+-- - `tests_not` to `tests_string`: each of the tests `is_not` to `is_string` accepts exactly one kind of tokens
 -- - `inner_reads`, `inner_fails`, `inner_stays_open`: the results of parsing a part in parentheses, after the `(` was
 --   parsed
 use Rattle.std.proofs.Common.{◌≡◌, ◌≤◌, Bool, true, cond, length, Option, None, Some, Ok, refl, sym, ap, subst, ◌∙◌}

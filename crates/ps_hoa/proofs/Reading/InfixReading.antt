@@ -1,6 +1,6 @@
 -- Lemmas for the functions that parse operands with connectives between them: rows of operands, and the forms of an
 -- operand.
--- - `operand_row`: the hypotheses of the lemmas about rows of operands hold
+-- - `operand_row`: for each connective, its operands satisfy `Row`, the hypotheses of the lemmas about rows of operands
 -- - `leaf_serves`, `too_deep`: the results for an operand that contains no other operand, and for an operand that is
 --   nested too deep
 -- - `not_reads`, `not_fails`: the results for an operand after `!`

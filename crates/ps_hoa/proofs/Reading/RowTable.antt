@@ -1,5 +1,5 @@
 -- The table with the index of each state's row.
--- - `has_place_row`: a state has an index in the list of rows exactly if it has a row, which has the state's edges
+-- - `has_place_row`: a state has an index in the list of rows exactly if it has a row
 -- - `row_at`: the row of a state is the row at the state's index in the list of rows
 -- - `place_push`: appending the row of a state gives this state the next index, and changes the index of no other state
 use Rattle.std.proofs.Common.{◌≡◌, ℕ, false, cond, List, [], ◌∷◌, ◌++◌, length, Option, None, Some, refl, rules}

@@ -1,5 +1,5 @@
--- Of the numbers that `controllable-AP:` lists, each number below 64 is kept once. Only the first of all other numbers
--- is kept: they share one slot (`slot_of`).
+-- Of the numbers that `controllable-AP:` lists, each number below 64 is kept once. Of the numbers from 64 on, only the
+-- first is kept, since they share one slot (`slot_of`).
 -- - `different_kept`: the kept numbers differ from each other
 use Rattle.std.proofs.Common.{◌≡◌, ℕ, false, List, [], ◌∷◌, refl, rules}
 use Rattle.std.specs.Prelude.{nat_eq}

@@ -1,4 +1,4 @@
--- A lemma proves each clause of the law `sound_labels`.
+-- Each clause of the law `sound_labels` is proved by a lemma of its own.
 use Rattle.ps_hoa.proofs.Soundness.SoundLaws.{sound_aliases_ordered, state_label, edge_label}
 use Rattle.ps_hoa.proofs.laws.sound_labels.Goals as goal
 

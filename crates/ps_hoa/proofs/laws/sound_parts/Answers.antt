@@ -1,4 +1,4 @@
--- A lemma proves each clause of the law `sound_parts`.
+-- Each clause of the law `sound_parts` is proved by a lemma of its own.
 use Rattle.ps_hoa.proofs.Soundness.SoundLaws.{sound_row, row_of_state, sound_edge}
 use Rattle.ps_hoa.proofs.laws.sound_parts.Goals as goal
 
