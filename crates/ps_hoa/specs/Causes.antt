@@ -41,7 +41,7 @@ cause_number causes.Controllable = 19
 cause_number causes.Name = 20
 cause_number causes.SeveralAutomata = 22
 
--- the grammar defines the name, as the name of a header item or otherwise
+-- the name is `HOA:`, `State:` or the name of a header item that the parser knows
 abbrev pub is_spelled : List ℕ → Bool
 is_spelled name =
     bytes_eq name (codes "HOA:") || bytes_eq name (codes "State:") || is_some (item_named name)

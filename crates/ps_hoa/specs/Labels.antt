@@ -20,8 +20,8 @@ use Rattle.ps_hoa.specs.declared.fault.HoaCause.TheVariants as causes
 use Rattle.ps_hoa.specs.declared.tokens.Kind.{Kind}
 use Rattle.ps_hoa.specs.declared.tokens.Kind.TheVariants as kinds
 
--- The context of a label: the earlier aliases in order, and the number of propositions if it is known. The number of
--- propositions is not known in the header, since `AP:` may come after the label.
+-- The context of a label: the earlier aliases in order, and the number of propositions if it is known. The label of an
+-- alias is parsed without the number of propositions, since `AP:` may come after `Alias:`.
 pub record ScopeData : Type 0 where
   pub names : List (List ℕ)
   pub propositions : Option ℕ

@@ -18,7 +18,7 @@ use Rattle.ps_hoa.specs.declared.infix.Connective.TheVariants as connectives
 pub record Grammar (V : Type 0) : Type 1 where
   -- the tokens form an operand that does not begin with `!` or `(`
   pub IsAtom : List Sign → V → Type 0
-  -- an operand with the first value has the second value if `!` is put before it
+  -- `Negates v w`: an operand with the value v may have `!` before it, and then has the value w
   pub Negates : V → V → Type 0
   -- the value that operands have together when a connective joins them
   pub together : Connective → List V → V

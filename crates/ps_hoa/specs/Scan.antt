@@ -27,7 +27,7 @@ abbrev pub one_more : Option ℕ → Option ℕ
 one_more None = None
 one_more (Some n) = Some (suc n)
 
--- the sum of a number and an optional number
+-- the sum of a number and an optional number, or `None` if the optional number is `None`
 abbrev pub plus : ℕ → Option ℕ → Option ℕ
 plus k None = None
 plus k (Some n) = Some (k + n)

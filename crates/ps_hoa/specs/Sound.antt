@@ -1,6 +1,6 @@
 -- The properties of a parsed file. Every number refers to a state, a proposition, a set or an earlier alias. No list
--- contains a number twice, no two propositions have the same name, and no state has two rows. The edges of a state are
--- labelled in one of three ways, and psyn's limits on the size of texts are kept.
+-- contains a number twice, no two propositions have the same name, and the body describes no state twice. The edges of
+-- a state are labelled in one of three ways, and psyn's limits on the size of texts are kept.
 -- - `IsSoundFile file`: the numbers in the file are those of existing states, propositions, sets and aliases; nothing
 --   occurs twice; edges are labelled in one of the three ways; the limits are kept
 use Rattle.std.specs.Prelude.{◌≡◌, ℕ, ◌+◌, ◌^◌, ◌<◌, ◌≤◌, ◌⊎◌, ◌||◌, false, List, [], ◌∷◌, length, All, sum_by, Option}
@@ -83,7 +83,7 @@ AreNames [] = Unit {0}
 AreNames (name ∷ names) =
     ((is_empty name || has_control name) ≡ false) × (is_name_among name names ≡ false) × AreNames names
 
--- no state has two rows
+-- no two rows describe the same state
 abbrev pub AreRowsOnce : List RowData → Type 0
 AreRowsOnce [] = Unit {0}
 AreRowsOnce (row ∷ rows) = (has_row row.state rows ≡ false) × AreRowsOnce rows

@@ -106,7 +106,7 @@ pub record IsUnclosedComment (text rest : List ℕ) : Type 0 where
   pub begins : text ≡ codes "/*"
   pub unclosed : (comment more : List ℕ) → text ++ rest ≡ comment ++ more → IsComment comment → ⊥
 
--- no token, comment or blank begins with the byte `text`
+-- `text` is a single byte, and no token, comment or blank begins with it
 pub record IsOdd (text rest : List ℕ) : Type 0 where
   pub byte : ℕ
   pub text_is : text ≡ byte ∷ []

@@ -23,8 +23,8 @@ pub enum Guard {
     Stated(Label),
     /// The letters at which the label of the edge's state is true.
     OfState,
-    /// Only the given letter, in which proposition `i` is bit `i`. The letter is also the index of the edge in its
-    /// state's row.
+    /// Only the letter of the given number: proposition `i` is true at this letter exactly if bit `i` of the number is
+    /// set. The number is also the index of the edge in its state's row.
     Letter(u64),
 }
 
@@ -138,7 +138,8 @@ impl HoaFile {
         &self.condition
     }
 
-    /// The rows of the states, in the order of the text. A state need not have a row.
+    /// The rows of the body, in the order of the text. Each row describes one state; a state that no row describes has
+    /// no edges.
     pub fn rows(&self) -> &[Row]
         ensures value { map row_data result.now ≡ self.now.rows }
         ensures well_formed { IsSoundFile self.now }

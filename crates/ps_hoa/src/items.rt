@@ -75,11 +75,10 @@ pub(crate) fn item_named(name: &[u8]) -> Option<Item>
     None
 }
 
-/// The number of marks: one for each header item that may occur only once. A mark records the occurrence of an item
-/// that may occur only once.
+/// The number of header items that may occur only once. `History` records for each of them whether it has occurred.
 pub(crate) const ONCE_COUNT: usize = 4;
 
-/// The index of the mark of an item, if the item may occur only once.
+/// The index of an item among the header items that may occur only once, if it is one of them.
 fn once_of(item: Item) -> Option<usize>
     ensures value { result ≡ once_of item }
     ensures within { IfSome result (λ once. once < ONCE_COUNT) }
@@ -93,7 +92,7 @@ fn once_of(item: Item) -> Option<usize>
     }
 }
 
-/// The index of the mark of the header item with the given name, if the item may occur only once.
+/// The index of the header item with the given name among those that may occur only once, if it is one of them.
 pub(crate) fn once_named(name: &[u8]) -> Option<usize>
     ensures value { result ≡ once_named name.now }
     ensures within { IfSome result (λ once. once < ONCE_COUNT) }
@@ -257,7 +256,8 @@ fn alias<'a>(
     Ok(())
 }
 
-/// Parses a label in a header. The number of propositions may not be known yet.
+/// Parses the label of an alias. The numbers in it are not compared with the number of propositions, since `AP:` may
+/// come after `Alias:`.
 fn header_label(alloc: Global, tokens: &mut Tokens, names: &Names) -> Result<Label, HoaFault>
     ensures { ReadsAs expression (labels.label (record { names = names.now; propositions = None }) nesting_limit)
         tokens.old result tokens.new }
@@ -289,7 +289,7 @@ fn controllable(alloc: Global, tokens: &mut Tokens, header: &mut Header) -> Resu
     Ok(())
 }
 
-/// Parses numbers into a list that keeps only the first number of each slot.
+/// Parses numbers into a list, which keeps each number less than 64 once, and only the first of all other numbers.
 fn indices(alloc: Global, tokens: &mut Tokens) -> Result<Indices, HoaFault>
     ensures { ReadsAs (λ indices. indices) (many parts.index []) tokens.old result tokens.new }
 {

@@ -20,9 +20,9 @@ pub fn some_answer()
     ensures { (text : List ℕ) → (answer : Result FileData (Found HoaCause)) × ReadsFile text answer }
 {}
 
-/// In a parsed file, every number refers to a state, a proposition, a set or an earlier alias. Names are distinct, and
-/// no state has two rows. The edges of a state are labelled by the state's label, by a label of each edge, or
-/// implicitly, with one edge for each letter.
+/// In a parsed file, every number refers to a state, a proposition, a set or an earlier alias. No two propositions have
+/// the same name, and the body describes no state twice. The edges of a state are labelled by the state's label, by a
+/// label of each edge, or implicitly, with one edge for each letter.
 pub fn sound_files()
     ensures { (text : List ℕ) (file : FileData) → ReadsFile text (Ok file) → IsSoundFile file }
 {}

@@ -28,7 +28,8 @@ pub(crate) fn refused(token: Token) -> HoaFault
     fault_at(token, refusal(token))
 }
 
-/// The cause with which a token is rejected: the token's own cause if it has one, otherwise `Syntax`.
+/// The cause of a token that is rejected here: the cause with which the token is rejected wherever it occurs, or
+/// `Syntax` if there is no such cause.
 fn refusal(token: Token) -> HoaCause
     ensures { result ≡ refusal_of hoa_causes (Some (piece_of token.entry).sign) }
 {
@@ -52,7 +53,7 @@ fn is_unknown(name: &[u8]) -> bool
     !is_spelled(name) && begins_capital(name)
 }
 
-/// Whether the grammar defines a name, as the name of a header item or otherwise.
+/// Whether a name is `HOA:`, `State:` or the name of a header item that the parser knows.
 fn is_spelled(name: &[u8]) -> bool
     ensures { result ≡ is_spelled name.now }
 {

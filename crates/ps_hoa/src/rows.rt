@@ -45,7 +45,7 @@ impl Rows {
         self.edges
     }
 
-    /// Whether a state has a row.
+    /// Whether one of the rows describes the given state.
     pub(crate) fn has(&self, state: u32) -> bool
         ensures { result ≡ has_row state (body_data self.now).rows }
     {

@@ -43,7 +43,7 @@ pub(crate) fn other(tokens: &mut Tokens) -> Result<(), HoaFault>
     Ok(())
 }
 
-/// Whether a token may be skipped.
+/// Whether a token can be an argument of an item with an unknown name: a number, a string or a word.
 fn is_value(token: Token) -> bool
     ensures { result ≡ is_value_kind token.entry.kind }
 {
@@ -58,7 +58,7 @@ fn read_over(tokens: &mut Tokens) -> Result<(), HoaFault>
     read_over_of(token)
 }
 
-/// Checks that a token may be skipped.
+/// Checks that a token is a number, a string or a word, and that a number does not exceed the greatest `INT`.
 fn read_over_of(token: Token) -> Result<(), HoaFault>
     ensures { (h : HeaderData) → Takes (λ _. h) (read_over_in h) (parts.IsAbove number_limit)
         (piece_of token.entry) result }

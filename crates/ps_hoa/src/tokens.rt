@@ -462,8 +462,8 @@ impl<'a> Model for Tokens<'a> {
 }
 
 impl<'a> Tokens<'a> {
-    /// The tokens from an offset on, which should be after the text's version. The first `HOA:` after the offset counts
-    /// as the second occurrence of the name `HOA:`, even if the offset is 0.
+    /// The tokens from an offset on, which should be after the text's version. If a `HOA:` follows before `--END--`, it
+    /// counts as repeated, because the text's first `HOA:` is taken to be before the offset.
     pub fn new(source: &'a [u8], from: usize) -> Self
         requires { from ≤ length source.now }
         ensures pieces { (pieces : List (Piece Sign)) → AreTokens from (drop from source.now) pieces →

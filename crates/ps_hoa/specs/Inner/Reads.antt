@@ -21,14 +21,15 @@ pub record IsWorst (Bad : Sign → HoaCause → Type 0) (sign : Sign) (f : HoaCa
   pub stands : Bad sign f
   pub least : (g : HoaCause) → Bad sign g → cause_number f ≤ cause_number g
 
--- the grammar rejects the token, and f is the token's own cause, or `Syntax` if the token has none
+-- the grammar does not allow the token here, and the token has no error (`Bad`); f is the cause with which it is
+-- rejected everywhere (`own_cause`), or else `Syntax`
 pub record IsRefusal {V : Type 0} (take : Sign → Option V) (Bad : Sign → HoaCause → Type 0) (sign : Sign)
     (f : HoaCause) : Type 0 where
   pub none : take sign ≡ None
   pub good : (g : HoaCause) → Bad sign g → ⊥
   pub cause : f ≡ refusal_of hoa_causes (Some sign)
 
--- the grammar accepts the token, which has no error
+-- the grammar gives the token the value v, and the token has no error (`Bad`)
 pub record IsTaken {V : Type 0} (take : Sign → Option V) (Bad : Sign → HoaCause → Type 0) (sign : Sign) (v : V) : Type 0
   where
     pub some : take sign ≡ Some v
