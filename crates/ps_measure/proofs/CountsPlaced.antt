@@ -47,7 +47,7 @@ module _ {order : List ℕ} {counts : ℕ → ℕ} {old now : List (List ℕ)} {
   pub put_skip : counts u ≡ 0 → ArePut order counts old now place (i + 1) raised
   put_skip none = search (rules, cases_eq, fresh)
 
-  -- a count that is not 0 is written into the table
+  -- if the count of the next vertex is not 0, writing it into the table adds one to the number of nonzero counts
   pub put_one : {new : List (List ℕ)} → u < length old → 0 < counts u → HasPut now new u place (counts u) →
       ArePut order counts old new place (i + 1) (raised + 1)
   put_one {new} below some put = record {

@@ -1,4 +1,4 @@
--- A player who holds a region by a table loses no cycle of edges that remain within the region.
+-- A player who holds a region by a table of moves loses no cycle of edges that remain within the region.
 use Rattle.std.proofs.Common.{◌≡◌, ℕ, ◌+◌, ◌<◌, ◌∙◌, List, [], ◌∷◌, ◌++◌, length, map, inl, inr, refl}
 use Rattle.std.proofs.Common.{sym, arith, Option, Bool, rules}
 use Rattle.std.specs.Prelude.{slice_index, IsTrue}

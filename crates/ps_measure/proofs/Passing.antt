@@ -40,8 +40,8 @@ module _ {g : Digraph} {weight : ℕ → ℕ} {c : ComponentsData} {values : Lis
   pub number_within : m < length values
   number_within = omega (arith, components.below v m to, column.each)
 
-  -- Let one component get the new value x. The values stay correct (`IsColumn`) if x is a lower bound for the
-  -- component's counts, and at most the total weight of this component and all later ones.
+  -- Suppose that x is a lower bound for the counts of v's component, and at most the total weight of this component and
+  -- all later ones. Then the values stay correct (`IsColumn`) if x replaces the component's value.
   set_column : (x : ℕ) → ((d : ℕ → ℕ) → AreCounts g weight d → x ≤ d v) → x ≤ weights_from c weight m g.count →
       IsColumn g weight c (slice_set values m x)
   set_column x least bounded = record {

@@ -204,7 +204,8 @@ module _ (game : ParityGame) (player : ℕ) (set : ℕ → Bool) (table : ℕ �
   best d v [] = 0
   best d v (w ∷ ws) = max (wish d v w) (best d v ws)
 
-  -- the smallest counts that paths of up to k remaining edges allow
+  -- `counts k v`: the greatest number of vertices of priority p on a path from v of at most k edges (`Goes`), not
+  -- counting the path's last vertex
   counts : ℕ → ℕ → ℕ
   counts zero v = 0
   counts (suc k) v = best (counts k) v (successors_of game v)
@@ -272,7 +273,8 @@ module _ (game : ParityGame) (player : ℕ) (set : ℕ → Bool) (table : ℕ �
     | inr none ↦ search (rules, cases_lt, past)
   ]
 
-  -- after k rounds, no count has to be raised any more
+  -- each count is at most the number of vertices of priority p in the set, and paths of up to k + 1 edges give no
+  -- greater counts than paths of up to k edges
   record IsSettled (k : ℕ) : Type 0 where
     bounded : (v : ℕ) → counts k v ≤ count_with game set p
     settled : (v : ℕ) → v < vertex_count game → counts (suc k) v ≤ counts k v

@@ -14,8 +14,7 @@ abbrev pub count_here : Option CountCell → ℕ → ℕ
 count_here None k = 0
 count_here (Some cell) k = if cell.place == k then cell.count else 0
 
--- the greatest count for index k in the first `fuel` cells of the chain that begins with the cell of the number
--- `number`
+-- the greatest count for index k in the first `fuel` cells of the chain whose first cell has the number `number`
 unfoldable pub count_from : List CountCell → ℕ → ℕ → ℕ → ℕ
 count_from cells zero number k = 0
 count_from cells (suc fuel) zero k = 0

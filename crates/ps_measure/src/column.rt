@@ -35,9 +35,9 @@ impl Column {
     }
 
     /// Computes the least counts for the priority of `low`, from the components of the vertices reachable from the
-    /// roots. The count of a component begins with 1 if the component has a root, and with 0 otherwise. If no counts
-    /// keep the rule of counts (`KeepsRule`), returns a link that leads to a vertex of this priority and lies on a
-    /// cycle.
+    /// roots. The count of a component starts at 1 if the component contains a vertex of `roots`, and at 0 otherwise.
+    /// If no counts keep the rule of counts (`KeepsRule`), returns a link that leads to a vertex of this priority and
+    /// lies on a cycle.
     pub(crate) fn work_out(
         &mut self,
         low: &Low,

@@ -12,8 +12,9 @@ use ps_components::Graph;
 use std::alloc::{AllocError, Global};
 use std::marker::Model;
 
-/// What the roots of one priority are searched in: the remaining edges, the reversed edges between vertices of at most
-/// this priority, the vertices grouped by priority, and the index of this priority.
+/// What the search for the roots of one priority uses: the remaining edges, the reversed edges between vertices of at
+/// most this priority, the vertices grouped by priority, and the index of this priority. The computation of the counts
+/// begins at the roots.
 #[derive(Drop)]
 pub(crate) struct Layer<'a, G: Graph> {
     pub(crate) graph: &'a G,
@@ -34,7 +35,7 @@ impl<'a, G: Graph> Model for Layer<'a, G> {
 }
 
 impl<'a, G: Graph> Layer<'a, G> {
-    /// Returns each vertex of this priority that has an edge to a vertex of the same or a smaller priority.
+    /// Returns each vertex of this priority that has a remaining edge to a vertex of the same or a smaller priority.
     pub(crate) fn roots(&self, alloc: Global) -> Result<Vec<usize>, AllocError>
         ensures { IfOk result (λ roots. AreRoots (low_graph self.now.low) (low_weight self.now.low) roots.items) }
     {
@@ -49,7 +50,8 @@ impl<'a, G: Graph> Layer<'a, G> {
         Ok(roots)
     }
 
-    /// The number of vertices among which the roots are searched: those of the priority's group, or else all.
+    /// The number of vertices that the search for the roots tries: those of the priority's group, or all vertices if
+    /// they are not grouped.
     fn candidates(&self) -> usize
         ensures { result ≡ candidates_in self.now.members self.now.low.star.count self.now.place }
     {
@@ -59,7 +61,7 @@ impl<'a, G: Graph> Layer<'a, G> {
         }
     }
 
-    /// A vertex among those in which the roots are searched.
+    /// A vertex that the search for the roots tries.
     fn candidate(&self, number: usize) -> usize
         requires { number < candidates_in self.now.members self.now.low.star.count self.now.place }
         ensures is { result ≡ candidate_in self.now.members self.now.place number }
@@ -71,7 +73,7 @@ impl<'a, G: Graph> Layer<'a, G> {
         }
     }
 
-    /// Whether an edge leads from a vertex to a vertex whose priority is at most that of the layer.
+    /// Whether a remaining edge leads from a vertex to a vertex whose priority is at most `self.low.priority`.
     fn leads_down(&self, vertex: usize) -> bool
         requires vertex { vertex < self.now.low.star.count }
         requires level { slice_index self.now.low.levels vertex ≤ self.now.low.priority }

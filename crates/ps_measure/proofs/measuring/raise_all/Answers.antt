@@ -8,7 +8,8 @@ use Rattle.ps_measure.proofs.Rows.{ranked_empty, ranked_fits, filled_bound}
 use Rattle.ps_measure.proofs.WholeTable.{IsAtPlace, is_at_place, column_done, refused}
 use Rattle.ps_measure.proofs.measuring.raise_all.Goals as goal
 
--- the graph, region and priority (`LowData`) for one priority, in terms of the value of `remaining`
+-- if r is the value of `remaining`, the given graph, region and levels, with the priority at index `place`, are the
+-- data (`LowData`) for computing the counts of this priority
 at_place : {game : ParityGame} {player : ℕ} {region : List Bool} {strategy : List (Option ℕ)} {r : RemainingData} →
     record { game = game; player = player; region = region; strategy = strategy } ≡ r → (star : StarData)
     {levels : List ℕ} (priorities : List ℕ) (place : ℕ) → IsGame game → AreLevels r.game levels →
