@@ -74,8 +74,8 @@ fn gates_are_right(builder: &mut Builder) -> bool {
     or(builder, 3, 5) == Some(Ok(7)) && builder.gates().len() == 1
 }
 
-/// Whether `gates_are_right` returns true for a new builder. If it returns false, it is called again with the same
-/// builder: an allocation may have failed, as in a run of `rt try --test --fail-alloc N`.
+/// Whether `gates_are_right` returns true for a new builder. If `gates_are_right` returns false, it is called again
+/// with the same builder, since an allocation may have failed, as in a run of `rt try --test --fail-alloc N`.
 fn new_gates_are_right(alloc: Global) -> bool {
     let mut builder = Builder::new(alloc, 2);
     gates_are_right(&mut builder) || gates_are_right(&mut builder)

@@ -54,7 +54,8 @@ fn steps(alloc: Global, circuit: &Circuit) -> Result<Steps, Fail> {
     Ok((plain, lane_steps(alloc, circuit)?))
 }
 
-/// The first step, for each input and in both simulators, of the circuit that is parsed from a text.
+/// The first step of the circuit that is parsed from a text, for each input, in the simulator of a single run and in
+/// that of many runs.
 fn steps_of(alloc: Global, text: &[u8]) -> Result<Steps, Fail> {
     let circuit = read(alloc, text)?;
     steps(alloc, &circuit)

@@ -43,7 +43,8 @@ fn feed(solver: &mut Replay, text: &[u8]) -> Result<(), AllocError> {
 /// What the solver returns before it is given any text, after a text that ends early, and after a complete text.
 type Answers = [Answer; 3];
 
-/// The three results of the solver for a game.
+/// What a new solver returns for a game before it is given any text, after a text that ends early, and after a complete
+/// text.
 fn answers_for(alloc: Global, game: &NamedGame) -> Result<Answers, Fail> {
     let mut solver = Replay::new(alloc);
     let none = answer_again(&mut solver, game);
@@ -65,7 +66,7 @@ fn game_of(alloc: Global, text: &[u8]) -> Result<NamedGame, PgFault> {
     }
 }
 
-/// The three results of the solver for the game that is parsed from a text.
+/// The results (`Answers`) of a new solver for the game that is parsed from a text.
 fn answers_of(alloc: Global, text: &[u8]) -> Result<Answers, Fail> {
     let game = game_of(alloc, text)?;
     answers_for(alloc, &game)
