@@ -1,5 +1,5 @@
 -- Lemmas about a certificate's rule of counts, which says when a count must not rise, or must fall, along an edge. The
--- lemmas state when one edge obeys the rule, and which edge of a vertex breaks the rule first.
+-- lemmas state when one edge obeys the rule of counts, and which edge of a vertex is the first that breaks this rule.
 use Rattle.std.proofs.Common.{◌≡◌, ◌≢◌, ℕ, ◌%◌, ◌<◌, ◌≤◌, List, length, get_or, max, ◌⊎◌, inl, inr, sym, subst}
 use Rattle.std.proofs.Common.{ap, ◌∙◌, arith, refl, None, Some, Option, rules}
 use Rattle.std.specs.Prelude.{slice_index, IfNone}
@@ -34,8 +34,8 @@ unfolding opposing
 opposing_complete player h k v m n = search rules
 
 -- `priorities` is the ascending list of the priorities that oppose the winner; the lists `before` and `after` have the
--- counts of an edge's two ends, one for each item of `priorities`. `top` is the greater of the two ends' priorities:
--- the items of `priorities` before index `start` are less than `top`, and all other items are at least `top`.
+-- counts of an edge's two ends, one for each item of `priorities`. `top` is the greater of the priorities of the edge's
+-- two ends: the items of `priorities` before index `start` are less than `top`, and all other items are at least `top`.
 pub record Compared (game : ParityGame) (certificate : CertificateData) (v w : ℕ) (priorities before after : List ℕ)
     (top start : ℕ) : Type 0 where
   pub priorities_are : priorities ≡ opposing certificate (winner_of certificate v)
@@ -87,8 +87,8 @@ KeepsCount-compared {game} {certificate} {v} {w} {priorities} {before} {after} {
           }
     ]
 
--- suppose that an edge obeys the certificate's rule of counts for the priority at index `start`. Of the counts at index
--- `start` or later, the first that rises along the edge is then the first that breaks the rule
+-- if the count at index `start` falls along the edge or need not fall (`FallsAtStart`), the first count from `start` on
+-- that rises along the edge is the first that breaks the rule of counts
 pub IsFirstBroken-behind : {game : ParityGame} {certificate : CertificateData} {v w : ℕ}
     {priorities before after : List ℕ} {top start : ℕ} (place : ℕ) → Compared game certificate v w priorities before
     after top start → FallsAtStart game v priorities before after start → start ≤ place → place < length priorities →

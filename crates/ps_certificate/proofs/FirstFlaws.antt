@@ -49,7 +49,8 @@ first_unsound {game} {flaw} sound at = record {
   ];
 }
 
--- a certificate is closed if each vertex has a right move and edges that stay with its winner
+-- a certificate is closed if each vertex has a right move, and each edge that the winner's moves allow leads to a
+-- vertex with the same winner
 pub IsClosed-from_sound : {game : ParityGame} {certificate : CertificateData} →
     ((v : ℕ) → v < vertex_count game → IsSoundAt game certificate v) → IsClosed game certificate
 IsClosed-from_sound sound = record {

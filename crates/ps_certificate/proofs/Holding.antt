@@ -1,8 +1,8 @@
 -- If a player follows the moves of a valid certificate, from a vertex that this certificate gives to the player, the
 -- greatest priority of every loop of the path has the player's parity. Suppose that the greatest priority p of a loop
--- has the opponent's parity. Then the count for p never rises along the edges of the loop, and the count falls at a
--- vertex of the priority p. This contradicts the fact that a loop ends at the vertex at which it begins, so that the
--- count is the same at both ends of the loop.
+-- has the opponent's parity. Then the count for p never rises along the edges of the loop, and it falls along each of
+-- these edges that leaves a vertex of priority p. So the count for p is less at the end of the loop than at its
+-- beginning, although both are the same vertex: a contradiction.
 use Rattle.std.proofs.Common.{◌≡◌, ◌≢◌, ℕ, ◌+◌, ◌-◌, ◌%◌, ◌<◌, ◌≤◌, ◌∙◌, List, length, inl, inr, sym, ap, arith, zero}
 use Rattle.std.proofs.Common.{suc, rules}
 use Rattle.std.specs.Prelude.{slice_index}

@@ -287,7 +287,7 @@ module _ (Wrong : ℕ → Type 0) {old new : Stream Seen} {n : ℕ} (r : IsNumbe
 abbrev pub Odd : Seen → Type 0
 Odd = Own causes
 
--- symbols whose byte is a digit
+-- a byte of the text, given as a symbol (`Seen`), is a digit
 abbrev pub AtDigit : Seen → Type 0
 AtDigit s = IsDigit s.byte
 

@@ -1,6 +1,6 @@
--- Valid certificates of one game have the same winners. Suppose that one certificate gives a vertex to one player, and
--- the other certificate gives it to the other player. If each player follows the certificate that gives this vertex to
--- that player, the play has a loop that both players win, which is impossible.
+-- Valid certificates of one game have the same winners. Suppose that one valid certificate gives a vertex to player p,
+-- and another one gives it to the other player, q. If player p follows the first certificate from this vertex, and
+-- player q the second one, the play has a loop that both players win, which is impossible.
 use Rattle.std.proofs.Common.{◌≡◌, ◌≢◌, ◌∙◌, ℕ, zero, suc, ◌+◌, ◌%◌, ◌<◌, inl, inr, Bool, true, false, List, [], ◌∷◌}
 use Rattle.std.proofs.Common.{length, Option, Some, refl, sym, ap, subst, arith, eqb, rules}
 use Rattle.std.specs.Prelude.{IsSomeAnd, IfSome, slice_index, unwrap_or}

@@ -1,12 +1,13 @@
 -- A certificate is closed or has a first flaw, and a certificate that fits its game is valid or has a first flaw. To
 -- find the first flaw, the proof goes through the vertices in order, through the successors of each vertex, and through
 -- the priorities for each edge.
--- - `IsFirstPlace`, `first_place`: let P or Q hold for each number less than n. Then P holds for each number less than
---   n, or there is a first k less than n for which Q holds: P holds for each number less than k.
+-- - `IsFirstPlace`, `first_place`: if P or Q holds for each number less than n, then P holds for all these numbers, or
+--   Q holds for one of them, k, and P holds for each number less than k
 -- - `decide_move`, `decide_rule`: it is decidable whether a vertex's move is right, and whether an edge obeys the
 --   certificate's rule of counts
--- - `sound_or_flawed`, `kept_or_flawed`: a vertex has no flaw that the first or the second stage of the check reports,
---   or it has a first flaw of this stage
+-- - `sound_or_flawed`: a vertex has no flaw that the first stage of the check reports, or it has a first such flaw
+-- - `kept_or_flawed`: if a vertex has no flaw of the check's first stage, it has no flaw of the second stage, or it has
+--   a first flaw of the second stage
 -- - `closed_or_flawed`, `valid_or_flawed`: the two lemmas that prove the law `first_flaw_is_there`
 use Rattle.std.proofs.Common.{◌≡◌, ◌≢◌, ℕ, zero, suc, ◌<◌, ◌≤◌, ◌⊎◌, inl, inr, length, get_or, Option, None, Some, refl}
 use Rattle.std.proofs.Common.{sym, subst, arith, rules}

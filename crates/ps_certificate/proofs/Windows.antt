@@ -61,8 +61,8 @@ pub part-at : (list : List ℕ) (start end k : ℕ) → k < end - start →
     get_or (take (end - start) (drop start list)) k 0 ≡ get_or list (start + k) 0
 part-at list start end k below = get_or-take (end - start) (drop start list) k 0 below ∙ get_or-drop start list k 0
 
--- if all items of a list before index `start` are priorities of the game, and all items at the indices `start` to `end`
--- - 1 are, too, then so are all items before index `end`
+-- if the items of a list before index `start`, and those from `start` up to, but not including, `end`, are priorities
+-- of the game, so are all items before `end`
 pub present_more : (game : ParityGame) (list : List ℕ) (start end : ℕ) →
     end ≤ length list → ((k : ℕ) → k < start → HasPriority game (get_or list k 0)) → All
     (HasPriority game) (take (end - start) (drop start list)) → (k : ℕ) → k < end → HasPriority game (get_or list k 0)

@@ -19,8 +19,8 @@ pub record DiffersInCounts (game : ParityGame) (one other : CertificateData) : T
   pub even : one.even ≡ other.even
   pub same : SaysTheSame game one other
 
--- each count is at most the count that every valid certificate which differs only in counts has in its place. A count
--- for a priority less than the vertex's own has no meaning, and is 0
+-- no valid certificate that differs from this one only in counts has, for any vertex and priority, a smaller count. A
+-- count for a priority less than the vertex's own has no meaning, and is 0
 pub record HasLeastCounts (game : ParityGame) (certificate : CertificateData) : Type 0 where
   pub least : (other : CertificateData) → Fits game other → IsValid game other →
       DiffersInCounts game certificate other →

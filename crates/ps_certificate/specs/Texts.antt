@@ -16,8 +16,8 @@
 -- a certificate is rejected with fault 53 (`Syntax`). The form of a certificate allows any number as the number of
 -- vertices, as a priority, as an id or as a move, and any number of listed priorities. Fault 53 is also reported at the
 -- first digit of a number that does not fit in 64 bits. In a certificate of version 2, a count of 0 is also rejected
--- with fault 53. In a compact text, fault 53 also rejects a priority that is not greater than the previous one in the
--- line, if a space, a newline or a colon follows this priority. A text is rejected with fault 54 (`OtherGame`) at a
+-- with fault 53. A compact text is rejected with fault 53 at a priority that is not greater than the previous one in
+-- its line, if a space, a newline or a colon follows this priority. A text is rejected with fault 54 (`OtherGame`) at a
 -- number that disagrees with the given game, if a space, a newline or a colon follows the number. Fault 54 is also
 -- reported at a newline that ends a list of priorities before all priorities of the game were given.
 use Rattle.std.specs.Prelude.{◌≡◌, ◌≢◌, ℕ, zero, suc, ◌^◌, ◌<◌, ◌≤◌, ◌⊎◌, List, [], ◌∷◌, ◌++◌, length, map, drop}

@@ -87,7 +87,7 @@ pub(crate) fn unsound_at<A: Arena>(
 /// Checks that no move is wrong, and that each edge that the winner's moves allow leads to a vertex with the same
 /// winner. The error is the first flaw of the first vertex that has a wrong move, or an edge to a vertex with the other
 /// winner. At the same vertex, a wrong move comes before the edges to vertices with the other winner, which are in the
-/// order of the successors. The check ignores the certificate's priorities and counts. Allocates no memory.
+/// order of the successors. The function ignores the certificate's priorities and counts, and allocates no memory.
 ///
 /// # Errors
 ///

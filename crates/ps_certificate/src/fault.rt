@@ -4,8 +4,7 @@ ghost use Rattle.ps_certificate.specs.Faults.{cause_number, cause_name};
 
 use ps_text::faults::{Cause, Fault};
 
-/// What is wrong with the text of a certificate. The crate `ps_solution` uses the same errors for the texts of
-/// solutions.
+/// What is wrong with the text of a certificate, or with the text of a solution, which the crate `ps_solution` parses.
 #[derive(Clone, Copy, Debug, PartialEq, Eq)]
 pub enum CertCause {
     /// The text does not have the form of a certificate, or a number in it does not fit in 64 bits. In a compact text,

@@ -77,7 +77,8 @@ fn listed<'p>(cursor: &mut Cursor, priorities: &'p [u64]) -> Result<&'p [u64], C
     Ok(without_first(priorities))
 }
 
-/// Moves past the end of a line that lists priorities, none of which may be missing.
+/// Moves past the newline that ends a line of priorities. Any other byte is an error, and so is a newline while
+/// priorities of the game are still missing in the line.
 fn line_end(cursor: &mut Cursor, left: &[u64]) -> Result<(), CertFault>
     ensures { Tells (λ u. u) (one (take_byte 10) (IsMissing left.now)) cursor.old result cursor.new }
 {

@@ -21,8 +21,8 @@ pub fn valid_regions_are_held()
         BothHold game certificate }
 {}
 
-/// Outside the region that a valid certificate gives a player, neither a strategy of finite memory nor a history table
-/// wins for that player.
+/// Outside the region that a valid certificate gives a player, neither a strategy of finite memory nor a history table,
+/// which maps each play so far to a move, wins for that player.
 pub fn no_strategy_wins_outside()
     ensures { (game : ParityGame) (certificate : CertificateData) → IsGame game → Fits game certificate →
         IsValid game certificate → NoneWinsOutside game certificate }

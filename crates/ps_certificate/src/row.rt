@@ -23,8 +23,8 @@ pub(crate) struct Stored<'a> {
 }
 
 impl<'a> Stored<'a> {
-    /// The number of stored counts whose index is less than `place`. The search begins after the first `hint` stored
-    /// counts, or at the first stored count if the result is less than `hint`.
+    /// The number of stored counts whose index is less than `place`. The search skips the first `hint` stored counts if
+    /// all of them have indices less than `place`; otherwise it begins at the first stored count.
     fn first_from(&self, hint: usize, place: usize) -> usize
         ensures { IsFirstFrom self.now.list.now place result }
     {

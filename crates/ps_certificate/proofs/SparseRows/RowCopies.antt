@@ -13,7 +13,8 @@ use Rattle.ps_certificate.proofs.SparseRows.Sparse.{place_within, rising, length
 -- ## Comparing
 
 -- what the comparison has shown so far: each of the first `number` stored counts whose index is at least `from` is at
--- most the count that the other vertex has at this index. The indices of all later stored counts are at least `from`.
+-- most the count that the other vertex has at this index. The stored counts after the first `number` have indices of at
+-- least `from`.
 pub record AreNotAbove (own other : List PlacedCount) (from number : ℕ) : Type 0 where
   pub within : number ≤ length own
   pub late : (j : ℕ) → number ≤ j → j < length own → from ≤ place_at own j
