@@ -1,5 +1,5 @@
--- Lemmas about what may be missing in a game text (lines such as `parity 7;`, and names), and about the tests that keep
--- the parser's loops going.
+-- Lemmas about what may be missing in a game text (lines such as `parity 7;`, and names), and about the conditions of
+-- the parser's loops.
 use Rattle.std.proofs.Common.{◌≡◌, ℕ, ◌<◌, true, false, List, length, Option, None, Some, Ok, Err, refl}
 use Rattle.std.proofs.Common.{sym, ap, subst, inl, ◌∙◌, rules}
 use Rattle.ps_text.specs.Answers.{Stream, next_of}

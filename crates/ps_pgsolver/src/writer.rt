@@ -25,7 +25,7 @@ pub fn write(alloc: Global, game: &NamedGame) -> Result<Vec<u8>, AllocError>
     Ok(out)
 }
 
-/// The greatest id of a vertex.
+/// The greatest of the ids of the game's vertices.
 fn greatest_id(game: &NamedGame) -> u64
     ensures { result ≡ greatest game.now.ids }
 {
