@@ -1,9 +1,10 @@
--- At each of its exits, a function that builds the gates of a literal satisfies the contract `MakesLiteral`.
--- - `fails`: the exit after an earlier call that failed; if the call reports too many variables, the literal needs too
---   many variables, too
--- - `gives`: the exit if the gates of the wanted literal exist already, so that no gate is added
--- - `as-made`, `by-choice`: the exits at which the last call builds the literal: as the literal of an equal function
---   (`as-made`), or as the choice between two literals, a multiplexer (`by-choice`)
+-- At each of its exits (the points where it returns), a function that builds the gates of a literal satisfies the
+-- contract `MakesLiteral`.
+-- - `fails`: the function returns because an earlier call failed; if that call reports too many variables, the literal
+--   needs too many variables, too
+-- - `gives`: the function returns a literal whose gates exist already, so that no gate is added
+-- - `as-made`, `by-choice`: the function returns the result of its last call, which builds exactly the wanted literal
+--   (`as-made`), or a choice between two literals, a multiplexer (`by-choice`)
 -- - `test-split`, `test-chosen`: if a diagram node tests an input, its literal is a choice by this input between the
 --   literals of the node's two children
 use Rattle.std.proofs.Common.{◌≡◌, ◌∙◌, ℕ, ◌+◌, ◌*◌, Bool, Err, IsErrAnd, List, Ok, Result, Some, ap, slice_get, subst, sym}

@@ -149,8 +149,8 @@ pub inputs-again : (m : MachineData) (w : Wanted) (node : ℕ) (d e : Drafted) �
 unfolding node_made
 inputs-again m w node d e x = over-again (range_with_len 1 (length m.inputs)) _ d e x
 
--- the bit w of the row of the machine's table whose index is the given leaf; without a leaf, the bit w of the default
--- row
+-- a diagram's leaf is the index of a row in the machine's table; this is the bit w of that row, or of the default row
+-- (memory state 0, letter 0) if there is no leaf
 abbrev bit_at : MachineData → Wanted → Option ℕ → Bool
 bit_at m w leaf = wanted_bit w (row_at_leaf m (unwrap_or leaf (length m.rows)))
 

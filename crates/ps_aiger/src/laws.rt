@@ -20,7 +20,7 @@ pub fn circuit_has_literals()
         ¬ IsOutOfLiterals o }
 {}
 
-/// Each machine has a circuit, unless its gates need more variables than there are literals.
+/// Each machine has a circuit, unless the circuit would need more than 2147483647 variables.
 pub fn circuit_is_there()
     ensures { (b : Behaviour) → IsMachine b →
         IsOutOfLiterals b ⊎ ((c : CircuitData) × Encodes b c × IsTidy c × IsWired b c) }

@@ -7,7 +7,7 @@
 //! Whatever code the latches hold, the circuit's step is the machine's step from the memory state with this code; a
 //! code that belongs to no memory state stands for memory state 0. There are no more latches than the memory states
 //! need. If the machine moves first, the circuit's outputs do not depend on its inputs. `encode` fails only if out of
-//! memory, or if the circuit needs more variables than there are literals.
+//! memory, or if the circuit needs more than 2147483647 variables.
 //!
 //! | Law | What it says |
 //! |---|---|
