@@ -30,7 +30,8 @@ use Rattle.ps_program.specs.CommandLine.{words_with, AreRead, Says, LinesAreRead
 use Rattle.ps_program.specs.Inner.Usages.{usage_of, with_flags}
 use Rattle.ps_program.specs.declared.commands.Usage.{Usage as Row}
 
--- the table of commands is a simple clap command, so clap's contracts define what it returns for each list of words
+-- clap's contracts define what clap returns for each list of words, because the table of commands meets clap's
+-- condition `is_simple`
 pub table-simple : is_simple table ≡ true
 unfolding table clap_on_literals
 table-simple = refl
@@ -64,8 +65,8 @@ abbrev behind_first : {X : Type 0} → List X → List X
 behind_first [] = []
 behind_first (x ∷ xs) = xs
 
--- if clap, for every choice of a command's flags, reports no error and returns the `Line` that the command means with
--- these flags, the command is read correctly with every choice
+-- an equation between two lists (clap's results for all choices of a command's flags, and the expected `Line`s without
+-- errors) gives `AreRead` for each choice
 choices_read : (name : Text) (line : (Text → Bool) → Line) (choices : List (List Text)) →
     map (heard name) choices ≡ map (λ flags. ([], line (is_among flags))) choices
     → AllByRecursion (λ flags. AreRead (words_with name flags) (line (is_among flags))) choices

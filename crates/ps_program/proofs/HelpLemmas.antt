@@ -1,4 +1,5 @@
--- The bytes that the code appends, command by command, are the help text of the definitions.
+-- The bytes that the code appends are those of `help_text`: an introduction, a line for each command, and a description
+-- of the formats.
 use Rattle.std.proofs.Common.{◌≡◌, ◌++◌, ◌∙◌, ℕ, List, ap, ap₂, map}
 use Rattle.std.specs.Prelude.{flat_map}
 use Rattle.ps_program.specs.CommandLine.{Usage, commands}

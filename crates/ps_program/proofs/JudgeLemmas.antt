@@ -1,5 +1,5 @@
--- Lemmas about the line that the command `judge` prints if a solution is refused. A refused solution has only one such
--- line, unless the line reports a cycle.
+-- Lemmas about the line that the command `judge` prints if a solution is refused. Only one line can report a refused
+-- solution, unless some cycle makes a player lose.
 use Rattle.std.proofs.Common.{◌≡◌, ◌⊎◌, ◌∙◌, ◌<◌, ℕ, Bool, List, Option, None, Result, Ok, Err, IfSome}
 use Rattle.std.proofs.Common.{refl, sym, ap, subst, inl, inr, arith}
 use Rattle.std.proofs.lemmas.List.{get_or_default}

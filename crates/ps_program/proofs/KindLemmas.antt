@@ -1,5 +1,5 @@
--- A command line with which the parser clap reports an error either asks for help or is refused by psyn. It does not
--- matter which possible error of a command line clap reports, because all of them give the same result.
+-- If the parser clap reports an error in a command line, the line asks for help, or psyn refuses it. It does not matter
+-- which possible error of a command line clap reports, because all of them give the same result.
 use Rattle.std.proofs.Common.{rules, arith, ◌≡◌, ◌⊎◌, ◌&&◌, ℕ, Bool, zero, suc, true, false, List, [], ◌∷◌, Option}
 use Rattle.std.proofs.Common.{None, Some, is_some, refl, inl, inr}
 use Rattle.std.specs.Prelude.{find, if◌then◌else◌}

@@ -79,7 +79,8 @@ long_word_refused (x ∷ xs) rest (more, plain) =
     []) (stray a.top (names_of a) x xs no_hyphen none refl) in
     inr (UnknownArgument, rw wrong (inl refl), refl)
 
--- like the lemma `long_word_refused`, but for words as the code stores them
+-- a nonempty list of words, as the code stores them, is refused if the first is longer than each command's name and
+-- does not begin with a hyphen
 pub first_word_refused : (words : List (Bor Text)) (default : Bor Text) → 1 ≤ length words →
     NamesNothing (get_or words 0 default).now → Says (map (λ word. word.now) words) Refused
 first_word_refused [] default some nothing = absurd (omega arith)

@@ -19,8 +19,8 @@ made text status = record { text = text; status = status }
 unbroken : (has_failed : Bool) → has_failed ≡ false → Breaks has_failed false → ⊥
 unbroken has_failed sound h = grind arith
 
--- if a sink was empty before, no call to it failed, and no write stalled (accepted none of its bytes), the sink
--- contains exactly the reply after the reply was written
+-- A reply is written to an empty sink. If no call to the sink fails, and no write stalls (accepts none of its bytes),
+-- the sink's contents and the exit status are then exactly those of the reply.
 written_whole : (reply : Reply) (items text : List ℕ) (failed_before flushed_before failed_after flushed_after : Bool)
     (status : ℕ) → items ≡ [] → failed_after ≡ false
     → Writes (record {

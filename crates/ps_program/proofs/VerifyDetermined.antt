@@ -27,8 +27,8 @@ module _ (order : Order) (role : Role) (file : FileData) (c : CircuitData) where
   early : IsInTimeWhereReached order role c → IsTooEarly order role c → ⊥
   early in_time too_early = too_early.sees (in_time too_early.first)
 
-  -- no fault is reported for a circuit that has the symbols of its role, and whose outputs do not depend on inputs too
-  -- early
+  -- no fault is reported for a circuit with the symbols of its role, if it moves second, or if in no step of a trace
+  -- its outputs depend on the inputs of that step
   no_fault : HasSymbols role file.names file.controllable c → IsInTimeWhereReached order role c → (line : List ℕ) →
       IsProductLine order role file c line → ⊥
   no_fault symbols in_time line (inl (none, e)) = none symbols
@@ -60,7 +60,8 @@ module _ (order : Order) (role : Role) (file : FileData) (c : CircuitData) where
   told_one_or apart (Err l) (Ok t) h k = absurd (told_no_fault t l k h)
   told_one_or apart (Err l) (Err m) h k = inl (ap (err_of {V = Reply} {E = List ℕ}) (one_line l m h k))
 
--- two results for the texts of an automaton and a circuit are equal, or show two stimuli on which the circuit loses
+-- two results for the same texts of an automaton and a circuit are equal, or each of them shows a stimulus on which the
+-- circuit loses
 module _ (automata : (text : List ℕ) → IsOne (ReadsAutomaton text)) (circuits : (text : List ℕ) →
     IsOne (ReadsCircuitText text)) (apart : NotBoth) (order : Order) (role : Role) (x y : Result Reply (List ℕ)) where
   abbrev Alike : FileData → CircuitData → Type 0

@@ -1,4 +1,5 @@
--- Inputs have answers: no definition of an answer in this crate excludes every reply.
+-- For each command except `verify`, and under conditions on the solvers, each input has an answer: some reply (the
+-- printed bytes and the exit status) meets the definition of an answer.
 -- - `HasReply solvers input`: some reply is an answer to the input
 -- - `IsPlainLine line`: the line calls no solver, and is not `verify`
 -- - `HasSomeLine`: each first line has a meaning as a `Line`
@@ -8,9 +9,10 @@
 --   possible answer of the solver, even if the certificate is wrong
 -- - `HasSomeSolved solvers`: if `MayCertify` holds for the built-in solver, each input with the command `solve` or
 --   `cert` has an answer
--- - `IsPrintable compact game certificate circuit`: a report can hold the texts that psyn writes for these three
--- - `HasSomeSynthesis solvers`: if `MayCertify` or `MayReplay` holds for the solver, and the texts of the answer fit a
---   report, each input with the command `synth` has an answer
+-- - `IsPrintable compact game certificate circuit`: some report has the texts that psyn writes for these three (a text
+--   may be too long for a `Vec`)
+-- - `HasSomeSynthesis solvers`: an input with the command `synth` has an answer if `MayCertify` or `MayReplay` holds
+--   for the solver that `synth` calls, and the reports that follow from its certificates are printable (`IsPrintable`)
 use Rattle.std.specs.Prelude.{◌≡◌, ◌↔◌, ⊤, ℕ, Bool, true, false, IsTrue, List, Some, Result, Ok}
 use Rattle.ps_certificate.specs.Certificates.{CertificateData}
 use Rattle.ps_circuit.specs.Circuits.{CircuitData}

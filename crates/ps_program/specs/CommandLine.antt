@@ -170,7 +170,7 @@ pub record HasFlags (name : Text) (flags : List Text) (command : Command) : Type
   pub shape : (app_of command).top ≡ command_with name flags
   pub local : (out-Command command).has_globals ≡ false
 
--- clap's description of the program without commands; the words of a line don't begin with the program's name
+-- clap's description of the program without commands; the first word of a line is not the program's name
 abbrev pub program : App
 program = on_top (λ top. record top { no_binary_name = true; disable_help_subcommand = true }) (new_app (codes "psyn"))
 

@@ -120,7 +120,8 @@ abbrev pub IsFaultReply : Reply → Type 0
 IsFaultReply reply = (line : List ℕ) × (reply ≡ fault_reply line)
 
 -- Any two answers to the same input are equal, unless the input's command allows several answers (`IsUndetermined`).
--- Two answers to such a command agree as `Agree` states, or one of them is the line of a fault.
+-- If the command allows several answers, any two answers agree as `Agree` states, or one of them is the line of a
+-- fault.
 abbrev pub HasOneAnswer : Solvers → Type 0
 HasOneAnswer solvers = (input : List ℕ) (a b : Reply) → AnswersWhole solvers input a → AnswersWhole solvers input b
     → (a ≡ b) ⊎ ((line : Line) × IsLine (first_line input) line × IsUndetermined line (behind_line input) ×

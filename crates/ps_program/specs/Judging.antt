@@ -40,8 +40,8 @@ claim named given = claimed named.game given.won given.moves given.moves
 abbrev pub cycle_text : NamedGameData → List ℕ → List ℕ
 cycle_text named cycle = line_text 40 (codes "BadCycle") (ids_text (map (id_of named) cycle))
 
--- no move or edge of the solution is wrong, but its moves allow this cycle, and the player loses if a play repeats the
--- cycle for ever
+-- No move or edge of the solution is wrong, but a play in which `player` follows the solution can repeat `cycle` for
+-- ever, and `player` loses this play.
 abbrev pub Loses : NamedGameData → SolutionData → ℕ → List ℕ → Type 0
 Loses named given player cycle = IsCycleOf named.game given.won given.moves given.moves player cycle
 
@@ -73,7 +73,7 @@ pub record HasPlaces (named : NamedGameData) (given : SolutionData) : Type 0 whe
   pub moves : length given.moves ≡ vertex_count named.game
   pub within : AreMoves (vertex_count named.game) given.moves
 
--- the vertices that a fault of `judge` names are less than `count`
+-- each vertex that a fault of `judge` names is a number less than `count`
 abbrev pub Names : ℕ → JudgeFault → Type 0
 Names count (Unclosed flaw) = NamesVertices count flaw
 Names count (BadCycle player cycle) = All (λ v. v < count) cycle.items

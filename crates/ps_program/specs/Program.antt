@@ -52,7 +52,8 @@ AnswersWhole solvers input reply = ((input_limit < length input) × (reply ≡ r
 abbrev pub RepliesTo : Solvers → List ℕ → Reply → Type 0
 RepliesTo solvers input reply = (reply ≡ out_of_memory) ⊎ AnswersWhole solvers input reply
 
--- the answer to the input that a source gives; a failed read and a lack of memory have replies of their own
+-- what the program answers to the input that a source gives: `read_fault` if a read failed, and otherwise an answer to
+-- the input, or `out_of_memory`
 abbrev pub Replies : Solvers → Option (List ℕ) → Bool → Reply → Type 0
 Replies solvers known true reply = reply ≡ read_fault
 Replies solvers known false reply = (reply ≡ out_of_memory)

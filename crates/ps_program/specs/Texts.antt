@@ -86,7 +86,7 @@ flaw_place named (flaw.Rank v w p) = spaced (id_of named v) ++ spaced (id_of nam
 abbrev pub flaw_text : NamedGameData → Flaw → List ℕ
 flaw_text named flaw = line_text (certificate.flaw_number flaw) (certificate.flaw_name flaw) (flaw_place named flaw)
 
--- the vertices that a certificate's flaw names are less than `count`
+-- each vertex that a certificate's flaw names is a number less than `count`
 abbrev pub NamesVertices : ℕ → Flaw → Type 0
 NamesVertices count (flaw.Move v choice) = (v < count) × IfSome choice (λ w. w < count)
 NamesVertices count (flaw.Escape v w) = (v < count) × (w < count)

@@ -38,8 +38,8 @@ loses_reply s = text_reply (losing_text s)
 abbrev pub product_line : ProductFault → List ℕ
 product_line fault = line_text (fault_number fault) (fault_name fault) []
 
--- the line for a circuit that can't be judged: wrong symbols are reported before outputs that depend on inputs too
--- early
+-- the line for a circuit that can't be judged: its symbols are not those of its role; or else it moves first, but in a
+-- step of some trace its outputs depend on the inputs of that step
 abbrev pub IsProductLine : Order → Role → FileData → CircuitData → List ℕ → Type 0
 IsProductLine order role file c line =
     (¬ HasSymbols role file.names file.controllable c × (line ≡ product_line Symbols))

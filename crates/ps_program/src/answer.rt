@@ -32,8 +32,7 @@ pub const READ_FAULT: &[u8] = b"fault 25 ReadFault\n";
 /// The answer if memory runs out.
 pub const OUT_OF_MEMORY: &[u8] = b"fault 24 OutOfMemory\n";
 
-/// What the program writes, and its exit status. Except for `text`, the functions that make an answer fail if memory
-/// runs out.
+/// What the program writes, and its exit status. Each function of `Answer` except `text` fails if memory runs out.
 #[derive(Drop)]
 pub struct Answer {
     /// The bytes of the answer, which are written to standard output.
@@ -112,7 +111,8 @@ impl From<AllocError> for Refusal {
     }
 }
 
-/// A parser's fault is reported by a line with the number and the name of its cause.
+/// A text's fault becomes a line with the number and the name of its cause, and with its offset in the text. Lack of
+/// memory has no line.
 impl<C: Cause> From<Fault<C>> for Refusal {
     ghost use Rattle.ps_program.specs.Refusals.{IsRefusalOf};
 

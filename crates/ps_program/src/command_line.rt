@@ -113,7 +113,7 @@ fn with_commands<'a>(alloc: Global, usages: &[Usage<'a>]) -> Result<Command<'a>,
     Ok(psyn)
 }
 
-/// The program without commands, as the parser clap needs it. The words of a line don't begin with the program's name.
+/// The program without commands, as the parser clap needs it. The first word of a line is not the program's name.
 fn program<'a>(alloc: Global) -> Command<'a>
     ensures { app_of result ≡ words.program }
 {

@@ -17,7 +17,7 @@ pub struct FaultLine {
 pub enum Place {
     /// No place.
     Nowhere,
-    /// A byte of a text, counted from 0.
+    /// The index of a byte in a text, counted from 0.
     Byte(usize),
     /// Two edges of one state of an automaton, which make the automaton nondeterministic.
     Edges {

@@ -10,13 +10,13 @@ ghost use Rattle.ps_program.specs.Solvers.{solvers_of};
 use ps_machine::Solver;
 
 /// Whatever the solvers, an input has at most one answer: each program that meets the definitions writes the same bytes
-/// and ends with the same exit status, unless it runs out of memory. Five commands (`judge`, `verify`, `solve`, `cert`
-/// and `synth`) are exceptions. If `judge` finds cycles that make a player lose, the law does not say which of them the
-/// answer names. If `verify` finds that the circuit loses, the law does not say which losing stimulus the answer shows.
-/// If `solve`, `cert` or `synth` accepts its text, any two answers that do not report a fault agree on the winners. Two
-/// answers to `synth` without a fault have the same status, first line and game; two answers to `solve` or `cert`
-/// without a fault have the same regions. With `synth --cert`, the whole answer is determined if the second solver only
-/// returns the certificate whose text it was fed.
+/// and ends with the same exit status, unless it runs out of memory. Only for five commands (`judge`, `verify`, `solve`,
+/// `cert` and `synth`) may two answers to an input differ. If `judge` finds cycles that make a player lose, the law
+/// does not say which of them the answer names. If `verify` finds that the circuit loses, the law does not say which
+/// losing stimulus the answer shows. If `solve`, `cert` or `synth` accepts its text, any two answers that do not report
+/// a fault agree on the winners. Two answers to `synth` without a fault have the same status, first line and game; two
+/// answers to `solve` or `cert` without a fault have the same regions. With `synth --cert`, the whole answer is
+/// determined if the second solver only returns the certificate whose text it was fed.
 pub fn one_answer<S: Solver, T: Solver>(built_in: &S, replay: &T)
     ensures answer { HasOneAnswer (solvers_of (S.known built_in.now) (T.known replay.now)) }
     ensures certified { HasOneCertified (solvers_of (S.known built_in.now) (T.known replay.now)) }
@@ -46,18 +46,20 @@ pub fn missing_text_is_told<S: Solver, T: Solver>(built_in: &S, replay: &T)
 {}
 
 /// Each first line has a meaning, and each input has an answer, except that the law says nothing about the command
-/// `verify`. Without this law, a definition of an answer that no reply meets would go unnoticed. The law is about what
-/// is a right answer, not about calls, so a lack of memory is not one of the answers.
+/// `verify`. Without the law `some_answer`, nobody would notice a definition of an answer that excludes whatever the
+/// program may print. The law states which answers are right, not what a call returns, so lack of memory is not one of
+/// the answers.
 ///
 /// Whatever the solvers, an input has an answer if its first line is refused, or asks for `help`, `closed`, `check`,
 /// `judge`, `sim`, `lasso` or `game`. An input with `solve` or `cert` has an answer if, for each game, some valid
 /// certificate is a possible answer of the first solver. An input with `synth` has an answer under two conditions.
-/// First, for each game, some valid certificate is a possible answer of the first solver. With `--cert`, the result of
-/// parsing the text that the second solver was fed must instead be a possible answer of the second solver. Second, each
-/// report's texts of the game, the certificate and the circuit can be stored, and parsing the last two gives the
-/// certificate and the circuit again. psyn's own solvers meet the conditions on solvers (`own_solvers_may_answer`). The
-/// command `verify` is left out, because a proof for it would have to decide, as the code does, whether an automaton
-/// accepts all lasso traces of a circuit.
+/// First, the solver that `synth` calls can answer. Without `--cert`, some valid certificate of each game must be a
+/// possible answer of the first solver. With `--cert`, the second solver must be able to answer with the result of
+/// parsing any text that it is fed, and must not be sure (its certificates may be wrong). Second, some report must have
+/// the texts that psyn writes for the game, the certificate and the circuit (a text may be too long for a `Vec`).
+/// Parsing each text must give the same value again, but the game's text may be longer than the parser accepts. psyn's
+/// own solvers meet the conditions on solvers (`own_solvers_may_answer`). The command `verify` is left out, because a
+/// proof for it would have to decide, as the code does, whether an automaton accepts all lasso traces of a circuit.
 pub fn some_answer<S: Solver, T: Solver>(built_in: &S, replay: &T)
     ensures line { HasSomeLine }
     ensures answer { HasSomeAnswer (solvers_of (S.known built_in.now) (T.known replay.now)) }

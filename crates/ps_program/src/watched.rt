@@ -83,8 +83,8 @@ pub struct Watched<T> {
 }
 
 impl<T> Watched<T> {
-    /// Watches a reader or a writer, of which no call has failed yet, and no write has stalled (accepted none of its
-    /// bytes).
+    /// Starts to watch a reader or a writer. At first, the record states that no call has failed, and that no write has
+    /// stalled (accepted none of its bytes).
     pub fn new(inner: T) -> Self
         ensures inner { watched_inner result ≡ inner }
         ensures fresh { watched_failed result ≡ false }
