@@ -56,8 +56,8 @@ pub record Digits (s : Seen) (digits : List ℕ) : Type 0 where
   pub all : AllOf is_digit digits
   pub longest : StopsBefore is_digit rest
 
--- if the letter of a symbol is an error, digits follow it, and their number does not belong to an input, latch or
--- output that still lacks a name
+-- if the letter of a symbol is an error, at least one digit follows the letter, and the number that the digits spell
+-- does not belong to an input, latch or output that still lacks a name
 pub bad_symbol : {names : NamesData} {s : Seen} {kind : Kind} {digits : List ℕ} {f : AigCause} →
     take_kind s ≡ Some kind → Digits s digits → IsBadSymbol names s f →
     (0 < length digits) × (slice_get (names_of names kind) (decimal_value digits) ≡ Some None → ⊥)

@@ -1,5 +1,6 @@
--- If a part of the AIGER grammar has no error, the value that the part yields has a known property. Whether a part has
--- an error also depends on the bytes after it, so each byte is given together with the bytes that follow it (`Placed`).
+-- If a part of the AIGER grammar finds no error in a text, the value that it parses from the text has the property
+-- `Good` that a lemma states. Whether a text has an error also depends on the bytes after it, so each byte is given
+-- together with the bytes that follow it (`Placed`).
 -- - `Safe part Good`: a value that is parsed without an error has the property `Good`, whatever follows
 -- - `Followed part Good`: a value that is parsed without an error has the property `Good` if a space, a tab, a newline
 --   or the end follows
@@ -37,7 +38,7 @@ placed_right : (front back : List Seen) → Placed (front ++ back) → Placed ba
 placed_right [] back placed = placed
 placed_right (s ∷ front) back placed = placed_right front back placed.1
 
--- the part of the grammar has no error within the text
+-- no byte of the text is an error of the grammar's part `part`
 abbrev pub Quiet : {V : Type 0} → Field V → List Seen → Type 0
 Quiet part text =
     (front back : List Seen) (t : Seen) (f : AigCause) → text ≡ front ++ t ∷ back → part.IsCause front t f → ⊥

@@ -73,8 +73,8 @@ pub record NeedsGate (d : Drafted) (x y : ℕ) : Type 0 where
   pub is_new : IsNew d x y
   pub is_new_too : IsNew d y x
 
--- the disjunction of the literals x and y has the value of a multiplexer: that of `high` if `s` is true, and that of
--- `low` if `s` is false
+-- whenever the variables' values satisfy the equations of the gates, the disjunction of the literals x and y has the
+-- value of a multiplexer: that of `high` if `s` is true, and that of `low` if `s` is false
 abbrev pub IsChoice : Drafted → (s high low x y : ℕ) → Type 0
 IsChoice d s high low x y =
     (v : ℕ → Bool) → MeetsEquations d v → (bit v x || bit v y) ≡ (if bit v s then bit v high else bit v low)

@@ -59,9 +59,9 @@ mux_of d s high low =
     else if low == 1 then or_of d (negated s) high
     else chosen_of d s high low
 
--- A call of a builder succeeds or fails as it should; `all` has the gates that the builder should have afterwards, and
--- the literal that the call should return. If the call succeeds, the builder has the gates of `all`, and the call
--- returns the literal of `all`. If the variables' values v satisfy the equations of the gates, the literal has the
+-- What a call of a builder ensures. If the number of gates were unlimited, the builder would have the gates of `all`
+-- after the call, and the call would return the literal of `all`. If the call succeeds, the builder has these gates,
+-- and the call returns this literal. If the variables' values v satisfy the equations of the gates, the literal has the
 -- value `value v`.
 pub record MakesGates (old new : Drafted) (result : Result ℕ EncodeFault) (all : Made) (value : (ℕ → Bool) → Bool)
     (Needs : Type 0) : Type 0 where
@@ -70,8 +70,8 @@ pub record MakesGates (old new : Drafted) (result : Result ℕ EncodeFault) (all
   pub held : IfOk result (IsHeld new)
   pub bit : IfOk result (λ literal. (v : ℕ → Bool) → MeetsEquations new v → bit v literal ≡ value v)
   pub made : IfOk result (λ literal. all ≡ record { draft = new; literal = literal })
-  -- if the call fails because no variable is left, 2147483647 variables exist, and a new gate is needed; with all gates
-  -- of `all`, there would be more than 2147483647 variables
+  -- if the call fails because no variable is left, three things hold: 2147483647 variables exist; a new gate is needed;
+  -- and with all gates of `all`, more than 2147483647 variables would exist
   pub too_large : result ≡ Err CircuitTooLarge → IsFull new
   pub needed : result ≡ Err CircuitTooLarge → Needs
   pub above : result ≡ Err CircuitTooLarge → HasTooMany all.draft

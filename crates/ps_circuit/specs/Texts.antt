@@ -16,16 +16,17 @@
 -- space, ends with the line, and has at least one byte.
 -- - 61 (`Syntax`): a byte that is not allowed at its position, an early end, or a symbol for an input, latch or output
 --   that does not exist or already has a name
--- - 62 (`Literal`): a literal above 2M + 1, an M of 2^31 or more, or a wrong input, latch, left side or reset
+-- - 62 (`Literal`): a literal above 2M + 1; an M of 2^31 or more; an input, latch or left side that is odd or 0; or a
+--   reset above 1, except the latch's own literal
 -- - 63 (`DefinedTwice`): an input, latch or left side whose variable was defined before
 -- - 66 (`UnsetLatch`): a reset of a latch that is the latch's own literal
 -- - 67 (`Sections`): a B, C, J or F in the header that is not 0
 --
 -- The literal of an input, of a latch or of a gate's left side must be even and at least 2, and a latch's reset must be
--- 0 or 1. The errors 62, 63, 66 and 67 are reported at the first digit of the wrong number, and the error 61 for a
--- symbol's number at the symbol's letter. The first error in the order of the text is reported. If there are several
--- errors at the same offset, the error with the smallest number is reported. If a text has none of the errors 61, 62,
--- 63, 66 and 67, the errors 64 and 65 are checked, in this order:
+-- 0 or 1. The errors 62, 63, 66 and 67 are reported at the first digit of the wrong number. If a symbol's number causes
+-- the error 61, it is reported at the symbol's letter. The first error in the order of the text is reported. If there
+-- are several errors at the same offset, the error with the smallest number is reported. If a text has none of the
+-- errors 61, 62, 63, 66 and 67, the errors 64 and 65 are checked, in this order:
 -- - 64 (`Undefined`): the first literal that is used and whose variable is neither defined nor 0
 -- - 65 (`Cyclic`): the line of the first gate that depends on itself
 use Rattle.std.specs.Prelude.{◌≡◌, ◌≢◌, ℕ, zero, suc, ◌+◌, ◌*◌, ◌^◌, ◌<◌, ◌≤◌, ◌⊎◌, List, [], ◌∷◌, ◌++◌, Bool, false}

@@ -38,7 +38,7 @@ pub struct Noted {
 }
 
 impl Noted {
-    /// The parser's records before any line of inputs, latches, outputs or gates is read.
+    /// What the parser has recorded before it reads the first input line: nothing.
     pub fn nothing(alloc: Global) -> Self
         ensures { lines_of [] result ≡ no_lines {A = ℕ} }
     {

@@ -4,8 +4,8 @@
 --   property `Good`, and leaves `rest`
 -- - `reread_then`, `reread_mapped`: `Rereads` holds for two parts together, one after the other, if it holds for each;
 --   it also holds for a part whose value is mapped by a function
--- - `reread_as`, `reread_branch`: `Rereads` holds for an equal text, and for alternatives of which the next byte
---   selects one
+-- - `reread_as`: if `Rereads` holds for a text, it holds for every text that equals it
+-- - `reread_branch`: `Rereads` holds for a choice of two parts if it holds for the part that the next byte selects
 -- - `number_then`, `field_then`: a written number, or a space and a number, is parsed, and so is the part after it
 -- - `reread_end`: the newline is parsed as the end of a line; `reread_more`, `reread_no_more`: the parser finds that a
 --   further field follows, or that the line ends

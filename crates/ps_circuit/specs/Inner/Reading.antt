@@ -1,6 +1,6 @@
 -- The contracts of the AIGER parser's private functions, in terms of what these functions have read.
 -- - `lines_of items noted`: what was read up to some line: the items of this line's kind (inputs, latches, outputs or
---   gates), and the parser's records
+--   gates), the defined variables, the used literals, and the offsets of the gates' lines
 -- - `TellsField`, `TellsCount`, `TellsHeader`, `TellsDraft`: the function for a field, for a number of lines, for the
 --   header or for the whole text parsed its part, or located the first error
 -- - `AddsInput`, `AddsLatch`, `AddsOutput`, `AddsGate`: one more line was read, of an input, a latch, an output or a
@@ -33,8 +33,8 @@ use Rattle.ps_circuit.specs.declared.sizes.Header.{Header}
 use Rattle.ps_circuit.specs.declared.lines.Noted.{Noted}
 use Rattle.ps_circuit.specs.declared.reader.Draft.{Draft}
 
--- each literal may define its variable; the variables are appended, in order, to the variables defined before; if those
--- differ from each other, all defined variables do
+-- each literal may define its variable, and `new` is `old` followed by the variables of the literals; if no variable
+-- occurs twice in `old`, none occurs twice in `new`
 pub record Defines (most : ℕ) (old : List ℕ) (literals : List ℕ) (new : List ℕ) : Type 0 where
   pub variables : new ≡ old ++ map variable literals
   pub each : All (IsDefinition most) literals
