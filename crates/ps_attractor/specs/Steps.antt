@@ -8,7 +8,8 @@ use Rattle.ps_attractor.specs.Levels.{IsLevel}
 use Rattle.ps_attractor.specs.Tables.{TablesData, FitsGame, level_of}
 use Rattle.ps_attractor.specs.Aims.{StandsFrom, IsGrown}
 
--- the tables fit the game, and the level `aim.level` of attracted vertices can be stored in the tables
+-- the tables have a level and a move for each vertex of the game, the worklist has only vertices of the game, and the
+-- tables can store the level `aim.level` of attracted vertices
 pub record IsReady (game : ParityGame) (limit : ℕ) (aim : Aim) (tables : TablesData) : Type 0 where
   pub fits : FitsGame game tables
   pub fits_width : IsLevel limit aim.level
@@ -28,8 +29,9 @@ pub record HasFree (game : ParityGame) (free : ℕ) (tables : TablesData) (v : �
   pub is_free : level_of tables to ≡ free
 
 -- The result of examining an edge from v to an attracted vertex w. Nothing changes if v does not have the level
--- `aim.free`, or if v belongs to the other player and has an unattracted successor. In every other case v is attracted,
--- with the move w if v belongs to the player
+-- `aim.free`, or if v belongs to the other player and has an unattracted successor. If v has the level `aim.free` and
+-- belongs to the player, v is attracted with the move w. If v has the level `aim.free`, belongs to the other player and
+-- has no unattracted successor, v is attracted without a move.
 pub data Look (game : ParityGame) (aim : Aim) (old new : TablesData) (v w : ℕ) : Type 0 where
   NotFree : level_of old v ≢ aim.free → new ≡ old → Look game aim old new v w
   Escapes : owner_of game v ≢ aim.player → HasFree game aim.free old v → new ≡ old → Look game aim old new v w
