@@ -1,5 +1,5 @@
--- Paths from vertex 0 are found by a table. For each vertex, the table has the first vertex with an edge to it, if this
--- vertex is smaller, and otherwise the vertex itself.
+-- A path from vertex 0 to a vertex is found backwards, by a table of predecessors. For each vertex, the table has the
+-- first vertex with an edge to it, if this vertex is smaller, and otherwise the vertex itself.
 -- - `lowered_none`, `lowered_here`, `lowered_kept`: `HasLowered` holds before any successor of the vertex is handled,
 --   and still holds after each further successor is handled
 -- - `firsts_none`, `firsts_more`: `AreFirsts` holds before any vertex is handled, and still holds after each further

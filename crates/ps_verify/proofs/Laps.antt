@@ -1,10 +1,10 @@
 -- A lasso trace closes a cycle of the product: some repetitions of its repeated part (laps) lead from a vertex back to
 -- it.
 -- - `reached`: the vertex of the product that a lasso trace reaches after its stem and a given number of laps
--- - `laps_fall`: along laps of a lasso trace, a vertex's count for a priority does not rise, and it falls if this is
---   the greatest priority on these laps
--- - `loop`: some laps of a lasso trace lead from a vertex back to it; no counts (no progress measure) for the greatest
---   priority on these laps of the lasso satisfy the rules of a certificate
+-- - `laps_fall`: the number `left`, made from a vertex's count, does not rise along laps, if neither the first vertex
+--   nor the laps have a priority greater than `top`. It falls if `top` is the greatest priority on these laps
+-- - `loop`: some laps of a lasso trace lead from a vertex of the product back to it. So the product's game has no
+--   counts (no progress measure) for the greatest priority on these laps, whatever its parity
 use Rattle.std.proofs.Common.{◌≡◌, ℕ, zero, suc, ◌+◌, ◌-◌, ◌<◌, ◌≤◌, inr, max, Bool, List, length, refl, sym}
 use Rattle.std.proofs.Common.{ap, subst, ◌∙◌, arith, Some, add-zero}
 use Rattle.std.specs.Prelude.{slice_get}
@@ -110,14 +110,15 @@ module _ {owner : ℕ} {names : List (List ℕ)} {auto : Auto} {c : CircuitData}
           );
         })
 
-  -- one or more repetitions of the lasso's repeated part (the lap) lead from a vertex back to it
+  -- after `before` laps (repetitions of the lasso's repeated part), one or more further laps lead the automaton from
+  -- its state back to this state
   pub record Loop : Type 0 where
     pub before : ℕ
     pub laps : ℕ
     pub some_laps : 0 < laps
     pub returns : state_after auto start lap (before + laps) ≡ state_after auto start lap before
-    -- no counts (no progress measure) for the greatest priority on these laps of the lasso satisfy the rules of a
-    -- certificate
+    -- the product's game has no counts (no progress measure) for the greatest priority on these further laps, whatever
+    -- its parity
     pub none : HasCounts p.game (greatest_of_laps auto (state_after auto start lap before) lap laps) → ⊥
 
   module _ (before more : ℕ) (same : (reached (before + suc more)).place ≡ (reached before).place) where

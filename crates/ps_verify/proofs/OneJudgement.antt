@@ -1,6 +1,7 @@
--- A circuit either wins or loses, but not both: a stimulus with the wrong verdict gives a lasso trace whose word the
--- automaton wrongly accepts or rejects.
--- - `parted`: a trace and its letters can be divided at an index
+-- A circuit either wins or loses, but not both. It loses if the automaton wrongly accepts or rejects its trace on some
+-- stimulus. This trace is a lasso trace, so the circuit does not win.
+-- - `parted`: if a trace and its letters are cut at an index, each part is a trace with its letters. The second part
+--   starts from the latch values with which the first part ends
 -- - `apart`: a circuit does not both win and lose
 -- - `wins`: a circuit wins if no stimulus is a counterexample
 use Rattle.std.proofs.Common.{◌≡◌, ℕ, zero, suc, ◌≤◌, Bool, List, [], ◌∷◌, length, take, drop}

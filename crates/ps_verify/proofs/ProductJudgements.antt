@@ -1,6 +1,7 @@
 -- The result computed for the product of a circuit and an automaton is a right judgement on the circuit.
 -- - `winning`: if the circuit's player wins all loops of the product, the circuit wins
--- - `judgement`: the result computed for a product is a right judgement, in both cases
+-- - `judgement`: the result computed for a product, `Wins` or `Loses` with a stimulus, is a right judgement on the
+--   circuit
 use Rattle.std.proofs.Common.{◌≡◌, ◌≢◌, ℕ, ◌%◌, ◌<◌, ◌↔◌, true, List, length, refl, subst, arith}
 use Rattle.std.proofs.Common.{Some}
 use Rattle.std.proofs.lemmas.Bool.{eq-eqb, eqb-true}

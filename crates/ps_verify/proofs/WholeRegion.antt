@@ -1,8 +1,9 @@
--- Let the player own no vertex of a game. Counts (a progress measure) for the region of all vertices are then counts
--- for the game, and a cycle that the player loses in this region is a cycle of the game.
--- - `wins_loops`: for each priority of the opponent's parity, there are counts that satisfy the rules of a certificate
--- - `lost_round`: a lost cycle of the region, followed by its first vertex, is a path of the game, and its greatest
---   priority has the opponent's parity
+-- From a region to the whole game. If the player owns no vertex, and the region has all vertices, the region's counts
+-- (a progress measure) are counts for the game. A cycle that the player loses in a region is a cycle of the game.
+-- - `wins_loops`: if the player owns no vertex, and the region of all vertices has counts, the player wins all loops of
+--   the game
+-- - `lost_round`: if the player loses a cycle in a region, this cycle, followed by its first vertex, is a path of the
+--   game, and its greatest priority has the parity of the player's opponent
 use Rattle.std.proofs.Common.{◌≡◌, ℕ, ◌+◌, ◌<◌, ◌⊎◌, inl, inr, List, [], ◌∷◌, length, get_or, Option}
 use Rattle.std.proofs.Common.{Bool, true, ◌∙◌, refl, arith, rules}
 use Rattle.std.proofs.lemmas.Bool.{cases_eq, cases_lt}

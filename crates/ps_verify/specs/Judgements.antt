@@ -33,13 +33,15 @@ pub record IsWinning (order : Order) (role : Role) (file : FileData) (c : Circui
   pub in_time : IsInTimeWhereReached order role c
   pub accepted : role ≡ Controller → AllAccepted file c
   pub rejected : role ≡ Environment → NoneAccepted file c
-  -- traces, their letters and joint runs with controllers exist, so the two fields above do not hold vacuously
+  -- Each periodic input extends to a lasso trace, and each trace has letters. So the fields `accepted` and `rejected`
+  -- speak of at least one word. An environment's circuit has a joint run with each finite-state controller, and the
+  -- automaton rejects the word of this run.
   pub goes_on : EachInputGoesOn c
   pub letters : (moments : List Moment) → HasLetters file.names c moments
   pub meetings : role ≡ Environment → (k : FiniteController) → IsController order c k → LosesMeeting file c k
 
--- The stimulus is a counterexample: the automaton wrongly accepts or rejects the circuit's trace on it. The trace is a
--- lasso that repeats from the first lap on.
+-- The stimulus is a counterexample: the automaton wrongly accepts or rejects the circuit's trace on it. The latch
+-- values after the first lap are those before it, so each later lap repeats the first.
 pub record IsLosing (order : Order) (role : Role) (file : FileData) (c : CircuitData) (s : StimulusData) : Type 0 where
   pub symbols : HasSymbols role file.names file.controllable c
   pub in_time : IsInTimeWhereReached order role c

@@ -69,8 +69,8 @@ fn way_in(alloc: Global, game: &Game, vertex: usize) -> Result<Vec<usize>, Alloc
     Ok(way)
 }
 
-/// The stimulus of a lost cycle of the product. The stem has the inputs that the circuit reads on a path to the cycle,
-/// and the lap has the inputs that it reads along the cycle.
+/// The stimulus for a cycle of the product that the player loses. The stem has the inputs that the circuit reads on a
+/// path to the cycle, and the lap has the inputs that it reads along the cycle.
 pub(crate) fn stimulus_of(
     alloc: Global,
     product: &Product,

@@ -25,8 +25,8 @@ use ps_simulate::{Role, circuit_has_one_values};
 use std::alloc::{AllocError, Global};
 
 /// Decides whether the automaton accepts each lasso trace of a controller, or no lasso trace of an environment. If not,
-/// the result is a counterexample: a stimulus on which the circuit's trace is a lasso that repeats from the first lap
-/// on.
+/// the result is a counterexample: a stimulus on which the automaton wrongly accepts or rejects the circuit's trace.
+/// The latch values after the trace's first lap are those before it, so each later lap repeats the first.
 ///
 /// # Errors
 ///
