@@ -17,9 +17,9 @@ use std::alloc::Global;
 ///
 /// # Errors
 ///
-/// Fails with the first error of the text, or else with the reason why psyn builds no automaton from it. Otherwise
-/// fails with the solver's fault, or because the solver's certificate does not fit the game or is not valid. Otherwise
-/// fails if the circuit is too large. Fails at any time if memory runs out.
+/// Fails with the first error of the text, or else with the reason why psyn builds no automaton from it. For a text
+/// with an automaton, fails with the solver's fault, or because the solver's certificate does not fit the game or is
+/// not valid. With a valid certificate, fails if the circuit is too large. Fails at any time if memory runs out.
 pub fn synthesise(
     alloc: Global,
     text: &[u8],
@@ -35,7 +35,8 @@ pub fn synthesise(
     // text gets a report, unless memory runs out or the circuit is too large.
     ensures sure { (known solver.old).is_sure ≡ true → (file : FileData) → IsAcceptedText text.now file →
         IsReportOrFault (Answered (known solver.old) (known solver.new)) order compact text.now result }
-    // The call changes nothing that is known of the solver, except the record of its last answer.
+    // After the call, the solver is sure exactly if it was sure before. It still has the text that it was fed, and may
+    // give no answer that it could not give before.
     ensures kept { IsKept (known solver.old) (known solver.new) }
 {
     synthesise_by(alloc, text, order, compact, solver)
