@@ -84,7 +84,8 @@ def answer(program, text):
 
 
 def solved(yardstick, path, runs):
-    """The winners, the moves, the statistics of the yardstick, and its least time."""
+    """What YARDSTICK prints for the game in a file: the winners, the moves, the other words with their values, and the
+    least `counts_ms` of all runs."""
     best = None
     for _ in range(runs):
         run = subprocess.run([yardstick, "solve", "--out", "sol", "--stats", path], capture_output=True, check=True, text=True)
@@ -101,7 +102,7 @@ def solved(yardstick, path, runs):
 
 
 def measure(program, yardstick, nodes, runs):
-    """The cells of a game's output line."""
+    """The values that a game's output line has in its columns."""
     with tempfile.NamedTemporaryFile("w", suffix=".pg") as file:
         file.write(f"parity {len(nodes) - 1};\n")
         file.writelines(f"{v} {p} {o} {','.join(map(str, s))};\n" for v, (p, o, s) in enumerate(nodes))
@@ -159,7 +160,8 @@ def reached(edges, start):
 
 
 def least(count, edges, level, priority):
-    """The least counts of a certificate for a priority, found by raising counts until nothing changes."""
+    """For one priority, the least count of each vertex in a certificate, found by raising counts until nothing
+    changes."""
     counts, is_changed = [0] * count, True
     while is_changed:
         is_changed = False

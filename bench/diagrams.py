@@ -63,7 +63,8 @@ def yardstick(folder):
 
 
 def answers(command, count, text, runs):
-    """The words of each output line, for the run with the least time for the unions."""
+    """The output of the run whose first line states the least nanoseconds: for each line, a map from names to
+    values."""
     best = None
     for _ in range(runs):
         run = subprocess.run(command, input=text, capture_output=True, check=True, text=True)

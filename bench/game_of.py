@@ -6,13 +6,13 @@
 PSYN is the built program (crates/psyn/out/psyn). The families are:
     states     64 to 64,000 states (more would make the text too long), each with 16 letters of the inputs as classes
     classes    64 states, each with 16 to 8,192 letters of the inputs as classes
-In the family `states`, after each letter of the inputs, one value of the output leads to the sink. With the other
-value, different letters of the inputs lead to different states. Each automaton is about twice as large as the one
-before, up to --edges edges (1,048,576, the most that psyn reads). A line for each automaton counts its states, the
-classes of input letters in each state, and the vertices and the edges of its game. It also has the bytes of the
-automaton's text and of the game's text. Then the line has the least seconds of --runs (3) runs of the whole process. At
-its end, the line has the growth of the seconds for each doubling of the vertices since the line above (2: the time is
-proportional to the vertices).
+In the family `states`, after each letter of the inputs, one value of the output leads to the sink. With the other value
+of the output, different letters of the inputs lead to different states. Each automaton is about twice as large as the
+one before, up to --edges edges (1,048,576, the most that psyn reads). A line for each automaton counts its states, the
+classes of input letters in each state, and the vertices and the edges of its game. The line also has the number of
+bytes that psyn reads, and the number of bytes that it prints. Then the line has the least seconds of --runs (3) runs of
+the whole process. At its end, the line has the growth of the seconds for each doubling of the vertices since the line
+above (2: the time is proportional to the vertices).
 
 Run the script on a machine that does nothing else. A small automaton is run before the first line, so that the program
 is already in memory.

@@ -84,7 +84,7 @@ def measured(given, path):
 
 
 def marks(is_larger, status, start, processor):
-    """The words that apply to a run."""
+    """Those of the words LARGER, SLOW, LARGE and ENDED that apply to a run."""
     found = ["LARGER"] if is_larger else []
     if processor > SLOW:
         found.append("SLOW")

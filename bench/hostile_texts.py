@@ -159,8 +159,8 @@ def vertices():
 
 
 def colliding(count, bits, most, *first):
-    """Numbers that collide in a hash table with the toolchain's hash function and a fixed seed. If a first number is
-    given, the keys of the table are pairs: the first number and one of the numbers returned."""
+    """Numbers that collide as keys of a hash table with the toolchain's hash function and a fixed seed. If `first` is
+    given, the keys that collide are pairs of `first` and each number returned."""
     with tempfile.TemporaryDirectory() as room:
         program = os.path.join(room, "colliding")
         subprocess.run(["cc", "-O2", "-o", program, os.path.join(os.path.dirname(os.path.abspath(__file__)), "colliding.c")], check=True)
@@ -193,12 +193,13 @@ def fan():
     return on_games(fanned) + on_games(f"0 0 0 0{',0' * (SIZE // 2 - 10)};\n")
 
 
-# Games by rungs. The games of a family consist of equal rungs. A family describes each vertex (a, b, c and so on) of a
-# rung by its player, its priority and its edges. An edge leads to a vertex of the same rung, with `+` to one of the
-# next rung, and with `-` to one of the rung before. Edges beyond the first or the last rung are left out; a vertex that
-# has no edge then gets a self-loop. A priority of kind `low` is the same in all rungs; a priority of kind `rises` or
-# `falls` changes from rung to rung by the family's step. In a family with `turns`, the players and the parities of low
-# priorities are exchanged in every second rung.
+# Games by rungs. A game of a family is a row of rungs, which are groups of equally many vertices. A family describes
+# each vertex (a, b, c and so on) of a rung by its player, its priority and its edges. An edge leads to a vertex of the
+# same rung, with `+` to one of the next rung, and with `-` to one of the rung before. Edges beyond the first or the
+# last rung are left out; a vertex that has no edge then gets a self-loop. A priority of kind `rises` or `falls` changes
+# from rung to rung by the family's step; a priority of kind `low` does not. In a family with `turns`, however, every
+# second rung differs: each vertex belongs to the other player, and its priority, if of kind `low`, is 1 in place of 0
+# or 0 in place of 1.
 Family = collections.namedtuple("Family", "step turns vertices")
 
 

@@ -63,7 +63,7 @@ def made(folder):
 
 
 def times(program, text):
-    """The least nanoseconds for all steps, for the words `lanes` and `plain`."""
+    """The least nanoseconds that all steps of a run take: `lanes` for runs in lanes, and `plain` for plain runs."""
     run = subprocess.run([program], input=text.encode(), capture_output=True, check=False)
     if run.returncode != 0:
         sys.exit(f"status {run.returncode}: {run.stderr[:200]!r}\n{text[:2000]}")

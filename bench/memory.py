@@ -1,11 +1,11 @@
 #!/usr/bin/env python3
-"""Prints how much memory psyn uses for each vertex, gate, letter, state or byte of a text, command by command.
+"""Prints how much memory psyn uses for each vertex, gate, latch, letter, state or byte of a text, command by command.
 
   bench/memory.py PSYN
 
 Each kind of text is run at two sizes; the greatest memory use and the length of the input are compared. A line for each
-kind has the additional bytes of memory for each additional unit, the additional bytes of input for each unit, and the
-ratio of the two.
+kind names the unit in which the sizes are counted: vertex, gate, latch, letter, state or byte. The line has the
+additional bytes of memory and of input for each additional unit, and the ratio of the two.
 """
 import os
 import random

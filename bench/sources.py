@@ -1,7 +1,7 @@
 """The source code of the benches' programs, as crates.
 
-The source files here have the additional ending `.in`, because the gate requires that each source belongs to a crate
-that it proves."""
+The source files here have the additional ending `.in`, because `rt ci` rejects each `.rt` or `.antt` file that belongs
+to no crate of crates.txt."""
 import os
 import shutil
 
