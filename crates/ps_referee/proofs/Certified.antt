@@ -1,5 +1,6 @@
--- If player 0 holds one region and player 1 holds the rest of the vertices, a valid certificate can be made from the
--- regions, moves and counts. If the counts of both regions are the least ones, so are the counts in the certificate.
+-- If player 0 wins one region by its moves without leaving it, and player 1 wins the rest of the vertices likewise, a
+-- valid certificate can be made from the regions, moves and counts. If the counts of both regions are the least ones,
+-- so are the counts in the certificate.
 use Rattle.std.proofs.Common.{◌≡◌, ◌≢◌, ◌⊎◌, inl, inr, ℕ, ◌<◌, ◌≤◌, List, [], ◌∷◌, length, get_or}
 use Rattle.std.proofs.Common.{Option, Some, None, IfSome, IsSomeAnd, Bool, true, false, IsTrue, refl, sym, subst}
 use Rattle.std.proofs.Common.{◌∙◌, rules, arith, ap, not}
@@ -69,8 +70,8 @@ module _ {game : ParityGame} (is_game : IsGame game) {player : ℕ} {set : ℕ �
       let keep = (ranks.columns k within).keep v w (grind (arith, remains_for)) in
       grind arith
 
-  -- if a valid certificate d differs from the certificate c only in its counts, the counts of d keep the rule of counts
-  -- on the edges that remain for the player's table of moves
+  -- let a valid certificate d differ from the certificate c only in its counts; inside the set, the counts of d keep
+  -- the rule of counts (`KeepsRule`) on the player's moves and on the opponent's edges
   others_keep : (d : CertificateData) → IsValid game d → DiffersInCounts game c d → opposing d player ≡ priorities →
       ((u : ℕ) → u < vertex_count game → IsTrue (set u) → IsSide game player set table priorities rows c u) → (k : ℕ) →
       k < length priorities →
@@ -96,8 +97,9 @@ module _ {game : ParityGame} (is_game : IsGame game) {player : ℕ} {set : ℕ �
 abbrev pub made_of : List ℕ → List ℕ → List EntryData → CertificateData
 made_of odd even entries = record { odd = odd; even = even; entries = entries }
 
--- players 0 and 1 hold the sets `region` and `lost` by their tables, with least counts; the certificate's entries have
--- the winners, the moves and the counts of both players
+-- by its table and without leaving the set, player 0 wins the set `region`, and player 1 wins the set `lost`, which has
+-- all other vertices; the rows are the least counts of both players; the certificate's entries have the winners, the
+-- moves and these counts
 record AreBoth (game : ParityGame) (region lost : ℕ → Bool) (first second : ℕ → Option ℕ) (odd even : List ℕ)
     (odd_rows even_rows : List (List ℕ)) (entries : List EntryData) : Type 0 where
   is_game : IsGame game

@@ -14,7 +14,7 @@ use Rattle.ps_certificate.proofs.Holding.{falls_in_the_end}
 module _ {game : ParityGame} {player : ℕ} {set : ℕ → Bool} {table : ℕ → Option ℕ} {priorities : List ℕ}
     {rows : List (List ℕ)} (is_player : player < 2) (keeps : KeepsTo game player set table)
     (ranks : AreRanks game player set table priorities rows) where
-  -- consider a path that begins in the set and follows the table, and a loop of the path
+  -- the player wins each loop of a path that begins in the set and follows the table
   module _ {path : List ℕ} {i j : ℕ} (is_path : IsPath game path) (begins : IsTrue (set (get_or path 0 0)))
       (follows : Follows game player table path) (loop : IsLoop path i j) where
     step : (k : ℕ) → k < j → RemainsWithin game player set table (get_or path k 0) (get_or path (k + 1) 0)
@@ -27,14 +27,15 @@ module _ {game : ParityGame} {player : ℕ} {set : ℕ → Bool} {table : ℕ �
       };
     }
 
-    -- no vertex of the loop, including its last one, has a greater priority than the loop
+    -- at each position from i to j, the vertex's priority is at most the loop's priority, which is the greatest at the
+    -- positions i to j - 1
     bounded : (k : ℕ) → i ≤ k → k ≤ j → priority_of game (get_or path k 0) ≤ loop_priority game path i j
     bounded k after before = elim (cases_eq k j) [
       | inl last ↦ search (rules, le-loop_priority)
       | inr earlier ↦ le-loop_priority game path i j k after (omega arith) (omega (arith, loop.within))
     ]
 
-    -- the priority of the loop is not one by which the player loses
+    -- the loop's greatest priority is not in the list `priorities`, which has all priorities of the opponent's parity
     not_listed : (place : ℕ) → place < length priorities → get_or priorities place 0 ≡ loop_priority game path i j → ⊥
     not_listed place within is =
         let (m, after, below, has) =

@@ -50,7 +50,8 @@ module _ (game : ParityGame) (won : List Bool) (first second : List (Option ℕ)
     ];
   }
 
-  -- a claimed solution, written as a certificate, has no counts, so it has no flaw if it is closed
+  -- a claimed solution without wrong moves, and without remaining edges to a vertex with the other winner, has no flaw:
+  -- written as a certificate, it has no counts that could be wrong
   pub closed_flawless : IsClosed game (claimed game won first second) → (flaw : Flaw) →
       IsFirstFlaw game (claimed game won first second) flaw → ⊥
   unfolding claimed opposing

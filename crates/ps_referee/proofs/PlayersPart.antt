@@ -76,7 +76,8 @@ module _ {game : ParityGame} {c : CertificateData} {player : ℕ} {set : ℕ →
       (p.inside v r.edge.0 wins) (two_follows game player table v w (λ own. grind arith)) 1 (omega arith) in
       p.winner w (is_game.within v w r.edge) inside ∙ sym wins
 
--- consider two sets that have the same vertices of the game
+-- if two sets have the same vertices of the game, a player who keeps to one set, or holds it, or loses a cycle in it,
+-- also does so in the other set
 module _ {game : ParityGame} {player : ℕ} {set other : ℕ → Bool} {table : ℕ → Option ℕ}
     (same : (v : ℕ) → v < vertex_count game → set v ≡ other v) where
   pub keeps_same : KeepsTo game player set table → KeepsTo game player other table

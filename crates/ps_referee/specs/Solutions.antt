@@ -4,7 +4,8 @@
 -- - `moves_by`: the table of moves of a player.
 -- - `claimed`: the claimed solution as a certificate without priorities and counts.
 -- - `AreSizedFor`: the region and both tables of moves have an entry for each vertex.
--- - `IsSolution`: by its table, each player holds the vertices that it is claimed to win, so the solution is correct.
+-- - `IsSolution`: the solution is correct: by its table of moves, each player stays among the vertices that it is
+--   claimed to win, and wins there.
 -- - `IsCycleOf`: the solution has no flaw, but has the given cycle, which the player loses.
 -- - `IsRefusal`: the fault states what is wrong with the solution.
 -- - `IsCertificateOf`: the certificate is valid, and has the winners and moves of the solution and the least counts.
@@ -57,8 +58,8 @@ pub record IsSolution (game : ParityGame) (won : List Bool) (first second : List
   pub second_holds : Holds game 1 (λ v. not (has won v)) (move_at second)
 
 -- No move of the solution is wrong, and each remaining edge leads to a vertex with the same winner, but the player
--- loses the given cycle of remaining edges. If player 1 loses the cycle, player 0 holds the vertices that player 0 is
--- claimed to win.
+-- loses the given cycle of remaining edges. If player 1 loses the cycle, player 0's table of moves wins at all vertices
+-- that player 0 is claimed to win.
 pub record IsCycleOf (game : ParityGame) (won : List Bool) (first second : List (Option ℕ)) (player : ℕ)
     (cycle : List ℕ) : Type 0 where
   pub closed : IsClosed game (claimed game won first second)

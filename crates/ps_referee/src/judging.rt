@@ -35,8 +35,8 @@ pub fn judge<A: Arena>(
 ) -> Result<Certificate, JudgeFault>
     requires sized { AreSizedFor (A.game arena.now) won.now first.now second.now }
 
-    // Unless out of memory, the result is Ok exactly if each player holds the vertices that the player is claimed to
-    // win.
+    // Unless out of memory, the result is Ok exactly if the solution is correct: each player's moves stay among the
+    // vertices that the player is claimed to win, and win from each of them.
     ensures solution { OnOk result (IsSolution (A.game arena.now) won.now first.now second.now) }
     ensures judged { IsSolution (A.game arena.now) won.now first.now second.now → IfErr result IsOutOfMemory }
 

@@ -16,7 +16,7 @@
 //! | `solution_is_judged` | a law: a solution holds and has a certificate, or has a flaw, or a lost cycle |
 //!
 //! The moves of a solution may be any numbers. Only the moves of the winners at their own vertices are checked. A cycle
-//! that player 1 loses is reported only if player 0 holds the vertices that player 0 is claimed to win.
+//! that player 1 loses is reported only if the moves of player 0 win at all vertices that player 0 is claimed to win.
 //!
 //! Each of the calls `judge` and `certificate_of_solution` takes about as long as `ps_measure::ranks` for both players,
 //! and calls no solver.

@@ -6,8 +6,8 @@ use Rattle.ps_measure.specs.Ranks.{IsLostCycle}
 use Rattle.ps_referee.specs.declared.fault.JudgeFault.{JudgeFault}
 use Rattle.ps_referee.specs.declared.fault.JudgeFault.TheVariants.{Unclosed, BadCycle, OutOfMemory}
 
--- no flaw is reported; a reported cycle lies within the set and is lost by `player`, who is also the reported player;
--- the fault `OutOfMemory` guarantees nothing
+-- the fault is `OutOfMemory`, or it is `BadCycle` with the number `player` and a cycle of remaining edges within the
+-- set, which this player loses
 abbrev pub IsLostIn : ParityGame → ℕ → (ℕ → Bool) → (ℕ → Option ℕ) → JudgeFault → Type 0
 IsLostIn game player set table (Unclosed flaw) = ⊥
 IsLostIn game player set table (BadCycle loser cycle) =

@@ -1,4 +1,5 @@
--- A correct solution is closed, and the only fault that judging it can return is out of memory.
+-- A correct solution is closed: no move is wrong, and no remaining edge leads to a vertex with the other winner. The
+-- only fault that judging a correct solution can return is out of memory.
 use Rattle.ps_referee.proofs.Judged.{solution_closed, judged_err, only_memory}
 use Rattle.ps_referee.proofs.judging.certificate_of_solution.Goals as goal
 
