@@ -67,8 +67,8 @@ some_sign : {T : Type 0} (front : List T) (t : T) → (u : T) × (first_of (fron
 some_sign [] t = (t, refl)
 some_sign (s ∷ front) t = (s, refl)
 
--- Let W have all texts and errors of P, and apart from these only texts and errors of Q. If Q does not begin with the
--- next symbol, each text or error of W that begins with this symbol is a text or error of P.
+-- Let the grammar W have all texts and errors of P, and apart from these only texts and errors of Q. If Q does not
+-- begin with the next symbol, W and P have the same texts and errors that begin with this symbol.
 covers_one : {T V F : Type 0} {odd : T → Type 0} {P Q : Part T V F} {First More : T → Type 0} {Null : Type 0}
     (W : Part T V F) (l : Laws odd Q First More Null) (there : Option T) → Avoids First there → ((text : List T)
     (v : V) → P.IsText text v → W.IsText text v) → ((front : List T) (t : T) (f : F) → P.IsCause front t f → W.IsCause

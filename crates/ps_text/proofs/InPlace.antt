@@ -3,8 +3,8 @@
 --   and `NoCauseAt` exactly if this symbol is no error
 -- - `read_quiet`: after a grammar was parsed, the symbol after the parsed text is not an error of the grammar
 -- - `fault_begins`: the symbols before a first fault begin a text of the grammar
--- - `fault_from`: the first fault of P is also the first fault of R under two conditions. R has no error before the
---   fault's position, and at this position R accepts and rejects what P does
+-- - `fault_from`: the first fault of P is also the first fault of R, if R has no error before the fault's position, and
+--   accepts and rejects at this position what P does
 -- - `Covers there P Q`: Q has all texts and errors of P; each further text or error of Q begins with a symbol other
 --   than `there`
 -- - `read_as`, `fault_as`: if `Covers` holds for P and Q, each result of parsing P is a result of parsing Q, and the

@@ -2,9 +2,10 @@
 -- first fault of Q after P.
 -- - `joint`: two grammars satisfy `Joint` (it is clear where a text of the second begins after one of the first) if
 --   they satisfy `Laws`, and no symbol both continues the first and begins the second
--- - `text_behind`, `cause_behind`: let a text of P be followed by a symbol with which it can't continue. If the whole
---   is a text of `then_by P Q`, the rest is a text of Q. If the whole ends in an error of `then_by P Q`, this is an
---   error of Q or of P.
+-- - `text_behind`: if a text of `then_by P Q` begins with a text of P, and the next symbol can't continue the text of
+--   P, the rest is a text of Q
+-- - `cause_behind`: if an error of `then_by P Q` comes after a text of P, and the next symbol can't continue the text
+--   of P, the error is an error of Q or of P
 -- - `begins_left`, `begins_right`: `then_by P Q` has a text that begins with any given beginning of a text of P, and
 --   one that begins with any text of P followed by a beginning of a text of Q
 -- - `read_then`, `fault_left`, `fault_right`: `then_by P Q` is parsed if P and then Q are parsed; its first fault is

@@ -1,5 +1,6 @@
--- `Laws` states what each grammar should satisfy: for example, that each text has only one value. `Joint` states of two
--- grammars, whose texts follow each other, that it is clear where a text of the second begins.
+-- `Laws` states what each grammar should satisfy: for example, that each text has only one value. `Joint` states for
+-- two grammars that a text of the first, followed by a text of the second, can be split into two such texts in only one
+-- way.
 -- - `Laws odd part First More Null`: each text of the grammar `part` has only one value. Each symbol that begins a text
 --   is in First. Each symbol that can follow a text inside a longer text is in More.
 -- - `Joint P Q`: no symbol both continues a text of P and begins a text of Q, so it is clear where Q begins; the lemma

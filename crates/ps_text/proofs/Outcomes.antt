@@ -1,6 +1,6 @@
 -- For each list of symbols, each grammar has an outcome: a text is parsed, or the first fault is found. The proof is by
--- recursion on how the grammar is composed. There is something to decide only at a single symbol: which of the symbol's
--- errors has the smallest number (Judged).
+-- recursion on how the grammar is composed. Only the lemmas for `one` and `barred` require a decision (`Judged`): which
+-- error of a symbol has the smallest number, or that the symbol has no error.
 -- - `has_give` to `has_barred`: one lemma for each combinator: a grammar that the combinator makes has an outcome
 --   for each list of symbols
 -- - `entered_or_broken`: the next symbol begins a grammar without an empty text, or the grammar rejects the symbol
@@ -37,7 +37,8 @@ pub bad_only : {F : Type 0} (number : F → ℕ) (Bad : F → Type 0) (f : F) �
     Judged number Bad
 bad_only number Bad f b only = bad f b (λ g c. subst (λ h. number f ≤ number h) (only g c) (omega arith))
 
--- the laws still hold if First is exactly the set of symbols with which the grammar can begin
+-- a grammar that satisfies the laws also satisfies them with the smallest possible set First: the symbols that begin a
+-- text of the grammar, or are errors at its start
 pub exact : {T V F : Type 0} {odd : T → Type 0} {P : Part T V F} {First More : T → Type 0} {Null : Type 0} →
     Laws odd P First More Null → Laws odd P (λ t. Enters P (Some t)) More Null
 exact l = search rules
@@ -66,7 +67,7 @@ module _ {T F : Type 0} (causes : Causes T F) where
           (λ u y. absurd (none_is_some u y)) (λ u f y d. none_is_some u y))
       go (t ∷ rest) = by t rest (judge t)
 
-  -- a grammar whose value is mapped has outcomes if the grammar has them
+  -- `mapped h P` has an outcome for each list of symbols, if P has one
   pub has_mapped : {A B : Type 0} (h : A → B) (P : Part T A F) → HasOutcomes causes P → HasOutcomes causes (mapped h P)
   has_mapped h P p = record { outcome = λ all. go all (p.outcome all) }
     where

@@ -1,5 +1,6 @@
--- Grammars over bytes that satisfy the laws (`Laws`) and have an outcome for each list of symbols. If smaller grammars
--- have these two properties, so do the larger grammars that combinators make from them.
+-- Grammars over bytes that satisfy the laws (`Laws`) and have an outcome for each list of symbols; `Lawful` states
+-- both. A grammar that a combinator makes from such grammars satisfies `Lawful`, too, under the conditions of the
+-- combinator's lemma.
 -- - `Lawful number syntax part First More Null`: the grammar satisfies the laws with the sets First and More and the
 --   condition Null, and has an outcome for each list of symbols
 -- - `Chain number syntax P Q First More Null`: the grammars P and Q, one after the other, satisfy `Joint`, and `then_by
