@@ -28,7 +28,8 @@ pub record AreComponents (g : Digraph) (c : ComponentsData) : Type 0 where
       IsIn c w m → k ≤ m
   pub once : (i j v : ℕ) → slice_get c.order i ≡ Some v → slice_get c.order j ≡ Some v → i ≡ j
 
--- the vertices that have a component are exactly the roots and the vertices reachable from them
+-- the vertices that have a component are exactly the roots (the vertices where the search starts) and the vertices
+-- reachable from the roots
 abbrev pub AreMet : Digraph → List ℕ → ComponentsData → Type 0
 AreMet g roots c = (v : ℕ) → ((k : ℕ) × IsIn c v k) ↔ IsReached g roots v
 

@@ -51,7 +51,8 @@ pub record IsFresh (g : Digraph) (s : Search) : Type 0 where
   pub idle : IsIdle g s
   pub unseen : All (λ m. m ≡ Unseen) s.statuses
 
--- the visited vertices are exactly the roots and the vertices reachable from them
+-- the visited vertices are exactly the roots (the vertices where the search starts) and the vertices reachable from the
+-- roots
 pub record HasVisited (g : Digraph) (roots : List ℕ) (s : Search) : Type 0 where
   pub idle : IsIdle g s
   pub met : HasMet g roots s.statuses

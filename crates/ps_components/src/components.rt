@@ -45,7 +45,7 @@ impl Components {
 
     /// Forgets the old components, and computes the components of the given roots and of all vertices reachable from
     /// the roots in `graph`. Forgetting the old components takes time proportional to the number of their vertices.
-    /// Fails if out of memory; then the value has no components.
+    /// Fails if out of memory, and then keeps neither the old nor any new components.
     pub fn renew<G: Graph>(&mut self, graph: &G, roots: &[usize]) -> Result<(), AllocError>
         requires { All (λ v. v < (G.graph graph.now).count) roots.now }
         ensures components { OnOk result (AreComponents (G.graph graph.now) self.new) }

@@ -65,7 +65,7 @@ impl Spread {
         Ok(Spread { seen, steps })
     }
 
-    /// Records as reached each vertex to which a link leads from the vertex of step `place`. Fails if out of memory.
+    /// Records the targets of all links from the vertex of step `place` as reached. Fails if out of memory.
     fn reach_from<G: Graph>(&mut self, graph: &G, place: usize) -> Result<(), AllocError>
         requires place { place < length self.old.steps.items }
         requires spread { IsSpread (G.graph graph.now) self.old.seen.items self.old.steps.items place }

@@ -13,8 +13,8 @@ abbrev pub AreApart : List Step → Type 0
 AreApart steps =
     (i j : ℕ) (s t : Step) → slice_get steps i ≡ Some s → slice_get steps j ≡ Some t → s.item ≡ t.item → i ≡ j
 
--- the seen vertices are those that the steps reached, and every link from a vertex that a step before index `place`
--- reached leads to a seen vertex
+-- A vertex is seen exactly if a step reached it. If a step before index `place` reached a vertex, the targets of the
+-- vertex's links are seen.
 pub record IsSpread (g : Digraph) (seen : List Bool) (steps : List Step) (place : ℕ) : Type 0 where
   pub within : LinksStayWithin g
   pub counted : length seen ≡ g.count
@@ -40,8 +40,8 @@ unseen [] = 0
 unseen (true ∷ bs) = unseen bs
 unseen (false ∷ bs) = suc (unseen bs)
 
--- the vertex `to` is among the seen vertices, each of which has a step; the old steps are the first of the new ones,
--- and at most as many steps were made as vertices were newly seen
+-- The vertex `to` is seen now, and the search keeps its invariant (`IsSpread`). The new list of steps begins with the
+-- old one, and no seen vertex was forgotten. The number of added steps is at most the number of newly seen vertices.
 pub record Reaches (g : Digraph) (to place : ℕ) (old_seen : List Bool) (old_steps : List Step) (seen : List Bool)
     (steps : List Step) : Type 0 where
   pub spread : IsSpread g seen steps place
