@@ -17,7 +17,7 @@ length-letters_in width (suc count) bits = ap suc (length-letters_in width count
 mul_suc : (m n : ℕ) → suc m * n ≡ n + m * n
 mul_suc m n = grind arith
 
--- if `bits` has the bits of count + 1 letters, those of the last `count` letters remain after the first letter's bits
+-- if `bits` has the bits of count + 1 letters, dropping the first letter's bits leaves those of `count` letters
 rest_length : (width count : ℕ) (bits : List Bool) → length bits ≡ suc count * width →
     (length (drop width bits) ≡ count * width) × (width ≤ length bits)
 rest_length width count bits whole = grind (arith, mul_suc, length-drop)
@@ -49,8 +49,8 @@ pub letter_within : (place count width : ℕ) {size : ℕ} → place < count →
     place * width + width ≤ size
 letter_within place count width lt is = search (rules, mul-le-mul_right)
 
--- in a text without a divider, all lines before the current one are without errors: the first error of the current line
--- is the first error of the text
+-- let a text need no divider, and let the lines before the current line be without errors; then the current line's
+-- first error is the first error of the text
 pub IsLettersAnswer-line : {text : List ℕ} {width start end : ℕ} {s : StimulusData} →
     HasRead text width false false start s → {line : List ℕ}
     → lines_of (drop start text) ≡ line ∷ lines_of (drop (end + 1) text) → start + length line ≡ end →

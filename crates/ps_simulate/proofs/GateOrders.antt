@@ -45,8 +45,8 @@ module _ (R : ℕ → ℕ → Type 0) (n : ℕ) (to_within : (i j : ℕ) → R i
       IsPart (xs ++ i ∷ [])
   push {xs} i is lt absent sides = search (rules, at_push, get_or_append_left)
 
-  -- if an ordered list can be extended by each single number with a property, it can be extended by all such numbers
-  -- below m
+  -- if each topologically ordered list (`IsPart`) can be extended to have any one number with the property P, each can
+  -- be extended to have all numbers below m with this property
   each_below : (P : ℕ → Type 0) → ((j : ℕ) → Decided (P j)) →
       ((j : ℕ) → P j → (xs : List ℕ) → IsPart xs → Grown xs (λ k. j ≡ k))
       → (m : ℕ) (xs : List ℕ) → IsPart xs → Grown xs (λ k. (k < m) × P k)

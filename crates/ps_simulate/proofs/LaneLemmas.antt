@@ -119,7 +119,8 @@ same_lane xs ys p q lane hp hq e = search (rules, get_or-map)
 pub length-lane : (xs : List (List ℕ)) (lane : ℕ) → length (lane_of xs lane) ≡ length xs
 length-lane xs lane = let f : List ℕ → Bool = λ ws. lane_bit ws lane in length-map xs f
 
--- the value of a latch in a lane is the lowest bit of one of the latch's words after a shift
+-- the value of a latch in a lane is bit `lane % 64` of the latch's word `lane / 64`: the lowest bit after a right shift
+-- by `lane % 64`
 pub latch_is : (rows : List (List ℕ)) {words : List ℕ} (number lane : ℕ) → number < length rows →
     words ≡ get_or rows number words
     → slice_get (lane_of rows lane) number ≡ Some (bit_and (get_or words (lane / 64) 0 / 2 ^ (lane % 64)) 1 == 1)

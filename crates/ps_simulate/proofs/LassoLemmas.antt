@@ -135,8 +135,8 @@ pub HasRead-start : {names : List (List ℕ)} {c : CircuitData} {stem : List (Li
     ReadsWord names c from stem old letters last → HasRead names c stem lap [] letters last
 HasRead-start {names} {c} {stem} lap {last} none same h = search (rules, append-nil)
 
--- the circuit has read the stem once and the lap once for each entry of `seen`; after it has read the lap once more,
--- `seen` with one more entry describes what it has read
+-- `HasRead` is kept when the circuit reads the lap once more, from latch values that are not in `seen`: these values
+-- are appended to `seen`
 pub HasRead-lap : {names : List (List ℕ)} {c : CircuitData} {stem lap seen : List (List Bool)} {old new : List ℕ}
     {from last : List Bool} → HasRead names c stem lap seen old from →
     ReadsWord names c from lap old new last → length from ≡ length c.latches →
@@ -199,8 +199,8 @@ letter_at items i {item} d lt is = search (rules, get_or-map)
 times_more : (i l : ℕ) → suc i * l ≡ i * l + l
 times_more i l = grind arith
 
--- the lap is read repeatedly until two readings begin with the same latch values: the first of the two ends within the
--- letters read before the second
+-- let reading i of the lap be the first of the two readings that begin with the same latch values; all letters of this
+-- reading were read before the second of the two began
 pub lap_within : {names : List (List ℕ)} {c : CircuitData} {stem lap : List (List Bool)} {i : ℕ} {letters : List ℕ}
     (h : RepeatsBy names c stem lap i letters) → length stem + i * length lap + length lap ≤ length letters
 lap_within {lap} {i} h = grind (

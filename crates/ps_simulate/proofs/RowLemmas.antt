@@ -12,7 +12,7 @@ use Rattle.ps_simulate.specs.Plans.{variables, place_of_variable, row_at, no_gat
 use Rattle.ps_simulate.proofs.PlacesLemmas.{variables_at, place_of-at, place_known, gate_known, sides_known}
 use Rattle.ps_simulate.specs.NeededGates.{numbered_row, no_row, IsScheduled}
 
--- the default entry of a list of latches
+-- the latch that `get_or` gives for an index outside a list of latches
 abbrev pub no_latch : Latch
 no_latch = record { literal = 0; next = 0; reset = Rattle.std.proofs.Common.false }
 

@@ -1,5 +1,5 @@
--- The evaluation plan for 256 simultaneous runs, which is the plan of a single run with renumbered indices. The new
--- indices list the gates in the order of evaluation.
+-- The evaluation plan for 256 simultaneous runs, which is the plan of a single run with renumbered indices. The values
+-- of the gates get successive new indices, in the order of evaluation.
 use Rattle.std.specs.Prelude.{◌≡◌, ◌≢◌, ℕ, ◌+◌, ◌<◌, ◌≤◌, Bool, false, List, [], ◌∷◌, map, length, slice_index_or}
 use Rattle.ps_circuit.specs.Circuits.{CircuitData}
 use Rattle.ps_circuit.specs.Literals.{is_negated, variable}

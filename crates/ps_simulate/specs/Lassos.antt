@@ -2,8 +2,9 @@
 -- accepts the circuit's trace.
 -- - `IsLetterOf names c m letter`: in the letter, each proposition has the bit that the input or output of its name has
 --   in the step m
--- - `RepeatsLatches c stem lap i j trace`: the trace reads the stem once and the lap j times; its last latch values are
---   those before reading number i of the lap, the first repetition
+-- - `RepeatsLatches c stem lap i j trace`: the trace reads the stem once and the lap j times. It ends with the latch
+--   values with which reading i of the lap began (the first is reading 0). No two of the j readings began with the same
+--   latch values.
 -- - `IsVerdictOf file c stem lap verdict`: the verdict tells whether the automaton accepts the circuit's trace on the
 --   lasso. The readings i and j of the lap begin with the same latch values, so the letters between them repeat for
 --   ever.
@@ -41,12 +42,12 @@ laps_of lap (suc laps) = laps_of lap laps ++ lap
 abbrev pub latches_along : List Moment → List Bool → List (List Bool)
 latches_along trace last = map (λ m. m.latches) trace ++ last ∷ []
 
--- the latch values before reading number k of the lap, counted from 0
+-- the latch values with which reading k of the lap begins (the first is reading 0)
 abbrev pub latches_before : List (List Bool) → List (List Bool) → List Moment → List Bool → ℕ → List Bool
 latches_before stem lap trace last k = slice_index_or (latches_along trace last) (length stem + k * length lap) []
 
--- A trace reads the stem once and then the lap, which is not empty, j times. The latch values after the trace are those
--- before reading number i of the lap. The latch values before the j readings are pairwise different.
+-- A trace reads the stem once and then the lap, which is not empty, j times. The trace ends with the latch values with
+-- which reading i of the lap began (the first is reading 0). No two of the j readings began with the same latch values.
 pub record RepeatsLatches (c : CircuitData) (stem lap : List (List Bool)) (i j : ℕ) (trace : List Moment) : Type 0 where
   pub has_letter : 0 < length lap
   pub last : List Bool

@@ -48,8 +48,8 @@ digits_of letter = map digit_of letter
 abbrev pub divider : List ℕ
 divider = 45 ∷ []
 
--- the lines that spell the letters of the stem; if the argument is true, the divider and the lines of the lap's letters
--- follow
+-- the lines that spell a stimulus: the lines of the stem's letters and, if the given Boolean is true, the divider and
+-- the lines of the lap's letters
 abbrev pub spelled : Bool → StimulusData → List (List ℕ)
 spelled false s = map digits_of s.stem
 spelled true s = map digits_of s.stem ++ divider ∷ map digits_of s.lap

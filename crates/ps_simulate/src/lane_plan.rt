@@ -18,10 +18,11 @@ pub struct Operands {
     pub second: Literal,
 }
 
-/// What a step evaluates in 256 runs at once: the gates, the outputs and the next values of the latches. The values of
-/// the gates are in the order of evaluation, so a gate needs only eight bytes, and a step writes its table from front
-/// to back. The table of a large circuit does not fit into the processor's fastest caches, so the time of a step
-/// depends on how much it reads from and writes to the table.
+/// What a step evaluates in 256 runs at once: the gates, the outputs and the next values of the latches. The table has
+/// the values of the gates in the order of evaluation, so the plan need not store their indices. A gate then takes only
+/// eight bytes, for the two literals that it reads, and a step writes the table from front to back. The table of a
+/// large circuit does not fit into the processor's fastest caches, so the time of a step depends on how much it reads
+/// from and writes to the table.
 #[derive(Drop)]
 pub struct LanePlan {
     /// The length of the table of values, which has an entry for each variable of the circuit, the constant 0 included.
@@ -93,8 +94,8 @@ fn places_up_to(alloc: Global, count: usize) -> Result<Vec<usize>, AllocError>
     Ok(places)
 }
 
-/// The literal for a wire, which is a literal with a table index: the new literal's variable is the wire's renumbered
-/// index.
+/// Makes a literal of a wire, which is a table index with a sign: the literal's variable is the renumbered index, and
+/// the literal has the same sign.
 fn literal(places: &[usize], wire: Wire) -> Literal
     requires places { All (λ p. p < 2 ^ 31) places.now }
     requires within { wire.place < length places.now }
@@ -108,8 +109,7 @@ fn literal(places: &[usize], wire: Wire) -> Literal
     }
 }
 
-/// The literals for wires, which are literals with table indices: each new literal's variable is the renumbered index
-/// of its wire. Fails if out of memory.
+/// Makes a literal of each wire, by `literal`. Fails if out of memory.
 fn literals(alloc: Global, places: &[usize], wires: &[Wire]) -> Result<Vec<Literal>, AllocError>
     requires places { All (λ p. p < 2 ^ 31) places.now }
     requires within { All (λ w. w.place < length places.now) wires.now }

@@ -46,8 +46,8 @@ pub enum LassoFault {
     /// The lap has no letters.
     #[error("the lap is empty")]
     EmptyLap,
-    /// The circuit's inputs or outputs do not have, each exactly once, the names of the propositions that its role
-    /// (controller or environment) requires.
+    /// The names of the circuit's inputs or outputs are not what its role (controller or environment) requires: each
+    /// proposition that it reads or sets, once, and no other name.
     #[error("the symbols are not the names of the propositions")]
     Symbols,
     /// Out of memory.
@@ -92,12 +92,13 @@ impl From<AllocError> for LassoFault {
 }
 
 /// Runs a circuit through a stem and then repeatedly through a lap, until two readings of the lap begin with the same
-/// latch values. The result states whether the automaton accepts the run's trace when its letters between the
-/// beginnings of the two readings are repeated for ever. Letters have a bit for each input, in the circuit's order.
+/// latch values. The result states whether the automaton accepts the infinite word of this run, in which the letters
+/// between the starts of the two readings of the lap repeat for ever. Letters have a bit for each input, in the
+/// circuit's order.
 ///
 /// # Errors
 ///
-/// `Width`, `EmptyLap` or `Symbols`, whichever of them comes first in this list; or out of memory.
+/// Fails with the first of `Width`, `EmptyLap` and `Symbols` that applies, or if out of memory.
 pub fn lasso(
     alloc: Global,
     circuit: &Circuit,
@@ -194,8 +195,7 @@ impl<'a> Run<'a> {
     }
 
     /// Reads the stem once, and then the lap repeatedly, until a reading of the lap begins with the same latch values
-    /// as an earlier reading. Returns which reading of the lap was the earlier one, counted from 0. Fails if out of
-    /// memory.
+    /// as an earlier reading. Returns the number of this earlier reading, counted from 0. Fails if out of memory.
     fn first_repetition(
         &mut self,
         alloc: Global,

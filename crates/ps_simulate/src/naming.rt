@@ -80,8 +80,8 @@ impl<'a> Naming<'a> {
 }
 
 /// For each proposition, the index of the symbol that names it. The result is `None` unless the symbols are exactly the
-/// names of the wanted propositions, each once. Wanted are the controllable propositions if `wanted` is true, and all
-/// others if it is false.
+/// names of the wanted propositions, each once. The wanted propositions are the controllable ones if `wanted` is true,
+/// and all others if it is false.
 fn places_of(
     alloc: Global,
     names: &[Vec<u8>],
@@ -147,7 +147,8 @@ fn is_full(controllable: &[u32], wanted: bool, places: &[Option<usize>]) -> bool
     true
 }
 
-/// The letter in which each proposition has the bit at its index. A proposition without an index has the bit 0.
+/// The letter in which each proposition p has the bit of `bits` at the index `places[p]`. A proposition without an
+/// index has the bit 0.
 fn part_of(places: &[Option<usize>], bits: &[bool]) -> u64
     requires few { length places.now ≤ 64 }
     requires within { (p k : ℕ) → slice_index_or places.now p None ≡ Some k → k < length bits.now }

@@ -78,7 +78,8 @@ module _ {text : List ℕ} {width : ℕ} {split in_lap : Bool} {start end : ℕ}
     start_here : start_of (lines_of text) (length (spelled in_lap s)) ≡ start
     start_here = search (rules, behind, take_at)
 
-    -- if the current line is not the required divider, its first error is the first error of the text
+    -- let the lines before the current line be without errors; if the current line must spell a letter, the line's
+    -- first error is the first error of the text
     pub IsFirstError-in_line : start < length text → end ≤ length text →
         ¬ Divides split (lines_of text) (length (spelled in_lap s)) → {cause : StimulusCause} {offset : ℕ} →
         IsFirstError (StandsInLine line start width) cause offset →
@@ -116,8 +117,8 @@ pub HasRead-divider : {text : List ℕ} {width : ℕ} {split : Bool} {start end 
 HasRead-divider {text} {width} {split} {start} {end} {s} h {line} next length_is is wanted =
     grind (arith, pushed h next length_is, end_is h next length_is)
 
--- the current line is not the required divider `-` if the divider was read before, if the line is not `-`, or if no
--- divider is required
+-- the current line is not the divider in each of three cases: the divider was read before; the line is not `-`; the
+-- text needs no divider
 pub not_divides : {text : List ℕ} {width : ℕ} {split : Bool} (in_lap : Bool) {start : ℕ} {s : StimulusData} →
     HasRead text width split in_lap start s
     → (in_lap ≡ true) ⊎ (¬ (slice_get (lines_of text) (length (spelled in_lap s)) ≡ Some divider) ⊎ (split ≡ false)) →
@@ -175,7 +176,8 @@ pub letters_of-push : (letters : List (Vec Bool Global)) (letter : Vec Bool Glob
     letters_of (letters ++ letter ∷ []) ≡ letters_of letters ++ letter.items ∷ []
 letters_of-push letters letter = map_push (λ (l : Vec Bool Global). l.items) letters letter
 
--- if the current line is not the required divider, the error that parsing it returns is the right answer to the text
+-- let the lines before the current line be without errors; if the current line must spell a letter, the fault that
+-- parsing this line returns is a right answer to the text
 pub IsStimulusAnswer-line : {text : List ℕ} {width : ℕ} {split in_lap : Bool} {start end : ℕ} {s : StimulusData} →
     HasRead text width split in_lap start s → {line : List ℕ}
     → lines_of (drop start text) ≡ line ∷ lines_of (drop (end + 1) text) → start + length line ≡ end →

@@ -49,7 +49,8 @@ module _ {c : CircuitData} (is_circuit : IsCircuit c) (one : HasOneValues c) whe
   no_letters (m ∷ ms) e = absurd (cc)
 
   module _ (stem lap : List (List Bool)) where
-    -- j and j' count how often the lap is read before latch values repeat for the first time: j is not less than j'
+    -- let two traces read the lap until latch values repeat for the first time, one j times and the other j' times;
+    -- then j < j' is impossible, since the second trace would repeat latch values after j readings
     not_earlier : (i j i' j' : ℕ) (ms ns : List Moment) → RepeatsLatches c stem lap i j ms →
         RepeatsLatches c stem lap i' j' ns → j < j' → ⊥
     not_earlier i j i' j' ms ns a b lt =
