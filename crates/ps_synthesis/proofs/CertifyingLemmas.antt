@@ -52,7 +52,8 @@ pub solver_fault : (May : MayAnswer) (named : NamedGameData) (answer : Result Ce
     IsFaultFor named fault given → IsSolverFault May named given
 solver_fault May named answer fault given may names is refused = grind (arith, refused_as)
 
--- a fault that follows from an answer which the solver gave also follows from an answer which it may give
+-- An answer that the solver gave in a call was possible before the call. So a fault that has its reason in the given
+-- answer also has its reason in a possible answer.
 pub fault_might : (old new : SolverData) (named : NamedGameData) (given : SynthFault) →
     IsSolverFault (Answered old new) named given → IsSolverFault (answers_now old) named given
 fault_might old new named (BadCycle ids) h = record {

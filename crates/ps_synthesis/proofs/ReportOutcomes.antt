@@ -1,6 +1,6 @@
--- What is proved about a result of synthesis for one solver also holds for a solver with more possible answers. In each
--- of the three cases of `IsReportOrFault`, a report guarantees what it states, and a fault has the reason that
--- `IsSynthFault` states.
+-- If each possible answer of one solver is a possible answer of another, a result of synthesis that is right for the
+-- first solver is right for the other as well. In each of the three cases of `IsReportOrFault`, a report guarantees
+-- what it states, and a fault has the reason that `IsSynthFault` states.
 use Rattle.std.proofs.Common.{rules, arith, ℕ, Bool, List, Result, Ok, Err, refl, subst, sym}
 use Rattle.std.specs.Prelude.{IfErr, IfOk}
 use Rattle.ps_certificate.specs.Certificates.{CertificateData}

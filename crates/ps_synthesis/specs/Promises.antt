@@ -37,8 +37,9 @@ pub record KeepsPromise (May : MayAnswer) (order : Order) (compact : Bool) (text
     pub answered : May game (Ok certificate)
     pub certified : IsCertified game certificate
     pub certificate_text : PrintsCertificate compact report.certificate_text.items game certificate
-    -- by the printed moves, each player wins every loop of every play from that player's region; the player wins at no
-    -- vertex outside the region
+    -- A player who follows the printed moves from the player's own region wins every loop of every play: the loop's
+    -- greatest priority is even for player 0, and odd for player 1. From outside the region, no strategy of the player
+    -- wins.
     pub both_hold : BothHold game.game certificate
     pub none_wins_outside : NoneWinsOutside game.game certificate
     -- the circuit that the report prints: a controller if player 0 wins vertex 0, and otherwise an environment
