@@ -86,8 +86,8 @@ fn chosen(store: &mut Store) -> Result<[Option<u64>; 4], AllocError> {
     ])
 }
 
-/// Joins the diagram of the first proposition and the leaf 7 to one diagram, whose leaves are indices of pairs of
-/// leaves. Returns the leaves of the joined diagram at the letters 1 and 0, and the number of pairs.
+/// Joins two diagrams, that of the first proposition and the leaf 7, into one diagram whose leaves are indices of pairs
+/// of leaves. Returns the leaves of the joined diagram at the letters 1 and 0, and the number of pairs.
 fn paired(alloc: Global, store: &mut Store) -> Result<([Option<u64>; 2], usize), AllocError> {
     if store.propositions() != 2 {
         return Ok(([None; 2], 0));
