@@ -1,4 +1,5 @@
--- Lemmas about the counts of a certificate's entries, of which only the nonzero ones are stored.
+-- Each entry of a certificate has counts, and only its nonzero counts are stored. These are lemmas about the stored
+-- counts.
 
 pub mod Sparse
 pub mod Lines

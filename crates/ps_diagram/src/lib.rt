@@ -28,8 +28,8 @@
 //! Each call in the table above, also one that fails, keeps every node of the store, with the same leaf at each letter
 //! (`Keeps`). `eval`, `same` and `view` read a node and use no memory. `leaves` lists the leaves of a node, each with
 //! the least letter that leads to it; `path_to` finds this letter for one leaf. `classes(node, split)` divides the
-//! letters over the propositions of `split` into classes. Two letters in one class lead to the same leaf, whatever the
-//! truth values of the other propositions (`AreClasses`). `classes_from` divides the letters for a node of another
+//! letters over the propositions of `split` into classes: two letters are in one class exactly if the node has the same
+//! leaf for both, whatever the truth values of the other propositions (`AreClasses`). `classes_from` divides the letters for a node of another
 //! store. `classes` and `classes_from` keep every node of the store, too. `copy` returns a new store with the same
 //! nodes.
 //!

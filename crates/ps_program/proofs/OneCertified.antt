@@ -1,5 +1,5 @@
 -- Given a certificate in the input, `synth` has one answer: the automaton's file, its game and the certificate
--- determine the report, or the line of the fault.
+-- determine the report, or the line that reports the fault.
 use Rattle.std.proofs.Common.{rules, ◌≡◌, ◌⊎◌, ◌∙◌, ◌↔◌, ◌++◌, ℕ, Bool, true, false, List, Option, None, Some, Result}
 use Rattle.std.proofs.Common.{Ok, Err, IsTrue, refl, sym, ap, ap₂, subst, inl, inr, arith}
 use Rattle.std.specs.Prelude.{codes}
@@ -195,8 +195,8 @@ never_lost : (game : NamedGameData) (fed : Option (List ℕ)) (fault : SolveFaul
 never_lost game fed fault is h = grind arith
 
 module _ (solver : SolverData) (replaying : IsReplaying solver) (asked : SynthLine) (text : List ℕ) where
-  -- the text of the automaton is refused and the result is the line of its fault, or the certificate determines the
-  -- result
+  -- the text of the automaton is refused and the result is the line that reports its fault, or the certificate
+  -- determines the result
   abbrev Told : Result Reply (List ℕ) → Type 0
   Told x =
       ((line : List ℕ) × ReadsAutomaton text (Err line) × (x ≡ Err line)) ⊎

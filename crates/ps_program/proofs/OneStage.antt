@@ -116,7 +116,7 @@ pub game_accepted : (order : Order) (text : List ℕ) (v : NamedGameData) → Re
     HasAutomaton text
 game_accepted order text v h = grind (arith, ok_is_not_err)
 
--- the text is refused and the result is the line of its fault, or the text is accepted
+-- the text is refused and the result is the line that reports its fault, or the text is accepted
 abbrev pub RefusedOr : List ℕ → Result Reply (List ℕ) → Type 0
 RefusedOr text outcome = ((line : List ℕ) × ReadsAutomaton text (Err line) × (outcome ≡ Err line)) ⊎ HasAutomaton text
 

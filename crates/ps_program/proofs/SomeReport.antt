@@ -2,7 +2,7 @@
 -- - `certifies_surely`, `certifies_fed`: solving a game has a result if the solver satisfies `MayCertify`, or if it
 --   satisfies `MayReplay` and was fed a text
 -- - `solve_some`, `cert_some`: the commands `solve` and `cert` have a result
--- - `synthesises_some`: synthesis has a result, which is a report or the line of a fault
+-- - `synthesises_some`: synthesis has a result, which is a report or the line that reports a fault
 -- - `synth_some`: the command `synth` has a result
 use Rattle.std.proofs.Common.{◌≡◌, ◌≢◌, ℕ, Bool, true, false, List, length, Result, Ok, Err, refl, ap, inl, inr}
 use Rattle.std.proofs.Common.{◌∙◌}
@@ -183,11 +183,13 @@ module _ (below : Below) where
                 certificate_text = prints_certificate;
                 both_hold = below.held game.game certificate is.fits is.valid;
                 none_wins_outside =
-                    below.none_outside game.game certificate (below.file_game_sound asked.order file game is_game) is.fits is.valid;
+                    below.none_outside game.game certificate (below.file_game_sound asked.order file game is_game)
+                    is.fits is.valid;
                 realizable = realizable;
                 circuit = circuit;
                 circuit_text = prints_circuit;
-                answers = below.circuit_answers asked.order file game is_game certificate winners.machine circuit is.fits is.valid
+                answers = below.circuit_answers asked.order file game is_game certificate winners.machine circuit
+                    is.fits is.valid
                     winners.winners.is_machine winners.winners.propositions winners.winners.machine_of winners.encodes;
               };
               circuit = winners;

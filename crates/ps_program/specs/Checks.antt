@@ -13,8 +13,8 @@ abbrev pub test_told : List ℕ → NamedGameData → Result (Unit {0}) Flaw →
 test_told word named (Ok done) = Ok (line_reply word)
 test_told word named (Err flaw) = Err (flaw_text named flaw)
 
--- what is printed for a certificate: the given word if it passes the test `IsGood`, and otherwise the line of its first
--- flaw
+-- what is printed for a certificate: the given word if it passes the test `IsGood`, and otherwise the line that reports
+-- its first flaw
 abbrev pub Tests : (ParityGame → CertificateData → Type 0) → List ℕ → NamedGameData → CertificateData →
     Result Reply (List ℕ) → Type 0
 Tests IsGood word named certificate (Ok reply) = IsGood named.game certificate × (reply ≡ line_reply word)

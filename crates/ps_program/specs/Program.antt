@@ -43,7 +43,7 @@ AnswersInput solvers input reply =
     × ((outcome : Result Reply (List ℕ)) × AnswersLine solvers line (behind_line input) outcome ×
     (reply ≡ printed outcome))
 
--- the answer to an input; an input that is too long is answered by the line of a fault
+-- the answer to an input; an input that is too long is answered by the line that reports a fault
 abbrev pub AnswersWhole : Solvers → List ℕ → Reply → Type 0
 AnswersWhole solvers input reply = ((input_limit < length input) × (reply ≡ read_fault))
     ⊎ ((length input ≤ input_limit) × AnswersInput solvers input reply)

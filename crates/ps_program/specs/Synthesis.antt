@@ -41,8 +41,8 @@ report_reply full report = record { text = report_text full report; status = ver
 
 -- ---- the answer
 
--- The result of synthesis: a report, or the line of a fault. A fault comes from the solver only if the solver is not
--- sure, that is, if it may return a wrong certificate or fail though memory suffices.
+-- The result of synthesis: a report, or the line that reports a fault. A fault comes from the solver only if the solver
+-- is not sure, that is, if it may return a wrong certificate or fail though memory suffices.
 abbrev pub Synthesises : SolverData → Order → Bool → List ℕ → Result Report (List ℕ) → Type 0
 Synthesises solver order compact text (Ok report) = IsReport (answers_now solver) order compact text report
 Synthesises solver order compact text (Err line) =
