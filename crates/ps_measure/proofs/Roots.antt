@@ -1,7 +1,7 @@
 -- The search for the roots of a priority, which are the vertices of this priority to which a link of `low_graph` leads.
 use Rattle.std.proofs.Common.{◌≡◌, ℕ, ◌+◌, ◌<◌, ◌≤◌, ◌∙◌, List, [], ◌∷◌, ◌++◌, length, inl, inr, sym, ap, arith, rules}
 use Rattle.std.proofs.Common.{Option, None, Some, IfSome}
-use Rattle.std.specs.Prelude.{slice_index, slice_get}
+use Rattle.std.specs.Prelude.{slice_get}
 use Rattle.std.proofs.lemmas.Bool.{cases_eq}
 use Rattle.ps_components.specs.Graphs.{Link}
 use Rattle.ps_components.proofs.Places.{slice_get-append_left, slice_get-push, slice_get-push_cases}

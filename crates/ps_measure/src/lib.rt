@@ -26,12 +26,10 @@
 
 mod back;
 mod column;
-mod count_cells;
 mod fault;
 mod groups;
 mod laws;
 mod layer;
-mod link_cells;
 mod low;
 mod measuring;
 mod packed;

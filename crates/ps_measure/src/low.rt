@@ -15,7 +15,7 @@ pub(crate) struct Low<'a> {
     pub(crate) back: &'a Back,
     pub(crate) region: &'a Region,
     /// The priority of each vertex.
-    pub(crate) levels: &'a Packed,
+    pub(crate) levels: &'a Packed<usize>,
     pub(crate) priority: u64,
 }
 

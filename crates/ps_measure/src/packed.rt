@@ -1,34 +1,94 @@
-//! Lists of numbers that take 4 bytes each as long as all of them fit in 4 bytes.
+//! Lists of values that take 4 bytes for each number as long as all numbers fit in 4 bytes.
 
-ghost use Rattle.std.specs.Prelude.{◌≡◌, ◌<◌, ◌∷◌, [], ◌++◌, true, false, IfOk, OnOk, OnErr, length, replicate};
-ghost use Rattle.std.specs.Prelude.{slice_index};
-ghost use Rattle.std.specs.Prelude.{slice_set};
+ghost use Rattle.std.specs.Prelude.{◌≡◌, ◌<◌, ◌∷◌, [], ◌++◌, IfSome, IfOk, OnOk, OnErr, length, replicate};
+ghost use Rattle.std.specs.Prelude.{slice_index_or, slice_set};
 
 use std::alloc::{AllocError, Global};
+use std::fmt::Debug;
 use std::marker::Model;
 
-/// The greatest number that fits in 4 bytes.
-pub(crate) const NARROW: usize = 4_294_967_295;
+/// A type of values that take less memory if each of their numbers fits in 4 bytes.
+pub trait Packable: Copy + Debug {
+    /// A value whose numbers take 4 bytes each.
+    type Narrow: Copy + Debug;
 
-/// A list of numbers. Each number takes 4 bytes as long as all of them fit in 4 bytes, and 8 bytes from then on. A call
-/// that appends or writes a number fails if out of memory.
+    /// In clauses, the value for which a narrow one stands.
+    ghost value: { Self.Narrow → Self };
+
+    /// In clauses, the value at an index past the end of a list. All of its numbers are 0.
+    ghost zero: { Self };
+
+    /// The value with 4 bytes for each number. Returns `None` if a number does not fit.
+    fn narrowed(self) -> Option<Self::Narrow>
+        ensures { IfSome result (λ narrow. value narrow ≡ self) };
+
+    /// The value for which a narrow one stands.
+    fn of(narrow: Self::Narrow) -> Self
+        ensures { result ≡ value narrow };
+}
+
+impl Packable for usize {
+    type Narrow = u32;
+
+    ghost value = { λ narrow. narrow };
+
+    ghost zero = { 0 };
+
+    fn narrowed(self) -> Option<u32> {
+        narrow(self)
+    }
+
+    fn of(narrow: u32) -> usize {
+        narrow as usize
+    }
+}
+
+/// The number in 4 bytes. Returns `None` if it does not fit.
+#[inline(always)]
+pub(crate) fn narrow(number: usize) -> Option<u32>
+    ensures { IfSome result (λ narrow. narrow ≡ number) }
+{
+    if number <= 4_294_967_295 {
+        Some(number as u32)
+    } else {
+        None
+    }
+}
+
+/// A list of values. Each number takes 4 bytes as long as all numbers of the list fit in 4 bytes, and 8 bytes from then
+/// on. A call that appends or writes a value fails if out of memory; then nothing changes.
 #[derive(Debug, Drop)]
-pub(crate) struct Packed {
+pub struct Packed<W: Packable> {
     alloc: Global,
-    narrow: Vec<u32>,
-    wide: Vec<usize>,
+    narrow: Vec<W::Narrow>,
+    wide: Vec<W>,
     is_wide: bool,
 }
 
-impl Model for Packed {
-    ghost use Rattle.std.specs.Prelude.{List, ℕ, if◌then◌else◌};
+impl<W: Packable> Model for Packed<W> {
+    ghost use Rattle.std.specs.Prelude.{List, map, if◌then◌else◌};
 
-    ghost Value = { List ℕ };
+    ghost Value = { List W };
 
-    ghost view = { λ p. if p.is_wide then p.wide.items else p.narrow.items };
+    ghost view = { λ p. if p.is_wide then p.wide.items else map W.value p.narrow.items };
 }
 
-impl Packed {
+impl Packed<usize> {
+    /// A list of `count` zeros.
+    pub(crate) fn zeros(alloc: Global, count: usize) -> Result<Self, AllocError>
+        ensures { IfOk result (λ list. list ≡ replicate count 0) }
+    {
+        let narrow = vec![in alloc; 0; count]?;
+        Ok(Packed {
+            alloc,
+            narrow,
+            wide: Vec::new(alloc),
+            is_wide: false,
+        })
+    }
+}
+
+impl<W: Packable> Packed<W> {
     /// An empty list.
     pub(crate) fn new(alloc: Global) -> Self
         ensures { result ≡ [] }
@@ -41,24 +101,11 @@ impl Packed {
         }
     }
 
-    /// An empty list with the capacity for `count` numbers that fit in 4 bytes.
+    /// An empty list with the capacity for `count` values whose numbers fit in 4 bytes.
     pub(crate) fn with_capacity(alloc: Global, count: usize) -> Result<Self, AllocError>
         ensures { IfOk result (λ list. list ≡ []) }
     {
         let narrow = Vec::with_capacity(alloc, count)?;
-        Ok(Packed {
-            alloc,
-            narrow,
-            wide: Vec::new(alloc),
-            is_wide: false,
-        })
-    }
-
-    /// A list of `count` zeros.
-    pub(crate) fn zeros(alloc: Global, count: usize) -> Result<Self, AllocError>
-        ensures { IfOk result (λ list. list ≡ replicate count 0) }
-    {
-        let narrow = vec![in alloc; 0; count]?;
         Ok(Packed {
             alloc,
             narrow,
@@ -78,65 +125,66 @@ impl Packed {
         }
     }
 
-    /// The number at an index.
+    /// The value at an index.
     #[inline(always)]
-    pub(crate) fn at(&self, place: usize) -> usize
+    pub(crate) fn at(&self, place: usize) -> W
         requires { place < length self.now }
-        ensures { result ≡ slice_index self.now place }
+        ensures { result ≡ slice_index_or self.now place W.zero }
     {
         if self.is_wide {
             self.wide[place]
         } else {
-            self.narrow[place] as usize
+            W::of(self.narrow[place])
         }
     }
 
-    /// Appends a number. If the number does not fit in 4 bytes, every number of the list takes 8 bytes from then on.
+    /// Appends a value. If a number of the value does not fit in 4 bytes, every number takes 8 bytes from then on.
     #[inline(always)]
-    pub(crate) fn push(&mut self, number: usize) -> Result<(), AllocError>
-        ensures { OnOk result (self.new ≡ self.old ++ number ∷ []) }
-    {
-        if self.is_wide {
-            self.wide.push(number)?;
-            return Ok(());
-        }
-        if number <= NARROW {
-            self.narrow.push(number as u32)?;
-            return Ok(());
-        }
-        let mut wide = self.widened()?;
-        wide.push(number)?;
-        self.wide = wide;
-        self.is_wide = true;
-        Ok(())
-    }
-
-    /// Replaces the number at an index. If the new number does not fit in 4 bytes, every number takes 8 bytes from then
-    /// on.
-    #[inline(always)]
-    pub(crate) fn set(&mut self, place: usize, number: usize) -> Result<(), AllocError>
-        requires { place < length self.old }
-        ensures ok { OnOk result (self.new ≡ slice_set self.old place number) }
+    pub(crate) fn push(&mut self, item: W) -> Result<(), AllocError>
+        ensures ok { OnOk result (self.new ≡ self.old ++ item ∷ []) }
         ensures err { OnErr result (self.new ≡ self.old) }
     {
         if self.is_wide {
-            self.wide[place] = number;
+            self.wide.push(item)?;
             return Ok(());
         }
-        if number <= NARROW {
-            self.narrow[place] = number as u32;
+        if let Some(narrow) = item.narrowed() {
+            self.narrow.push(narrow)?;
             return Ok(());
         }
         let mut wide = self.widened()?;
-        wide[place] = number;
+        wide.push(item)?;
         self.wide = wide;
         self.is_wide = true;
         Ok(())
     }
 
-    /// A copy of the list's numbers, with 8 bytes for each.
+    /// Replaces the value at an index. If a number of the new value does not fit in 4 bytes, every number takes 8 bytes
+    /// from then on.
+    #[inline(always)]
+    pub(crate) fn set(&mut self, place: usize, item: W) -> Result<(), AllocError>
+        requires { place < length self.old }
+        ensures ok { OnOk result (self.new ≡ slice_set self.old place item) }
+        ensures err { OnErr result (self.new ≡ self.old) }
+    {
+        if self.is_wide {
+            self.wide[place] = item;
+            return Ok(());
+        }
+        if let Some(narrow) = item.narrowed() {
+            self.narrow[place] = narrow;
+            return Ok(());
+        }
+        let mut wide = self.widened()?;
+        wide[place] = item;
+        self.wide = wide;
+        self.is_wide = true;
+        Ok(())
+    }
+
+    /// A copy of the list's values, with 8 bytes for each number.
     #[inline(never)]
-    fn widened(&self) -> Result<Vec<usize>, AllocError>
+    fn widened(&self) -> Result<Vec<W>, AllocError>
         ensures { IfOk result (λ wide. wide.items ≡ self.now) }
     {
         let mut wide = Vec::with_capacity(self.alloc, self.len())?;

@@ -4,8 +4,7 @@ ghost use Rattle.std.specs.Prelude.{◌≡◌, ℕ, ◌<◌, ◌≤◌, Some, If
 ghost use Rattle.ps_measure.specs.Ranks.{width_of};
 ghost use Rattle.ps_measure.specs.Tables.{AreZero, AreChained, HasPut, count_from};
 
-use crate::count_cells::CountCells;
-use crate::packed::Packed;
+use crate::packed::{Packable, Packed, narrow};
 use std::alloc::{AllocError, Global};
 use std::marker::Model;
 
@@ -18,13 +17,47 @@ pub struct CountCell {
     pub(crate) next: usize,
 }
 
+/// A cell whose numbers all fit in 4 bytes.
+#[derive(Clone, Copy, Debug)]
+pub struct NarrowCount {
+    place: u32,
+    count: u32,
+    next: u32,
+}
+
+impl Packable for CountCell {
+    ghost use Rattle.ps_measure.specs.Inner.Cells.{count_cell_of, no_count};
+
+    type Narrow = NarrowCount;
+
+    ghost value = { count_cell_of };
+
+    ghost zero = { no_count };
+
+    fn narrowed(self) -> Option<NarrowCount> {
+        Some(NarrowCount {
+            place: narrow(self.place)?,
+            count: narrow(self.count as usize)?,
+            next: narrow(self.next)?,
+        })
+    }
+
+    fn of(narrow: NarrowCount) -> CountCell {
+        CountCell {
+            place: narrow.place as usize,
+            count: u64::from(narrow.count),
+            next: narrow.next as usize,
+        }
+    }
+}
+
 /// A row of counts for each vertex. Only nonzero counts take memory: the counts of a vertex are stored in a chain
 /// (linked list) of cells, given by the number of the chain's first cell.
 #[derive(Debug, Drop)]
 pub struct CountTable {
     width: usize,
-    heads: Packed,
-    cells: CountCells,
+    heads: Packed<usize>,
+    cells: Packed<CountCell>,
 }
 
 impl Model for CountTable {
@@ -46,7 +79,7 @@ impl CountTable {
         Ok(CountTable {
             width,
             heads: Packed::zeros(alloc, count)?,
-            cells: CountCells::new(alloc),
+            cells: Packed::new(alloc),
         })
     }
 
@@ -82,7 +115,7 @@ impl CountTable {
 
 /// Raises each count of a vertex's row to the count that a chain of cells stores for the same index, if the stored
 /// count is larger.
-fn raise_by(cells: &CountCells, head: usize, row: &mut Vec<u64>)
+fn raise_by(cells: &Packed<CountCell>, head: usize, row: &mut Vec<u64>)
     requires chained { AreChained (length row.old.items) cells.now }
     requires head { head ≤ length cells.now }
     ensures long { length row.new.items ≡ length row.old.items }

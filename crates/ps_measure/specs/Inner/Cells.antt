@@ -1,8 +1,8 @@
 -- Cells whose numbers are stored in 4 bytes each, and the cells (`Cell` and `CountCell`) for which they stand.
 use Rattle.ps_measure.specs.declared.back.Cell.{Cell}
 use Rattle.ps_measure.specs.declared.table.CountCell.{CountCell}
-use Rattle.ps_measure.specs.declared.link_cells.NarrowLink.{NarrowLink}
-use Rattle.ps_measure.specs.declared.count_cells.NarrowCount.{NarrowCount}
+use Rattle.ps_measure.specs.declared.back.NarrowLink.{NarrowLink}
+use Rattle.ps_measure.specs.declared.table.NarrowCount.{NarrowCount}
 
 abbrev pub link_of : NarrowLink → Cell
 link_of cell = record { source = cell.source; next = cell.next }

@@ -1,9 +1,0 @@
-use Rattle.std.proofs.Common.{arith}
-use Rattle.std.proofs.lemmas.Grind.{common_steps}
-use Rattle.ps_measure.proofs.count_cells.CountCells.widened.Goals as goal
-
-pub returns : goal.returns
-returns c = grind (arith, common_steps)
-
-pub loop-place-preserved : goal.loop-place-preserved
-loop-place-preserved c = grind (arith, common_steps)
