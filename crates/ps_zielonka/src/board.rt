@@ -10,7 +10,7 @@ ghost use Rattle.ps_zielonka.specs.Inner.Levels.{code_of};
 ghost use Rattle.ps_zielonka.specs.Inner.Aims.{aim_of};
 ghost use Rattle.ps_zielonka.specs.Inner.Nests.{IsGiven, IsWonStep, IsKeptAt, IsLostAt, StandsBetween, IsTakenOff};
 ghost use Rattle.ps_zielonka.specs.Inner.Nests.{IsReopened};
-ghost use Rattle.ps_zielonka.specs.Inner.Boards.{IsBoardOf, OnlyMoves, HasTurn};
+ghost use Rattle.ps_zielonka.specs.Inner.Boards.{IsBoardOf, IsVertexOn, OnlyMoves, HasTurn};
 
 use crate::attraction::Attraction;
 use crate::frame::Frame;
@@ -128,8 +128,7 @@ impl<W: Width> Board<W> {
         placed: PlacedLevel,
         vertex: usize,
     ) -> bool
-        requires fits { IsBoardOf (A.game edges.now.arena.now) self.old }
-        requires vertex { vertex < vertex_count (A.game edges.now.arena.now) }
+        requires { IsVertexOn (A.game edges.now.arena.now) self.old vertex }
         ensures moved { OnlyMoves (A.game edges.now.arena.now) self.old self.new (λ v. v ≡ vertex) }
         ensures kept { IsTrue result →
             IsKeptAt (A.game edges.now.arena.now) self.new.tables self.old.winner.items (code_of placed.level)
@@ -159,8 +158,7 @@ impl<W: Width> Board<W> {
         placed: PlacedLevel,
         player: Player,
     ) -> Option<usize>
-        requires fits { IsBoardOf (A.game edges.now.arena.now) self.now }
-        requires vertex { vertex < vertex_count (A.game edges.now.arena.now) }
+        requires { IsVertexOn (A.game edges.now.arena.now) self.now vertex }
         ensures some { IfSome result
             (IsWonStep (A.game edges.now.arena.now) self.now.tables self.now.winner.items (code_of placed.level)
             player vertex) }

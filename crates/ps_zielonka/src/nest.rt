@@ -4,7 +4,8 @@ ghost use Rattle.std.specs.Prelude.{◌≡◌, ◌≢◌, ◌+◌, ◌-◌, ◌*
 ghost use Rattle.std.specs.Prelude.{IsTrue, None, length, slice_index};
 ghost use Rattle.ps_attractor.specs.Tables.{level_of};
 ghost use Rattle.ps_zielonka.specs.Inner.Levels.{code_of};
-ghost use Rattle.ps_zielonka.specs.Inner.Stacks.{IsStack, IsDeep, IsDone, IsSearching, IsStep, IsResumed};
+ghost use Rattle.ps_zielonka.specs.Inner.Stacks.{IsStack, IsDeep, IsDone, IsSearching, IsReturning, IsTurnAt};
+ghost use Rattle.ps_zielonka.specs.Inner.Stacks.{IsStep, IsResumed};
 ghost use Rattle.ps_zielonka.specs.Inner.Nests.{IsNest, IsLostAt, StandsBetween};
 
 use crate::attraction::Attraction;
@@ -111,12 +112,7 @@ impl<W: Width> Nest<W> {
         edges: &Adjacency<'_, A, W>,
         cursor: usize,
     ) -> Result<(), AllocError>
-        requires searching { IsSearching (A.game edges.now.arena.now) self.old }
-        requires within { cursor < length self.old.order }
-        requires unplaced { level_of self.old.board.tables (slice_index self.old.order cursor) ≡
-            code_of Level.Unplaced }
-        requires first { (j : ℕ) → j < cursor → level_of self.old.board.tables (slice_index self.old.order j) ≢
-            code_of Level.Unplaced }
+        requires { IsTurnAt (A.game edges.now.arena.now) self.old cursor }
         ensures { OnOk result (IsStep (A.game edges.now.arena.now) self.old self.new) }
     {
         let player = Player::of_priority(edges.arena.priority(self.order.at(cursor)));
@@ -152,9 +148,7 @@ impl<W: Width> Nest<W> {
     /// Returns to the last pending call, which is then solved or continues with the vertices that are still undecided.
     /// Fails if out of memory.
     fn climb<A: Arena>(&mut self, edges: &Adjacency<'_, A, W>) -> Result<(), AllocError>
-        requires stack { IsStack (A.game edges.now.arena.now) self.old }
-        requires done { self.old.solved ≡ true }
-        requires some { 0 < length self.old.frames.items }
+        requires { IsReturning (A.game edges.now.arena.now) self.old }
         ensures { OnOk result (IsStep (A.game edges.now.arena.now) self.old self.new) }
     {
         let Some(frame) = self.frames.pop() else {

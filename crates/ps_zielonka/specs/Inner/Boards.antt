@@ -11,6 +11,11 @@ pub record IsBoardOf {W : Type 0} (game : ParityGame) (board : Board W) : Type 0
   pub fits : FitsGame game board.tables
   pub winners : length board.winner.items ≡ vertex_count game
 
+-- the board fits the game, and v is a vertex
+pub record IsVertexOn {W : Type 0} (game : ParityGame) (board : Board W) (v : ℕ) : Type 0 where
+  pub fits : IsBoardOf game board
+  pub vertex : v < vertex_count game
+
 -- in the solver's tables and list of winners (the board), only moves at vertices that satisfy `Some` changed
 pub record OnlyMoves {W : Type 0} (game : ParityGame) (old new : Board W) (Some : ℕ → Type 0) : Type 0 where
   pub moved : IsMoved old.tables new.tables Some

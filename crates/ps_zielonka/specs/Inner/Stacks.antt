@@ -1,7 +1,8 @@
 -- The invariants of the solver between two steps, the effect of a step, and the solution in the tables at the end.
-use Rattle.std.specs.Prelude.{◌≡◌, ℕ, ◌+◌, ◌≤◌, ◌<◌, List, true, false, length}
+use Rattle.std.specs.Prelude.{◌≡◌, ◌≢◌, ℕ, ◌+◌, ◌≤◌, ◌<◌, List, true, false, length, slice_index}
 use Rattle.ps_game.specs.Games.{ParityGame, vertex_count}
 use Rattle.ps_attractor.specs.Tables.{TablesData, level_of, moves_of}
+use Rattle.ps_zielonka.specs.declared.level.TheConstants.{UNPLACED}
 use Rattle.ps_zielonka.specs.declared.nest.Nest.{Nest}
 use Rattle.ps_zielonka.specs.Depths.{IsDepth}
 use Rattle.ps_zielonka.specs.Inner.Depths.{IsDepthSoFar}
@@ -35,6 +36,20 @@ pub record IsDone {W : Type 0} (game : ParityGame) (nest : Nest W) : Type 0 wher
 pub record IsSearching {W : Type 0} (game : ParityGame) (nest : Nest W) : Type 0 where
   pub stack : IsStack game nest
   pub searches : nest.solved ≡ false
+
+-- the current recursive call is solved, and a pending call waits for its result
+pub record IsReturning {W : Type 0} (game : ParityGame) (nest : Nest W) : Type 0 where
+  pub stack : IsStack game nest
+  pub done : nest.solved ≡ true
+  pub some : 0 < length nest.frames.items
+
+-- the current call can begin an iteration: it is unsolved, and `cursor` is the first index in the list of vertices by
+-- descending priority at which a vertex has the level `UNPLACED`
+pub record IsTurnAt {W : Type 0} (game : ParityGame) (nest : Nest W) (cursor : ℕ) : Type 0 where
+  pub searching : IsSearching game nest
+  pub within : cursor < length nest.order
+  pub unplaced : level_of nest.board.tables (slice_index nest.order cursor) ≡ UNPLACED
+  pub first : (j : ℕ) → j < cursor → level_of nest.board.tables (slice_index nest.order j) ≢ UNPLACED
 
 -- the last pending call, whose frame was popped from the stack of `old`, is the current call again, and the bound on
 -- the remaining steps has decreased
