@@ -20,10 +20,9 @@ use Rattle.ps_certificate.specs.declared.fault.CertCause.TheVariants.{Syntax, Ot
 use Rattle.ps_certificate.specs.Faults.{cause_number}
 use Rattle.ps_certificate.specs.Pairs.{Pairs, DoesNotRise}
 use Rattle.ps_certificate.specs.Inner.Reading.{numeral}
-use Rattle.ps_text.specs.Bytes.{Seen, byte}
+use Rattle.ps_text.specs.Bytes.{Seen}
 use Rattle.ps_certificate.specs.Texts.{causes, EndsField, Verdict, judged, OfOtherGame, number, NotNext, IsMissing}
 use Rattle.ps_certificate.specs.Texts.{WrongPriority, IsZero}
-use Rattle.ps_text.proofs.Bytes.Single as bytes
 use Rattle.ps_certificate.proofs.NumberPart.{Settled, IsWrongRun, run_length, settled_other, nothing_there, too_large}
 use Rattle.ps_certificate.proofs.NumberPart.{wrong_number, at_front, number_read, AtDigit, laws_judged}
 use Rattle.ps_certificate.proofs.CertificateParts.{Lawful}

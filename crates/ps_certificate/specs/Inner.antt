@@ -2,3 +2,4 @@
 
 pub mod Prefixes
 pub mod Reading
+pub mod Writing

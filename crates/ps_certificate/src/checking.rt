@@ -2,10 +2,9 @@
 //! counts.
 
 ghost use Rattle.std.specs.Prelude.{◌≡◌, ℕ, ◌+◌, ◌<◌, ◌↔◌, IsTrue, IsOk, IfErr, OnOk, IfNone, IfSome};
-ghost use Rattle.ps_game.specs.Games.{vertex_count};
-ghost use Rattle.ps_certificate.specs.Certificates.{Fits, IsValid, IsFirstFlaw, winner_of};
+ghost use Rattle.ps_certificate.specs.Certificates.{Fits, IsValid, IsFirstFlaw};
 ghost use Rattle.ps_certificate.specs.Regions.{BothHold, NoneWinsOutside};
-ghost use Rattle.ps_certificate.specs.Inner.Prefixes.{IsRankable, KeepsCounts, KeepsCountsAt};
+ghost use Rattle.ps_certificate.specs.Inner.Prefixes.{AreComparable, IsRankable, KeepsCounts, KeepsCountsAt};
 ghost use Rattle.ps_certificate.specs.Inner.Prefixes.{KeepCountsBefore};
 ghost use Rattle.ps_certificate.specs.Inner.Prefixes.{IsFirstBroken};
 ghost use Rattle.ps_certificate.specs.Inner.Prefixes.{IsFirstFlawAt, IsFirstUnranked};
@@ -25,10 +24,7 @@ fn broken_priority<A: Arena>(
     vertex: usize,
     successor: usize,
 ) -> Option<u64>
-    requires fits { Fits (A.game arena.now) certificate.now }
-    requires vertex { vertex < vertex_count (A.game arena.now) }
-    requires successor { successor < vertex_count (A.game arena.now) }
-    requires same_winner { winner_of certificate.now successor ≡ winner_of certificate.now vertex }
+    requires { AreComparable (A.game arena.now) certificate.now vertex successor }
     ensures none { IfNone result (KeepsCounts (A.game arena.now) certificate.now vertex successor) }
     ensures some { IfSome result (IsFirstBroken (A.game arena.now) certificate.now vertex successor) }
 {

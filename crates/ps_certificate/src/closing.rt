@@ -5,7 +5,7 @@ ghost use Rattle.std.specs.Prelude.{◌≡◌, ◌≢◌, ℕ, ◌<◌, ◌↔�
 ghost use Rattle.ps_game.specs.Games.{vertex_count, owner_of, successors_of, HasEdge};
 ghost use Rattle.ps_certificate.specs.Certificates.{HasRightMove, IsClosed, IsFirstFlaw};
 ghost use Rattle.ps_certificate.specs.Regions.{BothKeep};
-ghost use Rattle.ps_certificate.specs.Inner.Prefixes.{HasEntry, StaysInside, IsSoundAt, IsFirstEscape};
+ghost use Rattle.ps_certificate.specs.Inner.Prefixes.{HasEntry, HasRightEntry, StaysInside, IsSoundAt, IsFirstEscape};
 ghost use Rattle.ps_certificate.specs.Inner.Prefixes.{IsFirstFlawAt};
 
 use crate::certificate::Certificate;
@@ -42,8 +42,7 @@ fn has_right_move<A: Arena>(arena: &A, certificate: &Certificate, vertex: usize)
 
 /// The end of a vertex's first edge that the winner's moves allow and that leads to a vertex with the other winner.
 fn first_escape<A: Arena>(arena: &A, certificate: &Certificate, vertex: usize) -> Option<usize>
-    requires entry { HasEntry (A.game arena.now) certificate.now vertex }
-    requires right_move { HasRightMove (A.game arena.now) certificate.now vertex }
+    requires { HasRightEntry (A.game arena.now) certificate.now vertex }
     ensures none { IfNone result (StaysInside (A.game arena.now) certificate.now vertex) }
     ensures some { IfSome result (IsFirstEscape (A.game arena.now) certificate.now vertex) }
 {

@@ -6,8 +6,9 @@ ghost use Rattle.std.specs.List.{All};
 ghost use Rattle.ps_game.specs.Games.{vertex_count};
 ghost use Rattle.ps_certificate.specs.Certificates.{Fits};
 ghost use Rattle.ps_certificate.specs.Texts.{ReadsCertificate, lost_by};
-ghost use Rattle.ps_certificate.specs.Written.{IsWord, IsWritable, fields, pairs, counts_text, line_with, entry_lines};
-ghost use Rattle.ps_certificate.specs.Written.{version_digit, head_text, text_in, certificate_text, compact_text};
+ghost use Rattle.ps_certificate.specs.Written.{IsWord, IsWritable, fields, pairs, line_with, entry_lines};
+ghost use Rattle.ps_certificate.specs.Written.{version_digit, head_text, certificate_text, compact_text};
+ghost use Rattle.ps_certificate.specs.Inner.Writing.{IsTextOf};
 
 use crate::certificate::Certificate;
 use crate::entries::{Entries, Entry};
@@ -59,8 +60,7 @@ fn write_text(
     compact: bool,
 ) -> Result<Vec<u8>, AllocError>
     requires { Fits game.now.game certificate.now }
-    ensures bytes { IfOk result (λ bytes. bytes.items ≡ text_in compact game.now certificate.now) }
-    ensures read_again { IfOk result (λ bytes. ReadsCertificate game.now bytes.items (Ok certificate.now)) }
+    ensures { IfOk result (λ bytes. IsTextOf compact game.now certificate.now bytes.items) }
 {
     let Certificate { odd, even, entries } = certificate;
     let mut out = Vec::with_capacity(alloc, room_for(entries, compact))?;
@@ -178,27 +178,13 @@ fn write_entry(
         Some(successor) => write_number(out, game.id(successor))?,
         None => out.push(b'-')?,
     }
-    write_counts(out, priorities, entry.counts, compact)?;
+    if compact {
+        write_pairs(out, priorities, entry.counts)?;
+    } else {
+        write_fields(out, entry.counts)?;
+    }
     out.push(b'\n')?;
     Ok(())
-}
-
-/// Writes the counts of the given priorities: all of them, or the nonzero ones, each after its priority.
-fn write_counts(
-    out: &mut Vec<u8>,
-    priorities: &[u64],
-    counts: &[u64],
-    compact: bool,
-) -> Result<(), AllocError>
-    requires { length counts.now ≡ length priorities.now }
-    ensures bytes { OnOk result (out.new.items ≡ out.old.items ++ counts_text compact priorities.now counts.now) }
-    ensures words { OnOk result (All IsWord counts.now) }
-{
-    if compact {
-        write_pairs(out, priorities, counts)
-    } else {
-        write_fields(out, counts)
-    }
 }
 
 /// Writes the nonzero counts of the given priorities, each after its priority.

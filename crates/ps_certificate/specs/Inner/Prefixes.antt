@@ -25,6 +25,18 @@ pub record HasEntry (game : ParityGame) (certificate : CertificateData) (v : ℕ
   pub entry_each : length certificate.entries ≡ vertex_count game
   pub vertex : v < vertex_count game
 
+-- the certificate has one entry for each vertex of the game, and the move in vertex v's entry is right
+pub record HasRightEntry (game : ParityGame) (certificate : CertificateData) (v : ℕ) : Type 0 where
+  pub entry : HasEntry game certificate v
+  pub right_move : HasRightMove game certificate v
+
+-- the counts of v and w can be compared: the certificate fits the game, and gives both vertices the same winner
+pub record AreComparable (game : ParityGame) (certificate : CertificateData) (v w : ℕ) : Type 0 where
+  pub fits : Fits game certificate
+  pub vertex : v < vertex_count game
+  pub successor : w < vertex_count game
+  pub same_winner : winner_of certificate w ≡ winner_of certificate v
+
 -- the counts at the ends of v's edges can be compared: the certificate fits the game, and vertex v has neither a wrong
 -- move nor an edge out of its winner's region
 pub record IsRankable (game : ParityGame) (certificate : CertificateData) (v : ℕ) : Type 0 where

@@ -15,10 +15,14 @@ returns-in-Some-broken_priority-clause-some g c =
     IsFirstFlawAt-rank c.requires.fits remains (grind arith) c.in-Some-broken_priority.ensures.some
     (λ w other. grind (arith, own_edges))
 
-pub broken_priority-requires-in-loop-number-clause-successor :
-    goal.broken_priority-requires-in-loop-number-clause-successor
-broken_priority-requires-in-loop-number-clause-successor g c = c.count-vertices.ensures.well_formed.within
-    c.args.vertex c.successor-successor.result (search (rules, HasEdge-at))
+pub broken_priority-requires-in-loop-number : goal.broken_priority-requires-in-loop-number
+broken_priority-requires-in-loop-number g c = record {
+  fits = c.requires.fits;
+  vertex = c.requires.vertex;
+  successor = c.count-vertices.ensures.well_formed.within c.args.vertex c.successor-successor.result
+      (search (rules, HasEdge-at));
+  same_winner = search (rules, Remains-other, HasEdge-at);
+}
 
 pub returns-in-Some-broken_priority-2-clause-some : goal.returns-in-Some-broken_priority-2-clause-some
 returns-in-Some-broken_priority-2-clause-some g c =

@@ -9,10 +9,14 @@ write_entries-requires-clause-writable c =
     let w = writable c.args.game.now.game c.args.certificate.now c.requires in
     search rules
 
-pub returns-clause-read_again : goal.returns-clause-read_again
-returns-clause-read_again c =
+pub returns : goal.returns
+returns c =
     let bytes : c.write_entries.new.out.items ≡ text_in c.args.compact c.args.game.now c.args.certificate.now =
     search rules in
     let words : HasWords c.args.game.now.ids c.args.certificate.now = search rules in
-    subst (λ text. ReadsCertificate c.args.game.now text (Ok c.args.certificate.now)) (sym bytes)
-    (reads_again c.args.compact c.args.game.now c.args.certificate.now c.game.ensures.well_formed c.requires words)
+    record {
+      bytes = bytes;
+      read_again = subst (λ text. ReadsCertificate c.args.game.now text (Ok c.args.certificate.now)) (sym bytes)
+          (reads_again c.args.compact c.args.game.now c.args.certificate.now c.game.ensures.well_formed c.requires
+          words);
+    }
