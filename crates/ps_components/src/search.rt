@@ -8,6 +8,7 @@ ghost use Rattle.ps_components.specs.Graphs.{Link};
 ghost use Rattle.ps_components.specs.Searching.{IsSettled, IsCutAt, AreListed, close_all, waits};
 ghost use Rattle.ps_components.specs.Searches.{IsSound, IsSoundButFor, IsIdle, IsFresh, HasVisited, Visits, Runs};
 ghost use Rattle.ps_components.specs.Searches.{EndsAt, HasNext, IsReachedNext, Advances, Enters, Merges, Takes};
+ghost use Rattle.ps_components.specs.Inner.Following.{LeadsOn, LeadsBack, IsFollowed};
 ghost use Rattle.ps_components.specs.declared.search.Pending.{Pending};
 
 use crate::graph::Graph;
@@ -140,8 +141,7 @@ impl Search {
 
     /// Removes the last pending link, and appends the link's unseen target to the search path. Fails if out of memory.
     fn follow<G: Graph>(&mut self, graph: &G, pending: Pending) -> Result<(), AllocError>
-        requires next { HasNext (G.graph graph.now) pending self.old }
-        requires reached { IsReachedNext (G.graph graph.now) pending.to self.old }
+        requires { LeadsOn (G.graph graph.now) pending self.old }
         ensures { OnOk result (Enters (G.graph graph.now) pending.to self.old self.new) }
     {
         self.pending.pop();
@@ -166,12 +166,7 @@ impl Search {
     /// Merges the segment that contains index `place` of the search path with all later segments; the last segment has
     /// a link to the vertex at this index.
     fn merge<G: Graph>(&mut self, graph: &G, pending: Pending, place: usize)
-        requires within { pending.to < length self.old.statuses }
-        requires linked { (v : ℕ) × (slice_get self.old.active.items pending.from ≡ Some v) ×
-            Link (G.graph graph.now) v pending.to }
-        requires last { (k b : ℕ) → slice_get self.old.bounds.items k ≡ Some b → b ≤ pending.from }
-        requires marked { slice_get self.old.statuses pending.to ≡ Some (Status.Active place) }
-        requires sound { IsSound (G.graph graph.now) self.old }
+        requires { LeadsBack (G.graph graph.now) pending place self.old }
         ensures { Merges (G.graph graph.now) pending self.old self.new }
     {
         cut(&mut self.bounds, place);
@@ -189,8 +184,7 @@ impl Search {
     /// Makes the last segment of the search path, which begins at index `bound`, a finished component. Fails if out of
     /// memory.
     fn close<G: Graph>(&mut self, graph: &G, bound: usize) -> Result<(), AllocError>
-        requires ends { EndsAt (G.graph graph.now) bound self.old }
-        requires done { (i : ℕ) (e : Pending) → slice_get self.old.pending.items i ≡ Some e → e.from < bound }
+        requires { IsFollowed (G.graph graph.now) bound self.old }
         ensures { OnOk result (Advances (G.graph graph.now) self.old self.new) }
     {
         let number = self.order.len();

@@ -3,7 +3,7 @@
 ghost use Rattle.std.specs.Prelude.{◌≡◌, ℕ, ◌+◌, ◌<◌, ◌≤◌, length, slice_get, Some, OnOk, IfOk, IfSome, IfNone};
 ghost use Rattle.ps_components.specs.Graphs.{SameOrWay, Link};
 ghost use Rattle.ps_components.specs.Trails.{IsTrail};
-ghost use Rattle.ps_components.specs.Inner.Spreading.{IsSpread, Reaches, ComeBack, AreApart, KeepsSteps, unseen};
+ghost use Rattle.ps_components.specs.Inner.Spreading.{IsSpread, LeadsTo, Reaches, ComeBack, AreApart, KeepsSteps, unseen};
 ghost use Rattle.ps_components.specs.declared.trail.Step.{Step};
 
 use crate::graph::Graph;
@@ -87,10 +87,7 @@ impl Spread {
     /// Records that the vertex `to` was reached from the vertex of the search step with the index `place`, unless `to`
     /// was reached before. Fails if out of memory.
     fn reach<G: Graph>(&mut self, graph: &G, to: usize, place: usize) -> Result<(), AllocError>
-        requires to { to < length self.old.seen.items }
-        requires linked { (s : Step) × (slice_get self.old.steps.items place ≡ Some s) ×
-            Link (G.graph graph.now) s.item to }
-        requires spread { IsSpread (G.graph graph.now) self.old.seen.items self.old.steps.items place }
+        requires { LeadsTo (G.graph graph.now) to place self.old.seen.items self.old.steps.items }
         ensures { OnOk result (Reaches (G.graph graph.now) to place self.old.seen.items self.old.steps.items
             self.new.seen.items self.new.steps.items) }
     {

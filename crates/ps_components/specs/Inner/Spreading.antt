@@ -26,6 +26,12 @@ pub record IsSpread (g : Digraph) (seen : List Bool) (steps : List Step) (place 
   pub looked : (i w : ℕ) (s : Step) → i < place → slice_get steps i ≡ Some s → Link g s.item w →
       slice_get seen w ≡ Some true
 
+-- a link leads from the vertex of step `place` to the vertex v
+pub record LeadsTo (g : Digraph) (v place : ℕ) (seen : List Bool) (steps : List Step) : Type 0 where
+  pub to : v < length seen
+  pub linked : (s : Step) × (slice_get steps place ≡ Some s) × Link g s.item v
+  pub spread : IsSpread g seen steps place
+
 -- the list of the new steps of the breadth-first search begins with the old steps
 abbrev pub KeepsSteps : List Step → List Step → Type 0
 KeepsSteps old new = (i : ℕ) (s : Step) → slice_get old i ≡ Some s → slice_get new i ≡ Some s

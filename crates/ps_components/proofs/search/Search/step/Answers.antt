@@ -1,4 +1,4 @@
-use Rattle.std.proofs.Common.{◌∙◌, ap, arith, inr, Some, length, sym}
+use Rattle.std.proofs.Common.{◌∙◌, ap, arith, inr, Some, length, sym, rules}
 use Rattle.std.proofs.lemmas.Result.{on_ok_weaker}
 use Rattle.ps_components.specs.declared.statuses.Status.TheVariants.{Active}
 use Rattle.ps_components.specs.Graphs.{last}
@@ -10,22 +10,27 @@ use Rattle.ps_components.proofs.search.Search.step.Goals as goal
 pub at-requires : goal.at-requires
 at-requires g c = pending_within c.requires.sound (sym (rw c.deref.ensures.value at c.in-Some.ensures.value))
 
-pub follow-requires-clause-reached : goal.follow-requires-clause-reached
-follow-requires-clause-reached g c = record {
-  within = grind (arith, pending_within c.requires.sound (sym (rw c.deref.ensures.value at c.in-Some.ensures.value)));
-  unseen = c.at.ensures ∙ ap Some c.in-Unseen.is;
-  lead = all_lead c.requires.sound (grind arith) c.requires.last c.if-pending-bound.false;
+pub follow-requires : goal.follow-requires
+follow-requires g c = record {
+  next = search rules;
+  reached = record {
+    within =
+        grind (arith, pending_within c.requires.sound (sym (rw c.deref.ensures.value at c.in-Some.ensures.value)));
+    unseen = c.at.ensures ∙ ap Some c.in-Unseen.is;
+    lead = all_lead c.requires.sound (grind arith) c.requires.last c.if-pending-bound.false;
+  };
 }
 
-pub merge-requires-clause-within : goal.merge-requires-clause-within
-merge-requires-clause-within g c =
-    pending_within c.requires.sound (sym (rw c.deref.ensures.value at c.in-Some.ensures.value))
-
-pub merge-requires-clause-last : goal.merge-requires-clause-last
-merge-requires-clause-last g c = λ k b h. grind (arith, at_most_last c.requires.sound c.requires.last k b h)
-
-pub merge-requires-clause-marked : goal.merge-requires-clause-marked
-merge-requires-clause-marked g c = c.at.ensures ∙ ap Some c.in-Active.is
+pub merge-requires : goal.merge-requires
+merge-requires g c =
+    let pending = sym (rw c.deref.ensures.value at c.in-Some.ensures.value) in
+    record {
+      within = pending_within c.requires.sound pending;
+      linked = c.requires.sound.pending_links _ c.in-Some.field-0.now pending;
+      last = λ k b h. grind (arith, at_most_last c.requires.sound c.requires.last k b h);
+      marked = c.at.ensures ∙ ap Some c.in-Active.is;
+      sound = c.requires.sound;
+    }
 
 pub take-requires-in-Closed-clause-settled : goal.take-requires-in-Closed-clause-settled
 take-requires-in-Closed-clause-settled g c = closed _ (c.at.ensures ∙ ap Some c.in-Closed.is)

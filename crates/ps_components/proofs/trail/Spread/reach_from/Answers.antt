@@ -11,13 +11,18 @@ pub target-requires-clause-item : goal.target-requires-clause-item
 target-requires-clause-item g c = step-within c.requires.spread c.args.place
     (slice_get_read c.args.self.now.steps.items _ _ _ refl c.requires.place c.index.ensures)
 
-pub reach-requires-clause-linked : goal.reach-requires-clause-linked
-reach-requires-clause-linked g c =
-    let here = slice_get_read c.args.self.now.steps.items _ c.args.place _ refl c.requires.place c.index.ensures in (
-      c.index.result.now,
-      c.loop-number.invariant.kept c.args.place c.index.result.now here,
-      grind (arith, step-within c.requires.spread c.args.place here),
-    )
+pub reach-requires : goal.reach-requires
+reach-requires g c =
+    let here = slice_get_read c.args.self.now.steps.items _ c.args.place _ refl c.requires.place c.index.ensures in
+    record {
+      to = grind arith;
+      linked = (
+        c.index.result.now,
+        c.loop-number.invariant.kept c.args.place c.index.result.now here,
+        grind (arith, step-within c.requires.spread c.args.place here),
+      );
+      spread = c.loop-number.invariant.spread;
+    }
 
 pub returns-clause-spread : goal.returns-clause-spread
 returns-clause-spread g c =
