@@ -24,7 +24,7 @@ use Rattle.ps_circuit.specs.declared.fault.AigCause.{AigCause}
 use Rattle.ps_circuit.specs.declared.fault.AigCause.TheVariants.{Syntax}
 use Rattle.ps_circuit.specs.Causes.{AigFault}
 use Rattle.ps_text.specs.declared.faults.Fault.TheVariants.{Text, OutOfMemory}
-use Rattle.ps_circuit.specs.Circuits.{CircuitData, IsCircuit, IsMadeOf}
+use Rattle.ps_circuit.specs.Circuits.{CircuitData, IsMadeOf}
 use Rattle.ps_text.specs.Bytes.{Seen, stream_of}
 use Rattle.ps_circuit.specs.Signs.{Field, aig_causes}
 use Rattle.ps_text.specs.Cursors.{next_byte, stream_offset}

@@ -1,5 +1,7 @@
 -- If each gate of a list comes after the gates that it reads, no gate depends on itself.
-use Rattle.std.proofs.Common.{◌≡◌, ◌∙◌, ℕ, ◌<◌, List, length, get_or, sym, arith, Some, slice_get}
+use Rattle.std.proofs.Common.{◌≡◌, ◌∙◌, ℕ, ◌<◌, ap, sym, arith, Some, slice_get}
+use Rattle.std.specs.List.{range_with_len}
+use Rattle.std.proofs.lemmas.List.FromFn.{get_or-range_with_len, length-range_with_len}
 use Rattle.std.proofs.lemmas.Option.{slice_get_within, slice_get-get_or, get_or_from_slice_get}
 use Rattle.ps_components.specs.Graphs.{Way, last, next}
 use Rattle.ps_components.specs.Orders.{IsOrder}
@@ -12,17 +14,20 @@ module _ (R : ℕ → ℕ → Type 0) (n : ℕ) (falls : (i j : ℕ) → R i j �
   pub acyclic : (i : ℕ) → Way R i i → ⊥
   acyclic i w = omega (arith, way-falls w)
 
-  pub order-of_places : {places : List ℕ} → length places ≡ n → ((k : ℕ) → k < n → get_or places k 0 ≡ k) →
-      IsOrder R n places
-  order-of_places {places} count each = record {
-    within = λ k i h. (let lt = slice_get_within places k i h in let e = here k i h in omega arith);
-    once = λ k l i hk hl. here k i hk ∙ sym (here l i hl);
-    each = λ i lt. (i, there i lt);
-    behind = λ k l i j hk hl r. (let a = here k i hk in let b = here l j hl in omega (arith, falls i j r));
-  }
-    where
-      here : (k i : ℕ) → slice_get places k ≡ Some i → k ≡ i
-      here k i h = grind (arith, slice_get_within, get_or_from_slice_get)
+  here : (k i : ℕ) → slice_get (range_with_len 0 n) k ≡ Some i → (k ≡ i) × (k < n)
+  here k i h =
+      let lt : k < n = omega (arith, slice_get_within (range_with_len 0 n) k i h, length-range_with_len 0 n) in
+      (omega (arith, get_or-range_with_len 0 n k 0 lt, get_or_from_slice_get (range_with_len 0 n) k i 0 h), lt)
 
-      there : (i : ℕ) → i < n → slice_get places i ≡ Some i
-      there i lt = (let h = slice_get-get_or places i 0 (omega arith) in let e = each i lt in cc)
+  there : (i : ℕ) → i < n → slice_get (range_with_len 0 n) i ≡ Some i
+  there i lt = slice_get-get_or (range_with_len 0 n) i 0 (omega (arith, length-range_with_len 0 n))
+      ∙ ap Some (omega (arith, get_or-range_with_len 0 n i 0 lt))
+
+  -- the numbers from 0 on are an order of the gates
+  pub order-of_numbers : IsOrder R n (range_with_len 0 n)
+  order-of_numbers = record {
+    within = λ k i h. omega (arith, here k i h);
+    once = λ k l i hk hl. (here k i hk).0 ∙ sym (here l i hl).0;
+    each = λ i lt. (i, there i lt);
+    behind = λ k l i j hk hl r. omega (arith, here k i hk, here l j hl, falls i j r);
+  }

@@ -1,7 +1,7 @@
 //! A builder of circuits of and-gates, which makes each gate only once.
 
-ghost use Rattle.std.specs.Prelude.{◌≡◌, ℕ, ◌+◌, ◌*◌, ◌^◌, ◌<◌, ◌≤◌, ◌&&◌, ◌||◌, Bool, not, cond, [], length};
-ghost use Rattle.std.specs.Prelude.{slice_get, Some, IfOk};
+ghost use Rattle.std.specs.Prelude.{◌≡◌, ℕ, ◌+◌, ◌*◌, ◌^◌, ◌<◌, ◌≤◌, ◌&&◌, ◌||◌, Bool, not, cond, [], ◌∷◌, length};
+ghost use Rattle.std.specs.Prelude.{slice_get, All, Some, IfOk};
 ghost use Rattle.ps_circuit.specs.Building.{Drafted, AreSides, Extends, IsFull, IsHeld, IsNew, IsSoundDraft};
 ghost use Rattle.ps_circuit.specs.Building.{MeetsEquations};
 ghost use Rattle.ps_circuit.specs.Building.{NeedsChoice, NeedsGate, bit, variables_of};
@@ -86,8 +86,7 @@ impl Builder {
     /// Returns a literal that is true exactly if both given literals are true.
     #[tactic(auto, unfolding(crate::specs::Gates::and_of))]
     pub fn and(&mut self, x: Literal, y: Literal) -> Result<Literal, EncodeFault>
-        requires first { IsHeld self.old x }
-        requires second { IsHeld self.old y }
+        requires { All (IsHeld self.old) (x ∷ y ∷ []) }
         ensures { MakesGates self.old self.new result (and_of self.old x y)
             (λ v. bit v x && bit v y) (NeedsGate self.new x y) }
     {
@@ -116,8 +115,7 @@ impl Builder {
     /// Returns a literal that is true exactly if at least one of the two given literals is true.
     #[tactic(auto, unfolding(crate::specs::Gates::or_of))]
     pub fn or(&mut self, x: Literal, y: Literal) -> Result<Literal, EncodeFault>
-        requires first { IsHeld self.old x }
-        requires second { IsHeld self.old y }
+        requires { All (IsHeld self.old) (x ∷ y ∷ []) }
         ensures { MakesGates self.old self.new result (or_of self.old x y)
             (λ v. bit v x || bit v y) (NeedsGate self.new (negated x) (negated y)) }
     {
@@ -129,9 +127,7 @@ impl Builder {
     /// multiplexer).
     #[tactic(auto, unfolding(crate::specs::Gates::mux_of))]
     pub fn mux(&mut self, s: Literal, high: Literal, low: Literal) -> Result<Literal, EncodeFault>
-        requires chooses { IsHeld self.old s }
-        requires high { IsHeld self.old high }
-        requires low { IsHeld self.old low }
+        requires { All (IsHeld self.old) (s ∷ high ∷ low ∷ []) }
         ensures { MakesGates self.old self.new result (mux_of self.old s high low)
             (λ v. cond (bit v s) (bit v high) (bit v low)) (NeedsChoice self.new s high low) }
     {
@@ -162,9 +158,7 @@ impl Builder {
     /// The literal that `mux` returns, if `high` and `low` differ and neither of them is constant.
     #[tactic(auto, unfolding(crate::specs::Gates::chosen_of))]
     fn chosen(&mut self, s: Literal, high: Literal, low: Literal) -> Result<Literal, EncodeFault>
-        requires chooses { IsHeld self.old s }
-        requires high { IsHeld self.old high }
-        requires low { IsHeld self.old low }
+        requires { All (IsHeld self.old) (s ∷ high ∷ low ∷ []) }
         ensures { MakesGates self.old self.new result (chosen_of self.old s high low)
             (λ v. cond (bit v s) (bit v high) (bit v low)) (NeedsChoice self.new s high low) }
     {

@@ -1,6 +1,6 @@
 //! Circuits.
 
-ghost use Rattle.std.specs.Prelude.{◌≡◌, ℕ, ◌<◌, length, map, slice_index, slice_index_or, IfOk, None};
+ghost use Rattle.std.specs.Prelude.{◌≡◌, ℕ, ◌<◌, length, map, slice_index_or, IfOk, None};
 ghost use Rattle.std.specs.Option.{option_copied};
 ghost use Rattle.ps_components.specs.Orders.{IsOrder, IsFirstOnCycle};
 ghost use Rattle.ps_circuit.specs.Circuits.{CircuitData, IsDraft, IsCircuit, IsMadeOf, ReadsGate};
@@ -82,7 +82,7 @@ impl Circuit {
         requires ordered { (i j : ℕ) → ReadsGate parts.gates.items i j → j < i }
         ensures { IfOk result (IsMadeOf (data_of parts)) }
     {
-        let order = places_up_to(alloc, parts.gates.len())?;
+        let order = (0..parts.gates.len()).collect(alloc)?;
         Ok(Circuit { parts, order })
     }
 
@@ -186,16 +186,4 @@ impl Circuit {
             None => None,
         }
     }
-}
-
-/// The numbers from 0 to `count - 1`. Fails if out of memory.
-fn places_up_to(alloc: Global, count: usize) -> Result<Vec<usize>, AllocError>
-    ensures count { IfOk result (λ places. length places.items ≡ count) }
-    ensures each { IfOk result (λ places. (k : ℕ) → k < count → slice_index places.items k ≡ k) }
-{
-    let mut places = Vec::new(alloc);
-    for place in 0..count {
-        places.push(place)?;
-    }
-    Ok(places)
 }

@@ -123,7 +123,6 @@ fn adds(variables: &mut Ids, variable: u64) -> Result<bool, AllocError>
 /// Reads a literal that defines its variable.
 fn definition(cursor: &mut Cursor, variables: &mut Ids, header: Header) -> Result<Number, AigFault>
     ensures exact { Tells (λ n. n) (signs.number (WrongDefinition header.most variables.old)) cursor.old result cursor.new }
-    ensures small { IfOk result (λ n. n.value < 2 ^ 32) }
     ensures defined { IfOk result (λ n. Defines header.most variables.old (n.value ∷ []) variables.new) }
 {
     let number = number(cursor)?;

@@ -5,6 +5,7 @@ use Rattle.ps_diagram.specs.Table.{Table}
 use Rattle.ps_diagram.specs.Views.{SeesTest}
 use Rattle.ps_machine.specs.Machines.{behaviour}
 use Rattle.ps_aiger.specs.Inner.Functions.{node_made}
+use Rattle.ps_circuit.specs.Building.{IsHeld}
 use Rattle.ps_circuit.proofs.GateLemmas.{extends-refl, extends-trans}
 use Rattle.ps_aiger.proofs.EncodeLemmas.{few_inputs}
 use Rattle.ps_aiger.proofs.FunctionLemmas.{constant_held, held_place, place_small}
@@ -34,13 +35,15 @@ positive-input-requires t c = omega (
   few_inputs (behaviour c.args.machine.now) c.inputs.ensures.machine.is_machine,
 )
 
-pub mux-requires-clause-chooses : goal.mux-requires-clause-chooses
-mux-requires-clause-chooses t c =
+pub mux-requires : goal.mux-requires
+mux-requires t c =
     let given = c.over_inputs-in-Test-2.ensures.makes.extends.given ∙ c.over_inputs-in-Test.ensures.makes.extends.given
     in
     let small = place_small _ _ _ _ c.inputs.ensures.inputs c.in-Some.ensures.found in
-    rw c.positive-input.ensures (held_place c.over_inputs-in-Test-2.new.builder (length c.args.machine.now.inputs)
-    c.in-Some.place small (rw given c.requires.given))
+    let chooses : IsHeld c.over_inputs-in-Test-2.new.builder c.positive-input.result = rw c.positive-input.ensures
+    (held_place c.over_inputs-in-Test-2.new.builder (length c.args.machine.now.inputs) c.in-Some.place small
+    (rw given c.requires.given)) in
+    search (rules, chooses)
 
 pub returns-in-Nothing-clause-makes : goal.returns-in-Nothing-clause-makes
 returns-in-Nothing-clause-makes t c = gives (omega arith) (search (rules, made-nothing))

@@ -2,7 +2,7 @@ use Rattle.std.proofs.Common.{arith, rules}
 use Rattle.std.proofs.lemmas.Result.{IfOk-weaker}
 use Rattle.ps_circuit.specs.Gates.{chosen_of}
 use Rattle.ps_circuit.specs.Building.{for_high, for_low, for_either}
-use Rattle.ps_circuit.proofs.GateLemmas.{chosen_bits, chosen_either, extends-trans, meets-extends, passed_on}
+use Rattle.ps_circuit.proofs.GateLemmas.{chosen_bits, chosen_either, meets-extends, passed_on}
 use Rattle.ps_circuit.proofs.MadeLemmas.{above-first, above-second}
 use Rattle.ps_circuit.proofs.builder.Builder.chosen.Goals as goal
 
