@@ -7,4 +7,5 @@ pub mod Reads
 pub mod RowPlaces
 pub mod Rows
 pub mod Reader
+pub mod Runs
 pub mod Signs

@@ -192,9 +192,8 @@ fn state_number(tokens: &mut Tokens, header: &Header, rows: &Rows) -> Result<u32
 
 /// The state that a token names. It is an error if the text has the edges of this state already.
 fn new_state_of(token: Token, header: &Header, rows: &Rows) -> Result<u32, HoaFault>
-    ensures sign { Takes (λ n. n) int_in (BadIn (IsBadRow (header_data header.now) (body_data rows.now)))
+    ensures { Takes (λ n. n) int_in (BadIn (IsBadRow (header_data header.now) (body_data rows.now)))
         (piece_of token.entry) result }
-    ensures new { IfOk result (λ n. has_row n (body_data rows.now).rows ≡ false) }
 {
     let state = state_of(token, header.states)?;
     if rows.has(state) {

@@ -80,8 +80,7 @@ pub(crate) const ONCE_COUNT: usize = 4;
 
 /// The index of an item among the header items that may occur only once, if it is one of them.
 fn once_of(item: Item) -> Option<usize>
-    ensures value { result ≡ once_of item }
-    ensures within { IfSome result (λ once. once < ONCE_COUNT) }
+    ensures { result ≡ once_of item }
 {
     match item {
         Item::States => Some(0),

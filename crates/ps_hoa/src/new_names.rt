@@ -56,9 +56,8 @@ fn new_name(alloc: Global, tokens: &mut Tokens, names: &Propositions) -> Result<
 /// The name that a token, which must be a string, gives to a proposition. A name is rejected if it is empty, contains a
 /// control byte, or is the name of an earlier proposition.
 fn new_name_of(alloc: Global, token: Token, names: &Propositions) -> Result<Vec<u8>, HoaFault>
-    ensures sign { Takes (λ name. name.items) parts.string_in (parts.IsBadName names.now)
+    ensures { Takes (λ name. name.items) parts.string_in (parts.IsBadName names.now)
         (piece_of token.entry) result }
-    ensures new { IfOk result (λ name. parts.is_name_among name.items names.now ≡ false) }
 {
     let name = unescaped(alloc, quoted_of(token)?)?;
     if name.is_empty() || has_control(&name) || names.has(&name) {
@@ -92,8 +91,7 @@ pub(crate) fn new_alias<'a>(tokens: &mut Tokens<'a>, names: &Names) -> Result<&'
 /// The text of a token, which must be the name of an alias. The name is rejected if an earlier alias has it, or if
 /// there are already as many aliases as a text may have.
 fn new_alias_of<'a>(token: Token<'a>, names: &Names) -> Result<&'a [u8], HoaFault>
-    ensures sign { Takes (λ name. name.now) alias_name_in (parts.IsBadAlias names.now) (piece_of token.entry) result }
-    ensures new { IfOk result (λ name. alias_number names.now name.now ≡ None) }
+    ensures { Takes (λ name. name.now) alias_name_in (parts.IsBadAlias names.now) (piece_of token.entry) result }
 {
     if !is_kind(token, Kind::AliasName) {
         return Err(refused(token));

@@ -1,11 +1,11 @@
 //! The checks at the beginning of an HOA text: its length, `HOA:` and the version.
 
 ghost use Rattle.std.specs.Prelude.{◌≡◌, ◌≤◌, length, IfOk, IfErr, IfSome, Result, Err, Ok};
-ghost use Rattle.std.specs.List.{prefix_len};
 ghost use Rattle.ps_text.specs.Answers.{Found};
 ghost use Rattle.ps_text.specs.Parts.{PartAnswers};
 ghost use Rattle.ps_hoa.specs.Causes.{hoa_causes, found_of};
 ghost use Rattle.ps_hoa.specs.Files.{FileData};
+ghost use Rattle.ps_hoa.specs.Inner.Runs.{IsRun};
 ghost use Rattle.ps_hoa.specs.Scan.{stream_of};
 ghost use Rattle.ps_hoa.specs.Texts.{file, is_version_byte, IsRefusedAs, ReadsFile};
 ghost use Rattle.ps_hoa.specs.declared.fault.HoaCause.{HoaCause};
@@ -18,8 +18,7 @@ const TEXT_LIMIT: usize = 16_777_216;
 
 /// The number of bytes at the start of a text that can belong to a version.
 fn version_at(bytes: &[u8]) -> usize
-    ensures value { result ≡ prefix_len is_version_byte bytes.now }
-    ensures within { result ≤ length bytes.now }
+    ensures { IsRun is_version_byte bytes.now result }
 {
     let mut count = 0;
     while count < bytes.len() && (is_name_byte(bytes[count]) || bytes[count] == b'.') {

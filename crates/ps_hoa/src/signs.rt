@@ -64,8 +64,7 @@ pub(crate) fn int(tokens: &mut Tokens, limit: u32) -> Result<u32, HoaFault>
 
 /// The number that a token states, which may not exceed a limit.
 fn int_up_to(token: Token, limit: u32) -> Result<u32, HoaFault>
-    ensures sign { Takes (λ n. n) int_in (IsAbove limit) (piece_of token.entry) result }
-    ensures within { IfOk result (λ n. n ≤ limit) }
+    ensures { Takes (λ n. n) int_in (IsAbove limit) (piece_of token.entry) result }
 {
     if token.kind != Kind::Int {
         return Err(refused(token));

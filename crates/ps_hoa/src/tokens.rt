@@ -2,7 +2,6 @@
 
 ghost use Rattle.std.specs.Prelude.{◌≡◌, ℕ, ◌+◌, ◌-◌, ◌<◌, ◌≤◌, ◌↔◌, false, true, List, [], length, drop, slice_index};
 ghost use Rattle.std.specs.Prelude.{IfSome, IsTrue, ◌==◌, ◌&&◌};
-ghost use Rattle.std.specs.List.{prefix_len};
 ghost use Rattle.std.specs.Str.{bytes_eq};
 ghost use Rattle.ps_text.specs.Answers.{Piece};
 ghost use Rattle.ps_hoa.specs.Bytes.{class_of as class, is_digit as digit, is_name_byte as names};
@@ -10,6 +9,7 @@ ghost use Rattle.ps_hoa.specs.Scan.{alias_step, begins_with, behind_next, commen
 ghost use Rattle.ps_hoa.specs.Scan.{IsLexeme, IsNoBlank, IsTokenClass, IsTokenStep, lex, dash_step, name_step, next_of};
 ghost use Rattle.ps_hoa.specs.Scan.{number_step, quoted_len, SkipsSome, step_len, scan_step, stream_of, text_step};
 ghost use Rattle.ps_hoa.specs.Tokens.{AreTokens, is_known, kind_here, in_context, history_after, Sign, with_occurred};
+ghost use Rattle.ps_hoa.specs.Inner.Runs.{IsRun};
 ghost use Rattle.ps_hoa.specs.Spans.{AreBlanks, IsOwnKind, IsSpan, piece_of};
 
 use crate::items::{ONCE_COUNT, once_named};
@@ -133,8 +133,7 @@ fn is_digit(byte: u8) -> bool
 
 /// The number of digits at the start of the bytes.
 fn digits_at(bytes: &[u8]) -> usize
-    ensures value { result ≡ prefix_len digit bytes.now }
-    ensures within { result ≤ length bytes.now }
+    ensures { IsRun digit bytes.now result }
 {
     let mut count = 0;
     while count < bytes.len() && is_digit(bytes[count]) {
@@ -153,8 +152,7 @@ pub(crate) fn is_name_byte(byte: u8) -> bool
 
 /// The number of bytes at the start that may follow the first byte of a name.
 fn name_at(bytes: &[u8]) -> usize
-    ensures value { result ≡ prefix_len names bytes.now }
-    ensures within { result ≤ length bytes.now }
+    ensures { IsRun names bytes.now result }
 {
     let mut count = 0;
     while count < bytes.len() && is_name_byte(bytes[count]) {

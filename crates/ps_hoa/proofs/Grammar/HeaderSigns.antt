@@ -4,8 +4,9 @@
 --   neither accepted nor an error
 -- - `takes_refused`, `takes_bad`: the contract `Takes` holds for the fault of a token that is not allowed here, and for
 --   the fault of a token with an error
-use Rattle.std.proofs.Common.{◌≡◌, ℕ, ◌≤◌, Bool, cond, List, [], codes, Option, None, Some, Result, Err}
-use Rattle.std.proofs.Common.{refl, sym, ap, inl, inr, arith}
+-- - `of_taken`: a fact about each value that the grammar accepts without an error is a fact about the result
+use Rattle.std.proofs.Common.{◌≡◌, ℕ, ◌≤◌, Bool, cond, List, [], codes, Option, None, Some, Result, Ok, Err, IfOk}
+use Rattle.std.proofs.Common.{false, refl, sym, ap, inl, inr, arith}
 use Rattle.ps_text.specs.Answers.{Piece, Stream}
 use Rattle.ps_text.specs.Parts.{one, NoBad, refusal_of}
 use Rattle.ps_text.specs.Readers.{Meets}
@@ -13,14 +14,15 @@ use Rattle.ps_hoa.specs.Causes.{cause_number, hoa_causes, found_of, HoaFault}
 use Rattle.ps_hoa.specs.Inner.Flaws.{body_in}
 use Rattle.ps_hoa.specs.ItemNames.{item_named}
 use Rattle.ps_hoa.specs.Header.{HeaderData, item_in, IsBadItem, int_in, IsAbove, string_in, IsBadName}
-use Rattle.ps_hoa.specs.Header.{IsBadAlias, IsBadBody}
+use Rattle.ps_hoa.specs.Header.{IsBadAlias, IsBadBody, is_name_among}
 use Rattle.ps_hoa.specs.Inner.Items.{alias_name_in, read_over_in}
 use Rattle.ps_hoa.specs.Operands.{expect_in, number_limit}
-use Rattle.ps_hoa.specs.Inner.Reads.{Takes}
+use Rattle.ps_hoa.specs.Inner.Reads.{IsTaken, Takes}
 use Rattle.ps_hoa.specs.Scan.{next_of, behind_next}
 use Rattle.ps_hoa.specs.Inner.Signs.{IsTestOf}
 use Rattle.ps_hoa.specs.Tokens.{Sign}
 use Rattle.ps_hoa.specs.declared.fault.HoaCause.{HoaCause}
+use Rattle.ps_hoa.specs.declared.fault.HoaCause.TheVariants.{Limit, Name}
 use Rattle.ps_text.specs.declared.faults.Fault.TheVariants.{Text as Fault}
 use Rattle.ps_hoa.specs.declared.items.Item.TheVariants as items
 use Rattle.ps_hoa.specs.declared.tokens.Kind.{Kind}
@@ -87,3 +89,19 @@ module _ {V X : Type 0} (view : X → V) (take : Sign → Option V) (Bad : Sign 
 -- if a token can have only one error, this error is the one with the smallest number
 pub least_same : (f g : HoaCause) → g ≡ f → cause_number f ≤ cause_number g
 least_same f g e = rw e (omega arith)
+
+-- ## The value of one token
+
+-- what holds of every value that the grammar accepts without an error holds of the result
+pub of_taken : {V X : Type 0} {view : X → V} {take : Sign → Option V} {Bad : Sign → HoaCause → Type 0}
+    (piece : Piece Sign) (result : Result X HoaFault) (P : X → Type 0) →
+    ((x : X) → IsTaken take Bad piece.sign (view x) → P x) → Takes view take Bad piece result → IfOk result P
+of_taken piece (Ok x) P holds t = holds x t
+of_taken piece (Err e) P holds t = tt
+
+pub int_within : (limit n : ℕ) (s : Sign) → IsTaken int_in (IsAbove limit) s n → n ≤ limit
+int_within limit n s t = grind (arith, t.some, t.good Limit)
+
+pub name_new : (names : List (List ℕ)) (name : List ℕ) (s : Sign) → IsTaken string_in (IsBadName names) s name →
+    is_name_among name names ≡ false
+name_new names name s t = grind (arith, t.some, t.good Name)

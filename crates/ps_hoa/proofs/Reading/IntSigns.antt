@@ -3,16 +3,17 @@
 -- - `takes_further`: the `INT` has an error of the relation E, and none of the relation B
 -- - `takes_both`: the `INT` has no error of the relation B, and none of the relation E
 use Rattle.std.proofs.Common.{◌≡◌, ℕ, ◌≤◌, ◌⊎◌, Option, None, Some, IfSome, Result, Err, IsErrAnd, sym, subst, inl, inr}
-use Rattle.std.proofs.Common.{◌∙◌, rules}
+use Rattle.std.proofs.Common.{◌∙◌, arith, false, rules}
 use Rattle.std.proofs.lemmas.Result.{err_from_is_err_and}
 use Rattle.ps_text.specs.Answers.{Piece}
 use Rattle.ps_text.proofs.Simple.{none_is_some, same_some}
 use Rattle.ps_hoa.specs.Tokens.{Sign}
 use Rattle.ps_hoa.specs.Causes.{cause_number, HoaFault}
-use Rattle.ps_hoa.specs.Header.{int_in}
-use Rattle.ps_hoa.specs.Body.{BadIn}
+use Rattle.ps_hoa.specs.Header.{HeaderData, int_in}
+use Rattle.ps_hoa.specs.Body.{BodyData, BadIn, IsBadRow, has_row}
 use Rattle.ps_hoa.specs.Inner.Reads.{Takes, IsTaken, IsWorst, IsRefusal}
 use Rattle.ps_hoa.specs.declared.fault.HoaCause.{HoaCause}
+use Rattle.ps_hoa.specs.declared.fault.HoaCause.TheVariants.{StateTwice}
 
 -- if an option is not `None`, its number has the property that `IfSome` states
 there : (o : Option ℕ) (P : ℕ → Type 0) → IfSome o P → (o ≡ None → ⊥) → (n : ℕ) × (o ≡ Some n) × P n
@@ -70,3 +71,8 @@ module _ (B E : ℕ → HoaCause → Type 0) where
       go : (f : HoaCause) → BothBad n f → ⊥
       go f (inl c) = k.good f (bad_at B s f n k.some c)
       go f (inr c) = none f c
+
+-- the number of a state that is accepted is the number of no earlier row
+pub row_new : (h : HeaderData) (b : BodyData) (n : ℕ) (s : Sign) → IsTaken int_in (BadIn (IsBadRow h b)) s n →
+    has_row n b.rows ≡ false
+row_new h b n s t = grind (arith, t.good StateTwice, bad_at (IsBadRow h b) s StateTwice n t.some)

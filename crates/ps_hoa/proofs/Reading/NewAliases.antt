@@ -1,6 +1,6 @@
 -- The check that the name of an alias is new.
 use Rattle.std.proofs.Common.{◌≡◌, ℕ, suc, ◌+◌, ◌<◌, ◌≤◌, Bool, true, false, cond, not, List, [], ◌∷◌, length, is_some}
-use Rattle.std.proofs.Common.{refl, rules}
+use Rattle.std.proofs.Common.{None, arith, refl, rules}
 use Rattle.std.specs.List.{position_or_len}
 use Rattle.std.specs.Str.{bytes_eq}
 use Rattle.std.proofs.lemmas.Bool.{le-ltb, lt-ltb}
@@ -11,6 +11,7 @@ use Rattle.ps_hoa.specs.Labels.{alias_number}
 use Rattle.ps_hoa.specs.Inner.Reads.{IsTaken}
 use Rattle.ps_hoa.specs.declared.fault.HoaCause.{HoaCause}
 use Rattle.ps_hoa.specs.declared.fault.HoaCause.TheVariants.{Alias}
+use Rattle.ps_hoa.specs.Tokens.{Sign}
 use Rattle.ps_hoa.specs.declared.tokens.Kind.{Kind}
 use Rattle.ps_hoa.specs.declared.tokens.Kind.TheVariants.{AliasName}
 use Rattle.ps_hoa.proofs.Grammar.HeaderSigns.{least_same}
@@ -55,3 +56,8 @@ module _ (text : List ℕ) where
     pub old_alias_least : (g : HoaCause) → IsBadAlias names (record { kind = kind; text = text }) g →
         cause_number Alias ≤ cause_number g
     old_alias_least g b = search (rules, least_same)
+
+  -- a name that is accepted is the name of no earlier alias
+  pub alias_new : (names : List (List ℕ)) (s : Sign) → IsTaken alias_name_in (IsBadAlias names) s text →
+      alias_number names text ≡ None
+  alias_new names s t = grind (arith, t.some, t.good Alias, is_some, number-among names)

@@ -14,8 +14,8 @@ use Rattle.ps_hoa.proofs.body.new_state_of.Goals as goal
 abbrev Again : BodyData → ℕ → HoaCause → Type 0
 Again b n f = (has_row n b.rows ≡ true) × (f ≡ StateTwice)
 
-pub returns-then-has-clause-sign : goal.returns-then-has-clause-sign
-returns-then-has-clause-sign c =
+pub returns-then-has : goal.returns-then-has
+returns-then-has c =
     let h = header_data c.args.header.now in
     let b = body_data c.args.rows.now in
     subst (λ e. Takes {X = ℕ} (λ n. n) int_in (BadIn (IsBadRow h b)) (piece_of c.args.token) (Err e))
@@ -26,6 +26,6 @@ returns-then-has-clause-sign c =
           (λ g k. subst (λ z. cause_number StateTwice ≤ cause_number z) (sym k.1) (omega arith))),
     )
 
-pub returns-clause-sign : goal.returns-clause-sign
-returns-clause-sign c = takes_both (IsBadState c.args.header.now.states) (Again (body_data c.args.rows.now))
+pub returns : goal.returns
+returns c = takes_both (IsBadState c.args.header.now.states) (Again (body_data c.args.rows.now))
     (piece_of c.args.token).sign c.in_ok-state.state c.in_ok-state.ensures (λ f k. false_true (grind arith))
