@@ -25,7 +25,7 @@ use std::alloc::{AllocError, Global};
 ///
 /// # Errors
 ///
-/// Fails if the circuit needs more than 2147483647 variables, or if out of memory.
+/// Fails if the circuit needs more than 2147483647 variables, or if memory runs out.
 pub fn encode(alloc: Global, machine: &Machine) -> Result<Circuit, EncodeFault>
     ensures encodes { IfOk result (λ circuit. Encodes (behaviour machine.now) circuit) }
     ensures tidy { IfOk result (λ circuit. IsTidy circuit) }
