@@ -95,8 +95,8 @@ IsPrintedBy solver asked text = (file : FileData) (game : NamedGameData) (is_gam
     IsWinnersCircuit asked.order file game is_game certificate circuit →
     IsPrintable asked.compact game certificate circuit
 
--- some certificate is a possible answer of the solver that `synth` calls, and each report that follows from a
--- certificate of this solver is printable
+-- the solver that `synth` calls meets its condition (`MayCertify`, or with `--cert` `MayReplay`), and each report that
+-- follows from a certificate of this solver is printable
 abbrev pub MaySynthesise : (cert : Bool) → Solvers → SynthLine → List ℕ → Type 0
 MaySynthesise false solvers asked texts = MayCertify solvers.built_in × IsPrintedBy solvers.built_in asked texts
 MaySynthesise true solvers asked texts = MayReplay solvers.replay
