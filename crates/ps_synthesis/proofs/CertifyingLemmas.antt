@@ -52,8 +52,8 @@ pub solver_fault : (May : MayAnswer) (named : NamedGameData) (answer : Result Ce
     IsFaultFor named fault given → IsSolverFault May named given
 solver_fault May named answer fault given may names is refused = grind (arith, refused_as)
 
--- An answer that the solver gave in a call was possible before the call. So a fault that has its reason in the given
--- answer also has its reason in a possible answer.
+-- An answer that the solver gave in a call was possible before the call. So a fault that states why the answer given is
+-- not a valid certificate also states why some possible answer is not one.
 pub fault_might : (old new : SolverData) (named : NamedGameData) (given : SynthFault) →
     IsSolverFault (Answered old new) named given → IsSolverFault (answers_now old) named given
 fault_might old new named (BadCycle ids) h = record {

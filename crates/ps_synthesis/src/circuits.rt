@@ -25,7 +25,7 @@ use std::alloc::Global;
 ///
 /// # Errors
 ///
-/// Fails if the circuit needs more than 2147483647 variables, or if out of memory.
+/// Fails if the circuit needs more than 2147483647 variables, or if memory runs out.
 pub fn circuit_of_certificate(
     alloc: Global,
     automaton: &Automaton,

@@ -39,8 +39,8 @@ pub fn synthesise_by<S: Solver>(
     // With a sure solver, an accepted text gets a report, unless memory runs out or the circuit is too large.
     ensures sure { (S.known solver.old).is_sure ≡ true → (file : FileData) → IsAcceptedText text.now file →
         IsReportOrFault (Answered (S.known solver.old) (S.known solver.new)) order compact text.now result }
-    // The call changes neither whether the solver is sure nor the text that the solver was fed (given) before. It adds
-    // no possible answers.
+    // The call changes neither whether the solver is sure nor the text that the solver was fed (given) before. After
+    // the call, the solver has no possible answer that it did not have before.
     ensures kept { IsKept (S.known solver.old) (S.known solver.new) }
 {
     let problem = Problem::read(alloc, text, order)?;
