@@ -35,7 +35,7 @@ pub agrees_from : {c : ℕ} (b : ℕ) {old new : TablesData} {winner winner_now 
     Agrees c old new winner winner_now → b ≤ c → from new.level b ≡ from old.level b
 agrees_from {c} b {old} {new} {winner} {winner_now} agrees less = search (rules, from-same, agrees_at)
 
--- no vertex below level c changes
+-- a vertex whose level is less than c keeps its level, its move and its winner
 pub still_below : {c : ℕ} {old new : TablesData} {winner winner_now : List ℕ} → Agrees c old new winner winner_now →
     (v : ℕ) → ¬ IsTrue (from old.level c v) → IsStill old new winner winner_now v
 still_below {c} {old} agrees v below = search (rules, to_from)
@@ -120,7 +120,8 @@ IsTurned-on {game} {open_part} {rest} open_now rest_now win_now {table} table_no
       given = λ v inside. same_win v inside ∙ turned.given v inside;
     }
 
--- a vertex in the unchanged front of the trail is still between the same two indices
+-- if the first m entries of the trail are unchanged, a vertex that stands between two indices, none of them greater
+-- than m, still stands between them
 between_front : {old : TablesData} (new : TablesData) (m : ℕ) {from_place to_place v : ℕ} →
     ((j : ℕ) → j < m → get_or new.trail j 0 ≡ get_or old.trail j 0) → to_place ≤ m →
     StandsBetween old from_place to_place v → StandsBetween new from_place to_place v

@@ -201,7 +201,8 @@ module _ {game : ParityGame} {a : ℕ} {frame : Frame} {old mid new : TablesData
 
   -- ## Fewer vertices are open
 
-  -- if the player can't keep some top (`IsLostAt`), the opponent won some undecided vertex in the recursive call
+  -- if there is a top that the player can't keep (`IsLostAt`), the opponent won an undecided vertex in the recursive
+  -- call
   pub some_lost : (v : ℕ) → StandsBetween old frame.turn frame.top v →
       IsLostAt game old winner (a + 1) frame.player (1 - frame.player) v →
       (u : ℕ) × (u < vertex_count game) × (a + 2 ≤ level_of old u) × (get_or winner u 0 ≢ frame.player)

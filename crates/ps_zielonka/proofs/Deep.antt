@@ -60,8 +60,8 @@ depth_stays levels calls solved is_depth = record {
   two = λ set closed v is_vertex outside. inl (is_depth.two set closed v is_vertex outside);
 }
 
--- if the first iteration has begun, and no vertex is left to an unsolved second call (`IsSecondCall`), the recorded
--- maximal depth is within its promised bounds (`IsDepth`)
+-- once the first iteration has begun, the recorded maximal depth is within its promised bounds (`IsDepth`), except
+-- while a call of depth 1 still has vertices to solve (`IsSecondCall`)
 depth_known : {game : ParityGame} {levels : List ℕ} {calls : ℕ} {solved : Bool} {depth : ℕ} →
     ((v : ℕ) → v < vertex_count game → IsFresh game levels calls solved → ⊥) →
     ((v : ℕ) → IsSecondCall levels calls solved v → ⊥) → IsDepthSoFar game levels calls solved depth →

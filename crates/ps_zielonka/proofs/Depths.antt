@@ -40,7 +40,7 @@ Contains-drop_at (y ∷ ys) (suc k) x (suc j) within is other =
 pub one_priority : (game : ParityGame) (set : ℕ → Bool) (v : ℕ) → IsTrue (set v) → HasPriorities game set 1
 one_priority game set v inside = search rules
 
--- a larger set has at least as many priorities
+-- a superset has at least as many distinct priorities
 pub HasPriorities-larger : {game : ParityGame} {smaller : ℕ → Bool} (larger : ℕ → Bool) {n : ℕ} →
     IsWithin smaller larger → HasPriorities game smaller n → HasPriorities game larger n
 HasPriorities-larger larger within has_n = search rules

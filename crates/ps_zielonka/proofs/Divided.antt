@@ -329,7 +329,8 @@ module _ (game : ParityGame) (is_game : IsGame game) where
             | inr (u, less, theirs) ↦ some_theirs u theirs
           ]
 
-    -- an iteration of the algorithm that attracts vertices to a vertex of the greatest priority solves the subgame
+    -- if v has the greatest priority of the subgame, an iteration of the algorithm solves the subgame; its tops are all
+    -- vertices of this priority
     with_top : (v : ℕ) → IsGreatest game subgame (vertex_count game) v → Solved subgame
     with_top v g =
         let player : ℕ = priority_of game v % 2 in

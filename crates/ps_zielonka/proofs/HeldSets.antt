@@ -98,9 +98,10 @@ pub HoldsWithin-none : (game : ParityGame) (subgame : ℕ → Bool) (player : �
     ((v : ℕ) → ¬ IsTrue (set v)) → HoldsWithin game subgame player set table
 HoldsWithin-none game subgame player set table none = search rules
 
--- Let a player hold, by the same table, a first set within a larger subgame, and a second set within a smaller one.
--- Then the player holds their union within the larger subgame if the other player's edges from the second set within
--- the larger subgame all lead into the smaller one or to the first set.
+-- A player holds the union of two sets within the larger subgame by a table on three conditions. The player holds the
+-- first set within the larger subgame by this table. The player holds the second set within the smaller subgame by the
+-- same table. Each edge in the larger subgame from a vertex of the other player in the second set leads into the
+-- smaller subgame or to the first set.
 pub HoldsWithin-beside : {game : ParityGame} {smaller larger : ℕ → Bool} {player : ℕ} {first second : ℕ → Bool}
     (set : ℕ → Bool) {table : ℕ → Option ℕ} → IsWithin smaller larger → IsWithin first set → IsWithin second set →
     ((v : ℕ) → IsTrue (set v) → IsTrue (first v) ⊎ IsTrue (second v)) →

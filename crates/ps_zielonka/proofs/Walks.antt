@@ -26,7 +26,7 @@ no_descent rank walk k some closes falls =
     let step : rank (walk (t + 1)) < rank (walk t) = falls t less in omega arith) 1 some in
     omega (arith, falls 0 some)
 
--- 0 for true, 1 for false
+-- a truth value as a number: 0 for true, 1 for false
 abbrev distance : Bool → ℕ
 distance b = cond b 0 1
 

@@ -118,9 +118,8 @@ impl<W: Width> Board<W> {
 
     /// Whether the player keeps a vertex, that is, can make each play within the subgame go on from it to a vertex that
     /// the player won. The player keeps a vertex of its own if the vertex has a successor of a higher level than
-    /// `placed` that the player won. The player keeps a vertex of the opponent if the vertex has no successor of a
-    /// higher level than `placed` that the opponent won. If the player keeps a vertex of its own, the move to such a
-    /// successor is written.
+    /// `placed` that the player won; the first such successor then becomes the vertex's move. The player keeps a vertex
+    /// of the opponent if the vertex has no successor of a higher level than `placed` that the opponent won.
     fn keeps<A: Arena>(
         &mut self,
         edges: &Adjacency<'_, A, W>,
@@ -150,7 +149,8 @@ impl<W: Width> Board<W> {
         }
     }
 
-    /// The first successor of a vertex that has a higher level than `placed` and is won by the player, or `None`.
+    /// The first of a vertex's successors that have a higher level than `placed` and were won by the player; `None` if
+    /// the vertex has no such successor.
     fn won_successor<A: Arena>(
         &self,
         edges: &Adjacency<'_, A, W>,

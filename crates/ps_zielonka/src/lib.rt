@@ -3,13 +3,13 @@
 //! The solver uses the recursive algorithm of McNaughton and Zielonka, with an explicit stack of frames instead of
 //! recursion. Each iteration of a call starts from the greatest priority of the undecided vertices of the call's
 //! subgame. The player who wins by the greatest priority attracts vertices to the tops, which are the vertices of that
-//! priority. In all calls except the first, the tops also include undecided vertices of lower priorities, down to, but
-//! not including, the first priority of the other parity. The undecided vertices outside the attractor are solved next,
-//! by a recursive call. The player keeps a top that it owns if it can move from this top to a vertex that it won. The
-//! player keeps a top that the opponent owns if no edge leads from this top to a vertex that the opponent won. If the
-//! player keeps each top, the player wins all vertices that the opponent did not win in the recursive call. If the
-//! player can't keep some top, the opponent attracts vertices to those that it won in the recursive call, and the call
-//! continues with the vertices that are still undecided.
+//! priority. In all calls except the first, the tops also include each undecided vertex whose priority exceeds all
+//! priorities of the other parity among the undecided vertices. The undecided vertices outside the attractor are solved
+//! next, by a recursive call. The player keeps a top that it owns if it can move from this top to a vertex that it won.
+//! The player keeps a top that the opponent owns if no edge leads from this top to a vertex that the opponent won. If
+//! the player keeps each top, the player wins all vertices that the opponent did not win in the recursive call. If
+//! there is a top that the player can't keep, the opponent attracts vertices to those that it won in the recursive
+//! call, and the call continues with the vertices that are still undecided.
 //!
 //! | Call | What it gives |
 //! |---|---|
@@ -20,8 +20,8 @@
 //!
 //! A strategy has moves only at vertices that its player owns and wins. `Counts` records the maximal depth of nested
 //! calls. The depth is at most the number of distinct priorities, and at least 1 if there is a vertex. The depth is at
-//! least 2 if some vertex is outside the attractor of the player who wins by the game's greatest priority to all
-//! vertices of this priority.
+//! least 2 if the player who wins by the game's greatest priority can't attract every vertex to the vertices of this
+//! priority.
 //!
 //! The number of recursive calls can grow exponentially with the number of priorities. Apart from its recursive call,
 //! one iteration of a call takes time at most proportional to the number of vertices and edges. The memory is

@@ -104,9 +104,9 @@ impl<W: Width> Nest<W> {
 
     /// Begins an iteration of the current call. The vertex at index `cursor` of `order` is undecided and has the
     /// greatest priority of all undecided vertices. Computes the attractor to all undecided vertices of the greatest
-    /// priority, for the player who wins by that priority. In every call except the first, the target of the attractor
-    /// also has undecided vertices of lower priorities, down to, but not including, the first priority of the other
-    /// parity. Fails if out of memory.
+    /// priority, for the player who wins by that priority. In every call except the first, the attractor's target also
+    /// has each undecided vertex whose priority exceeds all priorities of the other parity among the undecided
+    /// vertices. Fails if out of memory.
     fn begin_turn<A: Arena>(
         &mut self,
         edges: &Adjacency<'_, A, W>,

@@ -10,7 +10,7 @@ pub record IsFresh (game : ParityGame) (levels : List ℕ) (calls : ℕ) (solved
   pub unsolved : solved ≡ false
   pub unplaced : (v : ℕ) → v < vertex_count game → slice_index levels v ≡ UNPLACED
 
--- only the first call is pending, the second call is unsolved, and the vertex v is left to the second call
+-- only the first call is pending, and the current call, which has the depth 1, still has to solve the vertex v
 pub record IsSecondCall (levels : List ℕ) (calls : ℕ) (solved : Bool) (v : ℕ) : Type 0 where
   pub one : calls ≡ 1
   pub unsolved : solved ≡ false

@@ -1,5 +1,6 @@
 -- The iterations (turns) by which a recursive call solves its subgame. Sets of vertices are Boolean functions. `win`
--- maps each vertex to the player who wins it, and `table` maps each vertex to a vertex or to None.
+-- maps each vertex to the player who wins it. `table` maps each vertex to its move, which is the vertex to which the
+-- owner moves, or to None.
 use Rattle.std.specs.Prelude.{◌≡◌, ◌≢◌, ℕ, ◌%◌, ◌<◌, ◌≤◌, Option, Bool, false, IsTrue}
 use Rattle.ps_game.specs.Games.{ParityGame, owner_of, priority_of, HasEdge}
 use Rattle.ps_game.specs.Subgames.{IsWithin, HoldsWithin}
