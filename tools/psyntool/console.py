@@ -10,8 +10,9 @@ STEP = 1 << 20
 
 
 def fill_closed():
-    """Opens /dev/null, in the wrong direction, in place of each closed standard stream. So no file that is opened later
-    gets the stream's descriptor, and each use of the stream fails."""
+    """Opens /dev/null in place of each closed standard stream, so that no file that is opened later gets the stream's
+    descriptor. Standard input is opened for writing and standard output for reading, so that each use of them fails.
+    What is written to a closed standard error is lost."""
     for number, way in ((INPUT, os.O_WRONLY), (OUTPUT, os.O_RDONLY), (ERROR, os.O_WRONLY)):
         try:
             os.fstat(number)

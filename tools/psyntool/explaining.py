@@ -9,8 +9,8 @@ from psyntool.marking import placed
 from psyntool.program import MOST_BYTES
 from psyntool.texts import Unreadable, automaton, circuit, labels
 
-# The numbers of the faults that the tool explains in a way of their own. Fault 25 (the input could not be read) means
-# here that the input is too long, because the tool itself passes the input to the program.
+# The numbers of three faults that the functions below treat as special cases. Fault 25 (the input could not be read)
+# means here that the input is too long, because the tool itself passes the input to the program.
 READ_FAULT, OTHER_GAME, SYMBOLS = 25, 54, 72
 # A text of more bytes than this is not parsed to explain a fault, because parsing it in Python would take longer than
 # the program's own run.

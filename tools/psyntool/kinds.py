@@ -24,7 +24,7 @@ class Kind(enum.Enum):
 
     @property
     def word(self):
-        """The name of the kind on a usage line."""
+        """The kind's name in capitals, as usage lines show it."""
         return self.title.upper()
 
     @property

@@ -1,7 +1,7 @@
 """The commands, in the order of the help, the manual and the completions.
 
-The program's commands come first, in the order of the program's own table. Each command has a file in `commands`; a
-command of the tool alone is also listed here.
+The program's commands except `help` come first, in the order of the program's own table. This module lists `help` and
+the commands that the program lacks. Each command has a file in `commands`.
 """
 import importlib
 

@@ -38,7 +38,7 @@ def run(request):
 
 
 def drawn(found, reach):
-    """The picture of the parsed texts, which `found` has by their kinds; the kinds decide what is drawn."""
+    """The picture of the parsed texts; `found` maps each kind to its text, and the kinds decide what is drawn."""
     if Kind.GAME in found and Kind.CIRCUIT not in found and not {Kind.CERTIFICATE, Kind.SOLUTION} <= set(found):
         return games.picture(found[Kind.GAME], found.get(Kind.CERTIFICATE) or found.get(Kind.SOLUTION), found.get(Kind.AUTOMATON), reach)
     if set(found) == {Kind.AUTOMATON}:

@@ -30,7 +30,8 @@ class Asking:
 
 @dataclass(frozen=True)
 class Core:
-    """Whether there is a controller, and the parts that decide this: assumptions if there is one, else guarantees."""
+    """Whether there is a controller, and a minimal set of parts that decides this. The parts are assumptions if there
+    is a controller, and guarantees otherwise."""
 
     has_controller: bool
     parts: tuple

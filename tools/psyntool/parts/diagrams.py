@@ -132,7 +132,8 @@ class Diagrams:
         return None
 
     def labels(self, one):
-        """For each value, an HOA label of exactly the letters with this value, in the order of the letters."""
+        """For each value, an HOA label of exactly the letters with this value. The values are in the order of the first
+        letters that have them."""
         return {value: text for value, (text, _) in self.parted(one).items()}
 
     def parted(self, one):

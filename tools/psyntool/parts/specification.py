@@ -23,7 +23,8 @@ FLAGS = {flag.name: flag for flag in OF_PARTS}
 NO_CIRCUIT = b"aag 0 0 0 0 0\n%%\n-\n"
 # The header item that is inserted into a part that does not say who controls its propositions.
 OWNERS = b"controllable-AP: "
-# The faults that the tool itself explains better, with the letter or the acceptance condition.
+# The program's faults that the tool reports by messages of its own, which name the letter that two edges share, or the
+# acceptance condition.
 TOLD_BETTER = {"Nondeterministic", "NonParity"}
 
 
@@ -64,7 +65,7 @@ class Wishes:
         self.parts, self.outs, self.is_strict = [], None, False
 
     def take(self, given, folder="", sentences=None):
-        """Adds what the flags of a command line or list ask for, in order; paths are relative to `folder`."""
+        """Adds the parts and settings that flags of a command line or list ask for; paths are relative to `folder`."""
         self.is_strict = self.is_strict or STRICT.name in given
         said = sorted((place, name, word) for name in FLAGS if FLAGS[name].many for place, word in given.get(name, ()))
         count = len(self.parts)

@@ -40,7 +40,7 @@ def wrapped(text, ends, width=WIDTH):
 
 
 def levels(begins, successors):
-    """Everything that can be reached, and for each vertex the smallest number of steps to it."""
+    """A dictionary from each vertex that can be reached from `begins` to the smallest number of steps to it."""
     found, now, steps = dict.fromkeys(begins, 0), list(begins), 0
     while now:
         steps += 1
@@ -60,8 +60,8 @@ def most_steps(found):
 
 
 def within(what, count, begins, successors, reach, begin):
-    """The vertices that a picture shows: those within `reach` steps, or None for all. A picture of too many vertices is
-    refused."""
+    """The vertices that a picture shows: those that can be reached from `begins` in at most `reach` steps, or None for
+    all. A picture of too many vertices is refused."""
     found = levels(begins, successors)
     if reach is None and count <= MOST:
         return None

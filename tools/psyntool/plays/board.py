@@ -133,7 +133,8 @@ class Board:
         return whole
 
     def set_text(self, said, letter):
-        """A set of letters in words: all of them or, if that would be too long, one of them."""
+        """The text that shows the user a set of letters: `anything` for all letters, otherwise the set's label or, if
+        the label is too long, one letter and the words `or others`."""
         if said == "t":
             return "anything"
         return said if len(said) <= LONGEST_SET else f"{self.letter_text(letter)}, or others"
@@ -150,8 +151,9 @@ class Board:
         return whole
 
     def longest(self, choices):
-        """The choice that should delay the user's loss longest. It leads to the vertex whose counts in the certificate,
-        compared from the greatest priority down, are greatest; among equals, to the vertex with the smallest id."""
+        """The choice that should delay the user's loss longest. This is the choice whose vertex has the greatest counts
+        in the certificate, compared from the greatest priority down; among equals, the choice whose vertex has the
+        smallest id."""
         return max(choices, key=lambda choice: (choice.counts, -choice.vertex))
 
 

@@ -27,7 +27,7 @@ class Chain:
 
 
 def chain_of(condition):
-    """The chain of a condition, or None if the condition is not a chain."""
+    """The condition as a chain, or None if it is not nested like a parity condition."""
     links = []
     while True:
         if isinstance(condition, bool):

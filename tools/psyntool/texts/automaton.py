@@ -28,7 +28,7 @@ class Automaton:
 
     @cached_property
     def chain(self):
-        """The chain of the acceptance condition, or None if the condition is not a chain."""
+        """The acceptance condition as a chain, or None if it is not nested like a parity condition."""
         return None if self.condition is None else chain_of(self.condition)
 
     def owners(self):
