@@ -38,7 +38,8 @@ pub gives : {d : Drafted} {literal : ℕ} {all : Made} → IsHeld d literal → 
     MakesLiteral d d (Ok literal) all
 gives {d} held made = record { extends = extends-refl d; held = held; made = made; too_large = search rules }
 
--- if the last call of a function builds a literal, the function builds this literal
+-- If a function returns the result of its last call, and its earlier calls only add gates, the contract `MakesLiteral`
+-- of the last call is the function's own contract.
 pub as-made : {old mid new : Drafted} {result : Result ℕ EncodeFault} {whole all : Made} → whole ≡ all →
     Extends old mid → MakesLiteral mid new result all → MakesLiteral old new result whole
 as-made {old} {mid} {new} {result} {whole} {all} is x m = record {
