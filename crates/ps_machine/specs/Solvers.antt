@@ -7,8 +7,8 @@
 -- - `answers_now solver`: the answers that the solver may give for a game, given the text that it was fed last
 -- - `Answered old new`: the relation that holds for a game and an answer if the solver might give this answer before a
 --   call, and gave it in the call
--- - `IsKept old new`: after a call, the solver is sure exactly if it was sure before, has the same text, and may give
---   no answer that it could not give before
+-- - `IsKept old new`: a call changed neither whether the solver is sure nor its text, and every answer that the solver
+--   may give after the call was possible before
 use Rattle.std.specs.Prelude.{◌≡◌, ℕ, Bool, List, Option, None, Some, Result}
 use Rattle.ps_certificate.specs.Certificates.{CertificateData}
 use Rattle.ps_game.specs.Games.{NamedGameData}
