@@ -35,8 +35,8 @@ pub fn synthesise(
     // text gets a report, unless memory runs out or the circuit is too large.
     ensures sure { (known solver.old).is_sure ≡ true → (file : FileData) → IsAcceptedText text.now file →
         IsReportOrFault (Answered (known solver.old) (known solver.new)) order compact text.now result }
-    // After the call, the solver is sure exactly if it was sure before. It still has the text that it was fed, and may
-    // give no answer that it could not give before.
+    // The call changes neither whether the solver is sure nor the text that the solver was fed (given) before. Every
+    // answer that the solver may give after the call was possible before.
     ensures kept { IsKept (known solver.old) (known solver.new) }
 {
     synthesise_by(alloc, text, order, compact, solver)
