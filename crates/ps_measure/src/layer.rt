@@ -1,4 +1,5 @@
-//! The search for the vertices of one priority at which the computation of its counts begins.
+//! The search for the roots of one priority: the vertices at which the computation of the counts for this priority
+//! begins.
 
 ghost use Rattle.std.specs.Prelude.{◌≡◌, ℕ, ◌<◌, ◌≤◌, ◌↔◌, IfOk, IsTrue, slice_index};
 ghost use Rattle.ps_components.specs.Graphs.{Link};

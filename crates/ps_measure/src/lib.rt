@@ -7,10 +7,10 @@
 //!
 //! The counts for one priority are a progress measure (Jurdzinski) for that priority, but they are not computed by
 //! lifting them step by step. If there are many priorities, vertices are first grouped by priority. For each priority,
-//! one search follows the edges backwards from the vertices of that priority. One pass over the strongly connected
-//! components, from the last one that the search finishes to the first, then gives each vertex its count. For each
-//! priority, the search and the pass take time at most proportional to the number of vertices and edges. The memory is
-//! proportional to the number of vertices, edges and nonzero counts.
+//! one search follows the edges backwards from the vertices of that priority. Then one pass gives each vertex its
+//! count. The pass visits the strongly connected components from the last one that the search finished to the first.
+//! For each priority, the search and the pass take time at most proportional to the number of vertices and edges. The
+//! memory is proportional to the number of vertices, edges and nonzero counts.
 //!
 //! | Call | What it gives |
 //! |---|---|
