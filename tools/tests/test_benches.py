@@ -46,7 +46,7 @@ def why_not(bench, text):
         words, names = path.split("."), [name.strip() for name in braced.split(",") if name.strip()]
         crate = os.path.join(TOP, "crates", words[0])
         if words[0] == os.path.basename(bench):
-            # the prover generates the module of a function's goals
+            # the prover generates the modules `Given` and `Goals` of a function, so no file defines them
             if words[-1] in ("Given", "Goals"):
                 function = words[-2].lstrip("+")
                 if not re.search(rf"\bfn {function}\b", read(os.path.join(bench, "src", "main.rt.in"))):

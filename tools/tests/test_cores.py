@@ -66,8 +66,8 @@ class Commands(OnFiles):
 
 
 class Circuits(OnFiles):
-    """`synth` on specifications in parts: the answer is that of the composed automaton, and a line warns if the
-    assumptions can be made to fail."""
+    """`synth` on specifications in parts: the answer is that of the composed automaton, and a line warns if a
+    controller can make the assumptions fail."""
 
     def setUp(self):
         super().setUp()

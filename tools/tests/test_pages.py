@@ -89,8 +89,8 @@ class Rules(unittest.TestCase):
         draw = random.Random(SEED)
         drawn = list(boards(draw, BOARDS))
         letters = [["".join(draw.choices("01", k=len(board.mine))) for _ in range(LETTERS)] for *_, board in drawn for _ in range(PLAYS)]
-        # for each specification, the first play is given no letters, so it takes the choices with the greatest counts;
-        # the letters of the other plays are random
+        # for each specification, the first play is given no letters, and the other plays are given random letters;
+        # after the given letters, a play takes the choices that should delay the loss longest (`Board.longest`)
         plays = [[[], *letters[at + 1 : at + PLAYS]] for at in range(0, len(letters), PLAYS)]
         said, kinds = self.played([(contents.of(board), moves) for (*_, board), moves in zip(drawn, plays)]), {}
         for (text, printed, board), these in zip(drawn, said):
@@ -286,8 +286,8 @@ class InChromium(OnFiles):
         return done.stdout.decode()
 
     def page(self, name, path):
-        """The page of a specification; the letters of the play that `play --auto` plays, and what `play` prints for
-        it."""
+        """The path of the page that `page` makes for a specification; the letters that `play --auto` chooses; and what
+        `play --auto` prints, without the last line."""
         self.assertIn(self.tool("synth", "-o", name, *(["--parts"] if path.endswith(".parts") else []), path).returncode, (10, 20))
         specification = path if path.endswith(".hoa") else f"{name}.hoa"
         said = self.tool("play", "--auto", name, specification).stdout.decode()

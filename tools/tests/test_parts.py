@@ -1,5 +1,5 @@
-"""Specifications in parts: the language of the composed automaton is compared with a second implementation of parts,
-and errors are tested."""
+"""Specifications in parts: on random lassos, the verdict of the composed automaton is compared with that of a second
+implementation of parts; and errors are tested."""
 import os
 import random
 import unittest
@@ -28,7 +28,7 @@ class Table:
         self.names = draw.sample(names, draw.randint(0, 2))
         self.is_buchi = draw.random() < 0.6
         count, letters = draw.randint(1, 3), 2 ** len(self.names)
-        # the acceptance set of a state belongs to each edge that leaves the state
+        # the states in the acceptance set; each edge that leaves such a state is in the set too
         self.marked = {state for state in range(count) if draw.random() < 0.2}
         self.moves = [[None if draw.random() < 0.12 else (draw.randrange(count), draw.random() < 0.3) for _ in range(letters)] for _ in range(count)]
         self.hopeless = {state for state in range(count) if self.is_buchi and not self.sees_mark(state)}

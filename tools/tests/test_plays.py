@@ -158,8 +158,8 @@ def boards(draw, count):
 
 
 class Drawn(unittest.TestCase):
-    """For random specifications, `lasso` confirms how two plays end: one takes the choices with the greatest counts,
-    and the other takes random choices."""
+    """For random specifications, `lasso` confirms how two plays end. One play takes the choices that should delay the
+    loss longest (`Board.longest`), and the other takes random choices."""
 
     def test_drawn_specifications(self):
         draw, ends = random.Random(7), {}

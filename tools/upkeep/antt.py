@@ -63,7 +63,8 @@ def end_of(tokens, at, stops):
 
 
 class Definition:
-    """A definition: a signature and the clauses after it, which are lines `first` to `last` of a file."""
+    """A definition: a signature, and the clauses after it. `first` is the index of the line where the signature begins,
+    and `last` is the index after the last clause's last line."""
 
     def __init__(self, name, indent, first, signature):
         self.name, self.indent, self.first, self.last = name, indent, first, first
@@ -90,7 +91,7 @@ def groups_of(lines):
 
 
 def shortened(lines, first, last):
-    """The lines `first` to `last`, without blank lines at their end."""
+    """The lines from index `first` up to, but not including, index `last`, without blank lines at their end."""
     while last > first and not lines[last - 1].strip():
         last -= 1
     return lines[first:last]

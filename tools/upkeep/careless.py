@@ -86,7 +86,7 @@ def furnish(room):
 
 
 class Run:
-    """A running command line."""
+    """A run of a command line."""
 
     def __init__(self, room, line, program):
         self.room, self.line = room, line

@@ -96,14 +96,15 @@ def valued():
 
 
 def many(value=""):
-    """The flags that take all words up to the next flag; with an argument, only those whose value has this name."""
+    """The flags that take all words up to the next flag. If `value` is given, only those of them whose value has this
+    name on the usage line."""
     flags = {flag.name: flag for command in COMMANDS.values() for flag in command.all_flags if flag.many}
     return [name for name, flag in flags.items() if value in ("", flag.value)]
 
 
 def endings(command):
-    """For each file that a command reads, the endings of the file's kind, and of the kinds that a flag puts in its
-    place."""
+    """For each file that a command reads, the endings of the file's kind, and those of each kind that some flag makes
+    the command read in place of this file."""
     kinds = [kind for kind in (*command.reads, *command.behind.values()) if isinstance(kind, Kind)]
     others = [[these[place] for these in command.instead.values() if place < len(these)] for place in range(len(kinds))]
     return ["|".join(dict.fromkeys(ending for kind in (one, *more) for ending in kind.endings)) for one, more in zip(kinds, others)]

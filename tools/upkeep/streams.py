@@ -45,12 +45,12 @@ def is_right(way, calls, answer, expected):
 
 
 def sweep(program, shim, path, expected):
-    """The number of disturbed runs, and the wrong ones: for each the way, the number of the call, the letters of the
-    calls and the answer."""
+    """The number of runs in which a call was disturbed; and, for each run that `is_right` rejects, the disturbance, the
+    number of the call to disturb, the letters of the calls, and the answer."""
     spoiled, wrong = 0, []
     for way in WAYS:
-        # Each call of the run is disturbed in turn; with the last number no call is disturbed. For the disturbance
-        # `one`, the number 0 means that every call is disturbed.
+        # Each call is disturbed in turn (with `none`, only the writes). The last number is greater than the number of
+        # calls, so no call is disturbed. For the disturbance `one`, the number 0 means that every call is disturbed.
         numbers = [0] if way == "one" else []
         calls = run(program, shim, path, 0, "not")[1]
         numbers += range(1, len(calls) + 2)
@@ -63,8 +63,8 @@ def sweep(program, shim, path, expected):
 
 
 def by_bytes(length, number, expected):
-    """The right results of `run`, the answer and the letters of the calls, if each read and write moves at most one
-    byte and the call with the given number fails (0: none fails)."""
+    """What `run` must return (the answer, and a letter for each call) if each read and write moves at most one byte and
+    the call with the given number fails (0: none fails)."""
     reads = "r" * (length + 1)
     if number == 0:
         return expected, reads + "w" * len(expected[0])

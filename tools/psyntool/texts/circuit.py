@@ -82,7 +82,7 @@ class Circuit:
 
 
 def numbers(lines, count, least):
-    """The numbers on each of the first `count` lines, of which each line must have at least `least`."""
+    """The numbers on each of the first `count` lines. Each of these lines must have at least `least` numbers."""
     rows = [line.split() for line in lines[:count]]
     if len(rows) < count or any(len(row) < least or not all(map(is_number, row)) for row in rows):
         raise Unreadable(CAUSE)

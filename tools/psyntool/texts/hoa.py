@@ -83,8 +83,8 @@ class Reader:
         return found
 
     def formula(self, atom):
-        """Parses a formula of !, &, | and parentheses into postfix form, in which an operator also marks what was in
-        parentheses; `atom` parses the atoms."""
+        """Parses a formula of !, &, | and parentheses into postfix form; `atom` parses the atoms. After each formula
+        that was in parentheses, the postfix form has the operator `NESTED`."""
         output, waiting, wants_atom = [], [], True
         while True:
             sign = self.now
