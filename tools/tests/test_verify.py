@@ -1,5 +1,6 @@
 """Compares `verify` with an enumeration of the product of automaton and circuit; `lasso` confirms each
 counterexample."""
+import itertools
 import os
 import random
 import shutil
@@ -8,7 +9,7 @@ import unittest
 
 from psyntool.commands.shrink import NAMES
 from psyntool.program import path as program
-from tests import changes
+from tests import changes, products
 from tests.tool import AUTOMATON, OnFiles
 from upkeep.sweeps import TOP
 
@@ -42,6 +43,38 @@ def drawn(chance):
                 marks = " ".join(str(mark) for mark in range(sets) if chance.random() < 0.5)
                 lines.append(f"[{said}] {chance.randrange(states)} {{{marks}}}")
     return "\n".join([*lines, "--END--\n"])
+
+
+def drawn_condition(chance, depth):
+    """A random acceptance condition over three sets."""
+    if depth == 0 or chance.random() < 0.2:
+        return chance.choice([True, False]) if chance.random() < 0.1 else (chance.choice(["Inf", "Fin"]), chance.randrange(3))
+    return chance.choice("&|"), [drawn_condition(chance, depth - 1) for _ in range(chance.randrange(2, 4))]
+
+
+def is_cycle(links):
+    """Whether some cycle takes each of the given links (source, target, acceptance sets), and no other link."""
+    begins = {source for source, _, _ in links}
+    edges = {source: [(target, ()) for origin, target, _ in links if origin == source] for source in begins}
+    return begins == {target for _, target, _ in links} and len(set(products.components(edges).values())) == 1
+
+
+class Loops(unittest.TestCase):
+    def test_all_cycles_of_drawn_graphs(self):
+        """The enumeration finds a cycle of each truth exactly if some set of links is such a cycle."""
+        chance, told = random.Random("loops"), {}
+        for _ in range(1000):
+            count = chance.randrange(1, 4)
+            ends = [(chance.randrange(count), chance.randrange(count)) for _ in range(chance.randrange(1, 6))]
+            links = [(*one, frozenset(mark for mark in range(3) if chance.random() < 0.4)) for one in ends]
+            condition = drawn_condition(chance, 2)
+            some = [those for size in range(1, len(links) + 1) for those in itertools.combinations(links, size) if is_cycle(those)]
+            truths = {products.holds(condition, frozenset().union(*(marks for _, _, marks in those))) for those in some}
+            edges = {vertex: [(target, marks) for source, target, marks in links if source == vertex] for vertex in range(count)}
+            for truth in (True, False):
+                self.assertEqual(products.has_loop(edges, condition, truth), truth in truths, (edges, condition, truth))
+            told[frozenset(truths)] = told.get(frozenset(truths), 0) + 1
+        self.assertEqual(len(told), 4, told)
 
 
 class Verify(unittest.TestCase):
