@@ -1,6 +1,7 @@
 -- If one player holds a set by a table of moves, each history table (history-dependent strategy) of the other player
 -- loses from each vertex of the set. The proof builds a path on which the player who holds the set moves by the table,
--- and the other player by the history table. The player who holds the set wins each loop of this path.
+-- and the other player by the history table. The player who moves by the table wins each loop of the path that the
+-- proof builds.
 use Rattle.std.proofs.Common.{◌≡◌, ℕ, zero, suc, ◌+◌, ◌-◌, ◌<◌, ◌≤◌, inl, inr, List, [], ◌∷◌, ◌++◌, Bool, length, rules}
 use Rattle.std.proofs.Common.{get_or, Option, Some, refl, sym, ◌∙◌, arith}
 use Rattle.std.specs.Prelude.{IsTrue, IsSomeAnd}

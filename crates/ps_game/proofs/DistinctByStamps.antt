@@ -16,8 +16,8 @@ use Rattle.ps_game.specs.Drafts.{distinct, vertex_without_repeats, without_repea
 filter-cond : (p : ℕ → Bool) (b : Bool) (xs ys : List ℕ) → filter p (cond b xs ys) ≡ cond b (filter p xs) (filter p ys)
 filter-cond p b xs ys = search rules
 
--- a number is appended to the distinct numbers of a list if it is neither the head of the list (`e` is false) nor in
--- the tail (`b` is false)
+-- x is appended to the distinct numbers `y ∷ ys` of a list, unless x is the list's head y (`e` is true) or is in the
+-- list's tail (`b` is true)
 kept_or_not : (e b : Bool) (x y : ℕ) (ys : List ℕ) → y ∷ cond b ys (ys ++ cond (not e) (x ∷ []) []) ≡ cond (e || b)
     (y ∷ ys) ((y ∷ ys) ++ x ∷ [])
 kept_or_not e b x y ys = search (rules, append-nil)

@@ -1,4 +1,5 @@
--- Tables of moves that are stored in two lists: the entries of such a table, and the entries after a move was set.
+-- Tables of moves that are stored in two lists, `chosen` and `moves`. The laws state the move that such a table has at
+-- a vertex, and the table after one move is set.
 use Rattle.std.proofs.Common.{◌≡◌, ℕ, ◌<◌, Bool, true, false, cond, List, length, get_or, set, Option, Some}
 use Rattle.std.proofs.Common.{None, sym, rules}
 use Rattle.std.specs.Prelude.{replicate}

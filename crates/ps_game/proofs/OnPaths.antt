@@ -22,7 +22,7 @@ loop_priority_top game path i j rises within =
 some_more : (P Q : ℕ → Type 0) (o : Option ℕ) → ((w : ℕ) → P w → Q w) → IsSomeAnd o P → IsSomeAnd o Q
 some_more P Q o h k = search rules
 
--- a loop of a path that follows the table and stays in the set is a round (`IsRound`): a cycle through the set on which
+-- a loop of a path that follows the table and stays in the set is a round (`IsRound`): a cycle within the set on which
 -- the player moves by the table
 loop_round : (game : ParityGame) (player : ℕ) (set : ℕ → Bool) (table : ℕ → Option ℕ) (path : List ℕ) (i j : ℕ) →
     IsPath game path → ((k : ℕ) → k < length path → IsTrue (set (get_or path k 0))) → Follows game player table path →

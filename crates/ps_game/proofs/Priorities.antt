@@ -1,5 +1,5 @@
--- The list of a game's priorities of one parity: the program's loop collects the priorities of the vertices that it has
--- visited, and the full list is then sorted.
+-- The list of the priorities of one parity that occur in a game, each once. The program's loop appends the priority of
+-- each visited vertex whose priority has this parity. Then the list is sorted, and repeated priorities are dropped.
 use Rattle.std.proofs.Common.{◌≡◌, ℕ, ◌+◌, ◌%◌, ◌<◌, ◌≤◌, List, [], ◌∷◌, ◌++◌, below_more, eqb, refl, arith, rules}
 use Rattle.std.specs.Ordering.{nat_cmp}
 use Rattle.std.specs.List.{All, Contains, dedup}

@@ -11,7 +11,7 @@ use Rattle.ps_game.specs.Regions.{has}
 pub has-below : (region : List Bool) (v : ℕ) → has region v ≡ true → v < length region
 has-below region v inside = search (rules, cases_lt, false≢true, get_or_past)
 
--- an edge leads to the first successor of a vertex
+-- an edge leads from the vertex v to its first successor
 pub first_edge : (game : ParityGame) (v : ℕ) → IsGame game → v < vertex_count game →
     HasEdge game v (get_or (successors_of game v) 0 0)
 first_edge game v is_game is_vertex = search (rules, Contains-get_or)
@@ -43,7 +43,7 @@ pub number_of_edge : (game : ParityGame) (v w : ℕ) → HasEdge game v w →
     (k : ℕ) × (k < length (successors_of game v)) × (get_or (successors_of game v) k 0 ≡ w)
 number_of_edge game v w edge = search (rules, get_or_default)
 
--- if no successor is in a set, no edge leads into the set
+-- if no successor of v is in the set, no edge leads from v into the set
 pub none_leads : (game : ParityGame) (set : ℕ → Bool) (v : ℕ) →
     ((k : ℕ) → k < length (successors_of game v) → set (get_or (successors_of game v) k 0) ≡ false) → (w : ℕ) →
     LeadsInto game set v w → ⊥

@@ -223,7 +223,7 @@ none_counted p n (suc m) none = sum_by-cons (λ v. cond (p v) 1 0) n (range_with
 bit_again : (x : ℕ) → x < 2 → cond (x == 1) 1 0 ≡ x
 bit_again x h = search rules
 
--- the number of vertices that one word represents is the number of its bits that are set
+-- the number of vertices in the set among the 64 vertices of one word is the number of bits that are set in this word
 word_counted : (words : List ℕ) (k : ℕ) → get_or words k 0 < 2 ^ 64 →
     count_by (bit_in words) (range_with_len (k * 64) 64) ≡ count_ones (get_or words k 0)
 word_counted words k fits =
@@ -240,7 +240,8 @@ word_counted words k fits =
       bit_again (bit_at (get_or words k 0) i) (bit_at-lt (get_or words k 0) i),
     )))
 
--- the number of vertices that the first k words represent is the number of bits that are set in these words
+-- the number of vertices in the set among the vertices of the first k words is the number of bits that are set in these
+-- words
 words_counted : (words : List ℕ) → ((k : ℕ) → get_or words k 0 < 2 ^ 64) → (k : ℕ) → k ≤ length words
     → count_by (bit_in words) (range_with_len 0 (k * 64)) ≡ sum_by count_ones (take k words)
 words_counted words fits zero le = refl

@@ -4,8 +4,9 @@ use Rattle.std.specs.Prelude.{◌≡◌, ◌≢◌, ℕ, ◌<◌, Option, IsSome
 use Rattle.ps_game.specs.Games.{ParityGame, owner_of}
 use Rattle.ps_game.specs.Subgames.{IsWithin, LeadsInto}
 
--- the set contains the target. Of the subgame's vertices, it contains each vertex of the player with an edge within the
--- subgame into the set, and each vertex of the other player whose edges within the subgame all lead into the set
+-- the set contains the target. The set contains each vertex of the subgame that the player owns and that has an edge
+-- within the subgame into the set. The set contains each vertex of the subgame that the other player owns and whose
+-- edges within the subgame all lead into the set
 pub record IsClosedUnderAttraction (game : ParityGame) (subgame : ℕ → Bool) (player : ℕ) (target set : ℕ → Bool) : Type
     0 where
   pub holds : IsWithin target set

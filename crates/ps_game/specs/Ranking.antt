@@ -30,8 +30,9 @@ pub record ListsPriorities (game : ParityGame) (parity : ℕ) (list : List ℕ) 
   pub present : All (HasPriority game) list
 
 -- the rule of counts: the condition that a progress measure (the counts for one priority) must meet on one edge. If
--- neither end of the edge has a priority above the given one, the target's count is at most the source's count. If, in
--- addition, the source has the given priority, the target's count is smaller
+-- neither end of the edge has a priority above the given one, the count of the edge's target is at most the count of
+-- its source. If, in addition, the edge's source has the given priority, the count of the target is less than the count
+-- of the source
 pub record KeepsRule (priority from_priority to_priority from_count to_count : ℕ) : Type 0 where
   pub never_rises : from_priority ≤ priority → to_priority ≤ priority → to_count ≤ from_count
   pub falls : from_priority ≡ priority → to_priority ≤ priority → to_count < from_count

@@ -72,8 +72,8 @@ pub record IsBeaten (game : ParityGame) (player n : ℕ) (table : List ℕ → �
 abbrev pub HasLoop : List ℕ → Type 0
 HasLoop path = (i : ℕ) × (j : ℕ) × IsLoop path i j
 
--- from v, each history table of the player for paths of up to n vertices loses on some path; if n is at least the
--- number of vertices, this path has a loop
+-- each history table of the player for paths of up to n vertices loses on some path of n + 1 vertices from v
+-- (`IsBeaten`). If n is at least the game's number of vertices, this path has a loop
 abbrev pub AllHistoriesBeaten : ParityGame → ℕ → ℕ → Type 0
 AllHistoriesBeaten game player v =
     (n : ℕ) (table : List ℕ → ℕ) → IsHistoryTable game player n table →

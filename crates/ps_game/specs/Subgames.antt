@@ -17,7 +17,7 @@ pub record IsSubgame (game : ParityGame) (set : ℕ → Bool) : Type 0 where
   pub vertices : (v : ℕ) → IsTrue (set v) → v < vertex_count game
   pub goes_on : (v : ℕ) → IsTrue (set v) → (w : ℕ) × LeadsInto game set v w
 
--- a round: a cycle of k > 0 edges through the set, on which the player moves by the table
+-- a round: a cycle of k > 0 edges between vertices of the set, on which the player moves by the table
 pub record IsRound (game : ParityGame) (player : ℕ) (set : ℕ → Bool) (table : ℕ → Option ℕ) (walk : ℕ → ℕ)
     (k : ℕ) : Type 0 where
   pub some : 0 < k
