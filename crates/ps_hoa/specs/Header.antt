@@ -363,8 +363,8 @@ IsRangeBroken h =
     ⊎ (AnAliasBeyond (length (names_of h)) h.aliases ⊎ (IsConditionBeyond h.acceptance ⊎
     IsControlBeyond (length (names_of h)) h.controllable))
 
--- The possible flaws of a complete header. If a header has several flaws, the flaw with the smallest number is
--- reported.
+-- The possible flaws of a complete header. If a header has several flaws, the one with the smallest number in psyn's
+-- list of faults is reported.
 pub data IsBadHeader (h : HeaderData) : HoaCause → Type 0 where
   no_acceptance : h.acceptance ≡ None → IsBadHeader h causes.MissingAcceptance
   start_too_large : IsStartTooLarge h.states h.start → IsBadHeader h causes.Limit

@@ -133,7 +133,8 @@ IsNoBlank (Found kind n) = Unit {0}
 abbrev pub fresh : History
 fresh = record { stood = none_occurred; ended = false }
 
--- the tokens after the first `skip` bytes, which belong to the token or blank before them
+-- the tokens after the first `skip` bytes; these bytes are the rest of a token, a blank or a comment that began before
+-- them
 unfoldable pub lex_behind : List ℕ → ℕ → ℕ → List (Piece Sign)
 lex_behind [] skip at = []
 lex_behind (b ∷ bs) (suc skip) at = lex_behind bs skip (at + 1)

@@ -301,7 +301,8 @@ fn sets(alloc: Global, tokens: &mut Tokens, count: u32) -> Result<SmallVec<u32, 
     Ok(marks)
 }
 
-/// Parses acceptance sets, up to the first token that is not a number. Each set must be less than `count`.
+/// Parses the numbers of acceptance sets, up to the first token that is not a number. Each number must be less than
+/// `count`.
 fn set_numbers(alloc: Global, tokens: &mut Tokens, count: u32) -> Result<SmallVec<u32, 4>, HoaFault>
     ensures { ReadsAs (λ marks. marks.items) (many (parts.set_number count) []) tokens.old result tokens.new }
 {
@@ -314,7 +315,7 @@ fn set_numbers(alloc: Global, tokens: &mut Tokens, count: u32) -> Result<SmallVe
     Ok(marks)
 }
 
-/// The acceptance set that a token names, which must be less than `count`.
+/// The acceptance set that a token names by its number. The number must be less than `count`.
 fn set_of(token: Token, count: u32) -> Result<u32, HoaFault>
     ensures { Takes (λ n. n) int_in (BadIn (IsBadSet count)) (piece_of token.entry) result }
 {

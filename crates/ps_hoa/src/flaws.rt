@@ -17,7 +17,8 @@ use ps_label::Label;
 /// The limit on states: if the header has no `States:`, every state must be less than the limit.
 const STATE_LIMIT: u32 = 65_535;
 
-/// What is wrong with a header. If a header has several flaws, the flaw with the smallest number is returned.
+/// What is wrong with a header. If a header has several flaws, the one with the smallest number in psyn's list of
+/// faults is returned.
 pub(crate) fn flaw(header: &Header) -> Option<HoaCause>
     ensures { MatchOption result (IsSoundHeader (header_data header.now)) (IsLeastFlaw (header_data header.now)) }
 {

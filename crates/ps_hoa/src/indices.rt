@@ -41,7 +41,8 @@ impl Indices {
         self.numbers.as_slice()
     }
 
-    /// Adds a number, unless the list has a number with the same slot. Fails if out of memory.
+    /// Adds a number less than 64 unless the list has it already, and any other number unless the list has a number of
+    /// at least 64. Fails if out of memory.
     pub(crate) fn add(&mut self, number: u32) -> Result<(), AllocError>
         ensures ok { OnOk result (self.new ≡ kept self.old number) }
         ensures err { OnErr result (self.new ≡ self.old) }
@@ -54,7 +55,7 @@ impl Indices {
     }
 }
 
-/// Whether one of the numbers has the same slot as the given number.
+/// Whether the list has the given number or, if the given number is at least 64, some number of at least 64.
 fn has_place(numbers: &[u32], number: u32) -> bool
     ensures { result ≡ has_place (slot_of number) numbers.now }
 {
@@ -67,7 +68,8 @@ fn has_place(numbers: &[u32], number: u32) -> bool
     false
 }
 
-/// The slot of a number.
+/// The slot of a number: the number itself if it is less than 64, and otherwise 64. Of the numbers with the same slot,
+/// the list has only the first.
 fn place_of(number: u32) -> u32
     ensures { result ≡ slot_of number }
 {

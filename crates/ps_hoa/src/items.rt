@@ -255,8 +255,8 @@ fn alias<'a>(
     Ok(())
 }
 
-/// Parses the label of an alias. The numbers in it are not compared with the number of propositions, since `AP:` may
-/// come after `Alias:`.
+/// Parses the label of an alias. The numbers in the label are not compared with the number of propositions, since `AP:`
+/// may come after `Alias:`.
 fn header_label(alloc: Global, tokens: &mut Tokens, names: &Names) -> Result<Label, HoaFault>
     ensures { ReadsAs expression (labels.label (record { names = names.now; propositions = None }) nesting_limit)
         tokens.old result tokens.new }

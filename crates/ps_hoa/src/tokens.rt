@@ -150,7 +150,7 @@ pub(crate) fn is_name_byte(byte: u8) -> bool
     matches!(byte, b'0'..=b'9' | b'a'..=b'z' | b'A'..=b'Z' | b'_' | b'-')
 }
 
-/// The number of bytes at the start that may follow the first byte of a name.
+/// The length of the longest prefix that consists only of bytes that a name may contain after its first byte.
 fn name_at(bytes: &[u8]) -> usize
     ensures { IsRun names bytes.now result }
 {
@@ -368,7 +368,8 @@ pub(crate) fn is_same(name: &[u8], word: &[u8]) -> bool
 }
 
 impl History {
-    /// The history at the start of the header, after the token `HOA:` and before all other tokens.
+    /// The history at the start of the header: of the names that may occur only once, only `HOA:` has occurred, and
+    /// `--END--` has not occurred.
     fn new() -> Self
         ensures { result ≡ fresh }
     {

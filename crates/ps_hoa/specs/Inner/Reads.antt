@@ -16,13 +16,14 @@ abbrev pub ReadsAs : {V X : Type 0} → (X → V) → Part Sign V HoaCause → S
     Type 0
 ReadsAs view part old result new = Meets found_of hoa_causes view part (stream_of old) result (stream_of new)
 
--- f is an error of the token, and no error of the token has a smaller number
+-- f is an error of the token (`Bad`), and no error of the token has a smaller number in psyn's list of faults
+-- (`cause_number`)
 pub record IsWorst (Bad : Sign → HoaCause → Type 0) (sign : Sign) (f : HoaCause) : Type 0 where
   pub stands : Bad sign f
   pub least : (g : HoaCause) → Bad sign g → cause_number f ≤ cause_number g
 
--- the grammar does not allow the token here, and the token has no error (`Bad`); f is the cause with which it is
--- rejected everywhere (`own_cause`), or else `Syntax`
+-- the grammar does not allow the token here, and `Bad` names no error of the token. The cause f is the one with which
+-- the token is rejected wherever it occurs (`own_cause`), or `Syntax` if there is no such cause
 pub record IsRefusal {V : Type 0} (take : Sign → Option V) (Bad : Sign → HoaCause → Type 0) (sign : Sign)
     (f : HoaCause) : Type 0 where
   pub none : take sign ≡ None
