@@ -25,7 +25,7 @@ leads_down game subgame set rank v move there = search (rules, some_more)
 pub not_in : (set : ℕ → Bool) (v : ℕ) → set v ≡ false → ¬ IsTrue (set v)
 not_in set v outside inside = false≢true (sym outside ∙ inside)
 
--- each vertex of a round (a cycle through the set), including the last one, which equals the first, is in the set
+-- each vertex of a round (a cycle within the set), including the last one, which equals the first, is in the set
 pub round_inside : {game : ParityGame} {player : ℕ} {set : ℕ → Bool} {table : ℕ → Option ℕ} {walk : ℕ → ℕ} {k : ℕ} →
     IsRound game player set table walk k → (t : ℕ) → t ≤ k → IsTrue (set (walk t))
 round_inside {set} {walk} {k} round t within = search (rules, cases_eq)
