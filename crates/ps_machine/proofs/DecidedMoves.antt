@@ -1,5 +1,5 @@
--- Equality of steps is decidable, so each letter of the first player has a class, and each letter of the second player
--- has a move of the game.
+-- Equality of steps is decidable. So each letter of the first player has a class, and each letter of the second player
+-- makes the same step as a move, which is the least letter that makes this step.
 use Rattle.std.proofs.Common.{arith, rules, ◌≡◌, ◌⊎◌, inl, inr, ℕ, ◌+◌, ◌^◌, ◌<◌, Bool, true, false, not, refl, ap, sym}
 use Rattle.std.proofs.Common.{◌∙◌}
 use Rattle.std.specs.Prelude.{◌&&◌}
@@ -122,7 +122,8 @@ module _ (board : Board) where
         steps_sym q class x here.1,
       )
 
-  -- after the letter of a class, each letter of the second player leads to the same step as some move of the game
+  -- after the first player's letter `class`, each letter of the second player makes the same step as a move, which is
+  -- the least letter that makes this step
   pub move_there : {q : ℕ} (class : ℕ) {y : ℕ} → IsSecondLetter board y →
       (move : ℕ) × IsMove board q class move × SameStep board q (class + move) (class + y)
   move_there {q} class {y} second =

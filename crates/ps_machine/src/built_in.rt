@@ -22,7 +22,7 @@ const ROUNDS: u64 = 8;
 const GROWTH: u64 = 64;
 
 /// How many times the solver's recursion may assign a vertex to a player in the first round, for each vertex of the
-/// game. In practical games, a vertex is assigned about ten times on average.
+/// game. In practical games, the recursion assigns each vertex to a player about ten times on average.
 const PLACED_EACH: u64 = 256;
 
 /// How many more times the recursion may assign a vertex to a player in the first round, in addition to `PLACED_EACH`

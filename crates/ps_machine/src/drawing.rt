@@ -124,8 +124,8 @@ impl Drawing {
             .relabel_from(&plan.divided.store, rest, &self.places)
     }
 
-    /// For each of the given leaves of the automaton's diagrams, adds to the machine's table the leaf's row, with the
-    /// output `letter`, unless the table has it, and records the row's index.
+    /// Each of the given leaves of the automaton's diagrams needs a row: the output `letter`, and the memory state
+    /// after the leaf's step. Adds the rows that the machine's table lacks, and records the index of each leaf's row.
     fn place_rows(
         &mut self,
         plan: &Plan<'_>,

@@ -98,8 +98,8 @@ impl Drawing {
     }
 }
 
-/// The letter that is listed with a given step of the automaton. Each entry of the list `leaves` has the index of a
-/// step and a letter; if several entries have the given step, the result is the letter of the first of them.
+/// The letter that is listed with a given step of the automaton. Each entry of the list `leaves` is a pair: a step's
+/// index, and a letter. If several entries have the given step, the result is the letter of the first of them.
 fn letter_to(automaton: &Automaton, leaves: &[(u64, u64)], step: Step) -> u64
     requires named { All (λ leaf. leaf.0 < length automaton.now.steps) leaves.now }
     requires there { Any (λ leaf. pair_of automaton.now leaf.0 ≡ step) leaves.now }

@@ -72,7 +72,8 @@ Heeds order a t rest =
     (x y : ℕ) → ((p : ℕ) → p < length a.names → (board_of order a).is_first p ≡ false → is_in p x ≡ is_in p y) →
     leaf_of t rest x ≡ leaf_of t rest y
 
--- `rest` is the diagram of the steps after the letter of a class, and depends only on the second player's propositions
+-- `rest` is the diagram of the steps from the state q after the first player's letter `letter`, and depends only on the
+-- second player's propositions
 pub record Left (order : Order) (a : AutomatonData) (mask : ℕ) (t : Table) (q letter rest : ℕ) : Type 0 where
   pub fit : IsFit order a mask t
   pub is_rest : IsRest order a mask t q letter rest
@@ -123,7 +124,7 @@ pub any_class : (list : List Class) {letter : ℕ} {c : Class} → c.letter ≡ 
 any_class list {c} is k within at = (k, c, within, at c, (is, refl))
 
 -- if the certificate's move at a vertex leads to the vertex of a class, this class is stored for the vertex's state;
--- the diagram stored with a class is that of the steps after its letter
+-- the diagram stored with a class is that of the steps after the class's least letter
 module _ {order : Order} {a : AutomatonData} {keys : List Key} {t : Table} {classes : ℕ → Option Classes} (v : ℕ)
     {q p : ℕ} {c : Classes} {l : List Class} (d : AreDivided order a keys t classes) (at : StandsAt keys v (First q p))
     (of : classes q ≡ Some c) (same : l ≡ c.list.items) where

@@ -122,8 +122,8 @@ module _ {board : Board} {mover : ℕ} {keys : List Key} {game : ParityGame} {ce
   pub second_owner : (v : ℕ) {q x : ℕ} → StandsAt keys v (Second q x) → owner_of game v ≡ 1 - mover
   second_owner v {q} {x} at = owner_at v at
 
-  -- a step of the machine is two moves in the game if the winner of vertex 0 also wins the vertex at which this player
-  -- moves, so that the certificate's move there is an edge
+  -- A step of the machine is two moves in the game, one of them by the winner of vertex 0. This player must also win
+  -- the vertex at which this player moves: then the certificate's move there is an edge.
   pub round_first : (v q p x letter w : ℕ) → mover ≡ winner_at_start certificate →
       winner_of certificate v ≡ winner_at_start certificate →
       StandsAt keys v (First q p) → StepsFirst board keys certificate v q x letter → IsSecondLetter board x →

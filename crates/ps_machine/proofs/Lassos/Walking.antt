@@ -213,8 +213,8 @@ module _ {board : Board} {mover : ℕ} {keys : List Key} {game : ParityGame} {ce
       pub state_returns : state_at board.auto w (from + count) ≡ state_at board.auto w from
       state_returns = grind (arith, walk from, walk (from + count), same_state, entering)
 
-      -- if two steps of the machine have the same memory state and the same letter, the walk is at the same vertex one
-      -- step after each of them
+      -- if two steps of the machine begin in the same memory state and have the same letter, the walk reaches the same
+      -- vertex by each of them
       vertex_returns : vertex_at (suc from + count) ≡ vertex_at (suc from)
       unfolding vertex_at entering
       vertex_returns =

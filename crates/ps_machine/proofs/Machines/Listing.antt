@@ -1,5 +1,6 @@
--- An ascending list of the numbers with a property is unique, and grows by one number at a time. In ascending order,
--- the code lists the propositions that a machine reads, and those that it outputs.
+-- The ascending list of the numbers less than n with a property is unique. The list for n + 1 is the list for n, with n
+-- appended if n has the property. In ascending order, the code lists the propositions that a machine reads, and those
+-- that it outputs.
 use Rattle.std.proofs.Common.{◌≡◌, ◌≢◌, ℕ, zero, suc, ◌+◌, ◌<◌, Bool, true, false, cond, List, [], ◌∷◌, ◌++◌, length}
 use Rattle.std.proofs.Common.{get_or, nat_eq, refl, ap, sym, ◌∙◌, arith, inl, inr, rules}
 use Rattle.std.proofs.lemmas.Bool.{cases_Bool, cases_eq, eq-eqb, ne_eqb}

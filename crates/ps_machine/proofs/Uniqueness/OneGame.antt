@@ -136,7 +136,7 @@ module _ (board : Board) (mover : ℕ) where
       grind (arith, counts_front)
 
   -- If at most v different numbers have occurred before the vertex v is visited, at most v have occurred after the
-  -- visit. A further number would be v itself, but no vertex is its own successor.
+  -- visit. Otherwise the number v would first occur as a successor of v, but no vertex is its own successor.
   still : (keys : List Key) (game : ParityGame) (v c d : ℕ) → IsIt keys game → v < vertex_count game →
       Counts (listed game v) c → c ≤ v → Counts (listed game (suc v)) d → d ≤ v
   still keys game v c d is lt counts le next = elim (cases_lt v d) [

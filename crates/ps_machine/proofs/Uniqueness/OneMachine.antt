@@ -1,5 +1,5 @@
--- A certificate has at most one machine. A machine keeps one vertex for each memory state, in ascending order. Each
--- step has only one output letter and one next memory state.
+-- A certificate has at most one machine. A machine keeps one vertex for each memory state, and these vertices ascend.
+-- Each step has only one output letter and one next memory state.
 use Rattle.std.proofs.Common.{◌≡◌, ◌≢◌, ℕ, ◌+◌, ◌<◌, Bool, true, false, not, List, length, Some, refl, ap}
 use Rattle.std.proofs.Common.{sym, ◌∙◌, arith, rules}
 use Rattle.std.specs.Prelude.{slice_get}
@@ -119,8 +119,8 @@ module _ (names : List (List ℕ)) (board : Board) (mover : ℕ) (keys : List Ke
     same_memories : m.memories ≡ o.memories
     same_memories = cc (of.memories, same_kept, other.memories)
 
-    -- a step of the machine o at the letter x; the vertices that its memory states stand for are looked up in
-    -- `of.kept`, the list of the other machine m
+    -- a step of the machine o at the letter x; its memory states stand for vertices in `of.kept`, which is the list of
+    -- the machine m and, by `same_kept`, also o's own
     record Steps (memory x : ℕ) : Type 0 where
       vertex : ℕ
       state : ℕ

@@ -42,7 +42,7 @@ abbrev pub GoesOn : ParityGame → CertificateData → ℕ → ℕ → Type 0
 GoesOn game certificate v w = RemainsFor game (winner_at_start certificate) (choice_of certificate) v w
 
 -- all numbers appended to the list have the property `IsNext`, and the list now has every number with this property; if
--- the entries of the old list differ, those of the new list do, too
+-- the old list has no number twice, neither has the new list
 pub record Adds (IsNext : ℕ → Type 0) (old new : List ℕ) : Type 0 where
   pub added : List ℕ
   pub grown : new ≡ old ++ added

@@ -3,9 +3,10 @@
 -- - `IsPlanned plan`: the machine can be made from the plan
 -- - `AreDividedBy plan`: the plan has the classes of letters of each state at which the first player moves
 -- - `IsReadyPlan plan`: the plan satisfies `IsPlanned` and `AreDividedBy`
--- - `CanDraw plan drawing v`: the diagram of the memory state of the vertex v can be added to the drawing
--- - `Draws plan old new v result`: a call keeps the diagrams and the rows of the drawing, and returns the diagram of
---   the memory state of the vertex v, or fails
+-- - `CanDraw plan drawing v`: the diagram of the memory state of the vertex v can be added to the `Drawing`, which has
+--   the machine's diagrams and rows so far
+-- - `Draws plan old new v result`: a call changes the `Drawing` from `old` to `new`, which keeps all diagrams and rows;
+--   the call returns the diagram of the memory state of the vertex v, or fails
 use Rattle.std.specs.Prelude.{◌≡◌, ℕ, nat_eq, Bool, false, IfOk, List, Result}
 use Rattle.std.specs.List.{All, Contains}
 use Rattle.indexmap.specs.IndexMap.{get}
