@@ -6,8 +6,8 @@ ghost use Rattle.std.specs.Prelude.{◌≡◌, ℕ, ◌+◌, ◌*◌, ◌/◌, �
 use ps_components::{Arrangement, Graph, arrange, components_from, components_of, way_back};
 use std::alloc::Global;
 
-/// A graph as a list with two entries for each vertex. An entry is a vertex to which the vertex has a link; an entry
-/// that is not a vertex means no link.
+/// A graph as a list that has two entries for each vertex v, at the indices 2 v and 2 v + 1. An entry that is a vertex
+/// means a link from v to it; any other entry means no link.
 #[derive(Drop)]
 struct Table<'a> {
     targets: &'a [usize],

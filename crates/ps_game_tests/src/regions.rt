@@ -78,7 +78,7 @@ fn united(alloc: Global, places: usize) -> Result<Region, AllocError> {
     Ok(united)
 }
 
-/// The region of all multiples of 3 that are no multiples of 5, made as a difference of two regions.
+/// The region of all multiples of 3 that are not multiples of 5, made as a difference of two regions.
 fn subtracted(alloc: Global, places: usize) -> Result<Region, AllocError> {
     let mut rest = filled(alloc, places, Set::Thirds)?.copy()?;
     let fifths = filled(alloc, places, Set::Fifths)?;
