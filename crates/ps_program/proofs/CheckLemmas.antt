@@ -49,7 +49,8 @@ pub outcome_names_vertices : (game : ParityGame) (given : CertificateData) (outc
     IfErr outcome (NamesVertices (vertex_count game))
 outcome_names_vertices game given outcome is_game fits first = grind (arith, flaw_names_vertices)
 
--- the command's result is the line for the outcome of the test: the word for success, or the line of the flaw
+-- the command's result is the line for the outcome of the test: the word for success, or the line that reports the
+-- flaw
 pub tests_told : (IsGood : ParityGame → CertificateData → Type 0) (word : List ℕ) (named : NamedGameData)
     (given : CertificateData) (outcome : Result (Unit {0}) Flaw) (result : Result Answer Refusal) → IsGame named.game
     → (IsOk outcome ↔ IsGood named.game given) → IfErr outcome (IsFirstFlaw named.game given) →

@@ -15,7 +15,8 @@ use Rattle.ps_program.proofs.AutomatonLemmas.{no_line}
 pub unsure : (sure : Bool) → (sure ≡ true → ⊥) → sure ≡ false
 unsure sure never = grind arith
 
--- if the solver returns no valid certificate, the command's result is the line of the solver's fault
+-- if the solver returns no valid certificate, the command's result is the line that reports the solver's fault, or lack
+-- of memory
 pub certifies_refused : (solver : SolverData) (named : NamedGameData) (fault : SynthFault) (refused : Refusal) →
     IsSolverFault (answers_now solver) named fault → (solver.is_sure ≡ true → fault ≡ OutOfMemory)
     → IsTold fault refused → Gives (λ (c : CertificateData). c) (Certifies solver named) (Err refused)

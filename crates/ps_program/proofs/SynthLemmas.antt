@@ -40,7 +40,7 @@ pub gives_told : (solver : SolverData) (order : Order) (compact : Bool) (text : 
     → IsTold fault refused → Gives (λ (report : Report). report) (Synthesises solver order compact text) (Err refused)
 gives_told solver order compact text fault refused cause surely told = grind (arith, unsure_of)
 
--- ---- a solver whose possible answers are the same after a call as before
+-- ---- a solver whose possible answers after a call were all possible before the call
 
 module _ (old new : SolverData) (kept : IsKept old new) where
   synthesises_kept : (order : Order) (compact : Bool) (text : List ℕ) (outcome : Result Report (List ℕ))
@@ -55,7 +55,8 @@ module _ (old new : SolverData) (kept : IsKept old new) where
   answers_kept asked text outcome (inl (line, h, e)) = inl (line, search (rules, synthesises_kept), e)
   answers_kept asked text outcome (inr (report, h, e)) = inr (report, search (rules, synthesises_kept), e)
 
-  -- whatever `synth` may answer with the solver after a call, it could also have answered before the call
+  -- each result that `synth` may give with the solver's state after a call of the solver, it may also give with the
+  -- state before this call
   pub gives_kept : (asked : SynthLine) (text : List ℕ) (result : Result Answer Refusal)
       → Gives reply_of (AnswersReport new asked text) result → Gives reply_of (AnswersReport old asked text) result
   gives_kept asked text (Ok answer) h = answers_kept asked text (Ok (reply_of answer)) h

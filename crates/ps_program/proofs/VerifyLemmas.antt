@@ -42,8 +42,8 @@ module _ (role : Role) (file : FileData) (chain : Chain) (a : AutomatonData) (c 
   to_file : HasSymbols role a.names a.controllable c → HasSymbols role file.names file.controllable c
   to_file has = grind arith
 
-  -- if a fault states why a circuit and an automaton have no product, the line of this fault is a possible result of
-  -- `verify`
+  -- if a fault states why a circuit and an automaton have no product, the line that reports this fault is a possible
+  -- result of `verify`
   pub refusal_told : (order : Order) (fault : ProductFault) (line : List ℕ) → fault ≢ product.OutOfMemory →
       IsProductRefusal order role a c fault → line ≡ product_line fault → IsProductLine order role file c line
   refusal_told order product.Symbols line memory not is = inl (λ has. not (from_file has), is)

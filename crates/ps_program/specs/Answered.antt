@@ -11,8 +11,9 @@
 --   `cert` has an answer
 -- - `IsPrintable compact game certificate circuit`: some report has the texts that psyn writes for these three (a text
 --   may be too long for a `Vec`)
--- - `HasSomeSynthesis solvers`: an input with the command `synth` has an answer if `MayCertify` or `MayReplay` holds
---   for the solver that `synth` calls, and the reports that follow from its certificates are printable (`IsPrintable`)
+-- - `HasSomeSynthesis solvers`: an input with the command `synth` has an answer under two conditions. `MayCertify` or
+--   `MayReplay` holds for the solver that `synth` calls. `IsPrintable` holds for each valid certificate that the solver
+--   may return, and for the winner's circuit that it gives
 use Rattle.std.specs.Prelude.{◌≡◌, ◌↔◌, ⊤, ℕ, Bool, true, false, IsTrue, List, Some, Result, Ok}
 use Rattle.ps_certificate.specs.Certificates.{CertificateData}
 use Rattle.ps_circuit.specs.Circuits.{CircuitData}
@@ -87,7 +88,8 @@ IsPrintable compact game certificate circuit =
     × PrintsCertificate compact report.certificate_text.items game certificate
     × PrintsCircuit report.circuit_text.items circuit × (IsTrue report.realizable ↔ (winner_at_start certificate ≡ 0))
 
--- each report that follows from a certificate of this solver is printable (`IsPrintable`)
+-- `IsPrintable` holds for the automaton's game, each valid certificate that this solver may return for the game, and
+-- the winner's circuit that the certificate gives
 abbrev pub IsPrintedBy : SolverData → SynthLine → List ℕ → Type 0
 IsPrintedBy solver asked text = (file : FileData) (game : NamedGameData) (is_game : IsGameOfFile asked.order file game)
     (certificate : CertificateData) (circuit : CircuitData) → IsAcceptedText text file →
@@ -95,8 +97,8 @@ IsPrintedBy solver asked text = (file : FileData) (game : NamedGameData) (is_gam
     IsWinnersCircuit asked.order file game is_game certificate circuit →
     IsPrintable asked.compact game certificate circuit
 
--- the solver that `synth` calls meets its condition (`MayCertify`, or with `--cert` `MayReplay`), and each report that
--- follows from a certificate of this solver is printable
+-- the solver that `synth` calls meets its condition (`MayCertify`, or with `--cert` `MayReplay`), and `IsPrintable`
+-- holds for each valid certificate that it may return
 abbrev pub MaySynthesise : (cert : Bool) → Solvers → SynthLine → List ℕ → Type 0
 MaySynthesise false solvers asked texts = MayCertify solvers.built_in × IsPrintedBy solvers.built_in asked texts
 MaySynthesise true solvers asked texts = MayReplay solvers.replay

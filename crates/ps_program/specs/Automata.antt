@@ -18,7 +18,7 @@ use Rattle.ps_program.specs.StageFaults.{automaton_line}
 abbrev pub ReadsHoaText : List ℕ → Result FileData (List ℕ) → Type 0
 ReadsHoaText text = Reading hoa.cause_number hoa_names.cause_name (ReadsFile text)
 
--- the HOA file if it has an automaton, and otherwise the line that reports the fault that states why it has none
+-- the HOA file if it has an automaton, and otherwise the line that reports why it has none
 abbrev pub Builds : FileData → Result FileData (List ℕ) → Type 0
 Builds file (Ok built) = IsAdmitted file × (built ≡ file)
 Builds file (Err line) = (fault : AutomatonFault) × IsRefused file fault × (automaton_line fault ≡ Some line)
@@ -27,7 +27,7 @@ Builds file (Err line) = (fault : AutomatonFault) × IsRefused file fault × (au
 abbrev pub ReadsAutomaton : List ℕ → Result FileData (List ℕ) → Type 0
 ReadsAutomaton text = Then (ReadsHoaText text) Builds
 
--- the result for an HOA text: its automaton, or the line of the first fault, or `OutOfMemory`
+-- the result for an HOA text: its automaton, or the line that reports the first fault, or `OutOfMemory`
 abbrev pub GivesAutomaton : List ℕ → Result AutomatonData Refusal → Type 0
 GivesAutomaton text (Ok automaton) =
     (file : FileData) × ReadsAutomaton text (Ok file) × ((chain : Chain) × IsBuiltFrom file chain automaton)

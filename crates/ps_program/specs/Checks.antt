@@ -7,8 +7,8 @@ use Rattle.ps_program.specs.Outcomes.{Then}
 use Rattle.ps_program.specs.Replies.{Reply, line_reply}
 use Rattle.ps_program.specs.Texts.{ReadsCertified, flaw_text}
 
--- what is printed after a test of a certificate: the given word if no flaw was found, and otherwise the line of the
--- flaw
+-- what is printed after a test of a certificate: the given word if no flaw was found, and otherwise the line that
+-- reports the flaw
 abbrev pub test_told : List ℕ → NamedGameData → Result (Unit {0}) Flaw → Result Reply (List ℕ)
 test_told word named (Ok done) = Ok (line_reply word)
 test_told word named (Err flaw) = Err (flaw_text named flaw)

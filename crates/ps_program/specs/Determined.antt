@@ -2,11 +2,13 @@
 -- stimulus `verify` reports, and which certificate a solver chooses. Even in the exceptional cases, any two answers
 -- have something in common.
 -- - `IsUndetermined line texts`: the command in the line may have more than one correct answer
--- - `IsReplaying solver`: the solver may only answer the result of parsing the text that it was fed
+-- - `IsReplaying solver`: the solver only returns the result of parsing the text that it was fed, unless memory runs
+--   out
 -- - `AgreeAsReports order full text a b`: two reports for a text have the same winner and the automaton's game
 -- - `AgreeInWinners compact game a b`: the answers a and b print certificates of the game with the same winners
 -- - `AgreeAsLosing order role file c a b`: both answers show a stimulus on which the circuit loses
--- - `HasOneAnswer solvers`: any two answers are equal, or they agree as stated by `Agree`, or one reports a fault
+-- - `HasOneAnswer solvers`: any two answers to the same input are equal, or the command allows several answers; then
+--   the two agree as `Agree` states, or one of them reports a fault
 -- - `HasOneCertified solvers`: with a given certificate, `synth` has one answer if its solver only parses it
 -- - `NeedsItsTexts solvers`: a command with fewer texts than it needs has one answer: a text is missing
 use Rattle.std.specs.Prelude.{◌≡◌, ◌<◌, ◌⊎◌, ◌+◌, ◌-◌, ℕ, Bool, true, false, List, Option, Result, Ok, Err, filter}
@@ -120,8 +122,7 @@ abbrev pub IsFaultReply : Reply → Type 0
 IsFaultReply reply = (line : List ℕ) × (reply ≡ fault_reply line)
 
 -- Any two answers to the same input are equal, unless the input's command allows several answers (`IsUndetermined`).
--- If the command allows several answers, any two answers agree as `Agree` states, or one of them is the line of a
--- fault.
+-- If the command allows several answers, any two answers agree as `Agree` states, or one of them reports a fault.
 abbrev pub HasOneAnswer : Solvers → Type 0
 HasOneAnswer solvers = (input : List ℕ) (a b : Reply) → AnswersWhole solvers input a → AnswersWhole solvers input b
     → (a ≡ b) ⊎ ((line : Line) × IsLine (first_line input) line × IsUndetermined line (behind_line input) ×

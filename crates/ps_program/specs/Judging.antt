@@ -22,7 +22,7 @@ use Rattle.ps_program.specs.Outcomes.{Then, Reading}
 use Rattle.ps_program.specs.Replies.{Reply, text_reply}
 use Rattle.ps_program.specs.Texts.{CutsInTwo, ReadsGameText, NamesVertices, id_of, flaw_text}
 
--- the result of parsing a text as a solution of the game: the solution, or the line of the first error
+-- the result of parsing a text as a solution of the game: the solution, or the line that reports the first error
 abbrev pub ReadsSolutionText : NamedGameData → List ℕ → Result SolutionData (List ℕ) → Type 0
 ReadsSolutionText named text =
     Reading certificate.cause_number certificate.cause_name (ReadsSolution named.ids text)
@@ -79,7 +79,7 @@ Names count (Unclosed flaw) = NamesVertices count flaw
 Names count (BadCycle player cycle) = All (λ v. v < count) cycle.items
 Names count OutOfMemory = ⊤
 
--- the fault that is returned is the line of the cycle, or `OutOfMemory`
+-- the fault that is returned is the line that reports the cycle, or `OutOfMemory`
 abbrev pub IsCycleTold : NamedGameData → List ℕ → Refusal → Type 0
 IsCycleTold named cycle (refusal.Fault line) = fault_text line ≡ cycle_text named cycle
 IsCycleTold named cycle refusal.OutOfMemory = ⊤

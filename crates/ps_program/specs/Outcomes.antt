@@ -1,5 +1,5 @@
--- A command is answered in steps. The result of a step is a value, or the line of the first fault, without the newline
--- that ends it.
+-- A command is answered in steps. The result of a step is a value, or the line that reports the first fault, without
+-- the newline that ends the line.
 use Rattle.std.specs.Prelude.{◌≡◌, ◌⊎◌, ⊤, ℕ, List, Result, Ok, Err}
 use Rattle.ps_text.specs.Answers.{Found}
 use Rattle.ps_program.specs.declared.answer.Answer.{Answer}

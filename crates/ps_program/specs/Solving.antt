@@ -12,9 +12,9 @@ use Rattle.ps_program.specs.Replies.{Reply, text_reply}
 use Rattle.ps_program.specs.StageFaults.{stage_line}
 use Rattle.ps_program.specs.Texts.{ReadsGameText}
 
--- The result of solving a game: a valid certificate that fits the game and that the solver may return, or the line of
--- the solver's fault. If the solver is sure, the result is a certificate: a sure solver returns only valid certificates
--- that fit the game, unless memory runs out.
+-- The result of solving a game: a valid certificate that fits the game and that the solver may return, or the line that
+-- reports the solver's fault. If the solver is sure, the result is a certificate: a sure solver returns only valid
+-- certificates that fit the game, unless memory runs out.
 abbrev pub Certifies : SolverData → NamedGameData → Result CertificateData (List ℕ) → Type 0
 Certifies solver named (Ok certificate) = IsCertified named certificate × answers_now solver named (Ok certificate)
 Certifies solver named (Err line) = (fault : SynthFault) × IsSolverFault (answers_now solver) named fault

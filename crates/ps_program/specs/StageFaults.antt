@@ -1,6 +1,7 @@
 -- The faults of synthesis, as the program reports them: by the number and the name of each fault.
--- - `automaton_line fault`: the line that reports a fault for which a file has no automaton
--- - `stage_line fault`: the line that reports a fault for which there is no certificate, no circuit or no report
+-- - `automaton_line fault`: the line that reports why a file has no automaton, or None for lack of memory
+-- - `stage_line fault`: the line that reports why there is no certificate, no circuit or no report, or None for lack
+--   of memory
 use Rattle.std.specs.Prelude.{◌≡◌, ⊤, ℕ, List, [], Option, None, Some}
 use Rattle.ps_automaton.specs.FaultNames as automaton_faults
 use Rattle.ps_automaton.specs.declared.fault.AutomatonFault.{AutomatonFault}
@@ -13,7 +14,7 @@ use Rattle.ps_program.specs.declared.answer.Refusal.{Refusal}
 use Rattle.ps_program.specs.declared.answer.Refusal.TheVariants as refusal
 use Rattle.ps_program.specs.Faults.{byte_text, edges_text, fault_text, ids_text, line_text}
 
--- the place that the line that reports a fault names, or None for `OutOfMemory`, which has no line
+-- the place that is printed for a fault, or None for `OutOfMemory`, which no line reports
 abbrev pub automaton_place : AutomatonFault → Option (List ℕ)
 automaton_place automaton.ComplementedSet = Some []
 automaton_place automaton.NonParity = Some []

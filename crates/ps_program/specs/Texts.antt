@@ -37,13 +37,13 @@ CutsInThree texts (Err line) = HasFewerSeparators 2 texts × (line ≡ missing_t
 
 -- ---- game texts
 
--- the result of parsing a text as a game: the game, or the line of the first error
+-- the result of parsing a text as a game: the game, or the line that reports the first error
 abbrev pub ReadsGameText : List ℕ → Result NamedGameData (List ℕ) → Type 0
 ReadsGameText text = Reading game.cause_number game.cause_name (Answer text)
 
 -- ---- certificate texts
 
--- the result of parsing a text as a certificate of the game: the certificate, or the line of the first error
+-- the result of parsing a text as a certificate of the game: the certificate, or the line that reports the first error
 abbrev pub ReadsCertificateText : NamedGameData → List ℕ → Result CertificateData (List ℕ) → Type 0
 ReadsCertificateText named text = Reading certificate.cause_number certificate.cause_name (ReadsCertificate named text)
 
@@ -55,7 +55,7 @@ ReadsCertified texts =
 
 -- ---- circuit texts and stimuli
 
--- the result of parsing a text as a circuit: the circuit, or the line of the first error
+-- the result of parsing a text as a circuit: the circuit, or the line that reports the first error
 abbrev pub ReadsCircuitText : List ℕ → Result CircuitData (List ℕ) → Type 0
 ReadsCircuitText text = Reading circuit.cause_number circuit_names.cause_name (circuit_text.ReadsCircuit text)
 
@@ -76,7 +76,7 @@ ReadsSimulated texts =
 abbrev pub id_of : NamedGameData → ℕ → ℕ
 id_of named v = slice_index named.ids v
 
--- the place that the line of a flaw names: its vertices, by their ids, and the priority, if any
+-- the place in the line that reports a flaw: the ids of the flaw's vertices, and the flaw's priority, if it has one
 abbrev pub flaw_place : NamedGameData → Flaw → List ℕ
 flaw_place named (flaw.Move v choice) = spaced (id_of named v) ++ choice_text (option_map (id_of named) choice)
 flaw_place named (flaw.Escape v w) = spaced (id_of named v) ++ spaced (id_of named w)

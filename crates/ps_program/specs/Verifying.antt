@@ -45,7 +45,8 @@ IsProductLine order role file c line =
     (¬ HasSymbols role file.names file.controllable c × (line ≡ product_line Symbols))
     ⊎ (HasSymbols role file.names file.controllable c × IsTooEarly order role c × (line ≡ product_line Timing))
 
--- the judgement on a circuit: it wins, or it loses on a printed stimulus, or the line of the first fault
+-- what is printed for a circuit: that it wins; or a stimulus on which it loses; or the line that reports why it can't
+-- be judged
 abbrev pub TellsJudgement : Order → Role → FileData → CircuitData → Result Reply (List ℕ) → Type 0
 TellsJudgement order role file c (Ok reply) = IsCircuit c
     × ((IsWinning order role file c × (reply ≡ wins_reply))

@@ -10,13 +10,13 @@ ghost use Rattle.ps_program.specs.Solvers.{solvers_of};
 use ps_machine::Solver;
 
 /// Whatever the solvers, an input has at most one answer: each program that meets the definitions writes the same bytes
-/// and ends with the same exit status, unless it runs out of memory. Only for five commands (`judge`, `verify`, `solve`,
-/// `cert` and `synth`) may two answers to an input differ. If `judge` finds cycles that make a player lose, the law
-/// does not say which of them the answer names. If `verify` finds that the circuit loses, the law does not say which
-/// losing stimulus the answer shows. If `solve`, `cert` or `synth` accepts its text, any two answers that do not report
-/// a fault agree on the winners. Two answers to `synth` without a fault have the same status, first line and game; two
-/// answers to `solve` or `cert` without a fault have the same regions. With `synth --cert`, the whole answer is
-/// determined if the second solver only returns the certificate whose text it was fed.
+/// and ends with the same exit status, unless it runs out of memory. Only for five commands (`judge`, `verify`,
+/// `solve`, `cert` and `synth`) may two answers to an input differ. If `judge` finds cycles that make a player lose,
+/// the law does not say which of them the answer names. If `verify` finds that the circuit loses, the law does not say
+/// which losing stimulus the answer shows. If `solve`, `cert` or `synth` accepts its text, any two answers that do not
+/// report a fault agree on the winners. Two answers to `synth` without a fault have the same status, first line and
+/// game; two answers to `solve` or `cert` without a fault have the same regions. With `synth --cert`, the whole answer
+/// is determined if the second solver only returns the certificate whose text it was fed.
 pub fn one_answer<S: Solver, T: Solver>(built_in: &S, replay: &T)
     ensures answer { HasOneAnswer (solvers_of (S.known built_in.now) (T.known replay.now)) }
     ensures certified { HasOneCertified (solvers_of (S.known built_in.now) (T.known replay.now)) }
@@ -46,20 +46,26 @@ pub fn missing_text_is_told<S: Solver, T: Solver>(built_in: &S, replay: &T)
 {}
 
 /// Each first line has a meaning, and each input has an answer, except that the law says nothing about the command
-/// `verify`. Without the law `some_answer`, nobody would notice a definition of an answer that excludes whatever the
-/// program may print. The law states which answers are right, not what a call returns, so lack of memory is not one of
-/// the answers.
+/// `verify`. Without the law `some_answer`, nobody would notice if the definition of an answer excluded everything that
+/// the program can print. The law states which answers are right, not what a call returns, so lack of memory is not one
+/// of the answers.
 ///
 /// Whatever the solvers, an input has an answer if its first line is refused, or asks for `help`, `closed`, `check`,
 /// `judge`, `sim`, `lasso` or `game`. An input with `solve` or `cert` has an answer if, for each game, some valid
-/// certificate is a possible answer of the first solver. An input with `synth` has an answer under two conditions.
-/// First, the solver that `synth` calls can answer. Without `--cert`, some valid certificate of each game must be a
-/// possible answer of the first solver. With `--cert`, the second solver must be able to answer with the result of
-/// parsing any text that it is fed, and must not be sure (its certificates may be wrong). Second, some report must have
-/// the texts that psyn writes for the game, the certificate and the circuit (a text may be too long for a `Vec`).
-/// Parsing each text must give the same value again, but the game's text may be longer than the parser accepts. psyn's
-/// own solvers meet the conditions on solvers (`own_solvers_may_answer`). The command `verify` is left out, because a
-/// proof for it would have to decide, as the code does, whether an automaton accepts all lasso traces of a circuit.
+/// certificate is a possible answer of the first solver.
+///
+/// An input with `synth` has an answer under two conditions. The first is a condition on the solver that `synth` calls.
+/// Without `--cert`, some valid certificate of each game must be a possible answer of the first solver. With `--cert`,
+/// the result of parsing any text that the second solver is fed must be a possible answer of this solver. This solver
+/// must not be a sure one (which returns only valid certificates), because the text may be a wrong certificate. psyn's
+/// own solvers meet these conditions (`own_solvers_may_answer`).
+///
+/// The second condition is that some report can have the texts that psyn writes for the game, the certificate and the
+/// circuit; a text may be too long for a `Vec`. Parsing the text of the certificate or the circuit must give the same
+/// value again. So must parsing the game's text, unless it is longer than the parser accepts.
+///
+/// The command `verify` is left out, because a proof for it would have to decide, as the code does, whether an
+/// automaton accepts all lasso traces of a circuit.
 pub fn some_answer<S: Solver, T: Solver>(built_in: &S, replay: &T)
     ensures line { HasSomeLine }
     ensures answer { HasSomeAnswer (solvers_of (S.known built_in.now) (T.known replay.now)) }

@@ -5,7 +5,7 @@ use crate::fault::{FaultLine, Place};
 use ps_automaton::AutomatonFault;
 use ps_synthesis::SynthFault;
 
-/// The fault for which a file has no automaton is reported by a line, or as lack of memory.
+/// The reason why a file has no automaton is reported by a line, or as lack of memory.
 impl From<AutomatonFault> for Refusal {
     ghost use Rattle.ps_program.specs.StageFaults.{IsAutomatonTold};
 
@@ -33,8 +33,7 @@ impl From<AutomatonFault> for Refusal {
     }
 }
 
-/// The fault for which synthesis made no certificate, no circuit or no report is reported by a line, or as lack of
-/// memory.
+/// The reason why synthesis made no certificate, no circuit or no report is reported by a line, or as lack of memory.
 impl From<SynthFault> for Refusal {
     ghost use Rattle.ps_program.specs.StageFaults.{IsTold};
 

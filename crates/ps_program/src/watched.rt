@@ -83,8 +83,8 @@ pub struct Watched<T> {
 }
 
 impl<T> Watched<T> {
-    /// Starts to watch a reader or a writer. At first, the record states that no call has failed, and that no write has
-    /// stalled (accepted none of its bytes).
+    /// Starts the record for a reader or a writer. At first, the record states that no call has failed, and that no
+    /// write has stalled (accepted none of its bytes).
     pub fn new(inner: T) -> Self
         ensures inner { watched_inner result ≡ inner }
         ensures fresh { watched_failed result ≡ false }
@@ -100,7 +100,7 @@ impl<T> Watched<T> {
 }
 
 impl<T> Watched<T> {
-    /// Returns the reader or writer of std that was watched.
+    /// Returns the reader or writer of std to which the record belongs.
     pub fn inner(&self) -> &T
         ensures { result.now ≡ watched_inner self.now }
     {

@@ -41,8 +41,8 @@ pub fn check(alloc: Global, texts: &[u8]) -> Result<Answer, Refusal>
     tell(alloc, &game, "valid", outcome)
 }
 
-/// What is printed after a test of a certificate: the given word if the test found no flaw, and otherwise the line of
-/// the flaw.
+/// What is printed after a test of a certificate: the given word if the test found no flaw, and otherwise the line that
+/// reports the flaw.
 fn tell(
     alloc: Global,
     game: &NamedGame,
