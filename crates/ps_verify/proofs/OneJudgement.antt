@@ -1,5 +1,6 @@
--- A circuit either wins or loses, but not both. It loses if the automaton wrongly accepts or rejects its trace on some
--- stimulus. This trace is a lasso trace, so the circuit does not win.
+-- A circuit either wins or loses, but not both. A controller's circuit loses if the automaton rejects its trace on some
+-- stimulus, and an environment's circuit loses if the automaton accepts it. This trace is a lasso trace, so the circuit
+-- does not win.
 -- - `parted`: if a trace and its letters are cut at an index, each part is a trace with its letters. The second part
 --   starts from the latch values with which the first part ends
 -- - `apart`: a circuit does not both win and lose

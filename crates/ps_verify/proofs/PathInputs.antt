@@ -1,7 +1,8 @@
 -- The inputs that are read along a path of the product belong to a trace of the circuit, whose letters the automaton
 -- reads.
 -- - `Follows`: some steps of the circuit (`moments`) read the given inputs, and lead from the latches of a path's first
---   vertex to those of its last. Their letters lead the automaton from the first vertex's state to the last one's
+--   vertex to those of its last. The letters of these steps lead the automaton from the first vertex's state to that of
+--   the last vertex
 -- - `follow`: if the circuit reads the given inputs along the edges of a path, there are steps and letters for which
 --   `Follows` holds
 use Rattle.std.proofs.Common.{rules, ◌≡◌, ℕ, suc, ◌+◌, ◌<◌, Bool, List, [], ◌∷◌, length, map, get_or, refl}
@@ -31,7 +32,8 @@ module _ {owner : ℕ} {names : List (List ℕ)} {auto : Auto} {c : CircuitData}
   }
 
   -- From the vertex v, some steps of the circuit (`moments`) read `inputs` and lead to the vertex at the index `end`.
-  -- Their letters lead the automaton there too. Its greatest priority on the way is that of the vertices in `path`.
+  -- The letters of these steps lead the automaton from v's state to the state of that vertex. The automaton's greatest
+  -- priority on the way is the greatest priority of the vertices in `path`.
   pub record Follows (v : ProductVertex) (path : List ℕ) (end : ℕ) (inputs : List (List Bool)) : Type 0 where
     pub w : ProductVertex
     pub at : slice_get p.vertices end ≡ Some w

@@ -1,6 +1,6 @@
 -- Whether a circuit wins follows from which of its words are accepted.
--- - `refuted`: if the automaton wrongly accepts or rejects the word of a lasso trace, the inputs that the trace reads
---   are a counterexample
+-- - `refuted`: if the automaton rejects the word of a lasso trace of a controller, or accepts the word of a lasso trace
+--   of an environment, the inputs that the trace reads are a counterexample
 -- - `winning_by`: a controller's circuit wins if all words of its lasso traces are accepted; an environment's circuit
 --   wins if none of them is accepted
 use Rattle.std.proofs.Common.{◌≡◌, ℕ, zero, suc, ◌+◌, ◌*◌, ◌<◌, ◌↔◌, Bool, IsTrue, List, [], ◌∷◌, ◌++◌, length}
@@ -28,7 +28,7 @@ use Rattle.ps_traces.proofs.OneMeeting.{meeting_is_one}
 use Rattle.ps_traces.proofs.Rejected.{meeting_is_rejected}
 use Rattle.ps_verify.specs.Judgements.{IsLosing, IsWinning}
 
--- ## A word that is wrongly accepted or rejected
+-- ## A word that shows that a circuit loses
 
 -- the inputs that a trace reads have a bit for each input of the circuit
 inputs_wide : (c : CircuitData) (from to : List Bool) (ms : List Moment) → GoesOn c from ms to →

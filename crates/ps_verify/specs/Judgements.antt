@@ -40,8 +40,9 @@ pub record IsWinning (order : Order) (role : Role) (file : FileData) (c : Circui
   pub letters : (moments : List Moment) → HasLetters file.names c moments
   pub meetings : role ≡ Environment → (k : FiniteController) → IsController order c k → LosesMeeting file c k
 
--- The stimulus is a counterexample: the automaton wrongly accepts or rejects the circuit's trace on it. The latch
--- values after the first lap are those before it, so each later lap repeats the first.
+-- The stimulus is a counterexample: on it, the automaton rejects the trace of a controller's circuit, or accepts that
+-- of an environment's circuit. The latch values after the first lap are those before it, so each later lap repeats the
+-- first.
 pub record IsLosing (order : Order) (role : Role) (file : FileData) (c : CircuitData) (s : StimulusData) : Type 0 where
   pub symbols : HasSymbols role file.names file.controllable c
   pub in_time : IsInTimeWhereReached order role c

@@ -1,4 +1,4 @@
-//! A law about circuits that win or lose.
+//! Law: a circuit wins exactly if no stimulus shows that it loses.
 
 ghost use Rattle.ps_hoa.specs.Files.{FileData};
 ghost use Rattle.ps_hoa.specs.Sound.{IsSoundFile};
@@ -15,9 +15,9 @@ use ps_automaton::automaton_is_there;
 use ps_simulate::circuit_has_one_values;
 
 /// A circuit either wins or loses, but not both. If a circuit wins, no stimulus shows that it loses. If no stimulus
-/// shows that a circuit loses, the circuit wins. The law holds for a file that was parsed and that psyn admits, and for
-/// a circuit with the inputs and outputs of its role. If the circuit moves first, its outputs must not depend on its
-/// inputs at any latch values that a trace reaches.
+/// shows that a circuit loses, the circuit wins. The law is about a parsed file that has an automaton (`IsAdmitted`),
+/// and a circuit with the inputs and outputs of its role. If the circuit moves first, its outputs must not depend on
+/// its inputs at any latch values that a trace reaches.
 pub fn judgement_is_one()
     ensures wins { (order : Order) (role : Role) (file : FileData) (c : CircuitData) → IsSoundFile file →
         IsAdmitted file → IsCircuit c → HasSymbols role file.names file.controllable c →

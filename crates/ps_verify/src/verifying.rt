@@ -25,7 +25,8 @@ use ps_simulate::{Role, circuit_has_one_values};
 use std::alloc::{AllocError, Global};
 
 /// Decides whether the automaton accepts each lasso trace of a controller, or no lasso trace of an environment. If not,
-/// the result is a counterexample: a stimulus on which the automaton wrongly accepts or rejects the circuit's trace.
+/// the result is a counterexample: a stimulus on which the automaton rejects the controller's trace, or accepts the
+/// environment's.
 /// The latch values after the trace's first lap are those before it, so each later lap repeats the first.
 ///
 /// # Errors

@@ -1,4 +1,4 @@
-//! Paths from the first vertex of a game in which each other vertex is a successor of an earlier one.
+//! Paths in a game from vertex 0 to any other vertex. Each of the others must be a successor of a smaller vertex.
 
 ghost use Rattle.std.specs.Prelude.{◌≡◌, ◌<◌, length, IfOk};
 ghost use Rattle.std.specs.List.{range_with_len};
