@@ -17,7 +17,7 @@ use Rattle.ps_automaton.specs.declared.fault.AutomatonFault.TheVariants.{OutOfMe
 use Rattle.ps_text.proofs.Simple.{same_some}
 use Rattle.ps_automaton.proofs.TakenEdges.{clash_of}
 
--- either no number less than n has a decidable property, or there is a smallest number that has the property
+-- if a property is decidable for each number, a smallest number has it, or no number less than n has it
 least_below : (P : ℕ → Type 0) → ((k : ℕ) → Decided (P k)) → (n : ℕ) →
     ((m : ℕ) × P m × ((k : ℕ) → P k → m ≤ k)) ⊎ ((k : ℕ) → k < n → P k → ⊥)
 least_below P tell zero = inr (λ k lt h. absurd (omega arith))

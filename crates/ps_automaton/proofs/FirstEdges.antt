@@ -21,7 +21,7 @@ use Rattle.ps_automaton.specs.declared.targets.Target.{Target}
 use Rattle.ps_automaton.proofs.LetterRows.{states_within}
 use Rattle.ps_automaton.proofs.EdgeUnions.{wider}
 
--- the indices in a list of first edges are less than `count`
+-- each entry of the list is None, or an index of an edge that is less than `count`
 abbrev pub AreFirsts : ℕ → List (Option ℕ) → Type 0
 AreFirsts count edges = All (λ edge. IfSome edge (λ first. first < count)) edges
 
@@ -43,7 +43,7 @@ firsts_none count edges none k d within = rw (get_or_default edges k d None with
 is_not : {b : Bool} → b ≡ false → IsTrue b → ⊥
 is_not is h = grind arith
 
--- one more edge keeps the indices less than the number of targets
+-- after one more edge, the indices in the list are still less than the number of targets
 pub firsts_more : (targets : List Target) (place : ℕ) → place < length targets → (set : ℕ)
     (old new : List (Option ℕ)) → length new ≡ length old →
     ((letter : ℕ) → letter < length old →

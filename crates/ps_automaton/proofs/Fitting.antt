@@ -90,7 +90,8 @@ pub edge_at : (items : List Edge) (k : ℕ) {e : Edge} → k < length items → 
     slice_get (map edge_data items) k ≡ Some (edge_data e)
 edge_at items k {e} within is = grind (arith, slice_get-map, slice_get_read)
 
--- the diagram of the letters at which an edge of the row is taken can be built
+-- if `IsReady` holds for a row, `IsReadyTo`, the precondition for building the diagram of an edge, holds for each edge
+-- of the row
 pub ready_to : (j : ℕ) {t : Table} {g : Guards} {edge : Edge} → IsReady t g →
     slice_get (row_data g.row.now).edges j ≡ Some (edge_data edge) → IsReadyTo t g edge
 ready_to j ready at = record { ready = ready; fit = fits ready.sound ready.row j at }

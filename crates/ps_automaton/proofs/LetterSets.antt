@@ -1,4 +1,5 @@
--- Sets of letters: how a set changes as letters and labels are added.
+-- How sets of letters are computed: for a proposition, letter by letter; for a label, operand by operand; for the lists
+-- of sets, one proposition or alias after another.
 use Rattle.std.proofs.Common.{◌≡◌, ℕ, ◌+◌, ◌*◌, ◌^◌, ◌%◌, ◌<◌, ◌≤◌, inl, inr, Bool, true, false, cond}
 use Rattle.std.proofs.Common.{arith, bit_and, bit_or, refl, List, ◌∷◌, drop, ap, length, get_or, add-one, drop-cons}
 use Rattle.std.proofs.Common.{◌++◌, [], ◌∙◌, length-append}
@@ -64,8 +65,8 @@ module _ (known : List Bool) (letter set operand_set : ℕ) (items : List Label)
       more (expression item) (operands_in (expressions (drop (k + 1) items)))
   from_item = ap (λ (ls : List Label). operands_in (expressions ls)) from
 
-  -- if the set is intersected with the letters of the next operand, the set and the operands after it give a
-  -- conjunction the same truth value as before
+  -- a conjunction keeps its truth value if its next operand is dropped, and the set is intersected with the letters at
+  -- which this operand is true
   pub all_with : cond (is_in letter (bit_and set operand_set))
       (all_true known letter (operands_in (expressions (drop (k + 1) items)))) false ≡ cond (is_in letter set)
       (all_true known letter (operands_in (expressions (drop k items)))) false
@@ -76,8 +77,8 @@ module _ (known : List Bool) (letter set operand_set : ℕ) (items : List Label)
       both true b c = refl
       both false b c = refl
 
-  -- if the set is united with the letters of the next operand, the set and the operands after it give a disjunction
-  -- the same truth value as before
+  -- a disjunction keeps its truth value if its next operand is dropped, and the set is united with the letters at
+  -- which this operand is true
   pub any_with : cond (is_in letter (bit_or set operand_set)) true
       (any_true known letter (operands_in (expressions (drop (k + 1) items)))) ≡ cond (is_in letter set) true
       (any_true known letter (operands_in (expressions (drop k items))))

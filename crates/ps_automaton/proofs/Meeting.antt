@@ -1,4 +1,5 @@
--- Lemmas about two decision diagrams that have a leaf at the same letter, which show that two edges are taken there.
+-- The diagram of an edge has a leaf exactly at the letters at which the edge is taken. Lemmas about such diagrams,
+-- about two diagrams that have a leaf at a common letter (`Meet`), and about diagrams in a store that has grown.
 use Rattle.std.proofs.Common.{arith, ◌≡◌, ℕ, ◌^◌, ◌<◌, inl, inr, Bool, Option, Some, None, IsTrue, refl, sym}
 use Rattle.std.proofs.Common.{ap, ◌∙◌}
 use Rattle.std.specs.Option.{option_map}

@@ -39,7 +39,8 @@ repeats_often : {f : ℕ → ℕ} {from : ℕ} (count : ℕ) → Repeats f from 
 repeats_often {f} count again zero t low = ap f (omega arith)
 repeats_often {f} count again (suc often) t low = grind (arith, repeats_often count again often t low)
 
--- if values repeat with the period `count`, each later value is at most the greatest of `count` successive values
+-- if values repeat with the period `count` from the index `from` on, each value at or after this index is at most the
+-- greatest of the `count` values that begin there
 later_below : {f : ℕ → ℕ} {from count : ℕ} → Repeats f from count → 0 < count → (t : ℕ) → from ≤ t →
     f t ≤ greatest_from f from count
 later_below {f} {from} {count} again some t low =

@@ -271,8 +271,8 @@ fn node_by_labels(
     Ok(node_of_union(pairs, levels, &union)?)
 }
 
-/// The diagram of a state's steps, made from the joined diagram of the state's edges, whose leaves are indices of
-/// targets. At a letter at which no edge of the state is taken, the step leads to the sink.
+/// The diagram of a state's steps, made from the joined diagram of the state's edges. The leaves of the joined diagram
+/// are indices of targets. At a letter at which no edge of the state is taken, the step leads to the sink.
 fn node_of_union(pairs: &mut Pairs, levels: &Levels, union: &Union) -> Result<Node, AllocError>
     requires held { IsNode pairs.old.store union.now.node }
     requires within { (letter : ℕ) → letter < 2 ^ pairs.old.store.propositions →

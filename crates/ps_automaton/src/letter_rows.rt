@@ -57,8 +57,8 @@ fn no_edges(alloc: Global, letters: usize) -> Result<Vec<Option<usize>>, AllocEr
     Ok(edges)
 }
 
-/// Adds the edge with the index `place` at the letters of a set. Returns whether no earlier edge with another target is
-/// taken there.
+/// Adds the edge with the index `place` at the letters of a set. Returns false if one of these letters already has an
+/// edge with another target, and true otherwise.
 fn add(edges: &mut [Option<usize>], set: u64, place: usize, targets: &[Target]) -> bool
     requires few { length edges.old ≤ 64 }
     requires within { place < length targets.now }

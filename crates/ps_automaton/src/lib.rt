@@ -1,12 +1,13 @@
-//! Parity automata: when a lasso is accepted, and total, deterministic automata with a priority on each edge.
+//! Parity automata that are built from HOA files: total and deterministic, with a priority on each edge. The crate also
+//! states which words a file accepts.
 //!
 //! A word is a stem followed by a lap that repeats for ever. An automaton accepts the word if some run visits a state
-//! after the stem and zero or more laps, and again after one or more laps, and satisfies the acceptance condition
-//! between the two visits. The definition `IsAccepted` states acceptance in terms of the HOA file alone, without the
-//! deterministic automaton (HOA v1, acceptance). An acceptance condition that is a chain gives each edge a priority.
-//! The greatest priority in a part of a run is even exactly if the condition is true for the sets that the part meets
-//! (`greatest_level_decides`). The steps of an `Automaton` are stored in decision diagrams; at a letter at which no
-//! edge of the text is taken, the step leads to a sink.
+//! after the stem and zero or more laps, and again after one or more further laps, and satisfies the acceptance
+//! condition between the two visits. The definition `IsAccepted` states acceptance in terms of the HOA file alone,
+//! without the deterministic automaton (HOA v1, acceptance). An acceptance condition that is a chain gives each edge a
+//! priority. The greatest priority in a part of a run is even exactly if the condition is true for the sets that the
+//! part meets (`greatest_level_decides`). The steps of an `Automaton` are stored in decision diagrams; at a letter at
+//! which no edge of the text is taken, the step leads to a sink.
 //!
 //! | Call | What it gives |
 //! |---|---|

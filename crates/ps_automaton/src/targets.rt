@@ -8,7 +8,8 @@ ghost use Rattle.ps_automaton.specs.Inner.Targets.{IsTargetOf};
 
 use ps_hoa::{Edge, Row};
 
-/// A state, and the sets of the edge that leads to it together with the sets of the edge's own state.
+/// A state, and the acceptance sets of an edge that leads to it: those that the edge names, and those of the state that
+/// the edge leaves.
 #[derive(Clone, Copy, PartialEq, Eq)]
 pub(crate) struct Target {
     /// The state.

@@ -202,7 +202,8 @@ pub record Grows (states : ℕ) (old new : Pairs) : Type 0 where
   pub extends : Extends old.steps.keys new.steps.keys
   pub steps : AreSteps states new.steps.keys
 
--- the steps of a row's state can be made
+-- the precondition for building the diagram of the steps of a row's state: `IsReady` holds for the row, and `AreSteps`
+-- for the list of steps
 pub record AreReady (pairs : Pairs) (g : Guards) : Type 0 where
   pub ready : IsReady pairs.store g
   pub steps : AreSteps g.file.now.states pairs.steps.keys
@@ -214,7 +215,8 @@ pub record MakesSteps {E : Type 0} (g : Guards) (levels : Levels) (old new : Pai
   pub node : IfOk result (λ node. (q : ℕ) → row_of g.file.now q ≡ Some (row_data g.row.now) → IsStepsOf g.file.now
       (chain_data levels.chain) q new.steps.keys new.store node)
 
--- the steps of a file's states can be made
+-- the precondition for building the diagrams of the steps of all states: the diagrams of the aliases are in the store,
+-- the sets of letters are right, and `AreSteps` holds for the list of steps
 pub record IsSource (s : Source) (pairs : Pairs) : Type 0 where
   pub letters : pairs.store.propositions ≡ length s.file.now.names
   pub aliases : AreNodesOf pairs.store s.file.now.aliases s.aliases.now

@@ -1,4 +1,4 @@
--- The values that contracts see of the links and chains in the code. (For private functions.)
+-- The abstract values of the code's links and chains, by which contracts describe them. (For private functions.)
 use Rattle.std.specs.Prelude.{map}
 use Rattle.ps_automaton.specs.Chains as chains
 use Rattle.ps_automaton.specs.declared.chain.Link.{Link}
