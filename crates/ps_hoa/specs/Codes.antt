@@ -1,4 +1,5 @@
--- Each meaning of an HOA text has a code, and different meanings have different codes. An acceptance condition is
+-- Codes for the meanings of HOA texts. The code of a meaning consists of simple data, such as tuples and lists of
+-- numbers. Decoding it gives the meaning again, so different meanings have different codes. An acceptance condition is
 -- encoded as an expression, which is the type that labels have.
 use Rattle.std.specs.Prelude.{◌≡◌, ℕ, ◌⊎◌, Bool, true, false, List, Option, None, Some, refl}
 use Rattle.std.proofs.Common.{inl, inr, ap}

@@ -2,7 +2,7 @@
 -- sets has a premise `Each`, which `refl` proves by trying all kinds of tokens.
 -- - `within`, `within_both`, `apart`: one set is a subset of another, two sets are subsets of a third, or two sets have
 --   no kind of tokens in common
--- - `test_of`: a set contains exactly one kind of tokens
+-- - `test_of`: a set that contains the given kind and no other satisfies `IsTestOf`
 -- - `plain`: no token whose kind is in the set is an error by itself
 -- - `laws_sign`: the grammar of a token whose kind is in a set satisfies `Laws`
 -- - `laws_value`: `Laws` for a token whose kind is in a set, and which has no error unless it has a value

@@ -18,10 +18,10 @@ conditions_of-vec : (v : Vec Cond Global) →
 conditions_of-vec v = conditions_of-items (hidden-the_row-Cond-0 v)
     ∙ ap (λ (ls : List Cond). operands_in (map condition_of ls)) (items_hidden-the_row-Cond-0 v)
 
--- the condition of a conjunction is the conjunction of its operands' conditions
+-- the abstract value of a stored conjunction is the conjunction of its operands' abstract values
 pub condition_of-All : (v : Vec Cond Global) → condition_of (All v) ≡ all_hold (operands_in (map condition_of v.items))
 condition_of-All v = ap all_hold (conditions_of-vec v)
 
--- the condition of a disjunction is the disjunction of its operands' conditions
+-- the abstract value of a stored disjunction is the disjunction of its operands' abstract values
 pub condition_of-Any : (v : Vec Cond Global) → condition_of (Any v) ≡ any_holds (operands_in (map condition_of v.items))
 condition_of-Any v = ap any_holds (conditions_of-vec v)

@@ -2,7 +2,7 @@
 -- - `Serves old P Q`: each result of parsing P from `old` on, be it a value or an error, is also a result of parsing Q
 -- - `serves_as`, `itself`, `serves_both`: `Serves` holds if `Stands` holds for the two parts at the next token; it
 --   holds for a part and itself; it is transitive
--- - `serves_meets`: a result that meets the contract of P also meets the contract of Q
+-- - `serves_meets`: if `Serves old P Q` holds, a result that meets the contract of P also meets the contract of Q
 -- - `Leads P old Q now`: if Q, read from `now`, stops at an error, then P, read from `old`, stops at the same error
 -- - `here`, `first`: `Leads` holds for a part and itself; it also holds if P is a sequence of two parts, and Q is the
 --   first of them

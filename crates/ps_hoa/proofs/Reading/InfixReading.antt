@@ -41,7 +41,7 @@ use Rattle.ps_hoa.proofs.Reading.ExpectReading.{expect_elsewhere, inner_fails, i
 use Rattle.ps_hoa.proofs.Reading.NextSign.{next_there, next_same}
 use Rattle.ps_hoa.proofs.Reading.RowReading.{Row}
 
--- the tokens that can continue a text on one side of the connective: no token for `&`, and the token `&` for `|`
+-- the tokens that can continue an operand of the connective: none if the connective is `&`, and only `&` if it is `|`
 abbrev pub Behind : Connective → Sign → Type 0
 Behind connectives.And = Nothing
 Behind connectives.Or = AndMore
@@ -102,7 +102,8 @@ module _ {V : Type 0} (g : InfixGrammar V) (is : IsLeaf g.leaf) where
   bar_read old other = reads_barred (λ _. IsTooDeep g.negated) (laws_give Odd tt) (nothing_apart _) (λ t f e b.
       false_true (sym other ∙ ap (λ (s : Sign). holds g.negated s.kind) (next_same old t e) ∙ b.0)) (reads_give old tt)
 
-  -- if the next token begins no operand that contains another one, parsing a leaf of the grammar is parsing an operand
+  -- if the next token begins no operand that contains another one, each result of parsing a leaf (an operand that
+  -- contains no other) is a result of parsing an operand
   pub leaf_serves : (room : ℕ) (old : Stream Sign) {p : Piece Sign} → p ≡ next_of old →
       holds g.negated p.sign.kind ≡ false → Serves old g.leaf (operand g room)
   unfolding operand

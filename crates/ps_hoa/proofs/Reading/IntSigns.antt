@@ -1,7 +1,8 @@
--- An `INT` that can have the errors of two relations, B and E. No error of E has a smaller number than an error of B.
--- - `takes_err`: the `INT` has an error of the relation B
--- - `takes_further`: the `INT` has an error of the relation E, and none of the relation B
--- - `takes_both`: the `INT` has no error of the relation B, and none of the relation E
+-- Lemmas about an `INT` that is checked first for the errors of the relation B, then for those of the relation E. No
+-- error of E has a smaller number than any error of B.
+-- - `takes_err`: if the check for B fails, its error is also the right one for both relations together
+-- - `takes_further`: if the check for B succeeds, the error of E with the smallest number is the right one for both
+-- - `takes_both`: if the check for B succeeds, and the `INT` has no error of E, the `INT` is accepted
 use Rattle.std.proofs.Common.{◌≡◌, ℕ, ◌≤◌, ◌⊎◌, Option, None, Some, IfSome, Result, Err, IsErrAnd, sym, subst, inl, inr}
 use Rattle.std.proofs.Common.{◌∙◌, arith, false, rules}
 use Rattle.std.proofs.lemmas.Result.{err_from_is_err_and}

@@ -1,5 +1,5 @@
--- Rows of operands with a connective between them. The lemmas relate the grammar of operands that combinators build to
--- the grammar that specs/Nesting gives by relations.
+-- Rows of operands with a connective between them, in the grammar that is built from combinators. The lemmas serve to
+-- show that this grammar equals the one that specs/Nesting defines by relations.
 use Rattle.std.proofs.Common.{rules, arith, ◌≡◌, ℕ, zero, suc, Bool, true, cond, List, [], ◌∷◌, ◌++◌, None, Some, refl}
 use Rattle.std.proofs.Common.{sym, ap, subst, ◌∙◌, append_assoc, append-nil}
 use Rattle.ps_text.specs.Parts.{Part, times}
@@ -58,7 +58,8 @@ module _ {V : Type 0} (sign : Kind → Bool) (P : Part Sign V HoaCause) where
     refl,
   )
 
-  -- a relation that is closed under adding an operand holds for every list of further operands
+  -- the relation `More` between tokens and values holds for every list of further operands if it holds for the empty
+  -- list, and still holds when a connective and an operand are put before the list
   module _ (More : List Sign → List V → Type 0) (none : More [] [])
       (some : (t : Sign) (text rest : List Sign) (v : V) (vs : List V) → sign t.kind ≡ true → P.IsText text v →
       More rest vs → More (t ∷ text ++ rest) (v ∷ vs)) where

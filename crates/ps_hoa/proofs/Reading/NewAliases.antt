@@ -47,7 +47,7 @@ module _ (text : List ℕ) where
       IsTaken alias_name_in (IsBadAlias names) (record { kind = kind; text = text }) text
   new_alias_taken names kind e short new = search (rules, false_true)
 
-  -- the name of an earlier alias is an error
+  -- if a new alias gets the name of an earlier alias, the error is `Alias`; no error of this name has a smaller number
   module _ (names : List (List ℕ)) (kind : Kind) (e : kind ≡ AliasName) (short : length names < alias_limit)
       (old : is_name_among text names ≡ true) where
     pub old_alias_bad : IsBadAlias names (record { kind = kind; text = text }) Alias

@@ -1,5 +1,5 @@
 -- Lemmas about the disjunction of two tests, and about the bytes between quotes.
--- - `or_cond`: a disjunction is a case distinction on the first test
+-- - `or_cond`: `b || r` is true if b is true, and otherwise equals r
 -- - `inside-range`: a text without its first and its last byte, as a slice of the text
 use Rattle.std.proofs.Common.{◌≡◌, ℕ, suc, ◌-◌, ◌||◌, Bool, true, cond, List, [], ◌∷◌, length, take, refl, ap, ◌∙◌}
 use Rattle.std.proofs.Common.{arith, rules}
