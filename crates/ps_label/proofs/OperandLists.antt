@@ -16,11 +16,11 @@ operands-vec : (v : Vec Label Global) → operands (hidden-the_row-Label-0 v) �
 operands-vec v = operands-items (hidden-the_row-Label-0 v)
     ∙ ap (λ (ls : List Label). operands_in (expressions ls)) (items_hidden-the_row-Label-0 v)
 
--- the expression of a conjunction is the conjunction of its operands' expressions
+-- the abstract value of a stored conjunction is the conjunction of its operands' abstract values
 pub expression-Both : (labels : Vec Label Global) → expression (Both labels) ≡ all_of (operands_in (expressions
     labels.items))
 expression-Both v = ap all_of (operands-vec v)
 
--- the expression of a disjunction is the disjunction of its operands' expressions
+-- the abstract value of a stored disjunction is the disjunction of its operands' abstract values
 pub expression-Either : (v : Vec Label Global) → expression (Either v) ≡ any_of (operands_in (expressions v.items))
 expression-Either v = ap any_of (operands-vec v)
