@@ -124,8 +124,8 @@ same_edge {certificate} {v} {w} fits first other = elim (cases_order other.place
       inr (inr (refl, refl, omega (arith, less, first.priority, other.priority)))
 ]
 
--- the first flaw in the counts of a vertex names the vertex's first edge that breaks the certificate's rule of counts,
--- and the first priority for which this edge breaks it
+-- of a vertex's edges that the winner's moves allow, the first that breaks the certificate's rule of counts, with the
+-- first priority for which it does, is the first flaw in the vertex's counts
 pub IsFirstFlawAt-rank : {game : ParityGame} {certificate : CertificateData} {v w p : ℕ} →
     Fits game certificate → Remains game certificate v w → winner_of certificate w ≡ winner_of certificate v →
     IsFirstBroken game certificate v w p → ((w' : ℕ) → Remains game certificate v w' → (w' ≡ w) ⊎ (KeepsCounts
@@ -174,13 +174,14 @@ KeepsCountsAt-from_all game certificate v each w remains =
     let (j, j_within, j_is) = place_of (successors_of game v) remains.edge.1 in
     grind arith
 
--- a vertex whose edges obey the certificate's rule of counts has no flaw in its counts
+-- if each edge of a vertex that the winner's moves allow obeys the certificate's rule of counts, the vertex has no flaw
+-- in its counts
 kept_has_no_flaw : (game : ParityGame) (certificate : CertificateData) (flaw : Flaw) →
     KeepsCountsAt game certificate (vertex_of flaw) → IsFlaw game certificate flaw → stage_of flaw ≡ 1 → ⊥
 kept_has_no_flaw game certificate flaw h k m = search rules
 
--- a closed certificate has no wrong move and no edge out of a winner's region, so its first flaw in the counts is the
--- first of all its flaws
+-- in a closed certificate, no move is wrong, and the winner's moves allow no edge out of the winner's region; so the
+-- certificate's first flaw in the counts is the first of all its flaws
 pub first_unranked : {game : ParityGame} {certificate : CertificateData} {v : ℕ} {flaw : Flaw} →
     IsClosed game certificate → ((u : ℕ) → u < v → KeepsCountsAt game certificate u) →
     IsFirstFlawAt game certificate 1 v flaw → IsFirstFlaw game certificate flaw
@@ -198,8 +199,8 @@ pub valid_has_no_flaw : {game : ParityGame} {certificate : CertificateData} (fla
     IsFlaw game certificate flaw → ⊥
 valid_has_no_flaw flaw h k = search (rules, closed_has_no_flaw)
 
--- a certificate is valid if all moves are right, no edge leaves the region of its winner, and no flaw was found in the
--- counts
+-- a certificate is valid if all moves are right, the winner's moves allow no edge out of the winner's region, and no
+-- flaw was found in the counts
 pub valid_in_the_end : {game : ParityGame} {certificate : CertificateData} (n : ℕ) {found : Option Flaw} →
     vertex_count game ≤ n → ((v : ℕ) → v < n → IsSoundAt game certificate v) →
     IfNone found (KeepCountsBefore game certificate n) → found ≡ None → IsValid game certificate

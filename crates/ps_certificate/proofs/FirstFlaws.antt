@@ -1,5 +1,5 @@
--- If no earlier vertex has a wrong move or an edge out of its winner's region, a vertex's first flaw of these two kinds
--- is the certificate's first flaw.
+-- If no earlier vertex has a wrong move or an escape, a vertex's first flaw of these two kinds is the certificate's
+-- first flaw. An escape is an edge that the winner's moves allow, but that leaves the winner's region.
 use Rattle.std.proofs.Common.{◌≡◌, ℕ, ◌<◌, ◌⊎◌, inl, inr, arith, Option, refl, rules}
 use Rattle.std.proofs.lemmas.Bool.{cases_order}
 use Rattle.ps_game.specs.Games.{ParityGame, vertex_count}
@@ -15,8 +15,7 @@ later_vertex : (game : ParityGame) (flaw other : Flaw) → stage_of flaw ≡ sta
     vertex_of flaw < vertex_of other → Precedes game flaw other
 later_vertex game flaw other h k = search rules
 
--- a flaw of the check's first stage (a wrong move, or an edge out of a winner's region) comes before a flaw of its
--- second stage (in the counts)
+-- a flaw of the check's first stage (a wrong move or an escape) comes before a flaw of its second stage (in the counts)
 earlier_stage : (game : ParityGame) (flaw other : Flaw) → stage_of flaw < stage_of other → Precedes game flaw other
 earlier_stage game flaw other h = search rules
 
@@ -31,13 +30,14 @@ first_of_stage {game} {v} {flaw} at none_before {other} is_flaw at_stage = searc
 pub stage_cases : (flaw : Flaw) → (stage_of flaw ≡ 0) ⊎ (stage_of flaw ≡ 1)
 stage_cases flaw = search rules
 
--- a vertex that passes the first stage of the check has no wrong move and no edge out of its winner's region
+-- a vertex that passes the first stage of the check has no wrong move, and no edge that the winner's moves allow leads
+-- from it out of the winner's region
 pub sound_has_no_flaw : {game : ParityGame} {certificate : CertificateData} {v : ℕ} → IsSoundAt game certificate v →
     (flaw : Flaw) → IsFlaw game certificate flaw → stage_of flaw ≡ 0 → vertex_of flaw ≡ v → ⊥
 sound_has_no_flaw h flaw k m n = search (rules, not_wrong_when_right)
 
--- if no earlier vertex has a wrong move or an edge out of its winner's region, a vertex's first flaw of these two kinds
--- is the certificate's first flaw
+-- if no earlier vertex has a wrong move or an escape (an edge that the winner's moves allow, out of the winner's
+-- region), a vertex's first flaw of these two kinds is the certificate's first flaw
 pub first_unsound : {game : ParityGame} {certificate : CertificateData} {v : ℕ} {flaw : Flaw} → ((u : ℕ) →
     u < v → IsSoundAt game certificate u) → IsFirstFlawAt game certificate 0 v flaw → IsFirstFlaw game certificate flaw
 first_unsound {game} {flaw} sound at = record {
@@ -58,7 +58,7 @@ IsClosed-from_sound sound = record {
   stays = λ v w remains. (sound v remains.edge.0).inside w remains;
 }
 
--- a closed certificate has no wrong move and no edge out of a winner's region
+-- in a closed certificate, no move is wrong, and the winner's moves allow no edge out of the winner's region
 pub closed_has_no_flaw : {game : ParityGame} {certificate : CertificateData} → IsClosed game certificate →
     (flaw : Flaw) → IsFlaw game certificate flaw → stage_of flaw ≡ 0 → ⊥
 closed_has_no_flaw closed (Move v m) is_flaw at_stage = not_wrong_when_right (closed.moves v is_flaw.0) is_flaw.2

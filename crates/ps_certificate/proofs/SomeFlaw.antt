@@ -86,8 +86,8 @@ module _ (game : ParityGame) (certificate : CertificateData) (v : ℕ) (in_range
     | inr other ↦ decide_other other (choice_of certificate v) refl
   ]
 
-  -- if the move of a vertex is right, the first edge out of its winner's region (the first escape) is the vertex's
-  -- first flaw
+  -- if the move of a vertex is right, the first edge that the winner's moves allow out of the winner's region (the
+  -- first escape) is the vertex's first flaw
   escape_first : HasRightMove game certificate v → {w : ℕ} → IsFirstEscape game certificate v w →
       IsFirstFlawAt game certificate 0 v (Escape v w)
   escape_first right {w} escape = search (rules, not_wrong_when_right)
@@ -126,8 +126,8 @@ module _ (game : ParityGame) (certificate : CertificateData) (v : ℕ) (in_range
             )
           ]
 
-  -- either the vertex has neither a wrong move nor an edge out of its winner's region, or one of these is its first
-  -- flaw
+  -- either the vertex's move is right and the winner's moves allow no edge out of the winner's region, or the vertex
+  -- has a first flaw: a wrong move, or such an edge
   sound_or_flawed : IsSoundAt game certificate v ⊎ ((flaw : Flaw) × IsFirstFlawAt game certificate 0 v flaw)
   sound_or_flawed = elim decide_move [
     | inl right ↦ elim (stays_or_escapes right) [
@@ -212,7 +212,8 @@ module _ (game : ParityGame) (certificate : CertificateData) (fits : Fits game c
             )
       ]
 
-  -- either all edges of the vertex obey the certificate's rule of counts, or one of them is the first to break the rule
+  -- either each edge of the vertex that the winner's moves allow obeys the certificate's rule of counts, or the vertex
+  -- has a first flaw in its counts
   kept_or_flawed : KeptOrFlawed
   kept_or_flawed = elim (cases_eq (owner_of game v) (winner_of certificate v)) [
     | inl own ↦ kept_by_owner own
@@ -225,8 +226,8 @@ module _ (game : ParityGame) (certificate : CertificateData) where
   abbrev HasFirst : Type 0
   HasFirst = (flaw : Flaw) × IsFirstFlaw game certificate flaw
 
-  -- either no vertex has a wrong move or an edge out of its winner's region, or the certificate's first flaw is a wrong
-  -- move or such an edge
+  -- either all moves are right and the winner's moves allow no edge out of the winner's region, or the certificate is
+  -- not closed, and has a first flaw
   all_sound : ((v : ℕ) → v < vertex_count game → IsSoundAt game certificate v) ⊎
       (¬ IsClosed game certificate × HasFirst)
   all_sound = elim (first_place (IsSoundAt game certificate)

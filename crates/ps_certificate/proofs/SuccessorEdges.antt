@@ -45,7 +45,7 @@ IsSomeAnd-at {A} P is holds = let F : Option A → Type 0 = λ p. IsSomeAnd p P 
 pub some_of : {A : Type 0} (o : Option A) (P : A → Type 0) → IsSomeAnd o P → (x : A) × (o ≡ Some x) × P x
 some_of o P h = search rules
 
--- at a vertex that its winner owns, a right move is some vertex `w` to which an edge leads
+-- at a vertex that its winner owns, a right move is some successor `w` of the vertex
 pub own_move : (game : ParityGame) (certificate : CertificateData) (v : ℕ) → HasRightMove game certificate v →
     owner_of game v ≡ winner_of certificate v → (w : ℕ) × (choice_of certificate v ≡ Some w) × HasEdge game v w
 own_move game certificate v right own = some_of (choice_of certificate v) (HasEdge game v) (right.own own)
@@ -61,8 +61,8 @@ pub not_wrong_when_right : {game : ParityGame} {certificate : CertificateData} {
     HasRightMove game certificate v → HasWrongMove game certificate v → ⊥
 not_wrong_when_right h k = search rules
 
--- at a vertex that the loser owns, the edge to the first successor with another winner is the vertex's first escape (an
--- escape is an edge out of the winner's region)
+-- at a vertex that the loser owns, the winner's moves allow every edge; so the edge to the first successor with another
+-- winner is the vertex's first escape
 pub IsFirstEscape-at : {game : ParityGame} {certificate : CertificateData} {v : ℕ} (k : ℕ) {w : ℕ} → v <
     vertex_count game → owner_of game v ≢ winner_of certificate v → k < length (successors_of game v) → w ≡ slice_index
     (successors_of game v) k → ((j : ℕ) → j < k → winner_of certificate (get_or (successors_of game v) j 0)

@@ -97,8 +97,8 @@ pub record BreaksCount (game : ParityGame) (certificate : CertificateData) (v w 
   pub priority : opposing_at certificate v place ≡ p
   pub broken : ¬ KeepsCount game certificate v w place
 
--- the certificate has the given flaw: a wrong move, an escape (an edge out of the winner's region), or an edge that
--- breaks the rule of counts
+-- the certificate has the given flaw: a wrong move, or an edge that the winner's moves allow and that leaves the
+-- winner's region (an escape) or breaks the rule of counts
 abbrev pub IsFlaw : ParityGame → CertificateData → Flaw → Type 0
 IsFlaw game certificate (Move v choice) =
     (v < vertex_count game) × (choice_of certificate v ≡ choice) × HasWrongMove game certificate v
@@ -116,9 +116,10 @@ OccursBefore xs x y =
 abbrev pub EdgePrecedes : ParityGame → ℕ → ℕ → ℕ → ℕ → Type 0
 EdgePrecedes game v w v' w' = (v < v') ⊎ ((v ≡ v') × OccursBefore (successors_of game v) w w')
 
--- The order of a certificate's flaws: wrong moves and escapes (edges out of a winner's region) come first, in the order
--- of the vertices. At the same vertex, a wrong move comes before the escapes, which are in the order of the vertex's
--- successors. The edges that break the rule of counts follow, ordered by vertex, then successor, then priority.
+-- The order of a certificate's flaws: wrong moves and escapes (edges that the winner's moves allow, out of the winner's
+-- region) come first, in the order of the vertices. At the same vertex, a wrong move comes before the escapes, which
+-- are in the order of the vertex's successors. The edges that break the rule of counts come last, ordered by vertex,
+-- then successor, then priority.
 abbrev pub Precedes : ParityGame → Flaw → Flaw → Type 0
 Precedes game (Move v _) (Move v' _) = v < v'
 Precedes game (Move v _) (Escape v' _) = v ≤ v'

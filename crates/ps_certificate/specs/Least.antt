@@ -19,8 +19,8 @@ pub record DiffersInCounts (game : ParityGame) (one other : CertificateData) : T
   pub even : one.even ≡ other.even
   pub same : SaysTheSame game one other
 
--- no valid certificate that differs from this one only in counts has, for any vertex and priority, a smaller count. A
--- count for a priority less than the vertex's own has no meaning, and is 0
+-- no valid certificate that differs from this one only in counts has, for any vertex and priority, a smaller count.
+-- Each count of this one for a priority less than the vertex's own is 0; the rule of counts never uses such a count
 pub record HasLeastCounts (game : ParityGame) (certificate : CertificateData) : Type 0 where
   pub least : (other : CertificateData) → Fits game other → IsValid game other →
       DiffersInCounts game certificate other →

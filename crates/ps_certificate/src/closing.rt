@@ -63,7 +63,8 @@ fn first_escape<A: Arena>(arena: &A, certificate: &Certificate, vertex: usize) -
     None
 }
 
-/// The first flaw of a vertex that concerns its move, or an edge to a vertex with the other winner.
+/// The first flaw of a vertex that the first half of the check finds: a wrong move, or else the first edge that the
+/// winner's moves allow and that leads to a vertex with the other winner.
 pub(crate) fn unsound_at<A: Arena>(
     arena: &A,
     certificate: &Certificate,
@@ -84,9 +85,10 @@ pub(crate) fn unsound_at<A: Arena>(
 }
 
 /// Checks that no move is wrong, and that each edge that the winner's moves allow leads to a vertex with the same
-/// winner. The error is the first flaw of the first vertex that has a wrong move, or an edge to a vertex with the other
-/// winner. At the same vertex, a wrong move comes before the edges to vertices with the other winner, which are in the
-/// order of the successors. The function ignores the certificate's priorities and counts, and allocates no memory.
+/// winner. An escape is an edge that the winner's moves allow, but that leads to a vertex with the other winner. The
+/// error is the first flaw of the first vertex that has a wrong move or an escape. At the same vertex, a wrong move
+/// comes before the escapes, which are in the order of the successors. The function ignores the certificate's
+/// priorities and counts, and allocates no memory.
 ///
 /// # Errors
 ///

@@ -132,8 +132,8 @@ fn entry_fits(certificate: &Certificate, vertices: usize, vertex: usize) -> bool
 }
 
 /// Whether a certificate fits a game. A certificate that fits has one entry for each vertex, with 0 or 1 as the winner,
-/// a vertex or none as the move, and one count for each priority that opposes the winner. It lists exactly the odd and
-/// the even priorities of the game, each list in ascending order. Allocates no memory.
+/// a vertex or none as the move, and one count for each priority that opposes the winner. Such a certificate also lists
+/// exactly the odd and the even priorities of the game, each list in ascending order. Allocates no memory.
 pub fn fits<A: Arena>(arena: &A, certificate: &Certificate) -> bool
     ensures { IsTrue result ↔ Fits (A.game arena.now) certificate.now }
 {

@@ -43,8 +43,8 @@ pub fn first_flaw_is_one()
         IsFirstFlaw game certificate flaw → IsFirstFlaw game certificate other → flaw ≡ other }
 {}
 
-/// A certificate is closed (it has no wrong move and no edge out of a winner's region), or it has a first flaw. A
-/// certificate that fits its game is valid, or has a first flaw.
+/// A certificate is closed (no move is wrong, and the winner's moves allow no edge out of the winner's region), or it
+/// has a first flaw. A certificate that fits its game is valid, or has a first flaw.
 pub fn first_flaw_is_there()
     ensures closed { (game : ParityGame) (certificate : CertificateData) → IsClosed game certificate ⊎
         (¬ IsClosed game certificate × ((flaw : Flaw) × IsFirstFlaw game certificate flaw)) }

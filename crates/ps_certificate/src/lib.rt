@@ -14,7 +14,7 @@
 //! | `fits(arena, certificate)` | exactly whether a certificate has the form that the checks need |
 //! | `closed(arena, certificate)` | Ok exactly if moves are right and stay in their region; else the first `Flaw` |
 //! | `check(arena, certificate)` | Ok exactly if the certificate is valid; else the first `Flaw` |
-//! | `ids_of(game)` | the ids of a game, with a table of their indices |
+//! | `ids_of(game)` | the ids of a game's vertices, and the index of each id |
 //! | `write`, `write_compact` | the text with all counts; the text with the nonzero counts, each after its priority |
 //! | `Certificate::winner`, `choice`, `counts`, `opposing` | the parts of an entry; a player's opposing priorities |
 //! | `Entries::push`, `len`, `winner`, `choice`, `counts` | entries as a list; if out of memory, nothing changes |

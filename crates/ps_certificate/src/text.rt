@@ -49,7 +49,7 @@ impl Known {
     }
 }
 
-/// The ids of a game, with a table of their indices. Fails if out of memory.
+/// The ids of a game's vertices, and the index of each id. Fails if out of memory.
 pub fn ids_of(alloc: Global, game: &NamedGame) -> Result<Ids, AllocError>
     ensures { IfOk result (λ ids. ids ≡ game.now.ids) }
 {

@@ -37,8 +37,8 @@ pub record AreComparable (game : ParityGame) (certificate : CertificateData) (v 
   pub successor : w < vertex_count game
   pub same_winner : winner_of certificate w ≡ winner_of certificate v
 
--- the counts at the ends of v's edges can be compared: the certificate fits the game, and vertex v has neither a wrong
--- move nor an edge out of its winner's region
+-- the certificate fits the game, v's move is right, and each edge that the winner's moves allow at v has the same
+-- winner at both ends; so the counts at these ends can be compared
 pub record IsRankable (game : ParityGame) (certificate : CertificateData) (v : ℕ) : Type 0 where
   pub fits : Fits game certificate
   pub vertex : v < vertex_count game
@@ -55,8 +55,8 @@ pub record IsFirstEscape (game : ParityGame) (certificate : CertificateData) (v 
   pub leaves : Leaves game certificate v w
   pub first : (other : ℕ) → Leaves game certificate v other → (w ≡ other) ⊎ OccursBefore (successors_of game v) w other
 
--- the stage of the check that reports a flaw: the first stage reports wrong moves and edges out of a winner's region,
--- and the second reports flaws in counts
+-- the stage of the check that reports a flaw: the first stage reports wrong moves, and edges that the winner's moves
+-- allow but that leave the winner's region; the second reports flaws in counts
 abbrev pub stage_of : Flaw → ℕ
 stage_of (Move _ _) = 0
 stage_of (Escape _ _) = 0
@@ -106,8 +106,8 @@ KeepsCountsAt game certificate v = (w : ℕ) → Remains game certificate v w �
 abbrev pub KeepCountsBefore : ParityGame → CertificateData → ℕ → Type 0
 KeepCountsBefore game certificate n = (v : ℕ) → v < n → KeepsCountsAt game certificate v
 
--- the flaw is the first edge that breaks the certificate's rule of counts; no earlier vertex has an edge that breaks
--- this rule
+-- the flaw is the first edge that the winner's moves allow and that breaks the certificate's rule of counts; no earlier
+-- vertex has such an edge
 pub record IsFirstUnranked (game : ParityGame) (certificate : CertificateData) (flaw : Flaw) : Type 0 where
   pub vertex : ℕ
   pub at_vertex : IsFirstFlawAt game certificate 1 vertex flaw
