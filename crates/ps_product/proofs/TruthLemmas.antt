@@ -79,7 +79,8 @@ known_kept s {t} {u} known k h = record {
 pub learnt : {s : Site} {t u : Table} {known : List (Option Truth)} → Keeps t u → Knows s u known → Learns s t u known
 learnt keeps knows = record { keeps = keeps; knows = knows }
 
--- after an evaluation, all recorded functions are still right (`Learns`) when the table of diagrams grows further
+-- after an evaluation, each recorded function still has the value of its variable (`Learns`) when the table of diagrams
+-- grows further
 pub learns_on : (s : Site) {t u v : Table} (known : List (Option Truth)) → Learns s t u known → Keeps u v →
     Learns s t v known
 learns_on s known h k = record { keeps = keeps_trans h.keeps k; knows = known_kept s known k h.knows }

@@ -90,7 +90,7 @@ impl<'a> Evaluator<'a> {
     }
 }
 
-/// Computes the Boolean functions of the literals that the given wires describe.
+/// Computes the Boolean functions of the given literals.
 fn truths_of(
     alloc: Global,
     site: Site,

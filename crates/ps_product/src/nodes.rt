@@ -27,8 +27,8 @@ fn node_of(store: &mut Store, truth: Truth) -> Result<Node, AllocError>
     }
 }
 
-/// For each proposition, a diagram of its value as a function of the inputs. For the proposition of an output, this
-/// value is the output's function; for any other proposition, it is the proposition itself.
+/// For each proposition, a diagram of its value as a function of the inputs. The diagram of an output's proposition is
+/// that of the output's function; for any other proposition, it is the diagram of the proposition itself.
 pub(crate) fn nodes_of(
     alloc: Global,
     store: &mut Store,
@@ -66,7 +66,8 @@ fn place_in(list: &[u32], p: u32) -> Option<usize>
     None
 }
 
-/// The letter in which proposition p is true if the node at the index p has a leaf at the given letter.
+/// The letter in which each proposition p has the value of the diagram at the index p: p is true exactly if this
+/// diagram has a leaf at the given letter.
 pub(crate) fn letter_at(store: &Store, nodes: &[Node], letter: u64) -> u64
     requires few { length nodes.now ≤ 64 }
     requires held { All (IsNode store.now) nodes.now }

@@ -32,8 +32,8 @@ impl Truth {
     }
 }
 
-/// Makes Boolean functions (truths) of the letters over some propositions, in a store of its own. Calls that make
-/// functions fail if memory runs out.
+/// Makes Boolean functions (truths) of the letters over some propositions, in a store of its own. A call that makes a
+/// function fails if memory runs out.
 #[derive(Drop)]
 pub struct Truths {
     store: Store,

@@ -8,8 +8,8 @@ use Rattle.ps_product.specs.Inner.Knowing.{Learns}
 use Rattle.ps_product.proofs.evaluator.truths_of.Goals as goal
 use Rattle.ps_product.proofs.evaluator.truths_of.Goals.{After-settle}
 
--- after one more variable has been evaluated, all nodes that the table had at the start are still in it, and each
--- stored function is right (`Learns`)
+-- after one more variable has been evaluated, all nodes that the table of diagrams had at the start are still in it,
+-- and each recorded function has the value of its variable (`Learns`)
 settled : (c : After-settle) → Learns c.args.site c.args.truths.now c.settle.new.truths c.settle.new.known
 settled c = learnt (keeps_trans c.loop-wire.invariant.learns.keeps c.settle.ensures.learns.keeps)
     c.settle.ensures.learns.knows
