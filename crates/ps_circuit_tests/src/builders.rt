@@ -16,7 +16,8 @@ fn mux(builder: &mut Builder, s: u32, high: u32, low: u32) -> Option<u32> {
     Some(literal.number())
 }
 
-/// Whether each multiplexer gives the expected literal, and leaves the builder with the expected number of variables.
+/// Whether each multiplexer gives the expected literal, and the builder then has the expected number of variables. Each
+/// new gate adds one variable.
 fn choices_are_right(alloc: Global) -> bool {
     let mut builder = Builder::new(alloc, 3);
     for (high, low, literal, variables) in [
@@ -41,8 +42,7 @@ fn each_row_of_the_table_of_choices(rt: HostRuntime) {
     assert!(rt; choices_are_right(rt.alloc()));
 }
 
-/// What the builder's `and` returns, which is the number of a literal or a fault; `None` if an argument's variable does
-/// not exist.
+/// What the builder's `and` returns: the literal's number, or a fault; `None` if an argument's variable does not exist.
 fn and(builder: &mut Builder, x: u32, y: u32) -> Option<Result<u32, EncodeFault>> {
     let (x, y) = (Literal::new(x), Literal::new(y));
     let most = builder.variables();
@@ -52,8 +52,7 @@ fn and(builder: &mut Builder, x: u32, y: u32) -> Option<Result<u32, EncodeFault>
     Some(builder.and(x, y).map(Literal::number))
 }
 
-/// What the builder's `or` returns, which is the number of a literal or a fault; `None` if an argument's variable does
-/// not exist.
+/// What the builder's `or` returns: the literal's number, or a fault; `None` if an argument's variable does not exist.
 fn or(builder: &mut Builder, x: u32, y: u32) -> Option<Result<u32, EncodeFault>> {
     let (x, y) = (Literal::new(x), Literal::new(y));
     let most = builder.variables();

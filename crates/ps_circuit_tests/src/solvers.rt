@@ -22,8 +22,8 @@ fn answer(solver: &mut Replay, game: &NamedGame) -> Answer {
     }
 }
 
-/// What the solver returns for a game, after it was given the text of a certificate. If the solver fails for another
-/// reason than the text, it is called again, since an allocation may have failed, as in a run of `rt try --test
+/// What the solver returns for a game, after it was given the text of a certificate. If the solver fails for a reason
+/// other than the text, it is called again, since an allocation may have failed, as in a run of `rt try --test
 /// --fail-alloc N`.
 fn answer_again(solver: &mut Replay, game: &NamedGame) -> Answer {
     match answer(solver, game) {
