@@ -14,8 +14,9 @@
 //! | `read_game_is_game` | law: what a text describes is a game, with an id for each vertex |
 //!
 //! The vertices of the parsed game are in the order of the text, and keep their ids and names. Parsing takes time
-//! proportional to the length of the text, except that ids much greater than their index are looked up in a B-tree. If
-//! a successor is not the id of a node, the text is read a second time to locate the first such successor.
+//! proportional to the length of the text, except that a node's id is looked up in a B-tree if it is much greater than
+//! the node's index. If a successor is not the id of a node, the text is read a second time to locate the first such
+//! successor.
 #![tactic(auto)]
 
 mod fault;

@@ -26,8 +26,8 @@ abbrev pub ReadsKnown : {V X : Type 0} → (List ℕ → V → Type 0) → (X �
 ReadsKnown Knows view part old result new =
     IfOk result (λ x. (ids : List ℕ) → Knows ids (view x) → WasRead (part (Some ids)) old (view x) new)
 
--- if a list of known ids contains all successors in the value `after`, it also contains all successors in the value
--- `before`, and parsing with this list gives the value `after`
+-- One more item is parsed, so that the list `before` grows to `after`. If a list of known ids contains all successors
+-- in `after`, it contains all those in `before`, and parsing the item with these known ids gives `after`, too
 abbrev pub AddsKnown : {V X : Type 0} → (List ℕ → V → Type 0) → V → V → (Option (List ℕ) → Part Sign V PgCause) →
     Stream Sign → Result X PgFault → Stream Sign → Type 0
 AddsKnown Knows before after part old result new =
@@ -92,7 +92,8 @@ abbrev pub TextAnswers : Option (List ℕ) → Stream Sign → Result (List Node
 TextAnswers known stream (Ok nodes) = PartAnswers pg_causes (game known) stream (Ok nodes)
 TextAnswers known stream (Err fault) = FaultAnswers known stream (found_of fault)
 
--- the nodes that are parsed from a text stay the same if the list of known ids contains all successors in these nodes
+-- if a text is parsed as a list of nodes, parsing it with any list of known ids that contains all successors of these
+-- nodes gives the same nodes
 abbrev pub KnownAnswers : Stream Sign → Result (List NodeData) PgFault → Type 0
 KnownAnswers stream result =
     IfOk result (λ nodes. (ids : List ℕ) → KnowsAll ids nodes →
