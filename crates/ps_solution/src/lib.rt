@@ -8,7 +8,8 @@
 //! | `one_answer`, `some_answer` | laws: a text has exactly one answer for a game |
 //!
 //! The crate `ps_referee` judges whether a solution is right. Parsing takes time proportional to the length of the text
-//! and the number of the game's vertices, except that ids much greater than their index are looked up in a B-tree.
+//! and the number of the game's vertices, except that a vertex's id is looked up in a B-tree if it is much greater than
+//! the vertex's index.
 #![tactic(auto)]
 
 mod laws;
