@@ -29,8 +29,8 @@ empty_blind level t e f g _ = e f ∙ sym (e g)
 bool_same : (a b : Bool) → (a ≡ b) ⊎ (a ≡ b → ⊥)
 bool_same a b = grind (arith, true_is_not_false)
 
--- one more proposition is tested: the new tree has the old tree's leaves if the proposition has its value in the
--- letter, and no leaf otherwise
+-- one more proposition p is tested: at letters in which p has the same truth value as in `letter`, the new tree has the
+-- old tree's leaf; at other letters, it has no leaf
 alone_step : {n : ℕ} (p letter : ℕ) (v : Bool) (node made : Tree) → IsAlone n (p + 1) letter node →
     is_in p letter ≡ v → p < n → IsBlind p made → ((f : ℕ → Bool) → f p ≡ v → leaf_at made f ≡ leaf_at node f) →
     ((f : ℕ → Bool) → (f p ≡ v → ⊥) → leaf_at made f ≡ None) → IsAlone n p letter made

@@ -108,8 +108,8 @@ mixed_alike : (mask : ℕ) (f g w : ℕ → Bool) (q : ℕ) → ((p : ℕ) → i
     mixed mask f w q ≡ mixed mask g w q
 mixed_alike mask f g w q on = elim (bool_cases (is_in q mask)) [ inl is ↦ rw is (on q is) | inr isnt ↦ rw isnt ]
 
--- the number of a letter that `mixed` gives is a letter that agrees with the first letter on the mask, and with the
--- second elsewhere
+-- `mixed` is applied to the letters x and w, and to y and w. The number of the first result agrees with x on the mask;
+-- outside the mask, the numbers of the two results agree
 
 joined_letter : (n mask x : ℕ) (w : ℕ → Bool) → x < 2 ^ n → AgreeOn mask x (letter_of n (mixed mask (assignment x) w))
 joined_letter n mask x w h p is = search (rules, cases_lt, letter_is, no_bit, letter_lt)
@@ -195,9 +195,10 @@ module _ {s u : Table} (m : Made s u) where
         (m.listed.rising i j lt below));
   }
 
--- The lemma relates three tables of nodes. The table s has `node`, for which the letters are divided into classes. The
--- table v has `divided`, whose leaf at a letter is the number of a node: the cofactor of `node` for this letter. The
--- table u has the nodes of v, and the diagram `at`, whose leaves are the indices of the classes.
+-- The list of classes that is made from the leaves of `divided` has the classes for `node` (`AreClasses`). Three tables
+-- of nodes occur in this lemma. The table s has `node`, for which the letters are divided into classes. The table v has
+-- `divided`, whose leaf at a letter is the number of a node: the cofactor of `node` for this letter. The table u has
+-- the nodes of v, and the diagram `at`, whose leaves are the indices of the classes.
 pub classes_of : {s v u : Table} → Keeps v u → IsSoundTable s → IsSoundTable u → u.propositions ≡ s.propositions →
     (mask : ℕ) {node divided at : ℕ} {places : ℕ → Option ℕ} {leaves : List (ℕ × ℕ)} {list : List Class} →
     IsNode s node → IsNode v divided → IsNode u at → IsDivided v mask (tree_of s node) (tree_of v divided) →

@@ -88,7 +88,7 @@ divided_test t mask p a al ah d dl dh ta h il ih f =
     let r = ih f in
     search rules
 
--- a test of a proposition stays a test if the proposition is in the mask; otherwise, the test moves into the leaves
+-- if p is in the mask, the diagram d that tests p and has the sides a and b meets the condition `IsDividedTest`
 pub divided_in : (t : Table) (mask p level : ℕ) (a b d : Tree) → is_in p mask ≡ true → LeadsToNodes t level a →
     LeadsToNodes t level b → IsTestOf p a b d → IsDividedTest t mask p a b d
 divided_in t mask p level a b d is la lb td f =
@@ -136,8 +136,8 @@ place_of t level d h node e =
     let r = h (λ _. false) in
     search rules
 
--- each of the three trees has the number of one node as its leaf at every letter. If the third node tests p and has the
--- first two nodes as its sides, the three trees meet the condition `IsTested`
+-- At every letter, the trees a, b and d have as leaves the numbers of the nodes `low`, `high` and `made`. If `made`
+-- tests p and has the sides `low` and `high`, the three trees meet the condition `IsTested`
 pub tested_between : {t u v : Table} → Keeps t u → Keeps u v → (p : ℕ) (a b d : Tree) {low high made : ℕ} →
     ((f : ℕ → Bool) → leaf_at a f ≡ Some low) → ((f : ℕ → Bool) → leaf_at b f ≡ Some high) →
     ((f : ℕ → Bool) → leaf_at d f ≡ Some made) → IsNode t low → IsNode t high → IsNode u made →
@@ -166,9 +166,9 @@ leading_side b {t} {p = p} k s l = record {
     held true s = s.high_held
     held false s = s.low_held
 
--- The diagram `made` meets the condition `IsTested` for the nodes a and b. It is made in three steps, in which the
--- table may grow: `low` from the low sides of a and b, `high` from their high sides, and then a test with the sides
--- `low` and `high`
+-- The diagram `made` meets the condition `IsTested` for the nodes a and b. Three calls make `low` from the low sides of
+-- a and b, `high` from their high sides, and then `made`, a test with the sides `low` and `high`. The table may grow in
+-- each call
 pub sides_tested : {E : Type 0} {t u v w : Table} (p : ℕ) {a b low high made : ℕ} {s : Split} → IsSplit t a b s →
     MakesTree {E = E} t u (Ok low) (IsTested u p (tree_of t s.left.low) (tree_of t s.right.low)) →
     MakesTree {E = E} u v (Ok high) (IsTested v p (tree_of u s.left.high) (tree_of u s.right.high)) →

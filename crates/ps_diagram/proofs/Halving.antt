@@ -102,7 +102,7 @@ all_tests is done a = rw (is, done) at a
 
 module _ {t u : Table} {p none : ℕ} {nodes made : List ℕ} (row : IsRow t (p + 1) none nodes) (keeps : Keeps t u)
     (a : AreTests t u p none (2 ^ p) nodes (min (length nodes) (2 ^ p)) made) where
-  -- the node at the index i of the new row tests p, or it is `none`, which stands for an index past the end of the row
+  -- the node at the index i of the new row tests p; if i is past the end of the row, the node `none` is taken instead
   Made : ℕ → Type 0
   Made i = ((i < length nodes) × TestsAt t u p none (2 ^ p) nodes i (get_or made i none)) ⊎ (get_or made i none ≡ none)
 

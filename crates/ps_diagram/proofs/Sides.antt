@@ -23,13 +23,15 @@ constant_root n empty o h = (None, (λ f. refl))
 constant_root n (final k) o h = (Some k, (λ f. refl))
 constant_root n (choice p low high) o h = absurd (omega arith)
 
--- a side's leaf at a letter is the node's leaf at the letter in which p has the side's truth value
+-- at a letter f, the low side has the leaf that the node has if p is set to false in f; the high side has the leaf that
+-- the node has if p is set to true
 pub side_at : {t : Table} {node p low high : ℕ} (v : Bool) → IsSides t node p low high → (f : ℕ → Bool) →
     leaf_at (tree_of t node) (changed f p v) ≡ leaf_at (tree_of t (cond v high low)) f
 side_at v h f = search (rules, side_leaf)
 
--- Nodes are numbers. The nodes `first` and `second` are replaced by x and y, which are not greater. If each of the two
--- nodes that tests the smaller proposition is replaced by a smaller number, the sum of the two numbers falls.
+-- Nodes are numbers. The node `first` tests the proposition a, and `second` tests b. They are replaced by x and y,
+-- which are not greater. A node that tests the smaller of a and b (both nodes, if a is b) is replaced by a smaller
+-- number. So the sum of the two numbers falls.
 pub falls : (a b : ℕ) {r : ℕ} (first second x y : ℕ) → r ≡ min a b → x ≤ first → y ≤ second → (a ≡ r → x < first) →
     (b ≡ r → y < second) → x + y < first + second
 falls a b first second x y e hx hy lx ly = search (rules, cases_lt)

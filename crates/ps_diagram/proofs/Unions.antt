@@ -1,4 +1,5 @@
--- Disjunctions of many diagrams of truth values, computed by halves of the list.
+-- Disjunctions of many diagrams of truth values: the disjunction of each half of the list is made first, and then the
+-- disjunction of the two results.
 use Rattle.std.proofs.Common.{◌≡◌, ℕ, suc, Bool, true, false, cond, length, List, [], ◌∷◌, ◌++◌, All, Option, None}
 use Rattle.std.proofs.Common.{take, drop, refl, ap, sym, subst, ◌∙◌, arith, rules}
 use Rattle.std.proofs.lemmas.List.{map-append, take-append-drop}

@@ -5,8 +5,8 @@
 -- - `tree_of t node`: the tree of the node
 -- - `leaf_of t node x`: the leaf of the node at the letter x
 -- - `Keeps old new`: each old node is in the new table, with the same tree and so with the same leaf at each letter
--- - `MakesDiagram old new result leaf`: a call keeps the old nodes; the node that it makes has the leaf `leaf letter`,
---   or none, at each letter
+-- - `MakesDiagram old new result leaf`: a call keeps the old nodes; at each letter, the node that it makes has the leaf
+--   `leaf letter`, or no leaf if this is None
 -- - `IsSoundTable`: what is true of every store
 use Rattle.std.specs.Prelude.{◌≡◌, ℕ, ◌<◌, ◌≤◌, IfOk, List, Option, Result, [], ◌∷◌, ◌++◌, fold, length}
 use Rattle.std.specs.Prelude.{slice_index_or}
@@ -58,7 +58,7 @@ pub record MakesNode {E : Type 0} (old new : Table) (result : Result ℕ E) (P :
   pub held : IfOk result (λ node. IsNode new node)
   pub leaf : IfOk result P
 
--- a call makes a node with the given leaf, or none, at each letter
+-- a call makes a node whose leaf at each letter is the value of the function `leaf` for this letter (None for no leaf)
 abbrev pub MakesDiagram : {E : Type 0} → Table → Table → Result ℕ E → (ℕ → Option ℕ) → Type 0
 MakesDiagram old new result leaf =
     MakesNode old new result (λ node. (letter : ℕ) → leaf_of new node letter ≡ leaf letter)

@@ -149,8 +149,7 @@ impl Store {
         }
     }
 
-    /// A diagram that has the same leaf at every letter: the number of the node that has the given leaf, or none, at
-    /// every letter.
+    /// The diagram whose leaf at every letter is the number of the node `constant(leaf)`.
     fn place_of_leaf(&mut self, leaf: Option<u64>) -> Result<Node, AllocError>
         ensures { MakesTree self.old self.new result (λ made. (mask : ℕ) (tree : Tree) →
             ((f : ℕ → Bool) → leaf_at tree f ≡ leaf) → IsDivided self.new mask tree made) }

@@ -29,19 +29,20 @@
 //! (`Keeps`). `eval`, `same` and `view` read a node and use no memory. `leaves` lists the leaves of a node, each with
 //! the least letter that leads to it; `path_to` finds this letter for one leaf. `classes(node, split)` divides the
 //! letters over the propositions of `split` into classes: two letters are in one class exactly if the node has the same
-//! leaf for both, whatever the truth values of the other propositions (`AreClasses`). `classes_from` divides the letters for a node of another
-//! store. `classes` and `classes_from` keep every node of the store, too. `copy` returns a new store with the same
-//! nodes.
+//! leaf for both, whatever the truth values of the other propositions (`AreClasses`). `classes_from` divides the
+//! letters for a node of another store. `classes` and `classes_from` keep every node of the store, too. `copy` returns
+//! a new store with the same nodes.
 //!
 //! A store never drops a node. Equal diagrams are one node, which is found by a hash table or, for small leaves, by a
 //! table indexed by the leaf. `negated`, `guard`, `fill`, `relabel` and `relabel_from` visit each node of the given
 //! diagram once. `overlay` and `both` visit each reachable pair of nodes once, and `choose` visits each reachable
-//! triple once. `composed_from` visits each node once, and chooses between its sides by the function that replaces its
-//! proposition. If that function is constant, only one side is needed, and the node's result is not kept: the node is
-//! visited again if another node leads to it. Most calls visit only a few nodes, so the first few nodes are not kept in
-//! a memo table, and may be visited more often. `of_letter` makes one node for each proposition. `of_label` makes a
-//! node for each literal of a product; it joins the diagrams of other operands in halves. `classes` first copies the
-//! store.
+//! triple once. `composed_from` chooses between the results for a node's two sides by the function that replaces the
+//! node's proposition. If this function is not constant, the node is visited once. If it is constant, only one side is
+//! needed, and the node's result is not kept: the node is visited again if another node leads to it. Most calls visit
+//! only a few nodes, so the first few nodes are not kept in a memo table, and may be visited more often. `of_letter`
+//! makes one node for each proposition. For a product of literals, `of_label` makes at most one node for each literal.
+//! For any other conjunction or disjunction, it joins the diagrams of the operands, or of their negations: first those
+//! of each half of the list, then the two results. `classes` first copies the store.
 #![tactic(auto)]
 
 mod both;

@@ -282,7 +282,7 @@ impl Store {
         }
     }
 
-    /// The diagram that has the given leaf, or none, at every letter.
+    /// The diagram that has the given leaf at every letter, or no leaf at any letter if `leaf` is `None`.
     pub(crate) fn constant(&mut self, leaf: Option<u64>) -> Result<Node, AllocError>
         ensures { MakesTree self.old self.new result (λ tree. (f : ℕ → Bool) → leaf_at tree f ≡ leaf) }
     {

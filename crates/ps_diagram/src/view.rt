@@ -39,8 +39,8 @@ pub enum View {
     },
 }
 
-/// A store finds a node by the hash of its view, except a small leaf whose index is in a table. To save time, a view is
-/// hashed as at most two numbers.
+/// A store finds the node with a given view by the view's hash, or, for most small leaves, in a table. To save time, at
+/// most two numbers are hashed for a view.
 impl Hash for View {
     ghost use Rattle.ps_diagram.specs.Inner.Hashed.{hashed};
 

@@ -26,8 +26,8 @@ pair_eq a b = nat_eq a.0 b.0 && nat_eq a.1 b.1
 abbrev pub IsMapped : (Option ℕ → Option ℕ) → Tree → Tree → Type 0
 IsMapped rule t u = (f : ℕ → Bool) → leaf_at u f ≡ rule (leaf_at t f)
 
--- the node of the table s satisfies `Fits` for the leaf at every letter, and the table s has at most as many
--- propositions as the table t
+-- the node is in the table s, its leaf at each letter (None for no leaf) has the property `Fits`, and s has at most as
+-- many propositions as the table t
 pub record IsChangeable (Fits : Option ℕ → Type 0) (s t : Table) (node : ℕ) : Type 0 where
   pub held : IsNode s node
   pub few : s.propositions ≤ t.propositions

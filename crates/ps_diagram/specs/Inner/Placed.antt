@@ -9,7 +9,8 @@ abbrev pub AddsCell : List View → View → List View → Type 0
 AddsCell old cell new =
     (new ≡ old) ⊎ ((new ≡ old ++ cell ∷ []) × ((place : ℕ) → slice_get old place ≡ Some cell → ⊥))
 
--- the result is the place of the cell, which is added if need be; a call that fails changes nothing
+-- the result is the index of the cell in the new list, to which the cell is appended if the old list lacks it; a call
+-- that fails changes nothing
 pub record PlacesCell {E : Type 0} (old new : List View) (cell : View) (result : Result ℕ E) : Type 0 where
   pub adds : OnOk result (AddsCell old cell new)
   pub there : IfOk result (λ place. slice_get new place ≡ Some cell)

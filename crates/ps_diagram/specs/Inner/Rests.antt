@@ -74,8 +74,9 @@ pub record AreTested (t : Table) (test : (ℕ → Bool) → Bool) (x y z : Optio
 abbrev pub IsTested : Table → ℕ → Tree → Tree → Tree → Type 0
 IsTested t p a b d = (f : ℕ → Bool) → AreTested t (λ g. g p) (leaf_at a f) (leaf_at b f) (leaf_at d f)
 
--- If p is not in the mask, the trees a, b and d meet the condition `IsTested`. If p is in the mask, the third node at
--- the letter f has the leaves of the second node if p is true in f, and otherwise those of the first.
+-- If p is not in the mask, the trees a, b and d meet the condition `IsTested`. Let p be in the mask, and let a, b and d
+-- lead a letter f to the nodes x, y and z. If p is true in f, z has the same leaves as y, and otherwise the same leaves
+-- as x.
 abbrev pub IsDividedTest : Table → ℕ → ℕ → Tree → Tree → Tree → Type 0
 IsDividedTest t mask p a b d =
     (f : ℕ → Bool) → AreTested t (λ g. mixed mask f g p) (leaf_at a f) (leaf_at b f) (leaf_at d f)
