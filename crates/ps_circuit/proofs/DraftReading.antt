@@ -2,8 +2,9 @@
 -- - `text_reads`, `text_trails`: the answer to a text follows from the result of parsing the whole grammar
 -- - `Reached start now rest`: the text was parsed from `start` to `now`, and the grammar's part `rest` is still to be
 --   parsed
--- - `past_header`, `past_lines`, `all_reads`: after the header, after the lines of one kind, and after the symbol
---   table, the grammar of the rest of the text is still to be parsed
+-- - `past_header`, `past_lines`: once the header, or the lines of one kind, are parsed, `Reached` holds with the part
+--   of the grammar that comes next
+-- - `all_reads`: once the symbol table and the comment are parsed, the whole text is parsed
 -- - `answered`: the parser returns the answer to the text
 -- - `draft_fails`, `draft_trails`: if a part of the text has an error, or bytes remain after the last part, the error
 --   that the parser returns is the right answer

@@ -78,8 +78,8 @@ module _ {A B : Type 0} (P : Field A) (Q : A → Field B) where
       (ap (λ (z : List Seen). left ++ z) e ∙ sym (append_assoc left front (t ∷ back)))
       (inr (record { left = left; right = front; value = a; split = refl; is_left = h; is_cause = c }))
 
--- the text of two parts, followed by a rest, is the first part's text, followed by the second part's text and the rest;
--- `Placed` holds for both forms
+-- if `Placed` holds for a text followed by a rest, and the text consists of two parts, `Placed` also holds for the
+-- first part followed by the second part and the rest
 placed_parts : (text left right rest : List Seen) → text ≡ left ++ right → Placed (text ++ rest) →
     Placed (left ++ (right ++ rest))
 placed_parts text left right rest e placed =

@@ -1,6 +1,6 @@
 -- An AIGER text without errors describes a well-formed circuit.
--- - `safe_input`, `safe_latch`, `safe_output`, `safe_gate`: a line without an error adds its input, latch, output or
---   gate, any variable that it defines, and the literals that it uses to what was read before
+-- - `safe_input`, `safe_latch`, `safe_output`, `safe_gate`: a line without an error adds the following to what was
+--   read before: its input, latch, output or gate; any variable that it defines; and the literals that it uses
 -- - `safe_names`, `safe_header`, `safe_body`: the names, the header, and the text after the header have well-formed
 --   values
 -- - `circuit_is_sound`: the lemma that proves the law `read_circuit_is_circuit`

@@ -33,8 +33,8 @@ use Rattle.ps_circuit.specs.declared.sizes.Header.{Header}
 use Rattle.ps_circuit.specs.declared.lines.Noted.{Noted}
 use Rattle.ps_circuit.specs.declared.reader.Draft.{Draft}
 
--- each literal may define its variable, and `new` is `old` followed by the variables of the literals; if no variable
--- occurs twice in `old`, none occurs twice in `new`
+-- No literal is negated, constant or too large, and `new` is `old` followed by the variables of the literals. If no
+-- variable occurs twice in `old`, none occurs twice in `new`.
 pub record Defines (most : ℕ) (old : List ℕ) (literals : List ℕ) (new : List ℕ) : Type 0 where
   pub variables : new ≡ old ++ map variable literals
   pub each : All (IsDefinition most) literals
