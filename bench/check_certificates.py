@@ -11,9 +11,9 @@ the last column is psyn's time divided by the time of PROGRAM.
 
 How the games are made: each player wins half of the vertices, and each half is divided into layers. The winner's move
 and the opponent's edges lead from a vertex to a lower layer of the same half or, from layer 0, to anywhere in this
-half. The vertices of layer 0 have the winner's greatest priority. So the counts of a vertex are as follows: for each
-opposing priority from the vertex's own priority up to the winner's greatest one, the number of its layer; for every
-other opposing priority, 0. A vertex that belongs to its winner has further edges, which may lead anywhere. The
+half. The vertices of layer 0 have the winner's greatest priority. So a vertex has these counts: the number of the
+vertex's layer, for each opposing priority from the vertex's own priority up to the winner's greatest priority; and 0
+for every other opposing priority. A vertex that belongs to its winner has further edges, which may lead anywhere. The
 priorities of the other layers are random, and each priority below the two greatest ones occurs.
 """
 import argparse

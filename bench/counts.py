@@ -1,6 +1,6 @@
 #!/usr/bin/env python3
-"""Times the computation of a certificate's least counts against that of an unverified solver, or checks the counts of
-random games against a plain search.
+"""Compares the times in which psyn and an unverified solver compute the least counts that a certificate can have; or
+compares the counts of random games with those of a plain search.
 
   bench/counts.py GAMES YARDSTICK [--size SIZE] [--only WORD] [--runs N] [--program PROGRAM]
   bench/counts.py --random N [--program PROGRAM]
@@ -9,17 +9,18 @@ psyn has no command that only computes counts, so the script builds the program 
 program uses copies of the crates, with the libraries that earlier checks built in the crates' folders out/. --program
 names a program that was built before.
 
-GAMES is a Python file. Its FAMILIES maps a name to a function that gives a list of (priority, owner, successors); its
-SUITE maps a size (medium, large) to lines of a family's name and its numbers. `YARDSTICK solve --out sol --stats FILE`
+GAMES is a Python file. In this file, FAMILIES maps a family's name to a function that makes a game: a list with
+(priority, owner, successors) for each vertex. SUITE maps a size (medium, large) to a list of lines; each line has a
+family's name, and the numbers with which the family's function is called. `YARDSTICK solve --out sol --stats FILE`
 prints the winners and moves of the game in FILE, and on standard error `counts_ms` and other words with their values.
 psyn computes the counts for these winners and moves. The line of each game begins with the numbers of its vertices,
 edges and different priorities. For each program, the line has the least time of --runs (3) runs in milliseconds, for
 both players and without reading and writing. Then the line has psyn's time divided by that of YARDSTICK, and psyn's
 nanoseconds for each edge. Both programs must find the same sum of the counts and the same number of nonzero counts.
 
---random makes N small games with random winners and moves, which need not be right, after some games whose counts are
-known. The counts and the number of nonzero counts, or the existence of a lost cycle, must be those that a plain search
-finds.
+--random makes N small games. Their winners and moves are random, and need not be right. Before these games come a few
+fixed games, whose numbers of nonzero counts are known. The counts and the number of nonzero counts, or the existence of
+a lost cycle, must be those that a plain search finds.
 """
 import argparse
 import importlib.util
@@ -160,8 +161,8 @@ def reached(edges, start):
 
 
 def least(count, edges, level, priority):
-    """For one priority, the least count of each vertex in a certificate, found by raising counts until nothing
-    changes."""
+    """For each vertex, the least count of the given priority that a certificate can have; counts are raised until
+    nothing changes."""
     counts, is_changed = [0] * count, True
     while is_changed:
         is_changed = False

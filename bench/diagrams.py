@@ -10,10 +10,10 @@ bench/union.c is compiled with the package libbdd-dev; if that fails, there is n
 join COUNT cubes (10000, 20000, 40000, 80000) over 24 propositions: recursively one half of the cubes, then the other
 half, and then the two unions.
 
-A line for each count has psyn's and BuDDy's least time of --runs (3) runs in milliseconds, for the unions alone, and
-psyn's time divided by BuDDy's. Then the line has the number of psyn's nodes, the number of nodes made in a second, and
-the times of two calls of `classes`: for the first eight propositions, and for every fourth one. Of a list of random
-letters, psyn and BuDDy must find equally many in the union.
+A line for each number of cubes has psyn's and BuDDy's least time of --runs (3) runs in milliseconds, for the unions
+alone, and psyn's time divided by BuDDy's. Then the line has the number of psyn's nodes, the number of nodes made in a
+second, and the times of two calls of `classes`: for the first eight propositions, and for every fourth one. Of a list
+of random letters, psyn and BuDDy must find equally many in the union.
 
 With --labels, the diagram of one label of COUNT characters (10000, 20000, 50000, 100000) over 64 propositions is timed.
 There are two kinds of labels: `any` is a disjunction of conjunctions of five literals among twelve neighbouring
@@ -82,7 +82,8 @@ def tell(names):
 
 
 def labels(program, counts, runs):
-    """Times the decision diagrams of labels, and the division of their letters into classes."""
+    """Times how the diagrams of labels are built, and how letters are divided into classes; the letters of a class lead
+    to the same diagram of the remaining propositions."""
     tell(["label", "signs", "seconds", "doubling", "made", "nodes", "classes", "first ms", "classes", "eighth ms"])
     for shape in ("any", "all"):
         last = None

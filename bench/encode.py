@@ -11,13 +11,13 @@ the machine three times; the least time counts. The families are:
     drawn      each memory state has two successors and two output letters, between which the input chooses
     wide       as drawn, but the conjunction of two of 16 inputs chooses
     first      the environment wins and moves first; each state has two priorities, hence two memory states
-Each machine but the last one has twice as many memory states as the one before. The last one has as many as are
-allowed: MEMORIES (131,072), or fewer if psyn could not read an automaton for so many. A line for each machine has the
-memory states, the latches, the gates, the milliseconds, and the milliseconds divided by the milliseconds of the line
-above. For twice as many memory states, this quotient is 2.0 to 2.3 if the time is proportional to memory states times
-latches. The latches are a factor because each holds a bit of a memory state's code, and the bits are computed one after
-another. Then the line has the number of gates that are made in a second, and the number of bits of the machine's steps
-that are computed in a second.
+Each machine but the last one has twice as many memory states as the one before. The last one has MEMORIES (131,072)
+memory states, or fewer if an automaton for so many would have more states than psyn reads. A line for each machine has
+the memory states, the latches, the gates, the milliseconds, and the milliseconds divided by the milliseconds of the
+line above. For twice as many memory states, this quotient is 2.0 to 2.3 if the time is proportional to memory states
+times latches. The latches are a factor because each holds a bit of a memory state's code, and the bits are computed one
+after another. Then the line has the number of gates that are made in a second, and the number of bits of the machine's
+steps that are computed in a second.
 """
 import argparse
 import os
@@ -115,8 +115,8 @@ def outputs_of(family):
 
 
 def sizes(family, most):
-    """The numbers of memory states of a family's machines: LEAST, twice LEAST and so on, and at last the greatest
-    number. This is `most`, or less if psyn can't read an automaton that is large enough for so many."""
+    """The numbers of memory states of a family's machines: LEAST, twice LEAST and so on. The last number is `most`, or
+    less if an automaton for `most` memory states would have more states than psyn reads."""
     most = min(most, 2 * (STATES - 1) if family is first else STATES)
     count = LEAST
     while count < most:

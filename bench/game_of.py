@@ -3,13 +3,14 @@
 
   bench/game_of.py PSYN [--moore] [--runs N] [--edges N] [FAMILY..]
 
-PSYN is the built program (crates/psyn/out/psyn). The families are:
-    states     64 to 64,000 states (more would make the text too long), each with 16 letters of the inputs as classes
-    classes    64 states, each with 16 to 8,192 letters of the inputs as classes
+PSYN is the built program (crates/psyn/out/psyn). In a state, two letters of the inputs are in one class if each value
+of the output has the same effect after both letters. The families are:
+    states     64 to 64,000 states (more would make the text too long), each with 16 classes of one letter
+    classes    64 states, each with 16 to 8,192 classes of one letter
 In the family `states`, after each letter of the inputs, one value of the output leads to the sink. With the other value
 of the output, different letters of the inputs lead to different states. Each automaton is about twice as large as the
-one before, up to --edges edges (1,048,576, the most that psyn reads). A line for each automaton counts its states, the
-classes of input letters in each state, and the vertices and the edges of its game. The line also has the number of
+one before, up to --edges edges (1,048,576, the most that psyn reads). A line for each automaton has the number of its
+states, of the classes in each state, and of the vertices and the edges of its game. The line also has the number of
 bytes that psyn reads, and the number of bytes that it prints. Then the line has the least seconds of --runs (3) runs of
 the whole process. At its end, the line has the growth of the seconds for each doubling of the vertices since the line
 above (2: the time is proportional to the vertices).
@@ -52,8 +53,8 @@ def by_states(states):
 
 def by_classes(inputs):
     """Each state has an edge for each letter; the low bits of a letter are the inputs, and the high bit is the output.
-    The targets and acceptance sets for the two outputs together determine all bits of the inputs, so each letter of the
-    inputs is a class of its own."""
+    The targets and the acceptance set for the two values of the output together determine all bits of the inputs, so no
+    two letters of the inputs are in one class."""
     parts = [head(FEW, inputs), "--BODY--\n"]
     for q in range(FEW):
         parts.append(f"State: {q}\n")
@@ -65,7 +66,7 @@ def by_classes(inputs):
 
 def automata(family, most):
     """The automata of a family, each about twice as large as the one before; with each automaton, its number of states,
-    and the number of classes of letters in each state."""
+    and the number of classes in each state (letters of the inputs with the same effect form a class)."""
     if family == "states":
         for states in SIZES:
             if 16 * states <= most:

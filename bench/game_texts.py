@@ -4,9 +4,9 @@
   bench/game_texts.py PROGRAM [ARGUMENTS..]
   bench/game_texts.py --ids PROGRAM [ARGUMENTS..]
 
-Makes game texts of 1, 2, 4, 8 and 16 MiB, and runs `closed` of the built psyn on each game with an empty certificate,
-which is refused at its first byte. For each run, the script prints the time, and the time divided by the time for the
-size before.
+Makes game texts of 1, 2, 4, 8 and 16 MiB, and runs `closed` of the built psyn on each game with an empty certificate.
+So psyn reads the game, and then rejects the certificate at once. For each run, the script prints the time, and the time
+divided by the time for the size before.
 
 With --ids, the script makes texts of 100,000 vertices and of the same length, with four kinds of ids: each vertex's
 index, consecutive from 10^9 on, random, and random but rising. For each kind it prints the least time of five runs; the

@@ -59,7 +59,7 @@ HEADER = f"HOA: v1 Start: 0 AP: 8 {NAMES} controllable-AP: 0 1 Acceptance: 2 Inf
 
 
 def filled(head, size, piece_of, tail="--END--\n"):
-    """The head, as many pieces as fit in the given number of bytes, and the tail."""
+    """A text of at most the given number of bytes: the head, as many pieces as fit, and the tail."""
     parts, length, number = [head], len(head) + len(tail), 0
     while True:
         piece = piece_of(number)

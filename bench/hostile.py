@@ -15,9 +15,10 @@ those of the following words that apply:
   LARGE     psyn answered out of memory, and this is not the right answer
   ENDED     a signal or an unknown exit status ended the run: an error, unless the time limit ended it
 
-The last line has, for each of these words, the number of runs with this word. A run that the time limit ended is no
-error. The exit status is 1 if any other run has the word ENDED, or has the word LARGER without answering out of
-memory."""
+The last line has the number of all runs and, for each of these words, the number of runs whose line has the word. Then
+it has the number of wrong runs; numbers that are 0 are left out. A run is wrong if it has the word ENDED, or has the
+word LARGER without answering out of memory. A run that the time limit ended is never wrong. The exit status is 1 if a
+run is wrong."""
 import argparse
 import collections
 import multiprocessing

@@ -18,7 +18,7 @@ CERTIFICATE_START = "psyncert 1\nvertices 1\n"
 
 
 def filled(head, pieces, tail):
-    """The head, as many of the pieces as fit in `SIZE`, and the tail."""
+    """A text of at most `SIZE` bytes: the head, as many of the pieces as fit, and the tail."""
     parts, room = [head], SIZE - len(head) - len(tail)
     for piece in pieces:
         room -= len(piece)
@@ -294,7 +294,8 @@ BY_RUNGS = (ladder, second_ladder, twisted, braided, steep, slow_to_improve)
 
 
 def names_of_games():
-    """A vertex with a name of 16 MiB, an id with 16 MiB of leading zeros, and a number of 16 MiB of nines."""
+    """Three texts: a vertex with a name of 16 MiB; a vertex with an id of 16 MiB of zeros; and a number of 16 MiB of
+    nines."""
     return on_games(f'0 0 0 0 "{"n" * (SIZE - 20)}";\n') + on_games(f'{"0" * (SIZE - 20)} 0 0 0;\n') + on_games("9" * SIZE)
 
 

@@ -12,11 +12,14 @@ player against each positional strategy of the other player. A player wins the v
 strategies beats all of the opponent's. The winners that psyn printed must be those of the enumeration, and the moves
 that psyn printed must win.
 
-Then come paths of up to 10000 vertices, and up to 100000 vertices with self-loops only, all with different priorities;
-the largest game once more with a stack of 256 KiB; and the games in FOLDER. A line for each of the paths, and for each
-game in FOLDER, has the milliseconds and the depth of the recursion. SOLVER is another solver, which also solves the
-paths and the games in FOLDER. SOLVER is run as `SOLVER solve --stats --counts none --out none` on the same text, and
-must write `solve_ms` and its milliseconds to standard error.
+Then the script times games with as many priorities as vertices. In some games, up to 10000 vertices form a path, and
+each inner vertex has edges to both of its neighbours. The other games have up to 100000 vertices with self-loops only;
+the largest one is solved once more with a stack of 256 KiB. At last come the games in FOLDER. A line for each of these
+games has the milliseconds and the depth of the recursion.
+
+SOLVER is another solver, which also solves the games of paths and those in FOLDER. SOLVER is run as
+`SOLVER solve --stats --counts none --out none` on the same text, and must write `solve_ms` and its milliseconds to
+standard error. The line then also has the milliseconds of SOLVER, and psyn's milliseconds divided by these.
 """
 import argparse
 import itertools

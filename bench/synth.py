@@ -3,8 +3,8 @@
 
   bench/synth.py PSYN [--most STATES]
 
-Automata of growing size, which is at most STATES (65,000), are made in these ways; the size is the number of states, of
-inputs in `inputs`, and of sets in `priorities`:
+Automata of growing size are made in these ways. An automaton's size is its number of states; in `inputs`, it is the
+number of inputs, and in `priorities`, the number of acceptance sets. No size is above STATES (65,000):
     states         2 inputs and 2 outputs: grants must occur infinitely often; a controller exists
     inputs         1,000 states and 2 to 62 inputs; each state reads two of the inputs
     priorities     a state for each of the 2 to 64 sets of a chain condition
@@ -31,8 +31,8 @@ def head(inputs, outputs, acceptance):
 
 def states(count):
     """The states form a ring. A grant (output 0) leads five states on if output 1 is true, and otherwise two, by an
-    edge in the acceptance set. Without a grant, a request (input 0) leads to the next state. With neither, the state q
-    stays the same or, if input 1 is true, changes to 7 q + 3 (modulo the number of states)."""
+    edge in the acceptance set. Without a grant, a request (input 0) leads to the next state. With neither a grant nor a
+    request, state q leads to itself or, if input 1 is true, to state 7 q + 3 (modulo the number of states)."""
     lines = [head(2, 2, "1 Inf(0)")]
     for q in range(count):
         lines.append(f"State: {q} [0&!2] {(q + 1) % count} [!0&!2&!1] {q} [!0&!2&1] {(q * 7 + 3) % count} [2&!3] {(q + 2) % count} {{0}} [2&3] {(q + 5) % count} {{0}}\n")
@@ -50,7 +50,7 @@ def inputs(count):
 
 def priorities(count):
     """An automaton with a state for each acceptance set of a chain condition; the edges from state q are in set q. If
-    the input is true, state q + 1 follows on state q, and state 0 on the last one. Otherwise the output chooses between
+    the input is true, state q leads to state q + 1, and the last state to state 0. Otherwise the output chooses between
     q / 2 and q / 3, rounded down."""
     chain = "t"
     for k in reversed(range(count)):
