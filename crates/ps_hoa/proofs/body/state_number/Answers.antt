@@ -11,5 +11,5 @@ returns-clause-part c = search (rules, reads_token, int_signs)
 
 pub returns-clause-new : goal.returns-clause-new
 returns-clause-new c =
-    of_taken _ c.new_state_of.result _ (λ n t. row_new (header_data c.args.header.now) (body_data c.args.rows.now) n _ t)
-    c.new_state_of.ensures
+    of_taken _ c.new_state_of.result _ (λ n t. row_new (header_data c.args.header.now) (body_data c.args.rows.now) n _
+    t) c.new_state_of.ensures
