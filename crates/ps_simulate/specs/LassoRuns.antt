@@ -1,6 +1,6 @@
 -- Runs of a circuit that reads words, which are lists of input letters. Only private contracts use these definitions.
 use Rattle.std.specs.Prelude.{◌≡◌, ◌≢◌, ℕ, ◌<◌, ◌++◌, Bool, List, [], ◌∷◌, Option, None, Some, length, map, slice_get}
-use Rattle.std.specs.Prelude.{slice_index_or, Vec}
+use Rattle.std.specs.Prelude.{slice_index_or, All, Vec}
 use Rattle.std.specs.BTreeMap.{BTreeMap, btree_map_len, get}
 use Rattle.std.specs.Cmp.Lexicographic.{slice_cmp}
 use Rattle.std.specs.Global.{Global}
@@ -8,7 +8,25 @@ use Rattle.std.specs.Ordering.{bool_cmp}
 use Rattle.std.specs.declared.cmp.Ordering.{Ordering}
 use Rattle.ps_circuit.specs.Circuits.{CircuitData}
 use Rattle.ps_circuit.specs.Values.{Moment, GoesOn, resets}
+use Rattle.ps_simulate.specs.Inner.Namings.{IsNaming}
+use Rattle.ps_simulate.specs.LassoFaults.{AreWide}
+use Rattle.ps_simulate.specs.Simulations.{Simulation}
+use Rattle.ps_simulate.specs.Stimuli.{letters_of}
+use Rattle.ps_simulate.specs.declared.naming.Naming.{Naming}
 use Rattle.ps_simulate.specs.Lassos.{AreLetters, RepeatsLatches, laps_of, latches_before}
+
+-- the circuit can run on a lasso: each letter has a bit for each input, the lap has a letter, and the naming is one of
+-- the circuit
+pub record CanRun (c : CircuitData) (naming : Naming) (stem lap : List (Vec Bool Global)) : Type 0 where
+  pub wide : AreWide c (letters_of stem) (letters_of lap)
+  pub some : 0 < length lap
+  pub is_naming : IsNaming c naming
+
+-- the circuit can read a word, with room for the values of its outputs
+pub record CanRead (c : CircuitData) (naming : Naming) (outputs : List Bool) (word : List (List Bool)) : Type 0 where
+  pub wide : All (λ letter. length letter ≡ length c.inputs) word
+  pub outputs_fit : length outputs ≡ length c.outputs
+  pub is_naming : IsNaming c naming
 
 -- from the latch values `from`, the circuit reads the word, and then has the latch values `last`; the automaton's
 -- letter for each step is appended to the earlier letters
@@ -20,6 +38,12 @@ pub record ReadsWord (names : List (List ℕ)) (c : CircuitData) (from : List Bo
   pub letters : List ℕ
   pub are_letters : AreLetters names c trace letters
   pub new_is : new ≡ old ++ letters
+
+-- the simulator's circuit, which stays the same, reads the word
+pub record RunsOn (names : List (List ℕ)) (old new : Simulation) (word : List (List Bool)) (before after : List ℕ) :
+    Type 0 where
+  pub circuit : new.circuit ≡ old.circuit
+  pub reads : ReadsWord names old.circuit old.latches word before after new.latches
 
 -- `letters` are the automaton's letters of a trace that ends when the latch values before a reading of the lap repeat
 -- for the first time

@@ -75,21 +75,9 @@ fn moved_places(
     ensures kept { IfOk result (λ places. AreKept front places.items) }
     ensures in_order { IfOk result (λ places. AreInOrder front places.items rows.now) }
 {
-    let mut places = places_up_to(alloc, size)?;
+    let mut places: Vec<usize> = (0..size).collect(alloc)?;
     for (number, row) in rows.iter().enumerate() {
         places[row.target as usize] = front + number;
-    }
-    Ok(places)
-}
-
-/// The numbers from 0 to `count - 1`. Fails if out of memory.
-fn places_up_to(alloc: Global, count: usize) -> Result<Vec<usize>, AllocError>
-    ensures count { IfOk result (λ places. length places.items ≡ count) }
-    ensures each { IfOk result (λ places. AreKept count places.items) }
-{
-    let mut places = Vec::new(alloc);
-    for place in 0..count {
-        places.push(place)?;
     }
     Ok(places)
 }

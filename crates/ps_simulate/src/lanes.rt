@@ -6,6 +6,7 @@ ghost use Rattle.ps_circuit.specs.Literals.{variable};
 ghost use Rattle.ps_circuit.specs.Values.{resets};
 ghost use Rattle.ps_simulate.specs.Lanes.{all_or_none, lane_bit, lane_of};
 ghost use Rattle.ps_simulate.specs.LanePlans.{rows_from, wire_in};
+ghost use Rattle.ps_simulate.specs.Inner.TablesForSteps.{IsLaneTableFor};
 ghost use Rattle.ps_simulate.specs.Plans.{IsRowInTable, IsWorkedOut, read, work_out};
 
 use crate::lane_plan::{LanePlan, Operands};
@@ -144,10 +145,7 @@ fn fill_words(
     latches: &[[u64; 4]],
     values: &mut [[u64; 4]],
 )
-    requires within { All (IsRowInTable (length values.old)) (rows_from front gates.now) }
-    requires fit { front + length gates.now ≤ length values.old }
-    requires room { 1 + length inputs.now + length latches.now ≤ length values.old }
-    requires constant { (lane : ℕ) → lane < 256 → slice_index_or (lane_of values.old lane) 0 false ≡ false }
+    requires { IsLaneTableFor front gates.now inputs.now latches.now values.old }
     ensures { (lane : ℕ) → lane < 256 → IsWorkedOut (rows_from front gates.now) (lane_of inputs.now lane)
         (lane_of latches.now lane) (length values.old) (lane_of values.new lane) }
 {

@@ -9,9 +9,9 @@ ghost use Rattle.ps_automaton.specs.Automata.{IsBuiltFrom};
 ghost use Rattle.ps_automaton.specs.Chains.{Chain};
 ghost use Rattle.ps_simulate.specs.Stimuli.{letters_of};
 ghost use Rattle.ps_simulate.specs.Lassos.{IsVerdictOf};
-ghost use Rattle.ps_simulate.specs.LassoFaults.{AreWide, HasNoLassoFault, IsLassoFault};
-ghost use Rattle.ps_simulate.specs.LassoRuns.{HavePlaces, IsSeen, ReadsWord, RepeatsBy};
-ghost use Rattle.ps_simulate.specs.Inner.Namings.{IsNaming, names_of};
+ghost use Rattle.ps_simulate.specs.LassoFaults.{HasNoLassoFault, IsLassoFault};
+ghost use Rattle.ps_simulate.specs.LassoRuns.{CanRead, CanRun, HavePlaces, IsSeen, RepeatsBy, RunsOn};
+ghost use Rattle.ps_simulate.specs.Inner.Namings.{names_of};
 ghost use Rattle.ps_simulate.specs.declared.lassos.LassoFault.TheVariants.{OutOfMemory};
 
 use crate::fault::{StimulusCause, StimulusFault};
@@ -137,9 +137,7 @@ fn verdict_of(
     stem: &[Vec<bool>],
     lap: &[Vec<bool>],
 ) -> Result<Verdict, AllocError>
-    requires wide { AreWide circuit.now (letters_of stem.now) (letters_of lap.now) }
-    requires some { 0 < length lap.now }
-    requires naming { IsNaming circuit.now naming.now }
+    requires runs { CanRun circuit.now naming.now stem.now lap.now }
     requires names { names_of naming.now ≡ automaton.now.names }
     ensures { IfOk result (λ verdict. (file : FileData) (chain : Chain) → IsBuiltFrom file chain automaton.now →
         IsVerdictOf file circuit.now (letters_of stem.now) (letters_of lap.now) verdict) }
@@ -203,9 +201,7 @@ impl<'a> Run<'a> {
         stem: &[Vec<bool>],
         lap: &[Vec<bool>],
     ) -> Result<usize, AllocError>
-        requires wide { AreWide self.old.simulator.circuit (letters_of stem.now) (letters_of lap.now) }
-        requires some { 0 < length lap.now }
-        requires naming { IsNaming self.old.simulator.circuit naming.now }
+        requires runs { CanRun self.old.simulator.circuit naming.now stem.now lap.now }
         requires latches { self.old.simulator.latches ≡ resets self.old.simulator.circuit }
         requires outputs { vec_len self.old.outputs ≡ length self.old.simulator.circuit.outputs }
         requires letters { self.old.letters.items ≡ [] }
@@ -262,12 +258,9 @@ fn read_word(
     letters: &mut Vec<u64>,
     word: &[Vec<bool>],
 ) -> Result<(), AllocError>
-    requires wide { All (λ letter. length letter ≡ length simulator.old.circuit.inputs) (letters_of word.now) }
-    requires outputs_fit { length outputs.old ≡ length simulator.old.circuit.outputs }
-    requires naming { IsNaming simulator.old.circuit naming.now }
-    ensures circuit { simulator.new.circuit ≡ simulator.old.circuit }
-    ensures reads { OnOk result (ReadsWord (names_of naming.now) simulator.old.circuit simulator.old.latches
-        (letters_of word.now) letters.old.items letters.new.items simulator.new.latches) }
+    requires { CanRead simulator.old.circuit naming.now outputs.old (letters_of word.now) }
+    ensures { OnOk result (RunsOn (names_of naming.now) simulator.old simulator.new (letters_of word.now)
+        letters.old.items letters.new.items) }
 {
     for letter in word {
         simulator.step(letter, outputs);

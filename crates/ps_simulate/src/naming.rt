@@ -8,7 +8,7 @@ ghost use Rattle.ps_hoa.specs.Files.{is_among};
 ghost use Rattle.ps_hoa.specs.Memory.{bytes_of};
 ghost use Rattle.ps_hoa.specs.Sound.{AreNames};
 ghost use Rattle.ps_simulate.specs.Symbols.{AreNamesOnce, HasSymbols};
-ghost use Rattle.ps_simulate.specs.Inner.Namings.{ArePlacesOf, ArePut, IsNaming, bit_at_place, names_of};
+ghost use Rattle.ps_simulate.specs.Inner.Namings.{ArePlacesIfNamed, ArePut, IsNaming, bit_at_place, names_of};
 
 use crate::role::Role;
 use crate::symbols::{input_symbols, is_in_list, output_symbols, proposition_of};
@@ -90,12 +90,8 @@ fn places_of(
     symbols: &[Option<&[u8]>],
 ) -> Result<Option<Vec<Option<usize>>>, AllocError>
     requires { AreNames (map bytes_of names.now) }
-    ensures places { IfOk result (λ places. IfSome places (λ table.
-        ArePlacesOf (map bytes_of names.now) controllable.now wanted (map option_copied symbols.now) table.items)) }
-    ensures names { IfOk result (λ places. IfSome places (λ _.
-        AreNamesOnce (map bytes_of names.now) controllable.now wanted (map option_copied symbols.now))) }
-    ensures none { IfOk result (λ places. IfNone places (¬ AreNamesOnce (map bytes_of names.now) controllable.now wanted
-        (map option_copied symbols.now))) }
+    ensures { IfOk result (ArePlacesIfNamed (map bytes_of names.now) controllable.now wanted
+        (map option_copied symbols.now)) }
 {
     match put_places(alloc, names, controllable, wanted, symbols)? {
         Some(places) if is_full(controllable, wanted, &places) => Ok(Some(places)),

@@ -1,8 +1,8 @@
 //! The gates that a step needs.
 
-ghost use Rattle.std.specs.Prelude.{◌≡◌, ℕ, ◌<◌, length, All, IfOk};
-ghost use Rattle.ps_simulate.specs.NeededGates.{AreNeeded, IsPlanOfNeeded, IsScheduled, Needs, NeedsWhatItReads};
-ghost use Rattle.ps_simulate.specs.NeededGates.{NeedsWire};
+ghost use Rattle.std.specs.Prelude.{◌<◌, length, All, IfOk};
+ghost use Rattle.ps_simulate.specs.Inner.Marking.{Marks};
+ghost use Rattle.ps_simulate.specs.NeededGates.{AreNeeded, IsPlanOfNeeded, IsScheduled, NeedsWhatItReads, NeedsWire};
 ghost use Rattle.ps_simulate.specs.Plans.{IsPlan, IsRowInTable};
 ghost use Rattle.ps_simulate.specs.declared.plan.Plan.{Plan};
 
@@ -39,8 +39,7 @@ fn needed_places(alloc: Global, plan: &Plan) -> Result<Vec<bool>, AllocError>
 /// Marks as needed the values of the given wires (literals).
 fn need_each(wires: &[Wire], needed: &mut [bool])
     requires within { All (λ w. w.place < length needed.old) wires.now }
-    ensures needed { All (NeedsWire needed.new) wires.now }
-    ensures kept { (p : ℕ) → Needs needed.old p → Needs needed.new p }
+    ensures { Marks NeedsWire needed.old needed.new wires.now }
 {
     for wire in wires {
         needed[wire.place as usize] = true;
@@ -51,8 +50,7 @@ fn need_each(wires: &[Wire], needed: &mut [bool])
 fn need_what_is_read(rows: &[Row], needed: &mut [bool])
     requires within { All (IsRowInTable (length needed.old)) rows.now }
     requires scheduled { IsScheduled rows.now }
-    ensures needed { All (NeedsWhatItReads needed.new) rows.now }
-    ensures kept { (p : ℕ) → Needs needed.old p → Needs needed.new p }
+    ensures { Marks NeedsWhatItReads needed.old needed.new rows.now }
 {
     for number in (0..rows.len()).rev() {
         let row = rows[number];

@@ -2,6 +2,7 @@
 
 ghost use Rattle.std.specs.Prelude.{◌≡◌, ℕ, ◌+◌, ◌<◌, ◌≤◌, ◌⊎◌, length, map, slice_get, slice_index_or, All, IfOk};
 ghost use Rattle.std.specs.Prelude.{Some, false};
+ghost use Rattle.ps_simulate.specs.Inner.TablesForSteps.{IsTableFor};
 ghost use Rattle.ps_simulate.specs.Plans.{IsRowInTable, IsWorkedOut, read, work_out};
 
 use crate::needed::plan_of_needed;
@@ -128,9 +129,7 @@ fn work(rows: &[Row], values: &mut [bool])
 /// Fills the table of values in a step: copies the inputs and the latches, and evaluates the gates. The constant 0 is
 /// already in the table.
 fn fill(rows: &[Row], inputs: &[bool], latches: &[bool], values: &mut [bool])
-    requires within { All (IsRowInTable (length values.old)) rows.now }
-    requires room { 1 + length inputs.now + length latches.now ≤ length values.old }
-    requires constant { slice_index_or values.old 0 false ≡ false }
+    requires { IsTableFor rows.now inputs.now latches.now values.old }
     ensures { IsWorkedOut rows.now inputs.now latches.now (length values.old) values.new }
 {
     put(values, 1, inputs);

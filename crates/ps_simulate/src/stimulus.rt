@@ -4,7 +4,7 @@ ghost use Rattle.std.specs.Prelude.{◌≡◌, ◌+◌, ◌-◌, ◌^◌, ◌<�
 ghost use Rattle.std.specs.Prelude.{slice_index, All, IsTrue, IfOk, IfSome, IfNone};
 ghost use Rattle.ps_simulate.specs.StimulusTexts.{IsDigit, lines_of, digits_of, divider, IsStimulusAnswer};
 ghost use Rattle.ps_simulate.specs.StimulusTexts.{HasOneAnswer, HasSomeAnswer};
-ghost use Rattle.ps_simulate.specs.Inner.StimulusReading.{ReadsLine};
+ghost use Rattle.ps_simulate.specs.Inner.StimulusReading.{IsLineEnd, ReadsLine};
 
 use crate::fault::{StimulusCause, StimulusFault};
 use ps_text::cursor::{Class, run_length};
@@ -81,10 +81,7 @@ pub fn stimulus_text_has_some_answer()
 /// The end of the line that begins at `start`: the offset of the next newline, or the end of the text.
 pub(crate) fn line_end(text: &[u8], start: usize) -> usize
     requires { start < length text.now }
-    ensures from { start ≤ result }
-    ensures within { result ≤ length text.now }
-    ensures lines { lines_of (drop start text.now) ≡ take (result - start) (drop start text.now) ∷ lines_of
-        (drop (result + 1) text.now) }
+    ensures { IsLineEnd text.now start result }
 {
     start + run_length(&text[start..], Class::Inner)
 }

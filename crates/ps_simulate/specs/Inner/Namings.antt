@@ -1,10 +1,12 @@
 -- The code finds the names of propositions among the symbols of a circuit, which are the names of its inputs and
 -- outputs. Only private contracts use these definitions.
 use Rattle.std.specs.Prelude.{◌≡◌, ℕ, ◌<◌, ◌≤◌, Bool, false, List, length, map, Option, None, Some, slice_index_or}
+use Rattle.std.specs.Prelude.{IfNone, IfSome, Vec}
+use Rattle.std.specs.Global.{Global}
 use Rattle.ps_hoa.specs.Files.{is_among}
 use Rattle.ps_hoa.specs.Memory.{bytes_of}
 use Rattle.ps_circuit.specs.Circuits.{CircuitData}
-use Rattle.ps_simulate.specs.Symbols.{IsSymbol}
+use Rattle.ps_simulate.specs.Symbols.{AreNamesOnce, IsSymbol}
 use Rattle.ps_simulate.specs.declared.naming.Naming.{Naming}
 
 -- each of the first `count` symbols names a proposition, and `places` has the index of the symbol at this proposition
@@ -24,6 +26,14 @@ pub record ArePlacesOf (names : List (List ℕ)) (controllable : List ℕ) (want
   pub placed : (p k : ℕ) → IsSymbol names symbols k p → slice_index_or places p None ≡ Some k
   pub within : (p k : ℕ) → slice_index_or places p None ≡ Some k → k < length symbols
   pub side : (p k : ℕ) → slice_index_or places p None ≡ Some k → is_among p controllable ≡ wanted
+
+-- if the symbols are exactly the names of the wanted propositions, each once, the index of each proposition's symbol;
+-- otherwise nothing
+pub record ArePlacesIfNamed (names : List (List ℕ)) (controllable : List ℕ) (wanted : Bool)
+    (symbols : List (Option (List ℕ))) (places : Option (Vec (Option ℕ) Global)) : Type 0 where
+  pub places_of : IfSome places (λ table. ArePlacesOf names controllable wanted symbols table.items)
+  pub named : IfSome places (λ _. AreNamesOnce names controllable wanted symbols)
+  pub none : IfNone places (¬ AreNamesOnce names controllable wanted symbols)
 
 abbrev pub names_of : Naming → List (List ℕ)
 names_of naming = map bytes_of naming.names.now

@@ -22,7 +22,7 @@ loop-letter-preserved c =
     let m : Moment =
     record { latches = c.loop-letter.simulator.latches; inputs = c.deref.result.now; outputs = c.step.new.outputs } in
     let letter : IsLetterOf (names_of naming) d m c.letter.result =
-    letter_is m c.letter.result c.requires.naming c.letter.ensures.few (λ p. c.letter.ensures.bits p
+    letter_is m c.letter.result c.requires.is_naming c.letter.ensures.few (λ p. c.letter.ensures.bits p
     ∙ ap (λ (bits : List Bool). bit_at_place bits (get_or naming.inputs.items p None) || bit_at_place m.outputs
     (get_or naming.outputs.items p None)) (c.deref-in-loop-letter.ensures.value ∙ sym c.deref.ensures.value)) in
     let step : Steps d m.latches m.inputs m.outputs c.step.new.self.latches =

@@ -1,4 +1,4 @@
-use Rattle.std.proofs.Common.{ℕ, List, Bool, Bor, Option, map, length}
+use Rattle.std.proofs.Common.{ℕ, List, Bool, Bor, Option, map, length, rules}
 use Rattle.std.specs.Option.{option_copied}
 use Rattle.std.proofs.lemmas.List.{length-map}
 use Rattle.ps_hoa.specs.Memory.{bytes_of}
@@ -13,25 +13,30 @@ put : {names : List (List ℕ)} {set : List ℕ} {wanted : Bool} (symbols : List
     (length (map (option_copied {T = List ℕ}) symbols)) places
 put {names} {set} {wanted} symbols {places} h = rw (length-map symbols (option_copied {T = List ℕ})) h
 
-pub returns-in-Some-clause-places : goal.returns-in-Some-clause-places
-returns-in-Some-clause-places c = all_placed (map bytes_of c.args.names.now) c.args.controllable.now c.args.wanted
-    (map (option_copied {T = List ℕ}) c.args.symbols.now) c.requires
-    (put c.args.symbols.now (rw c.in-Some.is at c.in_ok-places.ensures.put))
+pub returns-in-Some : goal.returns-in-Some
+returns-in-Some c =
+    let names = map bytes_of c.args.names.now in
+    let symbols = map (option_copied {T = List ℕ}) c.args.symbols.now in
+    let placed = put c.args.symbols.now (rw c.in-Some.is at c.in_ok-places.ensures.put) in
+    record {
+      places_of = all_placed names c.args.controllable.now c.args.wanted symbols c.requires placed;
+      named = all_once names c.args.controllable.now c.args.wanted symbols c.requires placed
+          (rw c.deref.ensures.value at (c.is_full.ensures.full c.if-is_full.true));
+      none = search rules;
+    }
 
-pub returns-in-Some-clause-names : goal.returns-in-Some-clause-names
-returns-in-Some-clause-names c = all_once (map bytes_of c.args.names.now) c.args.controllable.now c.args.wanted
-    (map (option_copied {T = List ℕ}) c.args.symbols.now) c.requires
-    (put c.args.symbols.now (rw c.in-Some.is at c.in_ok-places.ensures.put))
-    (rw c.deref.ensures.value at (c.is_full.ensures.full c.if-is_full.true))
-
-pub returns-in_default-clause-none : goal.returns-in_default-clause-none
-returns-in_default-clause-none c = elim c.in_default.branch [
-  | in_default-via-in-Some+else-is_full w ↦
-      let g = w.is_full.ensures.missing w.if-is_full.false in
-      missing (map bytes_of c.args.names.now) c.args.controllable.now c.args.wanted
-      (map (option_copied {T = List ℕ}) c.args.symbols.now) c.requires
-      (put c.args.symbols.now (rw w.in-Some.is at c.in_ok-places.ensures.put))
-      g.0 (rw w.deref.ensures.value at g.1) g.2
-      (rw w.deref.ensures.value at g.3)
-  | in_default-via-in_default w ↦ let h = w.in_default.is in rw h at c.in_ok-places.ensures.none
-]
+pub returns-in_default : goal.returns-in_default
+returns-in_default c = record {
+  places_of = search rules;
+  named = search rules;
+  none = elim c.in_default.branch [
+    | in_default-via-in-Some+else-is_full w ↦
+        let g = w.is_full.ensures.missing w.if-is_full.false in
+        missing (map bytes_of c.args.names.now) c.args.controllable.now c.args.wanted
+        (map (option_copied {T = List ℕ}) c.args.symbols.now) c.requires
+        (put c.args.symbols.now (rw w.in-Some.is at c.in_ok-places.ensures.put))
+        g.0 (rw w.deref.ensures.value at g.1) g.2
+        (rw w.deref.ensures.value at g.3)
+    | in_default-via-in_default w ↦ let h = w.in_default.is in rw h at c.in_ok-places.ensures.none
+  ];
+}

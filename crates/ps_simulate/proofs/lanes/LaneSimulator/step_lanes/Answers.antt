@@ -31,19 +31,15 @@ next_is : (c : After-read_words-2) → take c.self.inside.latches.len
     c.read_words-2.new.words
 next_is c = search (rules, take_at)
 
-pub fill_words-requires-clause-within : goal.fill_words-requires-clause-within
-fill_words-requires-clause-within c = grind (arith, gates_within c.self.invariant)
-
-pub fill_words-requires-clause-fit : goal.fill_words-requires-clause-fit
-fill_words-requires-clause-fit c = search (rules, gates_fit)
-
-pub fill_words-requires-clause-room : goal.fill_words-requires-clause-room
-fill_words-requires-clause-room c =
+pub fill_words-requires : goal.fill_words-requires
+fill_words-requires c =
     let t = c.self.invariant in
-    grind (arith, latches_many t, room t)
-
-pub fill_words-requires-clause-constant : goal.fill_words-requires-clause-constant
-fill_words-requires-clause-constant c lane lt = rw c.deref_mut.ensures.value (constant_there c.self.invariant lane lt)
+    record {
+      within = grind (arith, gates_within t);
+      fit = search (rules, gates_fit);
+      room = grind (arith, latches_many t, room t);
+      constant = λ lane lt. rw c.deref_mut.ensures.value (constant_there t lane lt);
+    }
 
 pub read_words-requires-clause-within : goal.read_words-requires-clause-within
 read_words-requires-clause-within c = grind (arith, outputs_in_table c.self.invariant)

@@ -3,6 +3,7 @@ use Rattle.std.proofs.lemmas.List.{take_at}
 use Rattle.ps_simulate.specs.Plans.{IsWorkedOut, variables}
 use Rattle.ps_simulate.proofs.NeededLemmas.{cut_within, cut_nexts_within, cut_outputs_within, IsValueTable-cut}
 use Rattle.ps_simulate.proofs.NeededLemmas.{Steps-cut}
+use Rattle.ps_simulate.proofs.RowLemmas.{length-variables}
 use Rattle.ps_simulate.proofs.simulator.Simulator.step.Goals as goal
 use Rattle.ps_simulate.proofs.simulator.Simulator.step.Goals.{After-fill, After-read_all-2}
 
@@ -25,11 +26,15 @@ next_is : (c : After-read_all-2) → take c.self.inside.latches.len
     (c.read_all-2.new.bits ++ drop (length c.read_all-2.new.bits) c.self.inside.latches.items) ≡ c.read_all-2.new.bits
 next_is c = take_at c.read_all-2.new.bits _ _ (omega (arith, c.read_all-2.auto.bits, c.deref_mut-2.ensures.len))
 
-pub fill-requires-clause-within : goal.fill-requires-clause-within
-fill-requires-clause-within c =
+pub fill-requires : goal.fill-requires
+fill-requires c =
     let t = c.self.invariant.2 in
-    rw (c.deref.ensures.value, ap length c.deref_mut.ensures.value ∙ t.values_each)
-    (cut_within t.is_circuit t.is_plan c.self.invariant.1)
+    record {
+      within = rw (c.deref.ensures.value, ap length c.deref_mut.ensures.value ∙ t.values_each)
+          (cut_within t.is_circuit t.is_plan c.self.invariant.1);
+      room = grind (arith, length-variables c.self.inside.circuit.now);
+      constant = grind arith;
+    }
 
 pub read_all-requires-clause-within : goal.read_all-requires-clause-within
 read_all-requires-clause-within c =
