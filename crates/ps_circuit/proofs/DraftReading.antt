@@ -5,7 +5,7 @@
 -- - `past_header`, `past_lines`: once the header, or the lines of one kind, are parsed, `Reached` holds with the part
 --   of the grammar that comes next
 -- - `all_reads`: once the symbol table and the comment are parsed, the whole text is parsed
--- - `answered`: the parser returns the answer to the text
+-- - `answered`, `answered_circuit`: the parser returns the answer to the text, and a circuit that it returns is one
 -- - `draft_fails`, `draft_trails`: if a part of the text has an error, or bytes remain after the last part, the error
 --   that the parser returns is the right answer
 use Rattle.std.proofs.Common.{◌≡◌, ℕ, ◌^◌, ◌≤◌, List, [], ◌∷◌, length, Option, None, Some, Result, Ok, Err, IsErrAnd}
@@ -25,7 +25,7 @@ use Rattle.ps_circuit.specs.declared.fault.AigCause.{AigCause}
 use Rattle.ps_circuit.specs.declared.fault.AigCause.TheVariants.{Syntax}
 use Rattle.ps_circuit.specs.Causes.{AigFault}
 use Rattle.ps_text.specs.declared.faults.Fault.TheVariants.{Text, OutOfMemory}
-use Rattle.ps_circuit.specs.Circuits.{CircuitData, IsMadeOf}
+use Rattle.ps_circuit.specs.Circuits.{CircuitData, IsCircuit}
 use Rattle.ps_text.specs.Bytes.{Seen, stream_of}
 use Rattle.ps_circuit.specs.Signs.{Field, aig_causes}
 use Rattle.ps_text.specs.Cursors.{next_byte, stream_offset}
@@ -34,7 +34,7 @@ use Rattle.ps_circuit.specs.Inner.Cursors.{saturated}
 use Rattle.ps_circuit.specs.Texts.{HeaderData, header, Lines, no_lines, input_line, NamesData, no_names, symbol_line}
 use Rattle.ps_circuit.specs.Texts.{comment, DraftData, draft_of as drafted, symbols, body, circuit_text, IsDefined}
 use Rattle.ps_circuit.specs.Texts.{refused, undefined, cyclic, meaning, IsCircuitAnswer}
-use Rattle.ps_circuit.specs.Inner.Reading.{FoundAnswers, TellsDraft, TellsDefined, TellsCyclic}
+use Rattle.ps_circuit.specs.Inner.Reading.{FoundAnswers, TellsDraft, TellsDefined, TellsCircuit}
 use Rattle.ps_text.proofs.Bytes.Lefts.{unread, past, stops_at, reads_last}
 use Rattle.ps_circuit.proofs.CircuitParts.{Left, Chain}
 use Rattle.ps_text.proofs.Bytes.Single.{Any}
@@ -149,14 +149,17 @@ module _ (text : List ℕ) (d : DraftData) (okay : PartAnswers aig_causes circui
       subst (IsCircuitAnswer text) (sym (y.1 ∙ ap Err (y.2 ∙ m.1))) (undefined d m.0 okay m.2 refl)
 
   pub answered : All (IsDefined d.defined) d.readings → (r : Result CircuitData AigFault) →
-      IfOk r (IsMadeOf d.circuit) → ((e : AigFault) → r ≡ Err e → TellsCyclic d.circuit.gates d.starts (found_of e)) →
-      IsCircuitAnswer text r
-  answered known (Ok c) made cause =
+      TellsCircuit d.circuit d.starts r → IsCircuitAnswer text r
+  answered known (Ok c) made =
       meaning d okay known (λ i. search (rules, made.well_formed.acyclic)) (ap Ok made.is)
-  answered known (Err (Text f offset)) made cause =
-      let k = cause (Text f offset) refl in
+  answered known (Err (Text f offset)) k =
       cyclic d k.0 offset okay known k.2 k.3 (ap (λ x. Err (record { cause = x; offset = offset })) k.1)
-  answered known (Err OutOfMemory) made cause = tt
+  answered known (Err OutOfMemory) k = tt
+
+pub answered_circuit : (parts : CircuitData) (starts : List ℕ) (r : Result CircuitData AigFault) →
+    TellsCircuit parts starts r → IfOk r IsCircuit
+answered_circuit parts starts (Ok c) made = made.well_formed
+answered_circuit parts starts (Err e) k = tt
 
 -- ## The ways in which the function can return
 

@@ -1,14 +1,12 @@
 //! The parser of AIGER texts, which describe circuits.
 
 ghost use Rattle.std.specs.Prelude.{◌≡◌, ◌≢◌, ℕ, ◌<◌, ◌≤◌, ◌+◌, ◌*◌, ◌^◌, List, [], ◌∷◌, ◌++◌, length, map, vec_len};
-ghost use Rattle.std.specs.Prelude.{IfOk, Result, Err, All, Contains, IsTrue, ◌⊎◌, false, slice_index};
-ghost use Rattle.ps_text.specs.declared.faults.Fault.{Fault};
+ghost use Rattle.std.specs.Prelude.{IfOk, Contains, IsTrue, ◌⊎◌, false, slice_index};
 ghost use Rattle.ps_text.specs.declared.faults.Fault.TheVariants as faults;
-ghost use Rattle.ps_text.specs.Answers.{Found};
-ghost use Rattle.ps_circuit.specs.Circuits.{CircuitData, IsDraft, IsCircuit, IsMadeOf};
-ghost use Rattle.ps_text.specs.Faults.{found_of};
+ghost use Rattle.ps_circuit.specs.Circuits.{CircuitData, IsCircuit};
 ghost use Rattle.ps_circuit.specs.Drafts.{data_of};
-ghost use Rattle.ps_circuit.specs.Inner.Reading.{TellsDraft, TellsDefined, TellsCyclic, IsSoundDraft, draft_data};
+ghost use Rattle.ps_circuit.specs.Inner.Reading.{AreDefinedParts, IsSoundDraft, TellsCircuit, TellsDefined, TellsDraft};
+ghost use Rattle.ps_circuit.specs.Inner.Reading.{draft_data};
 ghost use Rattle.ps_circuit.specs.Texts.{IsCircuitAnswer};
 ghost use Rattle.ps_circuit.specs.declared.fault.AigCause.{AigCause};
 
@@ -108,10 +106,8 @@ fn cyclic(starts: &[usize], gate: usize) -> AigFault
 
 /// Makes the circuit from its parsed parts. Fails if a gate depends on itself, or if out of memory.
 fn assembled(alloc: Global, parts: Parts, starts: &[usize]) -> Result<Circuit, AigFault>
-    requires draft { IsDraft (data_of parts) }
-    requires starts { length starts.now ≡ length parts.gates.items }
-    ensures made { IfOk result (IsMadeOf (data_of parts)) }
-    ensures cyclic { (e : Fault AigCause) → result ≡ Err e → TellsCyclic parts.gates.items starts.now (found_of e) }
+    requires { AreDefinedParts (data_of parts) starts.now }
+    ensures { TellsCircuit (data_of parts) starts.now result }
 {
     match Circuit::new(alloc, parts) {
         Ok(circuit) => Ok(circuit),

@@ -3,6 +3,8 @@
 --   gates), the defined variables, the used literals, and the offsets of the gates' lines
 -- - `TellsField`, `TellsCount`, `TellsHeader`, `TellsDraft`: the function for a field, for a number of lines, for the
 --   header or for the whole text parsed its part, or located the first error
+-- - `TellsDefined`, `TellsCircuit`: the function that checks the used variables, or that makes the circuit of the
+--   parsed parts, was successful or returned its fault
 -- - `AddsInput`, `AddsLatch`, `AddsOutput`, `AddsGate`: one more line was read, of an input, a latch, an output or a
 --   gate
 -- - `IsRow`: lines of one kind (of inputs, latches, outputs or gates) are read one after another
@@ -13,7 +15,7 @@ use Rattle.ps_text.specs.Answers.{Stream, Found}
 use Rattle.ps_text.specs.Parts.{PartAnswers, times}
 use Rattle.ps_text.specs.Readers.{Reads as ReadsPart, Stops, Parses}
 use Rattle.ps_components.specs.Orders.{IsFirstOnCycle}
-use Rattle.ps_circuit.specs.Circuits.{IsDefinition, IsDraft, ReadsGate}
+use Rattle.ps_circuit.specs.Circuits.{CircuitData, IsDefinition, IsDraft, IsMadeOf, ReadsGate}
 use Rattle.ps_circuit.specs.Literals.{variable}
 use Rattle.ps_circuit.specs.Drafts.{data_of}
 use Rattle.ps_text.specs.Bytes.{Seen, stream_of}
@@ -153,3 +155,13 @@ abbrev pub TellsCyclic : List Gate → List ℕ → Option (Found AigCause) → 
 TellsCyclic gates starts None = Unit {0}
 TellsCyclic gates starts (Some found) =
     (i : ℕ) × (found.cause ≡ Cyclic) × IsFirstOnCycle (ReadsGate gates) i × (slice_get starts i ≡ Some found.offset)
+
+-- the parts of a circuit whose used variables are all defined, with the offset of each gate's line
+pub record AreDefinedParts (parts : CircuitData) (offsets : List ℕ) : Type 0 where
+  pub draft : IsDraft parts
+  pub starts : length offsets ≡ length parts.gates
+
+-- the circuit that has these parts, or the fault for the first gate that depends on itself
+abbrev pub TellsCircuit : CircuitData → List ℕ → Result CircuitData AigFault → Type 0
+TellsCircuit parts starts (Ok c) = IsMadeOf parts c
+TellsCircuit parts starts (Err e) = TellsCyclic parts.gates starts (found_of e)

@@ -7,7 +7,7 @@ cyclic-requires c =
     let first = c.new.ensures.cyclic c.in-Err-Cyclic.gate (cc) in
     omega (arith, way_within c.args.parts.gates.items first.cyclic, c.requires.starts)
 
-pub returns-in-Err-Cyclic-clause-cyclic : goal.returns-in-Err-Cyclic-clause-cyclic
-returns-in-Err-Cyclic-clause-cyclic c = λ e h.
+pub returns-in-Err-Cyclic : goal.returns-in-Err-Cyclic
+returns-in-Err-Cyclic c =
     let first = c.new.ensures.cyclic c.in-Err-Cyclic.gate (cc) in
     grind (arith, cyclic_tells, way_within)
