@@ -1,6 +1,7 @@
 -- Definitions that only private contracts use; no public clause refers to them.
 
 pub mod Marking
+pub mod Moving
 pub mod Namings
 pub mod StimulusReading
 pub mod TablesForSteps

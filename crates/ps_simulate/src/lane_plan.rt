@@ -1,9 +1,9 @@
 //! The plan of a circuit's gates for 256 simultaneous runs.
 
 ghost use Rattle.std.specs.Prelude.{◌≡◌, ℕ, ◌+◌, ◌^◌, ◌<◌, ◌≤◌, length, map, All, IfOk};
+ghost use Rattle.ps_simulate.specs.Inner.Moving.{CanMove, CanMoveRow};
 ghost use Rattle.ps_simulate.specs.LanePlans.{AreInOrder, AreKept, AreOnce, IsGateRow, move_row, move_wire, rows_from};
 ghost use Rattle.ps_simulate.specs.LanePlans.{wire_in};
-ghost use Rattle.ps_simulate.specs.Plans.{IsRowInTable};
 
 use crate::plan::{Plan, Row, Wire};
 use ps_circuit::{Circuit, Literal};
@@ -85,8 +85,7 @@ fn moved_places(
 /// Makes a literal of a wire, which is a table index with a sign: the literal's variable is the renumbered index, and
 /// the literal has the same sign.
 fn literal(places: &[usize], wire: Wire) -> Literal
-    requires places { All (λ p. p < 2 ^ 31) places.now }
-    requires within { wire.place < length places.now }
+    requires { CanMove places.now wire }
     ensures { wire_in result ≡ move_wire places.now wire }
 {
     let literal = Literal::positive(places[wire.place as usize] as u32);
@@ -99,8 +98,7 @@ fn literal(places: &[usize], wire: Wire) -> Literal
 
 /// Makes a literal of each wire, by `literal`. Fails if out of memory.
 fn literals(alloc: Global, places: &[usize], wires: &[Wire]) -> Result<Vec<Literal>, AllocError>
-    requires places { All (λ p. p < 2 ^ 31) places.now }
-    requires within { All (λ w. w.place < length places.now) wires.now }
+    requires { All (CanMove places.now) wires.now }
     ensures { IfOk result (λ literals. map wire_in literals.items ≡ map (move_wire places.now) wires.now) }
 {
     let mut literals = Vec::new(alloc);
@@ -112,8 +110,7 @@ fn literals(alloc: Global, places: &[usize], wires: &[Wire]) -> Result<Vec<Liter
 
 /// The operands of the given rows, with each index replaced by its entry in `places`. Fails if out of memory.
 fn gates_of(alloc: Global, places: &[usize], rows: &[Row]) -> Result<Vec<Operands>, AllocError>
-    requires places { All (λ p. p < 2 ^ 31) places.now }
-    requires within { All (IsRowInTable (length places.now)) rows.now }
+    requires { All (CanMoveRow places.now) rows.now }
     ensures { IfOk result (λ gates. (front : ℕ) → AreInOrder front places.now rows.now →
         rows_from front gates.items ≡ map (move_row places.now) rows.now) }
 {

@@ -1,6 +1,8 @@
 use Rattle.std.proofs.Common.{◌≡◌, ◌∙◌, ◌+◌, ◌-◌, ◌^◌, ◌<◌, length, All, ap, rules, arith}
+use Rattle.ps_simulate.specs.Inner.Moving.{CanMove}
 use Rattle.ps_simulate.specs.LanePlans.{AreInOrder, AreMoved}
 use Rattle.ps_simulate.specs.Plans.{variables}
+use Rattle.ps_simulate.specs.declared.plan.Wire.{Wire}
 use Rattle.ps_simulate.proofs.RowLemmas.{length-variables}
 use Rattle.ps_simulate.proofs.StepLemmas.{rows_within, outputs_within, nexts_within}
 use Rattle.ps_simulate.proofs.LanePlanLemmas.{few_variables, few_rows, gate_rows_at, rows_once_at, AreMoved_at}
@@ -35,23 +37,21 @@ moved_places-requires-clause-gates c = search (rules, gate_rows_at, size_is, fro
 pub moved_places-requires-clause-once : goal.moved_places-requires-clause-once
 moved_places-requires-clause-once c = search (rules, rows_once_at)
 
-pub gates_of-requires-clause-places : goal.gates_of-requires-clause-places
-gates_of-requires-clause-places c = search (rules, small)
+-- a wire of the plan can get its new index
+can_move : (c : After-deref-2) (w : Wire) → w.place < length (variables c.args.circuit.now) →
+    CanMove c.in_ok-places.places.items w
+can_move c w lt =
+    let there : w.place < length c.in_ok-places.places.items = omega (arith, many c, lt) in
+    record { within = there; small = small c w.place 0 there }
 
-pub gates_of-requires-clause-within : goal.gates_of-requires-clause-within
-gates_of-requires-clause-within c = search (rules, many, rows_within)
+pub gates_of-requires : goal.gates_of-requires
+gates_of-requires c = search (rules, can_move, rows_within)
 
-pub literals-requires-clause-places : goal.literals-requires-clause-places
-literals-requires-clause-places c = search (rules, small)
+pub literals-requires : goal.literals-requires
+literals-requires c = search (rules, can_move, outputs_within)
 
-pub literals-requires-clause-within : goal.literals-requires-clause-within
-literals-requires-clause-within c = search (rules, many, outputs_within)
-
-pub literals-requires-2-clause-places : goal.literals-requires-2-clause-places
-literals-requires-2-clause-places c = search (rules, small)
-
-pub literals-requires-2-clause-within : goal.literals-requires-2-clause-within
-literals-requires-2-clause-within c = search (rules, many, nexts_within)
+pub literals-requires-2 : goal.literals-requires-2
+literals-requires-2 c = search (rules, can_move, nexts_within)
 
 pub returns : goal.returns
 returns c =
