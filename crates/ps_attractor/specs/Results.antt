@@ -8,7 +8,7 @@ use Rattle.ps_game.specs.Regions.{has, move_at}
 use Rattle.ps_attractor.specs.declared.attractor.TheConstants.{OUTSIDE, PLACED, FREE}
 use Rattle.ps_attractor.specs.declared.aim.Aim.{Aim}
 use Rattle.ps_attractor.specs.declared.attractor.Attracted.{Attracted}
-use Rattle.ps_attractor.specs.Tables.{TablesData, level_of, moves_of, place_in}
+use Rattle.ps_attractor.specs.Tables.{TablesData, FitsGame, level_of, moves_of, place_in}
 use Rattle.ps_attractor.specs.Aims.{IsAttracted, IsGrown, IsSetOfPlaced, StandsFrom, rank_of}
 
 -- the target is contained in the subgame, and both sets are lists with one entry for each vertex
@@ -48,6 +48,12 @@ pub record IsRegionTo (tables : TablesData) (n : ℕ) (region : List Bool) : Typ
   pub placed : (v : ℕ) → v < n → IsTrue (has region v) → level_of tables v ≡ PLACED
   pub all : (v : ℕ) → v < n → level_of tables v ≡ PLACED → IsTrue (has region v)
   pub later : (v : ℕ) → n ≤ v → has region v ≡ false
+
+-- the result can be read from the tables: the tables fit the game, and the target is a list with one entry for each
+-- vertex
+pub record AreReadable (game : ParityGame) (tables : TablesData) (target : List Bool) : Type 0 where
+  pub fits : FitsGame game tables
+  pub target_places : length target ≡ vertex_count game
 
 -- v belongs to the player, was attracted, and is not in the target
 pub record Moves (game : ParityGame) (tables : TablesData) (player : ℕ) (target : List Bool) (v : ℕ) : Type 0 where

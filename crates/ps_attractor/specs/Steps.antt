@@ -2,7 +2,7 @@
 -- definitions; the public contract of `Tables::attract` uses `IsGrown` and `IsAttracted`.
 use Rattle.std.specs.Prelude.{◌≡◌, ◌≢◌, ℕ, ◌<◌, ◌≤◌, ◌⊎◌, List, ◌∷◌, [], ◌++◌, length, slice_index, slice_set, ◌==◌}
 use Rattle.std.specs.Prelude.{count_by}
-use Rattle.ps_game.specs.Games.{ParityGame, owner_of, HasEdge}
+use Rattle.ps_game.specs.Games.{ParityGame, vertex_count, owner_of, HasEdge}
 use Rattle.ps_attractor.specs.declared.aim.Aim.{Aim}
 use Rattle.ps_attractor.specs.Levels.{IsLevel}
 use Rattle.ps_attractor.specs.Tables.{TablesData, FitsGame, level_of}
@@ -13,6 +13,17 @@ use Rattle.ps_attractor.specs.Aims.{StandsFrom, IsGrown}
 pub record IsReady (game : ParityGame) (limit : ℕ) (aim : Aim) (tables : TablesData) : Type 0 where
   pub fits : FitsGame game tables
   pub fits_width : IsLevel limit aim.level
+
+-- the tables fit the game, and v is a vertex
+pub record HasVertex (game : ParityGame) (tables : TablesData) (v : ℕ) : Type 0 where
+  pub fits : FitsGame game tables
+  pub vertex : v < vertex_count game
+
+-- the edge from v to the attracted vertex w can be examined: the tables are ready, and both are vertices of the game
+pub record CanLook (game : ParityGame) (limit : ℕ) (aim : Aim) (tables : TablesData) (v w : ℕ) : Type 0 where
+  pub ready : IsReady game limit aim tables
+  pub vertex : v < vertex_count game
+  pub reached : w < vertex_count game
 
 -- the tables after the vertex v gets the level `level` and is appended to the worklist
 abbrev pub with_placed : TablesData → ℕ → ℕ → TablesData

@@ -10,7 +10,7 @@ ghost use Rattle.ps_attractor.specs.Tables.{FitsGame, level_of, place_in};
 ghost use Rattle.ps_attractor.specs.Aims.{StandsFrom};
 ghost use Rattle.ps_attractor.specs.Room.{HasRoom};
 ghost use Rattle.ps_attractor.specs.Results.{IsGoal, AreAttracted, AreLaidOut, IsAttractor, IsReadOff, IsRegionTo};
-ghost use Rattle.ps_attractor.specs.Results.{AreMovesTo, rank_at};
+ghost use Rattle.ps_attractor.specs.Results.{AreMovesTo, AreReadable, rank_at};
 
 use crate::aim::Aim;
 use crate::room::{has_room, no_room};
@@ -104,8 +104,7 @@ fn read_off<A: Arena, W: Width>(
     player: Player,
     target: &Region,
 ) -> Result<Attracted, AllocError>
-    requires fits { FitsGame (A.game arena.now) tables.now }
-    requires target_places { length target.now ≡ vertex_count (A.game arena.now) }
+    requires { AreReadable (A.game arena.now) tables.now target.now }
     ensures { IfOk result (IsReadOff (A.game arena.now) tables.now player target.now) }
 {
     let region = placed_region(alloc, tables, arena.count())?;
@@ -193,9 +192,7 @@ fn placed_moves<A: Arena, W: Width>(
     player: Player,
     target: &Region,
 ) -> Result<Strategy, AllocError>
-    requires levels { length tables.now.level ≡ vertex_count (A.game arena.now) }
-    requires moves { length tables.now.moves ≡ vertex_count (A.game arena.now) }
-    requires target { length target.now ≡ vertex_count (A.game arena.now) }
+    requires { AreReadable (A.game arena.now) tables.now target.now }
     ensures places { IfOk result (λ moves. length moves ≡ vertex_count (A.game arena.now)) }
     ensures given { IfOk result (AreMovesTo (A.game arena.now) tables.now player target.now
         (vertex_count (A.game arena.now))) }

@@ -3,11 +3,11 @@
 
 ghost use Rattle.std.specs.Prelude.{◌≡◌, ◌≢◌, ◌+◌, ◌<◌, ◌≤◌, ℕ, Bool, IfSome, IfNone, OnOk, OnErr, IsTrue, false};
 ghost use Rattle.std.specs.Prelude.{length, slice_index};
-ghost use Rattle.ps_game.specs.Games.{HasEdge, vertex_count, successors_of};
+ghost use Rattle.ps_game.specs.Games.{HasEdge, successors_of};
 ghost use Rattle.ps_attractor.specs.Tables.{TablesData, FitsGame, level_of, moves_of};
 ghost use Rattle.ps_attractor.specs.Levels.{IsLevel};
 ghost use Rattle.ps_attractor.specs.Aims.{IsPosed, IsSetOfPlaced, IsAttracted, IsGrown, rank_of};
-ghost use Rattle.ps_attractor.specs.Steps.{IsReady, HasFree, Look, Reaching, From, free_count};
+ghost use Rattle.ps_attractor.specs.Steps.{IsReady, CanLook, HasVertex, HasFree, Look, Reaching, From, free_count};
 
 use crate::aim::Aim;
 use crate::sources::Adjacency;
@@ -81,9 +81,7 @@ impl<W: Width> Tables<W> {
         source: usize,
         reached: usize,
     ) -> Result<(), AllocError>
-        requires ready { IsReady (A.game edges.now.arena.now) W.LIMIT aim.now self.old }
-        requires vertex { source < vertex_count (A.game edges.now.arena.now) }
-        requires reached { reached < vertex_count (A.game edges.now.arena.now) }
+        requires { CanLook (A.game edges.now.arena.now) W.LIMIT aim.now self.old source reached }
         ensures fits { FitsGame (A.game edges.now.arena.now) self.new }
         ensures looked { OnOk result (Look (A.game edges.now.arena.now) aim.now self.old self.new source reached) }
     {
@@ -106,8 +104,7 @@ impl<W: Width> Tables<W> {
         vertex: usize,
         free: usize,
     ) -> bool
-        requires fits { FitsGame (A.game edges.now.arena.now) self.old }
-        requires vertex { vertex < vertex_count (A.game edges.now.arena.now) }
+        requires { HasVertex (A.game edges.now.arena.now) self.old vertex }
         ensures same { self.new ≡ self.old }
         ensures found { IsTrue result → HasFree (A.game edges.now.arena.now) free self.old vertex }
         ensures none { result ≡ false → (w : ℕ) → HasEdge (A.game edges.now.arena.now) vertex w →
@@ -138,8 +135,7 @@ impl<W: Width> Tables<W> {
         to: usize,
         free: usize,
     ) -> Option<usize>
-        requires fits { FitsGame (A.game edges.now.arena.now) self.now }
-        requires vertex { vertex < vertex_count (A.game edges.now.arena.now) }
+        requires vertex { HasVertex (A.game edges.now.arena.now) self.now vertex }
         requires order { from ≤ to }
         requires within { to ≤ length (successors_of (A.game edges.now.arena.now) vertex) }
         ensures below { IfSome result (λ number. number < to) }

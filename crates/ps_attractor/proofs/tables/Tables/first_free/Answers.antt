@@ -10,9 +10,9 @@ level-requires g c =
     omega (
       arith,
       c.args.edges.now.game.within c.args.vertex _ (
-        c.requires.vertex,
+        c.requires.vertex.vertex,
         Contains-get_or (successors_of game c.args.vertex) c.loop-number.number 0 below,
       ),
       c.successor.ensures,
-      c.requires.fits.levels,
+      c.requires.vertex.fits.levels,
     )

@@ -24,8 +24,8 @@ source_is : {X : Type 0} (value : X → ℕ) (kept : List X) (n number : ℕ) (i
     item ≡ get_or kept n item → number ≡ value item → get_or (map value kept) n 0 ≡ number
 source_is value kept n number item within is read = get_or-map value kept n item 0 within ∙ ap value (sym is) ∙ sym read
 
-pub look-requires-clause-vertex : goal.look-requires-clause-vertex
-look-requires-clause-vertex g c =
+pub look-requires : goal.look-requires
+look-requires g c =
     let value = g.W.Width.value in
     let kept = c.at-source-items.result.now in
     let n = c.loop-source.source-index in
@@ -34,7 +34,11 @@ look-requires-clause-vertex g c =
     let edge = source_edge (map value kept) c.vertex_at-reached.result n
     c.number.result (sources_given _ _ c.args.edges.now.turned) c.at-source-items.ensures
     (omega (arith, length-map kept value)) is in
-    edge.0
+    record {
+      ready = record { fits = c.loop-source.invariant.fits; fits_width = c.requires.ready.fits_width };
+      vertex = edge.0;
+      reached = grind arith;
+    }
 
 pub loop-source-preserved : goal.loop-source-preserved
 loop-source-preserved g c =
