@@ -1,7 +1,7 @@
 //! Refines a diagram so that its leaves also distinguish the values of given Boolean functions (truths).
 
 ghost use Rattle.std.specs.Prelude.{All, [], ◌∷◌};
-ghost use Rattle.ps_product.specs.Inner.Edges.{Groups, IsWhole};
+ghost use Rattle.ps_product.specs.Inner.Edges.{CanSplit, Groups, IsWhole};
 ghost use Rattle.ps_product.specs.Truths.{IsTruth};
 
 use crate::truth::Truth;
@@ -30,8 +30,7 @@ pub(crate) fn grouped(
 
 /// Like `grouped`, but for a single Boolean function.
 fn split_by(alloc: Global, store: &mut Store, node: Node, truth: Truth) -> Result<Node, AllocError>
-    requires whole { IsWhole store.old node }
-    requires truth { IsTruth store.old truth }
+    requires { CanSplit store.old node truth }
     ensures { Groups store.old store.new node (truth ∷ []) result }
 {
     let Truth::Sometimes(condition) = truth else {

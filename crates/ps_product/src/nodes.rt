@@ -3,7 +3,7 @@
 ghost use Rattle.std.specs.Prelude.{◌≡◌, ◌≢◌, ◌+◌, ◌^◌, ◌<◌, ◌≤◌, ℕ, All, IfNone, IfOk, IfSome, is_some, length};
 ghost use Rattle.std.specs.Prelude.{slice_index};
 ghost use Rattle.ps_diagram.specs.Composing.{IsLetterOfTruths};
-ghost use Rattle.ps_diagram.specs.Table.{IsNode, Keeps, leaf_of};
+ghost use Rattle.ps_diagram.specs.Table.{IsNode, Keeps, MakesNode, leaf_of};
 ghost use Rattle.ps_label.specs.Truth.{is_in};
 ghost use Rattle.ps_product.specs.Inner.Edges.{AreDifferent, StandFor};
 ghost use Rattle.ps_product.specs.Truths.{IsTruth, bits_of, truth_at};
@@ -15,10 +15,8 @@ use std::alloc::{AllocError, Global};
 /// The decision diagram of a Boolean function (truth): it has a leaf at the letters at which the function is true.
 fn node_of(store: &mut Store, truth: Truth) -> Result<Node, AllocError>
     requires { IsTruth store.old truth }
-    ensures keeps { Keeps store.old store.new }
-    ensures held { IfOk result (λ node. IsNode store.new node) }
-    ensures leaf { IfOk result (λ node. (letter : ℕ) → is_some (leaf_of store.new node letter) ≡
-        truth_at store.old truth letter) }
+    ensures { MakesNode store.old store.new result (λ node. (letter : ℕ) →
+        is_some (leaf_of store.new node letter) ≡ truth_at store.old truth letter) }
 {
     match truth {
         Truth::Never => store.none(),

@@ -4,7 +4,7 @@ ghost use Rattle.std.specs.Prelude.{◌≡◌, ℕ, ◌<◌, ◌&&◌, length, s
 ghost use Rattle.std.specs.Prelude.{if◌then◌else◌, OnOk};
 ghost use Rattle.std.specs.Prelude.{false};
 ghost use Rattle.ps_diagram.specs.Table.{Keeps, Table};
-ghost use Rattle.ps_product.specs.Inner.Knowing.{IsReady, IsSite, IsStep, IsTruthAt, Learns};
+ghost use Rattle.ps_product.specs.Inner.Knowing.{IsReady, IsReadyAt, IsSite, IsStep, IsTruthAt, Learns};
 ghost use Rattle.ps_product.specs.Inner.Nets.{front_of};
 ghost use Rattle.ps_product.specs.Truths.{IsTruth, MakesTruth, truth_at, bit_by_wire};
 ghost use Rattle.ps_simulate.specs.Plans.{variables};
@@ -67,8 +67,7 @@ impl<'s, 'c> Site<'s, 'c> {
         truths: &mut Truths,
         place: u32,
     ) -> Result<Option<u32>, AllocError>
-        requires ready { IsReady self truths.old known.old }
-        requires within { place < length (variables self.net.now) }
+        requires { IsReadyAt self truths.old known.old place }
         ensures learns { Learns self.entry truths.old truths.new known.new }
         ensures step { IfOk result (IsStep self.entry.net.now place known.old known.new) }
         ensures size { length known.new ≡ length known.old }

@@ -41,6 +41,11 @@ pub record IsReady (s : Site) (t : Table) (known : List (Option Truth)) : Type 0
   pub site : IsSite s t
   pub knows : Knows s t known
 
+-- the circuit can be evaluated, and `place` is the index of a variable
+pub record IsReadyAt (s : Site) (t : Table) (known : List (Option Truth)) (place : ℕ) : Type 0 where
+  pub ready : IsReady s t known
+  pub within : place < length (variables s.net.now)
+
 pub record Learns (s : Site) (old new : Table) (known : List (Option Truth)) : Type 0 where
   pub keeps : Keeps old new
   pub knows : Knows s new known

@@ -15,18 +15,17 @@ loop-truth-init c = record {
   grouped = grouped_none (keeps_refl c.args.store.now) c.requires.whole.held c.requires.whole.total;
 }
 
-pub split_by-requires-clause-truth : goal.split_by-requires-clause-truth
-split_by-requires-clause-truth c =
+pub split_by-requires : goal.split_by-requires
+split_by-requires c =
     let i = c.loop-truth.truth-index in
-    truth_kept c.loop-truth.invariant.keeps c.truth-item.result
-    (rw c.truth-item.is (c.requires.truths i c.truth-item.result c.loop-truth-test.true))
-
-pub split_by-requires-clause-whole : goal.split_by-requires-clause-whole
-split_by-requires-clause-whole c =
     let k = c.loop-truth.invariant.keeps in
     record {
-      held = c.loop-truth.invariant.held;
-      total = λ x lt. c.loop-truth.invariant.grouped.total x (rw (← k.propositions) lt);
+      whole = record {
+        held = c.loop-truth.invariant.held;
+        total = λ x lt. c.loop-truth.invariant.grouped.total x (rw (← k.propositions) lt);
+      };
+      truth_is = truth_kept k c.truth-item.result
+          (rw c.truth-item.is (c.requires.truths i c.truth-item.result c.loop-truth-test.true));
     }
 
 pub returns-in_err-made : goal.returns-in_err-made

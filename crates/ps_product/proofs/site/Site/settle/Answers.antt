@@ -1,4 +1,4 @@
-use Rattle.std.proofs.Common.{◌≡◌, ◌-◌, ◌++◌, ◌∷◌, [], ap, arith, length, sym, take}
+use Rattle.std.proofs.Common.{◌≡◌, ◌-◌, ◌++◌, ◌∷◌, [], ap, arith, length, sym, take, rules}
 use Rattle.ps_circuit.specs.Circuits.{ReadsGate}
 use Rattle.ps_components.specs.Orders.{IsOrder}
 use Rattle.ps_diagram.proofs.KnownLemmas.{keeps_trans}
@@ -58,5 +58,5 @@ loop-top-preserved-in_default-2 c = record {
       (rw c.in_default-2.is at c.in_ok-lower.ensures.step);
 }
 
-pub step-requires-clause-ready : goal.step-requires-clause-ready
-step-requires-clause-ready c = ready_on c.requires.ready c.loop-top.invariant.learns
+pub step-requires : goal.step-requires
+step-requires c = record { ready = ready_on c.requires.ready c.loop-top.invariant.learns; within = search rules }
