@@ -70,8 +70,9 @@ module _ {game : ParityGame} (is_game : IsGame game) {player : ℕ} {set : ℕ �
       let keep = (ranks.columns k within).keep v w (grind (arith, remains_for)) in
       grind arith
 
-  -- let a valid certificate d differ from the certificate c only in its counts; inside the set, the counts of d keep
-  -- the rule of counts (`KeepsRule`) on the player's moves and on the opponent's edges
+  -- Let the certificate c state that the player wins each vertex of the set, and let a valid certificate d differ from
+  -- c at most in counts. On each edge that remains within the set, the counts of d then keep the rule of counts
+  -- (`KeepsRule`).
   others_keep : (d : CertificateData) → IsValid game d → DiffersInCounts game c d → opposing d player ≡ priorities →
       ((u : ℕ) → u < vertex_count game → IsTrue (set u) → IsSide game player set table priorities rows c u) → (k : ℕ) →
       k < length priorities →
@@ -97,9 +98,9 @@ module _ {game : ParityGame} (is_game : IsGame game) {player : ℕ} {set : ℕ �
 abbrev pub made_of : List ℕ → List ℕ → List EntryData → CertificateData
 made_of odd even entries = record { odd = odd; even = even; entries = entries }
 
--- by its table and without leaving the set, player 0 wins the set `region`, and player 1 wins the set `lost`, which has
--- all other vertices; the rows are the least counts of both players; the certificate's entries have the winners, the
--- moves and these counts
+-- Player 0 wins the set `region` by its table, without leaving the set. Player 1 does so in the set `lost`, which
+-- contains all other vertices. `odd_rows` are the least counts for player 0's set, and `even_rows` those for player 1's
+-- set. The certificate's entries have the winners, the winners' moves and these counts.
 record AreBoth (game : ParityGame) (region lost : ℕ → Bool) (first second : ℕ → Option ℕ) (odd even : List ℕ)
     (odd_rows even_rows : List (List ℕ)) (entries : List EntryData) : Type 0 where
   is_game : IsGame game

@@ -1,5 +1,5 @@
--- The steps of judging a claimed solution: a correct solution has neither a flaw nor a cycle that a player loses, so
--- the only possible fault is out of memory.
+-- The steps of judging a claimed solution. A correct solution has no flaw, and no player loses a cycle of remaining
+-- edges among the vertices that the player is claimed to win. So the only possible fault is out of memory.
 use Rattle.std.proofs.Common.{◌≡◌, ◌⊎◌, inl, inr, ℕ, zero, suc, ◌<◌, List, Option, Bool, refl, sym, subst, arith}
 use Rattle.std.proofs.Common.{rules, not, Result, Ok, Err, IsErrAnd}
 use Rattle.std.specs.Result.{IfErr}
@@ -50,8 +50,8 @@ module _ (game : ParityGame) (won : List Bool) (first second : List (Option ℕ)
     ];
   }
 
-  -- a claimed solution without wrong moves, and without remaining edges to a vertex with the other winner, has no flaw:
-  -- written as a certificate, it has no counts that could be wrong
+  -- If no move of a claimed solution is wrong, and no remaining edge leads to a vertex with the other winner, the
+  -- solution has no flaw. A wrong count would also be a flaw, but the certificate `claimed` has no counts.
   pub closed_flawless : IsClosed game (claimed game won first second) → (flaw : Flaw) →
       IsFirstFlaw game (claimed game won first second) flaw → ⊥
   unfolding claimed opposing
@@ -141,7 +141,7 @@ pub only_memory : {X : Type 0} {r : Result X JudgeFault} {fault : JudgeFault} �
     IfErr r IsOutOfMemory → IsOutOfMemory fault
 only_memory is h = subst (λ r. IfErr r IsOutOfMemory) is h
 
--- if the operator `?` passes on a fault that satisfies P, the fault of the whole result satisfies P
+-- if the operator `?` returns a fault as the result r of a function, and the fault satisfies P, so does the fault of r
 pub if_err : {X : Type 0} (r : Result X JudgeFault) (fault : JudgeFault) (P : JudgeFault → Type 0) →
     IsErrAnd r (λ y. y ≡ fault) → P fault → IfErr r P
 if_err (Ok x) fault P passed h = tt

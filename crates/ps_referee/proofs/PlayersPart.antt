@@ -63,8 +63,8 @@ module _ (game : ParityGame) (won : List Bool) (first second : List (Option ℕ)
   part (suc zero) is_player = search (rules, cases_Bool, winner_is, choice_is)
   part (suc (suc n)) is_player = absurd (omega arith)
 
--- if a player stays in the set by the table, the certificate's moves for the player are right, and no remaining edge
--- leaves the set
+-- let the certificate state that the player wins the set by the table (`IsPart`); if the player keeps to the set by the
+-- table, the certificate's moves in the set are right (`HasRightMove`), and no edge that they allow leaves the set
 module _ {game : ParityGame} {c : CertificateData} {player : ℕ} {set : ℕ → Bool} {table : ℕ → Option ℕ}
     (is_game : IsGame game) (p : IsPart game c player set table) (keeps : KeepsTo game player set table) where
   pub right_move : (v : ℕ) → v < vertex_count game → winner_of c v ≡ player → HasRightMove game c v
@@ -76,8 +76,8 @@ module _ {game : ParityGame} {c : CertificateData} {player : ℕ} {set : ℕ →
       (p.inside v r.edge.0 wins) (two_follows game player table v w (λ own. grind arith)) 1 (omega arith) in
       p.winner w (is_game.within v w r.edge) inside ∙ sym wins
 
--- if two sets have the same vertices of the game, a player who keeps to one set, or holds it, or loses a cycle in it,
--- also does so in the other set
+-- let two sets contain the same vertices of the game; if a player keeps to one set (`KeepsTo`), or also wins its loops
+-- (`Holds`), or loses a cycle within it (`IsLostCycle`), this is also true for the other set
 module _ {game : ParityGame} {player : ℕ} {set other : ℕ → Bool} {table : ℕ → Option ℕ}
     (same : (v : ℕ) → v < vertex_count game → set v ≡ other v) where
   pub keeps_same : KeepsTo game player set table → KeepsTo game player other table

@@ -1,4 +1,5 @@
--- Each claimed solution is correct and has a certificate, or has a first flaw, or has a cycle that a player loses.
+-- Each claimed solution is correct and has a certificate, or has a first flaw, or has a cycle of remaining edges that
+-- is lost by the player who is claimed to win the cycle's vertices.
 use Rattle.std.proofs.Common.{◌≡◌, ◌⊎◌, inl, inr, ℕ, ◌<◌, List, map, Option, Bool, not, refl, arith, rules}
 use Rattle.std.specs.List.{range_with_len}
 use Rattle.std.proofs.lemmas.List.FromFn.{get_or-map-range_with_len}
@@ -11,7 +12,7 @@ use Rattle.ps_referee.specs.Solutions.{IsCertificateOf, IsCycleOf, IsSolution, c
 use Rattle.ps_referee.proofs.Judged.{first_holds, judged}
 use Rattle.ps_referee.proofs.PlayersPart.{lost_same}
 
--- the statements of two laws, which the lemmas take as arguments
+-- what two laws state (`first_flaw_is_there`, `counts_are_there`); the lemmas below take proofs of it as arguments
 abbrev pub ClosedOrFlawed : Type 0
 ClosedOrFlawed = (game : ParityGame) (certificate : CertificateData) → IsClosed game certificate ⊎
     (¬ IsClosed game certificate × ((flaw : Flaw) × IsFirstFlaw game certificate flaw))

@@ -29,7 +29,8 @@ pub fn one_verdict()
         (cycle : List ℕ) → IsSolution game won first second → ¬ IsCycleOf game won first second player cycle }
 {}
 
-/// A claimed solution is correct and has a certificate, or has a first flaw, or has a cycle that a player loses.
+/// A claimed solution is correct and has a certificate, or has a first flaw, or has a cycle of remaining edges that is
+/// lost by the player who is claimed to win the cycle's vertices.
 pub fn solution_is_judged()
     ensures { (game : ParityGame) (won : List Bool) (first second : List (Option ℕ)) → IsGame game →
         (IsSolution game won first second ×
