@@ -1,4 +1,5 @@
--- Properties of the circuit of the machine by which a valid certificate's winner wins.
+-- A machine that reads the propositions of its player's opponent, and moves first exactly if its player does, is a
+-- machine for its player's role (`IsMachineFor`).
 use Rattle.std.proofs.Common.{rules, ◌≡◌, ℕ, ◌<◌, ◌==◌, arith}
 use Rattle.ps_hoa.specs.Files.{FileData}
 use Rattle.ps_automaton.specs.Automata.{AutomatonData, IsBuiltFrom}

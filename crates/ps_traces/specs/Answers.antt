@@ -33,8 +33,8 @@ pub record IsWitness (order : Order) (file : FileData) (player : ℕ) (c : Circu
   pub shape : HasShape order (role_of player) file c
   pub accepted : player ≡ 0 → AllAccepted file c
   pub rejected : player ≢ 0 → NoneAccepted file c
-  -- Each periodic input extends to a lasso trace, and each trace has letters. So the circuit has at least one lasso
-  -- word, and what the fields `accepted` and `rejected` state is not vacuous.
+  -- Each periodic input extends to a lasso trace, and exactly one list of letters belongs to each trace. So the circuit
+  -- has at least one lasso word, and what the fields `accepted` and `rejected` state is not vacuous.
   pub goes_on : EachInputGoesOn c
   pub letters : (moments : List Moment) → HasLetters file.names c moments
   pub meetings : player ≢ 0 → (k : FiniteController) → IsController order c k → LosesMeeting file c k

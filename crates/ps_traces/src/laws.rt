@@ -52,9 +52,9 @@ pub fn every_trace_has_letters()
         HasSymbols role file.names file.controllable c → HasLetters file.names c moments }
 {}
 
-/// There is a verdict on each stimulus: a stem, and a non-empty lap that repeats, of letters with one bit for each
-/// input. The law is about files that were parsed and that psyn admits, and about circuits with the inputs and outputs
-/// of a role.
+/// There is a verdict on each stimulus. A stimulus is a stem, and a non-empty lap that repeats; each letter of both has
+/// one bit for each input. The law is about files that were parsed and that psyn admits, and about circuits with the
+/// inputs and outputs of a role.
 pub fn verdict_is_there()
     ensures { (role : Role) (file : FileData) (c : CircuitData) (stem lap : List (List Bool)) → IsSoundFile file →
         IsAdmitted file → IsCircuit c →

@@ -1,5 +1,5 @@
--- The machine that follows a valid certificate belongs to the winner, who wins all lassos of the machine, whichever
--- automaton of the file the game is made from.
+-- The machine of a valid certificate belongs to the player who wins vertex 0, and this player wins all lassos of the
+-- machine. This is true for the game of any automaton of the file.
 use Rattle.std.proofs.Common.{◌≡◌, ℕ, ◌==◌, subst, rules}
 use Rattle.ps_machine.specs.Keys.{mover_of}
 use Rattle.ps_traces.specs.Answers.{IsWitness}
