@@ -33,9 +33,9 @@ pub record IsWinning (order : Order) (role : Role) (file : FileData) (c : Circui
   pub in_time : IsInTimeWhereReached order role c
   pub accepted : role ≡ Controller → AllAccepted file c
   pub rejected : role ≡ Environment → NoneAccepted file c
-  -- Each periodic input extends to a lasso trace, and each trace has letters. So the fields `accepted` and `rejected`
-  -- speak of at least one word. An environment's circuit has a joint run with each finite-state controller, and the
-  -- automaton rejects the word of this run.
+  -- Each periodic input extends to a lasso trace, and exactly one list of letters belongs to each trace. So the fields
+  -- `accepted` and `rejected` speak of at least one word. An environment's circuit has a joint run with each
+  -- finite-state controller, and the automaton rejects the word of this run.
   pub goes_on : EachInputGoesOn c
   pub letters : (moments : List Moment) → HasLetters file.names c moments
   pub meetings : role ≡ Environment → (k : FiniteController) → IsController order c k → LosesMeeting file c k
