@@ -7,7 +7,7 @@ use std::alloc::{AllocError, Global};
 use std::test::Fail;
 
 /// The leaves at the letter 0 of three diagrams. The operations `relabel` and `guard` each make a diagram from the leaf
-/// 2, and `fill` makes a diagram from the diagram without leaves.
+/// 2, and `fill` makes one from the diagram that has no leaf at any letter.
 fn changed(store: &mut Store) -> Result<[Option<u64>; 3], AllocError> {
     let two = store.leaf(2)?;
     let relabelled = store.relabel(two, &[4, 5, 6])?;
@@ -86,8 +86,9 @@ fn chosen(store: &mut Store) -> Result<[Option<u64>; 4], AllocError> {
     ])
 }
 
-/// Joins two diagrams, that of the first proposition and the leaf 7, into one diagram whose leaves are indices of pairs
-/// of leaves. Returns the leaves of the joined diagram at the letters 1 and 0, and the number of pairs.
+/// Joins two diagrams: the diagram of the first proposition, and the leaf 7. Each leaf of the joined diagram is the
+/// index, in `pairs`, of a pair of their leaves. Returns the leaves of the joined diagram at the letters 1 and 0, and
+/// the number of pairs.
 fn paired(alloc: Global, store: &mut Store) -> Result<([Option<u64>; 2], usize), AllocError> {
     if store.propositions() != 2 {
         return Ok(([None; 2], 0));

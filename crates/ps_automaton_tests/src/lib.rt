@@ -1,6 +1,6 @@
-//! Tests of labels, of the parser of automata, of diagrams and of automata. The tests check what no contract states,
-//! such as that the tested calls succeed if there is ample memory. What the program prints for automata is tested in
-//! `examples/rows/libraries-automata.toml`.
+//! Tests of labels, of automata, of decision diagrams, and of the parser of HOA texts. The tests check what no contract
+//! states, such as that the tested calls succeed if there is ample memory. What the program prints for automata is
+//! tested in `examples/rows/libraries-automata.toml`.
 #![tactic(auto)]
 
 #[cfg(test)]
