@@ -12,8 +12,8 @@
 --   error of an item
 -- - `times_reads`, `times_fails`: `times` continues after an item, or stops at an error of an item
 -- - `carries_many`, `carries_times`: the invariant `Carries` of a loop over items still holds after an item was parsed
--- - `reads_shrinks`: parsing a nonempty text leaves fewer unread pieces; their number is the measure by which a loop
---   ends
+-- - `reads_shrinks`: parsing a nonempty text leaves fewer unread pieces, so a loop that parses nonempty texts
+--   terminates
 use Rattle.std.proofs.Common.{◌≡◌, ℕ, zero, suc, ◌-◌, ◌<◌, List, [], ◌∷◌, ◌++◌, length, Option, Some, Result, Ok}
 use Rattle.std.proofs.Common.{Err, subst, arith, length-append, rules}
 use Rattle.std.proofs.lemmas.List.{length-map}

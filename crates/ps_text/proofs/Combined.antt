@@ -6,8 +6,8 @@
 --   different symbols
 -- - `laws_option`: a grammar or nothing satisfies the laws, if the grammar has no empty text and no symbol continues
 --   its texts
--- - `laws_all`, `laws_times_all`: any number, or a given number, of items satisfies the laws, if no item is empty and
---   no symbol continues an item
+-- - `laws_all`, `laws_times_all`: the grammar of any number of items, or of a given number of items, satisfies the
+--   laws, if no item is empty and no symbol continues an item
 -- - `laws_last`: a grammar and the grammar after it satisfy `Laws` together if no symbol both continues the first and
 --   begins the second. The first grammar may have an empty text; no symbol continues a text of the second.
 -- - `joint_tight`: if no symbol continues a text of the first of two grammars, it is clear where a text of the second

@@ -55,8 +55,8 @@ enters_one take Bad t (inr h) = inr (h.0, (refl, h.1))
 abbrev pub Avoids : {T : Type 0} → (T → Type 0) → Option T → Type 0
 Avoids {T} A there = (t : T) → there ≡ Some t → A t → ⊥
 
--- an error of a grammar follows a beginning of one of its texts, so the first symbol of this beginning is in the set
--- `First`
+-- if the symbol t is an error of a grammar after the symbols `front`, the first of all these symbols (t, if `front` is
+-- empty) is in the set `First`
 pub first_of_cause : {T V F : Type 0} {odd : T → Type 0} {P : Part T V F} {First More : T → Type 0} {Null : Type 0} →
     Laws odd P First More Null →
     (front rest : List T) (t u : T) (f : F) → P.IsCause front t f → first_of (front ++ t ∷ rest) ≡ Some u → First u

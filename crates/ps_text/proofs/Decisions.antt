@@ -2,9 +2,9 @@
 -- - `Decided A`: either a proof that A holds, or a proof that A does not hold
 -- - `decide_not`, `decide_as`, `decide_both`, `decide_one`: combinations of decidable facts are decidable
 -- - `decide_true`, `decide_none`: the result of a test, and whether an option is None, are decidable
--- - `decide_below`, `decide_in`: the order of two numbers, and whether a list has a number, are decidable
--- - `judge_none`, `judge_cause`, `judge_one`, `judge_as`: the search for the error with the smallest number among no
---   errors, at most one error, the errors of two sets, or the errors of an equal set
+-- - `decide_below`, `decide_in`: it is decidable whether a number is at most a limit, and whether it is in a list
+-- - `judge_none`, `judge_cause`, `judge_one`, `judge_as`: the search for the error with the smallest number: among no
+--   errors, among at most one, in the union of two sets, or in a set with the same errors as a set already searched
 -- - `judge_if`, `judge_also`: the search for the error with the smallest number, if the errors are those of an optional
 --   value, or if they occur only when a fact holds
 use Rattle.std.proofs.Common.{◌≡◌, ℕ, suc, ◌≤◌, ◌⊎◌, Bool, true, List, [], ◌∷◌, length, get_or, refl, sym}

@@ -1,6 +1,6 @@
 -- What a parsing function returns at each of its exits. The contract of a parsing function is `Meets found causes view
--- part old result new`: a `Reads` for an Ok, and a `Stops` for an Err. The contracts of the functions that are called
--- have the same form: `c.call.ensures` and `c.in_err-call.ensures`.
+-- part old result new`: a `Reads` for an Ok, and a `Stops` for an Err. The functions that a parsing function calls have
+-- such contracts, too; the proofs use them as `c.call.ensures` and `c.in_err-call.ensures`.
 -- - `reads_then j m n`: the first call parsed its grammar (m), and the other calls parsed the rest (n)
 -- - `stops_first causes j old o s`: the first call failed, so the function fails
 -- - `stops_behind causes j m o s`: the first call parsed its grammar, and a later call failed
@@ -11,7 +11,7 @@
 -- - `exits found causes view part old new e r s c`: the exit of a `?`, which returns the error e as the result r
 -- - `then_meets`: the exit at which the result of the last call is returned unchanged
 -- - `carries_start`, `carries_then`, `carries_reads`, `carries_stops`: the invariant `Carries` of a parsing loop holds
---   at the start and after a grammar was parsed; the loop's exits
+--   at the start and after a grammar was parsed; at the loop's exits, it gives the result of parsing the whole
 --
 -- For successive calls, nest `reads_then`; j is a proof of `Joint` (proofs/Laws.antt) for the two grammars that are
 -- parsed one after the other. In `exits`, s states what the error reports (`Stops`), and c, which is

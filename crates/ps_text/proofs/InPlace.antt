@@ -10,8 +10,8 @@
 -- - `read_as`, `fault_as`: if `Covers` holds for P and Q, each result of parsing P is a result of parsing Q, and the
 --   first fault of P is the first fault of Q
 -- - `after P left`: the remainder of P after the symbols `left`
--- - `read_after`, `fault_after`: a result of parsing the remainder of P is a result of parsing P, if P has no error in
---   the symbols before it
+-- - `read_after`, `fault_after`: if P has no error in the symbols `left`, a result of parsing `after P left` behind
+--   them is a result of parsing P
 use Rattle.std.proofs.Common.{◌≡◌, ℕ, ◌+◌, ◌⊎◌, List, [], ◌∷◌, ◌++◌, length, Option, Some, refl, ap, subst}
 use Rattle.std.proofs.Common.{inl, ◌∙◌, append_assoc, arith, length-append, rules}
 use Rattle.ps_text.specs.Answers.{Begins, first_of}

@@ -16,7 +16,7 @@ use Rattle.ps_text.specs.Parts.{Part}
 -- As a text of the grammar, each list of symbols has at most one value. First holds for each symbol that begins a text
 -- of the grammar, or that is an error of the grammar at its start. More holds for each symbol that continues a text of
 -- the grammar, or that is an error after such a text. Null holds if the empty list of symbols is a text. If First and
--- More are replaced by larger sets, `Laws` still holds (`weaker`). Each error follows a beginning of a text of the
+-- More are replaced by larger sets, `Laws` still holds (`weaker`). The symbols before each error begin a text of the
 -- grammar. A symbol in the set `odd` is an error wherever it occurs: it occurs in no text, and the grammar has no
 -- further error there. The grammar has at least one text.
 pub record Laws {T V F : Type 0} (odd : T → Type 0) (part : Part T V F) (First More : T → Type 0)

@@ -32,7 +32,7 @@ pub data Judged {F : Type 0} (number : F → ℕ) (Bad : F → Type 0) : Type 0 
   -- no error occurs
   good : ((f : F) → Bad f → ⊥) → Judged number Bad
 
--- the decision for a symbol with exactly one error
+-- if `Bad` states exactly one error, this is the error with the smallest number
 pub bad_only : {F : Type 0} (number : F → ℕ) (Bad : F → Type 0) (f : F) → Bad f → ((g : F) → Bad g → f ≡ g) →
     Judged number Bad
 bad_only number Bad f b only = bad f b (λ g c. subst (λ h. number f ≤ number h) (only g c) (omega arith))
@@ -85,7 +85,8 @@ module _ {T F : Type 0} (causes : Causes T F) where
       behind (was_read b rest s) = was_read b rest (read_then j r s)
       behind (has_fault f rest s) = has_fault f rest (fault_right j r s)
 
-  -- P followed by Q has outcomes if P has them, and Q for each value of P
+  -- `then_by P Q` has an outcome for each list of symbols, if P and Q satisfy `Joint`, P has outcomes, and Q has
+  -- outcomes for each value of P
   pub has_then : {A B : Type 0} {P : Part T A F} {Q : A → Part T B F} → Joint P Q → HasOutcomes causes P →
       ((value : A) → HasOutcomes causes (Q value)) → HasOutcomes causes (then_by P Q)
   has_then j p q = record { outcome = λ all. outcome_then j all (λ mid a r. (q a).outcome mid) (p.outcome all) }
@@ -110,7 +111,8 @@ module _ {T F : Type 0} (causes : Causes T F) where
     entered (t ∷ front) rest there f e (is_cause u x c m) = search (rules, Enters, begins_on)
     entered (t ∷ front) rest there f e (is_refusal b x) = search (rules, Enters, begins_on)
 
-    -- the next symbol begins P, or P has no text and no error there
+    -- if P has no empty text, the next symbol begins a text of P or is an error of P (`Enters`), or else P rejects this
+    -- symbol or the end (`IsBroken`)
     pub entered_or_broken : (Null → ⊥) → (all : List T) → Outcome causes P all →
         Enters P (first_of all) ⊎ IsBroken P [] (first_of all)
     entered_or_broken n all (was_read v rest r) = inl (enters_read P all rest v (λ w h. n (l.null w h)) r)

@@ -20,7 +20,7 @@ use Rattle.ps_text.proofs.Joined.{joint, read_then}
 use Rattle.ps_text.proofs.Simple.{nil_is_cons, laws_give, laws_then}
 use Rattle.ps_text.proofs.Covered.{Avoids, Enters, laws_either}
 
--- if the second half of a text of P and Q is also a text of R, the whole is a text of P and R
+-- if a text of P is followed by a text of Q that is also a text of R, the whole is a text of P followed by one of R
 joined_as : {T A B : Type 0} {P : List T → A → Type 0} {Q R : A → List T → B → Type 0} {text : List T} {b : B} →
     (j : IsJoined P Q text b) → R j.value j.right b → IsJoined P R text b
 joined_as j r = search rules

@@ -166,7 +166,7 @@ module _ {T A B F : Type 0} {odd : T → Type 0} {P : Part T A F} {Q : A → Par
   first_cause_then : (t : T) (f : F) → (then_by P Q).IsCause [] t f → Or F1 (When N1 F2) t
   first_cause_then t f cases = search (rules, append_nil_left, append_nil_right)
 
-  -- if a text of P, followed by a text of Q, can continue as a text of P, then the text of Q is empty
+  -- if a text of P that is followed by a text of Q can continue with the next symbol, the text of Q is empty
   goes_then : (left right more : List T) (t : T) (a : A) (x : B) → P.IsText left a → (Q a).IsText right x →
       GoesOn P left (first_of (right ++ t ∷ more)) → When N2 M1 t
   goes_then left [] more t a x h k g = ((r a).null x k, goes left t a h g)

@@ -78,8 +78,8 @@ module _ {T V F : Type 0} {causes : Causes T F} {part : Part T V F} {First More 
       go front' rest' g w (inl x) = inl x
       go front' rest' g w (inr x) = inr (x.0, least g (rw (x.0, x.1) w))
 
-  -- if the grammar has no error of its own at a symbol or at the end, the error for a symbol or end that is not allowed
-  -- has the smallest number
+  -- if the grammar has no error of its own at the next symbol or at the end, no error there has a smaller number than
+  -- `refusal_of`
   refusal_least : (there : Option T) (front : List T) (g : F) → NoCauseAt part front there →
       IsWrong causes part front there g → causes.number (refusal_of causes there) ≤ causes.number g
   refusal_least there front g n cases = search (rules, quiet_at)

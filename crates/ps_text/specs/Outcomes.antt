@@ -2,7 +2,7 @@
 -- - `Outcome causes part all`: the list `all` begins with a text of the grammar and no error, or the grammar has a
 --   first fault in `all`
 -- - `HasOutcomes causes part`: the grammar has an outcome for each list of symbols
--- - `IsOrderly causes part`: each error of the grammar follows a beginning of a text, and a symbol that is an error
+-- - `IsOrderly causes part`: the symbols before each error of the grammar begin a text, and a symbol that is an error
 --   wherever it occurs is in no text and has no other error
 -- - `HasSomeAnswer IsText IsCause number`: each text has an answer: its meaning or its first error
 --
@@ -19,7 +19,7 @@ pub record HasOutcomes {T V F : Type 0} (causes : Causes T F) (part : Part T V F
   pub outcome : (all : List T) → Outcome causes part all
 
 -- A symbol that is an error wherever it occurs is in no text of the grammar, and the grammar has no error of its own at
--- such a symbol. Each error of the grammar follows a beginning of a text of the grammar.
+-- such a symbol. The symbols before each error of the grammar begin a text of the grammar.
 pub record IsOrderly {T V F : Type 0} (causes : Causes T F) (part : Part T V F) : Type 0 where
   pub behind : (front : List T) (t : T) (f : F) → part.IsCause front t f → Begins part.IsText front
   pub in_no_text : (front rest : List T) (t : T) (v : V) (f : F) → part.IsText (front ++ t ∷ rest) v →

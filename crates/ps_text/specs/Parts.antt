@@ -1,5 +1,5 @@
 -- Grammars composed by combinators. A `Part` is a grammar together with the errors that its texts can have. Combinators
--- make larger grammars of smaller ones, so that a format's grammar reads like the grammar in the format's standard.
+-- make larger grammars from smaller ones, so that a format's grammar reads like the grammar in the format's standard.
 -- - `Part`: a grammar with its errors: which lists of symbols are texts, which value each has, and which errors a
 --   symbol can have after which symbols
 -- - `Causes`: the errors of a format: their numbers, the error of each symbol that is wrong wherever it occurs, and the
@@ -71,7 +71,7 @@ CleanUpTo {T} {V} {F} part all n =
     (front rest : List T) (t : T) (f : F) → all ≡ front ++ t ∷ rest → length front < n → part.IsCause front t f → ⊥
 
 -- `there` is the next symbol after `front`, or None at the end. No text of the grammar begins with `front` and this
--- symbol, if there is one
+-- symbol; at the end, `StopsAt` always holds
 abbrev pub StopsAt : {T V F : Type 0} → Part T V F → List T → Option T → Type 0
 StopsAt part front None = Unit {0}
 StopsAt part front (Some t) = Begins part.IsText (front ++ t ∷ []) → ⊥

@@ -1,14 +1,14 @@
--- The tokens of a text, as a relation between its bytes and its pieces (tokens with their offsets). The blanks between
--- tokens are single bytes.
+-- The tokens of a text, as a relation between its bytes and its pieces (tokens with their offsets). Each blank between
+-- tokens is a single byte.
 -- - `IsBlank b`: b is a byte that may occur between tokens
 -- - `IsToken before sign text rest`: between the bytes `before` and `rest`, `text` is the token `sign`
 -- - `AreTokens IsBlank IsToken bytes stream`: the bytes consist of the stream's tokens, with any number of blanks
 --   before, between and after them
 -- - `TokensDiffer IsBlank IsToken`: at most one token begins at a position, and no token begins with a blank
 --
--- By its `IsToken`, a format states that a token is the longest possible one, which tokens are never allowed, and how a
--- token depends on the bytes around it. By `TokensDiffer`, a text has at most one list of tokens, as the law
--- `one_tokenisation` states.
+-- Each format defines its own `IsToken`. It states how a token depends on the bytes around it: for example, a number is
+-- a longest run of digits. It also states which tokens are never allowed. By `TokensDiffer`, a text has at most one
+-- list of tokens, as the law `one_tokenisation` states.
 use Rattle.std.specs.Prelude.{◌≡◌, ℕ, List, [], ◌∷◌, ◌++◌, length}
 use Rattle.std.specs.List.{AllByRecursion}
 use Rattle.ps_text.specs.Answers.{Piece, Stream}

@@ -52,8 +52,8 @@ pub trait Grammar {
 }
 
 /// Each text has an answer if the grammar has an outcome (a parsed text or a first fault) for each list of symbols,
-/// gives each text only one meaning, and satisfies `IsOrderly`. That is, each error follows a beginning of a text, and
-/// a symbol that is an error wherever it occurs is in no text and has no other error.
+/// gives each text only one meaning, and satisfies `IsOrderly`. That is, the symbols before each error begin a text,
+/// and a symbol that is an error wherever it occurs is in no text and has no other error.
 pub fn some_answer<G: Grammar>()
     ensures { HasOneMeaning G.part.IsText → IsOrderly G.causes G.part → HasOutcomes G.causes G.part →
         HasSomeAnswer G.part.IsText (IsWrong G.causes G.part) G.causes.number }
