@@ -14,8 +14,8 @@ use Rattle.ps_attractor.specs.Steps.{Reaching, From, FromSource, with_placed}
 use Rattle.ps_attractor.proofs.Placing.{Places, trail_before, trail_last, trail_length, not_it, still_free, grown_on}
 use Rattle.ps_attractor.proofs.Placing.{leads_back_on, stands_after, stands_longer}
 
--- `CanGoOn` states that v has an unattracted successor or an unexamined edge, where P holds for the unexamined edges.
--- If P implies Q, `CanGoOn` also holds with Q in place of P.
+-- `CanGoOn` states that v has an unattracted successor or an unexamined edge; P states which edges are unexamined. If P
+-- implies Q, `CanGoOn` also holds with Q in place of P.
 can_map : {game : ParityGame} {aim : Aim} {new : TablesData} {P Q : ℕ → ℕ → Type 0} {v : ℕ} →
     ((j : ℕ) → aim.begin ≤ j → j < length new.trail → HasEdge game v (get_or new.trail j 0) → P v j → Q v j) →
     CanGoOn game aim new P v → CanGoOn game aim new Q v
