@@ -1,5 +1,5 @@
--- The parts of the grammar of solutions obey the grammar laws of the crate `ps_text`, and so do the parts that are
--- joined from them.
+-- The parts of the grammar of solutions obey the grammar laws of the crate `ps_text`, and so do the larger parts that
+-- are composed of them.
 use Rattle.std.proofs.Common.{◌≡◌, ℕ, List, length, Option, None, Some, refl, ap, arith, rules}
 use Rattle.std.specs.Prelude.{codes}
 use Rattle.ps_text.specs.Parts.{Part, one, give, then_by, either, many, mapped, NoBad}

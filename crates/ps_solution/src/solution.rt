@@ -3,7 +3,7 @@
 use ps_game::{Region, Strategy};
 use std::marker::Model;
 
-/// For each vertex of a game, the player who is claimed to win it, and that player's move.
+/// For each vertex of a game, the player who is claimed to win it, and the move that is given there, or none.
 #[derive(Drop)]
 pub struct Solution {
     /// The vertices that player 0 is claimed to win; player 1 is claimed to win all other vertices.
