@@ -1,5 +1,5 @@
--- The parts of the grammar of game texts obey the grammar laws of the crate `ps_text`, and so do the parts that are
--- joined from them.
+-- The parts of the grammar of game texts obey the grammar laws of the crate `ps_text`, and so do the larger parts that
+-- are composed of them.
 -- - `laws_sign`: the grammar laws of the crate `ps_text` for a part that consists of one token
 -- - `laws_number` to `laws_node`, `joint_more` to `joint_id`: the grammar laws for each part, and for parts that follow
 --   one another
