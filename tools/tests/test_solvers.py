@@ -12,7 +12,7 @@ from tests import improving
 from tests.tool import AUTOMATON, OnFiles
 
 SOLVER, ERRING = (os.path.join(os.path.dirname(os.path.abspath(__file__)), name) for name in ("improving.py", "erring.py"))
-# The number of changed solutions.
+# The number of random games whose solutions `judge` is asked about. Of every five solutions, four are changed.
 COUNT = 1000
 # Player 0 can cycle through vertices 0 and 1, or move on to 2, whose self-loop it wins; player 0 loses at vertex 3.
 GAME = b'0 1 0 1,0 "a";\n1 2 1 0,2;\n2 4 0 2;\n3 1 1 3,0 "d";\n'

@@ -5,8 +5,8 @@
 --   it gave last
 -- - `once_fed text solver`: the data of the solver after it was fed `text`
 -- - `answers_now solver`: the answers that the solver may give for a game, given the text that it was fed last
--- - `Answered old new`: the relation that holds for a game and an answer if the solver might give this answer before a
---   call, and gave it in the call
+-- - `Answered old new`: what is known of the answer to a game after a call of the solver, with its data before (`old`)
+--   and after (`new`): the data before the call allowed this answer, and the data after it record that it was given
 -- - `IsKept old new`: a call changed neither whether the solver is sure nor its text, and every answer that the solver
 --   may give after the call was possible before
 use Rattle.std.specs.Prelude.{◌≡◌, ℕ, Bool, List, Option, None, Some, Result}

@@ -1,5 +1,6 @@
 -- What a parsing function may return for a choice between two grammars, and for repeated items (a loop). The module
--- MeetsLemmas restates each of these lemmas for the contract `Meets`, which maps the value that the function returns.
+-- MeetsLemmas restates each of these lemmas for `Meets`, the contract of functions whose values are of another type than
+-- the grammar's.
 -- - `Stands there P Q`: at the next symbol `there`, parsing P has the same result as parsing Q
 -- - `left_entered`, `right_entered`: `either` has the result of one alternative if the next symbol begins this
 --   alternative, or is an error of it
