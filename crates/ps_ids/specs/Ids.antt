@@ -23,8 +23,8 @@ abbrev pub IsRecordedAt : (first : ℕ) (near : List ℕ) (far : ℕ → Option 
 IsRecordedAt first near far id place = (own_place first id ≡ place) ⊎
     (((first ≤ id) × (slice_index near (own_place first id) ≡ place + 1)) ⊎ (far id ≡ Some place))
 
--- the ids are distinct, the index of each id is recorded, and each entry of the table `near` and the tree `far` is the
--- index of the id for which it is recorded
+-- the ids are distinct, and the index of each id is recorded; if the table `near` or the tree `far` records an index
+-- for a number, the list has the number at this index
 pub record IsIdTable (first : ℕ) (ids near : List ℕ) (far : ℕ → Option ℕ) : Type 0 where
   pub distinct : AreDistinct ids
   pub sound : (id place : ℕ) → far id ≡ Some place → (place < length ids) × (slice_index ids place ≡ id)

@@ -13,13 +13,13 @@ use std::alloc::{AllocError, Global};
 use std::collections::BTreeMap;
 use std::marker::Model;
 
-/// The table `near` has at most this many entries for each id in the list.
+/// The table `near` is at most this many times as long as the list of ids.
 const MOST_PER_ID: usize = 4;
 
 /// Distinct ids in order. An id whose index is its distance from `first` needs no entry. The indices of the other ids
-/// near `first` are in the table `near`, at their distance from `first`. The table `near` has at most four entries for
-/// each id. The indices of all remaining ids are in the tree `far`. So no choice of ids makes a search slow or takes
-/// much memory.
+/// near `first` are in the table `near`, at their distance from `first`. The table `near` is at most four times as long
+/// as the list of ids. The indices of all remaining ids are in the tree `far`. So no choice of ids makes a search slow
+/// or takes much memory.
 #[derive(Drop)]
 pub struct Ids {
     list: Vec<u64>,
@@ -39,14 +39,15 @@ impl Model for Ids {
 }
 
 impl Ids {
-    /// An empty list of ids. Ids that count up by one from 0 will need no table.
+    /// An empty list of ids. If 0, 1, 2 and so on are added in this order, no table of their indices is stored.
     pub fn new(alloc: Global) -> Self
         ensures { result ≡ [] }
     {
         Ids::starting_at(alloc, 0)
     }
 
-    /// An empty list of ids. Ids that count up by one from `first` will need no table.
+    /// An empty list of ids. If `first`, `first` + 1 and so on are added in this order, no table of their indices is
+    /// stored.
     pub fn starting_at(alloc: Global, first: u64) -> Self
         ensures { result ≡ [] }
     {
@@ -134,15 +135,16 @@ fn near_place(near: &[u32], first: u64, id: u64) -> Option<usize>
     Some(entry as usize - 1)
 }
 
-/// An id's own index: its distance from `first`.
+/// An id's own index: its distance from `first`, or 0 for an id less than `first`.
 fn own_place(first: u64, id: u64) -> usize
     ensures { result ≡ own_place first id }
 {
     id.saturating_sub(first) as usize
 }
 
-/// Records the index of a new id, unless it is the id's own index: in the table if the id is near `first`, else in the
-/// tree.
+/// Records the index of a new id, unless `own_place` gives this index. The table takes the index of an id near `first`
+/// if the index plus 1 fits into 4 bytes; the tree takes any other index. An id is near `first` if it is not less than
+/// `first`, but less than `first` plus `MOST_PER_ID` times the number of ids, including the new id.
 fn keep_place(
     near: &mut Vec<u32>,
     far: &mut BTreeMap<u64, usize>,
