@@ -89,7 +89,8 @@ module _ {c : CircuitData} (is : IsCircuit c) where
       pub AreMoved-rows : AreMoved (length (variables c)) front places
       AreMoved-rows = record { each = each; within = within_table; once = one_each; kept = kept }
 
-    -- these lemmas hold for any list and any size that are equal to the evaluation plan's list of rows and to its size
+    -- the next three lemmas hold for any list `given` that equals the plan's list of rows, any `size` that equals the
+    -- length of the table of values, and any `f` that equals `front`
     pub gate_rows_at : {size f : ℕ} {given : List Row} → size ≡ length (variables c) → f ≡ front → given ≡ rows →
         All (IsGateRow f size) given
     gate_rows_at size_is front_is e k d lt = search (rules, gate_rows)

@@ -1,4 +1,5 @@
--- A step need not evaluate those rows (gates) of the evaluation plan whose values are not needed.
+-- A step may leave out rows (gates) of the evaluation plan that no output, no latch's next value and no remaining row
+-- reads. The outputs and the next values of the latches stay the same.
 use Rattle.std.proofs.Common.{◌≡◌, ◌≢◌, ℕ, suc, ◌<◌, ◌≤◌, ◌⊎◌, ◌&&◌, inl, inr, Bool, true, false, List, [], ◌∷◌, map}
 use Rattle.std.proofs.Common.{length}
 use Rattle.std.proofs.Common.{get_or, refl, sym, subst, ap, ap₂, ◌∙◌, arith, All, length-set, get_or-set_same}
@@ -84,7 +85,7 @@ module _ {rows : List Row} (is : IsScheduled rows) (needed : List Bool) (n : ℕ
 
 -- ---- leaving out rows
 
--- two tables agree at each index that is needed
+-- two tables of values agree at each index that the list `needed` marks
 abbrev Agree : List Bool → List Bool → List Bool → Type 0
 Agree needed a b = (p : ℕ) → Needs needed p → get_or a p false ≡ get_or b p false
 

@@ -13,7 +13,7 @@ use Rattle.ps_text.proofs.Simple.{none_is_some}
 use Rattle.ps_simulate.specs.LassoRuns.{IsSeen, HavePlaces, bits_cmp}
 use Rattle.ps_automaton.proofs.DistinctEntries.{at_end, at_last, at_left}
 
--- ## The order of lists of bits
+-- ## The lexicographic order of lists of bits
 
 bits_tied : (xs ys : List Bool) → is_eq (slice_cmp bool_cmp xs ys) ≡ true → xs ≡ ys
 bits_tied [] [] e = refl

@@ -10,7 +10,7 @@ pub record LaneMoment : Type 0 where
   pub inputs : List (List ℕ)
   pub outputs : List (List ℕ)
 
--- the step of a single lane
+-- the step of the run in one lane, taken from a step of 256 runs at once
 abbrev pub moment_in : ℕ → LaneMoment → Moment
 moment_in lane m =
     record { latches = lane_of m.latches lane; inputs = lane_of m.inputs lane; outputs = lane_of m.outputs lane }

@@ -8,7 +8,7 @@ use Rattle.ps_simulate.specs.declared.lane_plan.LanePlan.{LanePlan}
 use Rattle.ps_simulate.specs.LanePlans.{IsLanePlan, unmoved}
 use Rattle.ps_simulate.specs.Tables.{IsValueTable}
 
--- a word in which all bits are ones, or all are zeros
+-- a word whose bits are all ones if the given Boolean is true, and all zeros otherwise
 abbrev pub all_or_none : Bool → ℕ
 all_or_none is_set = if is_set then 2 ^ 64 - 1 else 0
 

@@ -73,7 +73,7 @@ IsSeen old new latches (Some i) = (i < length old) × (slice_index_or old i [] �
 IsSeen old new latches None =
     ((k : ℕ) → k < length old → slice_index_or old k [] ≢ latches) × (new ≡ old ++ latches ∷ [])
 
--- the order of lists of bits
+-- the lexicographic order of lists of bits, with 0 before 1
 abbrev pub bits_cmp : Vec Bool Global → Vec Bool Global → Ordering
 bits_cmp one other = slice_cmp bool_cmp one.items other.items
 

@@ -2,12 +2,12 @@
 -- accepts the circuit's trace.
 -- - `IsLetterOf names c m letter`: in the letter, each proposition has the bit that the input or output of its name has
 --   in the step m
--- - `RepeatsLatches c stem lap i j trace`: the trace reads the stem once and the lap j times. It ends with the latch
---   values with which reading i of the lap began (the first is reading 0). No two of the j readings began with the same
---   latch values.
+-- - `RepeatsLatches c stem lap i j trace`: the trace reads the stem once and the lap j times. The trace ends with the
+--   latch values with which reading i of the lap began (the first is reading 0). No two of the j readings began with
+--   the same latch values.
 -- - `IsVerdictOf file c stem lap verdict`: the verdict tells whether the automaton accepts the circuit's trace on the
---   lasso. The readings i and j of the lap begin with the same latch values, so the letters between them repeat for
---   ever.
+--   lasso. The letters from the start of reading i of the lap to the start of reading j repeat for ever, since both
+--   readings begin with the same latch values.
 use Rattle.std.specs.Prelude.{◌≡◌, ◌≢◌, ℕ, zero, suc, ◌+◌, ◌-◌, ◌*◌, ◌^◌, ◌<◌, ◌↔◌, Bool, false, IsTrue, List, [], ◌∷◌}
 use Rattle.std.specs.Prelude.{◌++◌, length, map, take, drop, slice_index_or}
 use Rattle.ps_label.specs.Truth.{is_in}

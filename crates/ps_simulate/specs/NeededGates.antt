@@ -24,29 +24,29 @@ pub record IsScheduled (rows : List Row) : Type 0 where
   pub second_behind : (k l : ℕ) → k < length rows → l < length rows →
       (numbered_row rows k).second.place ≡ (numbered_row rows l).target → l < k
 
--- the value at the index `place` is needed
+-- the list `needed` marks the value at the index `place` as needed
 abbrev pub Needs : List Bool → ℕ → Type 0
 Needs needed place = slice_index_or needed place false ≡ true
 
 abbrev pub NeedsWire : List Bool → Wire → Type 0
 NeedsWire needed wire = Needs needed wire.place
 
--- if the value of the row is needed, the values that it reads are needed
+-- if `needed` marks the value of the row, it also marks the two values that the row reads
 pub record NeedsWhatItReads (needed : List Bool) (r : Row) : Type 0 where
   pub first : Needs needed r.target → NeedsWire needed r.first
   pub second : Needs needed r.target → NeedsWire needed r.second
 
--- every value that an output, a latch's next value or a needed row reads is needed
+-- `needed` marks each value that an output, a latch's next value or a row with a marked value reads
 pub record AreNeeded (plan : Plan) (needed : List Bool) : Type 0 where
   pub by_outputs : All (NeedsWire needed) plan.outputs.items
   pub by_nexts : All (NeedsWire needed) plan.nexts.items
   pub by_rows : All (NeedsWhatItReads needed) plan.rows.items
 
--- the rows whose values are needed
+-- those of the given rows whose values the list `needed` marks
 abbrev pub needed_rows : List Bool → List Row → List Row
 needed_rows needed rows = filter (λ r. slice_index_or needed r.target false) rows
 
--- the plan without the rows that are not needed
+-- `cut` is the plan `whole`, but with only the rows whose values the list `needed` marks
 pub record IsPlanOfNeeded (whole cut : Plan) : Type 0 where
   pub needed : List Bool
   pub are_needed : AreNeeded whole needed

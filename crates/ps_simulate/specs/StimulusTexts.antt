@@ -29,7 +29,7 @@ abbrev pub lines_of : List ℕ → List (List ℕ)
 lines_of [] = []
 lines_of (b ∷ bytes) = if b == 10 then [] ∷ lines_of bytes else put_byte b (lines_of bytes)
 
--- the number of bytes of some lines, each with a newline
+-- the number of bytes of the given lines and of one newline after each line
 abbrev pub extent : List (List ℕ) → ℕ
 extent lines = sum_by (λ line. length line + 1) lines
 

@@ -96,7 +96,8 @@ fn literal(places: &[usize], wire: Wire) -> Literal
     }
 }
 
-/// Makes a literal of each wire, by `literal`. Fails if out of memory.
+/// Returns the literal that `literal` makes of each wire, in the order of the wires. The literal's variable is the
+/// wire's renumbered index, and the literal has the wire's sign. Fails if out of memory.
 fn literals(alloc: Global, places: &[usize], wires: &[Wire]) -> Result<Vec<Literal>, AllocError>
     requires { All (CanMove places.now) wires.now }
     ensures { IfOk result (λ literals. map wire_in literals.items ≡ map (move_wire places.now) wires.now) }

@@ -94,7 +94,7 @@ fn first_words(alloc: Global, circuit: &Circuit) -> Result<Vec<[u64; 4]>, AllocE
     Ok(words)
 }
 
-/// A word with all bits set, or with no bit set.
+/// A word whose bits are all ones if `is_set` is true, and all zeros otherwise.
 fn mask(is_set: bool) -> u64
     ensures { result ≡ all_or_none is_set }
 {
