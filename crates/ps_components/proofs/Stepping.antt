@@ -1,5 +1,5 @@
 -- The last entry of `bounds`, at which the last segment of the search path begins, is the greatest entry. If the last
--- pending link starts in this segment, all vertices on the search path can reach the link's target.
+-- pending link starts in the last segment, all vertices on the search path can reach the link's target.
 use Rattle.std.proofs.Common.{◌≡◌, ℕ, ◌-◌, ◌<◌, ◌≤◌, inl, List, length, refl, arith, Some, slice_get}
 use Rattle.std.proofs.lemmas.Option.{slice_get_within}
 use Rattle.ps_components.specs.declared.statuses.Status.{Status}
