@@ -69,7 +69,8 @@ pub fn attempt<A: Arena>(alloc: Global, arena: &A, fuel: u64) -> Result<Attempte
     }
 }
 
-/// The greatest number of cells that may be stored for a game in addition to `ROOM` cells, however much fuel there is.
+/// The greatest number of cells (entries of the values of plays) that may be stored for a game in addition to `ROOM`
+/// cells, however much fuel there is.
 fn most_room<A: Arena>(arena: &A) -> u64 {
     let mut room: u64 = 0;
     for vertex in 0..arena.count() {

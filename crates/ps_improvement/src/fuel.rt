@@ -19,7 +19,7 @@ impl Fuel {
     }
 
     /// Records that a row of `cells` cells is stored in place of a row of `instead` cells. If the new row exceeds the
-    /// limit on stored cells, all fuel is spent.
+    /// limit on stored cells, the call sets the remaining fuel to 0, so that the attempt ends.
     pub fn hold(&mut self, cells: usize, instead: usize) {
         let room = self.room.saturating_add(instead as u64);
         if room < cells as u64 {

@@ -62,8 +62,9 @@ fn order_of_rows(row: &[Cell], other: &[Cell], fuel: &mut Fuel) -> Ordering {
     }
 }
 
-/// Compares two cells. The cell with the greater priority decides which row is worth more to player 0; if the
-/// priorities are equal, the counts decide.
+/// Compares two rows by the first cells in which they differ. The cell with the greater priority decides, or the one
+/// with the greater count if the priorities are equal. The row with this cell is worth more to player 0 if the cell's
+/// priority is even, and less if it is odd.
 fn order_of_cells(cell: Cell, beside: Cell) -> Ordering {
     match cell.priority.cmp(&beside.priority) {
         Ordering::Greater => worth_of(cell.priority),
@@ -117,7 +118,7 @@ impl<'a> Raised<'a> {
         }
     }
 
-    /// Compares this row with another row.
+    /// Compares what this row and another row are worth to player 0: `Greater` if this row is worth more.
     fn order(&self, other: &[Cell], fuel: &mut Fuel) -> Ordering {
         let (begin, back) = other.split_at(self.front.len().min(other.len()));
         let fronts = order_of_rows(self.front, begin, fuel);
