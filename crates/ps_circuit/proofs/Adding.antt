@@ -3,8 +3,8 @@
 -- - `LineKind X`: a kind of lines, each of which has an item of type X (an input, latch, output or gate); it gives the
 --   literals that items define, and the literals that items use
 -- - `AddsItem kind c d x`: the lines d are the lines c and one more, which has the input, latch, output or gate x
--- - `Added kind before read d`: `before` and `read` are the defining literals and the used literals of the earlier
---   lines; the lines d of one kind append their defining literals to `before`, and their used literals to `read`
+-- - `Added kind before read d`: d records the variables of the literals in `before` and of those that its items define,
+--   in this order; it records as used the literals in `read` and those that its items use, in this order
 -- - `input_kind`, `latch_kind`, `output_kind`, `gate_kind`: the four kinds of lines: inputs, latches, outputs and gates
 use Rattle.std.proofs.Common.{arith, ◌≡◌, ℕ, List, [], ◌∷◌, ◌++◌, map, flat_map, refl, rules, append_assoc}
 use Rattle.std.proofs.lemmas.List.{map-append}

@@ -32,8 +32,8 @@ pub struct Plan<'a, A: Arena> {
 }
 
 impl<'a, A: Arena> Plan<'a, A> {
-    /// The first choices of the players: player 0 stops at each of its vertices, and no play enters a vertex of player
-    /// 1. Fails if out of memory.
+    /// The first choices of the players: player 0 stops at each of its vertices, and no play enters a vertex that player
+    /// 1 owns. Fails if out of memory.
     pub fn new(alloc: Global, arena: &'a A) -> Result<Plan<'a, A>, AllocError>
         ensures { IfOk result (λ plan. length plan.rows.items ≡ vertex_count (A.game arena.now)) }
     {

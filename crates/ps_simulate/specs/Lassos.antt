@@ -42,7 +42,7 @@ laps_of lap (suc laps) = laps_of lap laps ++ lap
 abbrev pub latches_along : List Moment → List Bool → List (List Bool)
 latches_along trace last = map (λ m. m.latches) trace ++ last ∷ []
 
--- the latch values with which reading k of the lap begins (the first is reading 0)
+-- the lap is read again and again; these are the latch values before it is read for the k-th time, counted from 0
 abbrev pub latches_before : List (List Bool) → List (List Bool) → List Moment → List Bool → ℕ → List Bool
 latches_before stem lap trace last k = slice_index_or (latches_along trace last) (length stem + k * length lap) []
 
