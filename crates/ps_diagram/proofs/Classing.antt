@@ -130,7 +130,8 @@ module _ {s u : Table} (m : Made s u) where
   same_letters : (f g : ℕ → Bool) → ((q : ℕ) → f q ≡ g q) → leaf_at (tree_of s m.node) f ≡ leaf_at (tree_of s m.node) g
   same_letters f g e = search (rules, blind-from)
 
-  -- the leaves of `divided`, which are the numbers of the cofactors' nodes, depend only on propositions of the mask
+  -- the diagram `divided`, whose leaves are the numbers of the cofactors' nodes, has the same leaf at any two letters
+  -- that agree on the propositions of the mask
   heeds_mask : (f g : ℕ → Bool) → ((q : ℕ) → is_in q m.mask ≡ true → f q ≡ g q) →
       leaf_at (tree_of u m.divided) f ≡ leaf_at (tree_of u m.divided) g
   heeds_mask f g on = search (rules, divided_alike, same_letters, mixed_alike)

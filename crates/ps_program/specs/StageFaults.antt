@@ -1,7 +1,8 @@
 -- The faults of synthesis, as the program reports them: by the number and the name of each fault.
--- - `automaton_line fault`: the line that reports why a file has no automaton, or None for lack of memory
--- - `stage_line fault`: the line that reports why there is no certificate, no circuit or no report, or None for lack
---   of memory
+-- - `automaton_line fault`: the line that reports why a file has no automaton. If memory ran out, there is no line
+--   (None).
+-- - `stage_line fault`: the line that reports why there is no certificate, no circuit or no report. If memory ran out,
+--   there is no line (None).
 use Rattle.std.specs.Prelude.{◌≡◌, ⊤, ℕ, List, [], Option, None, Some}
 use Rattle.ps_automaton.specs.FaultNames as automaton_faults
 use Rattle.ps_automaton.specs.declared.fault.AutomatonFault.{AutomatonFault}

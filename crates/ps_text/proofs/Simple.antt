@@ -67,7 +67,7 @@ read_give {T} {V} {F} all v = search (rules, stops_by, nil_is_cons)
 abbrev pub Taken : {T V : Type 0} → (T → Option V) → T → Type 0
 Taken {T} {V} take t = (v : V) × (take t ≡ Some v)
 
--- the symbols that are errors of `one`
+-- the symbols with an error in the grammar `one`: those for which its parameter `Bad` states an error
 abbrev pub BadSign : {T F : Type 0} → (T → F → Type 0) → T → Type 0
 BadSign {T} {F} Bad t = (f : F) × Bad t f
 

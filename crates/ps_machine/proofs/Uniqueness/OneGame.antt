@@ -135,8 +135,8 @@ module _ (board : Board) (mover : ℕ) where
       let front = listed_front game v k.0 in
       grind (arith, counts_front)
 
-  -- If at most v different numbers have occurred before the vertex v is visited, at most v have occurred after the
-  -- visit. Otherwise the number v would first occur as a successor of v, but no vertex is its own successor.
+  -- Suppose that at most v different numbers occur among vertex 0 and the successors of the vertices less than v. Then
+  -- the successors of v add no number: the first number that they add would be v, but no vertex is its own successor.
   still : (keys : List Key) (game : ParityGame) (v c d : ℕ) → IsIt keys game → v < vertex_count game →
       Counts (listed game v) c → c ≤ v → Counts (listed game (suc v)) d → d ≤ v
   still keys game v c d is lt counts le next = elim (cases_lt v d) [
