@@ -1,3 +1,4 @@
+pub mod Inner
 pub mod Printing
 pub mod Promises
 pub mod Problems

@@ -6,15 +6,11 @@ ghost use Rattle.std.specs.Result.{IsErrAnd};
 ghost use Rattle.ps_circuit.specs.Circuits.{CircuitData};
 ghost use Rattle.ps_automaton.specs.Automata.{IsBuiltFrom};
 ghost use Rattle.ps_automaton.specs.Chains.{Chain};
-ghost use Rattle.ps_game.specs.Games.{vertex_count};
 ghost use Rattle.ps_hoa.specs.Files.{FileData};
-ghost use Rattle.ps_machine.specs.Boards.{IsGameOf};
-ghost use Rattle.ps_machine.specs.BuiltBoards.{board_of};
-ghost use Rattle.ps_machine.specs.Dividing.{HasClasses};
 ghost use Rattle.ps_machine.specs.Solving.{winner_at_start};
-ghost use Rattle.ps_machine.specs.Keys.{mover_of};
 ghost use Rattle.ps_machine.specs.Solving.{IsCertified};
 ghost use Rattle.ps_machine.specs.declared.key.Order.{Order};
+ghost use Rattle.ps_synthesis.specs.Inner.Certified.{IsCertifiedGame};
 ghost use Rattle.ps_synthesis.specs.Printing.{PrintsCertificate, PrintsCircuit, PrintsGame};
 ghost use Rattle.ps_synthesis.specs.Problems.{ReturnsOnly, IsProblem, IsProblemOf, IsReportFault};
 ghost use Rattle.ps_synthesis.specs.Reports.{IsReport};
@@ -168,10 +164,7 @@ fn report_of_certificate(
     certificate: &Certificate,
     compact: bool,
 ) -> Result<Report, SynthFault>
-    requires game { IsGameOf (board_of order automaton.now) (mover_of order) game.now.keys.keys game.now.game.game }
-    requires classes { HasClasses order automaton.now game.now }
-    requires some { 0 < vertex_count game.now.game.game }
-    requires certified { IsCertified game.now.game certificate.now }
+    requires { IsCertifiedGame order automaton.now game.now certificate.now }
     ensures realizable { IfOk result (λ report. IsTrue report.realizable ↔ (winner_at_start certificate.now ≡ 0)) }
     ensures circuit { IfOk result (λ report. (circuit : CircuitData)
         × PrintsCircuit report.circuit_text.items circuit

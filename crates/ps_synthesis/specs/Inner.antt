@@ -1,0 +1,3 @@
+-- Definitions that only the contracts of private functions use; no contract of a public function refers to them.
+
+pub mod Certified
