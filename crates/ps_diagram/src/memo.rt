@@ -37,6 +37,9 @@ impl<K: Eq + Hash + Copy + Drop> Memo<K> {
     pub(crate) fn get(&self, key: K) -> Option<Node>
         ensures { result ≡ get K.eq self.now.table key }
     {
+        if self.table.is_empty() {
+            return None;
+        }
         self.table.get(&key).copied()
     }
 
