@@ -5,13 +5,12 @@ use Rattle.std.proofs.Common.{ap, sym, ◌∙◌, arith, length-append, inl, inr
 use Rattle.std.proofs.lemmas.List.{get_or_append_left, get_or_push}
 use Rattle.std.proofs.lemmas.List.Sums.{fold_push}
 use Rattle.std.proofs.lemmas.Option.{slice_get_within, get_or_from_slice_get, slice_get-get_or}
-use Rattle.std.proofs.lemmas.List.Folds.{list_any_at}
 use Rattle.std.proofs.lemmas.Bool.{cases_Bool, cases_lt}
-use Rattle.std.specs.List.{list_any, slice_get}
-use Rattle.indexmap.specs.IndexSet.{insert_key}
+use Rattle.std.specs.List.{slice_get}
 use Rattle.ps_diagram.specs.declared.view.View.{View}
 use Rattle.ps_diagram.specs.declared.view.View.TheVariants.{Leaf, Nothing}
 use Rattle.ps_diagram.specs.Tree.{Tree, IsFrom, IsReduced}
+use Rattle.ps_diagram.specs.Inner.Chained.{IsPlacedKey}
 use Rattle.ps_diagram.specs.Inner.Parts.{IsPart}
 use Rattle.ps_diagram.specs.Inner.Placed.{AddsCell, ArePlacesOfLeaves}
 use Rattle.ps_diagram.specs.Table.{Table, tree_by, trees_of, tree_at, tree_in, tree_of, IsNode, IsCellWithin}
@@ -133,19 +132,26 @@ at_place : {t u : Table} {cell : View} (place : ℕ) → IsSoundTable u → Keep
 unfolding tree_of
 at_place {u} {cell} place s keeps stays e = search (rules, slice_get_within, get_or_from_slice_get)
 
--- inserting a cell into the list of cells appends it unless an equal cell is there
-pub adds_cell : (cells : List View) (cell : View) {more : List View} (eq : View → View → Bool) →
-    ((a b : View) → eq a b ≡ true → a ≡ b) → ((a : View) → eq a a ≡ true) → more ≡ insert_key eq cells cell →
-    AddsCell cells cell more
-adds_cell cells cell eq sound_eq refl_eq is = elim (bool_cases (list_any (eq cell) cells)) [
-  | inl known ↦ inl (rw known at is)
-  | inr not ↦
-      let apart : (k : ℕ) → k < length cells → cell ≡ get_or cells k Nothing → ⊥ = search (rules, list_any_at) in
-      inr (
-        rw not at is,
-        λ place at. apart place (slice_get_within cells place cell at)
-            (sym (get_or_from_slice_get cells place cell Nothing at)),
-      )
+-- looking up a cell gives its index, and appends the cell if it is new
+pub placed_cell : {old new : List View} (cell : View) (eq : View → View → Bool) {place : ℕ} →
+    ((a b : View) → eq a b ≡ true → a ≡ b) → ((a : View) → eq a a ≡ true) → IsPlacedKey eq old new cell place →
+    AddsCell old cell new × (slice_get new place ≡ Some cell)
+placed_cell {old} {new} cell eq {place} sound_eq refl_eq placed = elim placed [
+  | inl known ↦ (
+    inl known.0,
+    rw known.0 (slice_get-get_or old place cell known.1 ∙ ap Some (sound_eq _ _ (known.2 cell))),
+  )
+  | inr more ↦ (
+    inr (
+      more.0,
+      λ k at. true_is_not_false (sym (refl_eq cell)
+          ∙ ap (λ c. eq c cell) (sym (get_or_from_slice_get old k cell cell at))
+          ∙ more.2 k cell (omega arith) (slice_get_within old k cell at)),
+    ),
+    (let longer : place < length (old ++ cell ∷ []) = omega (arith, more.1, length-append old (cell ∷ [])) in
+        rw more.0 (slice_get-get_or (old ++ cell ∷ []) place cell longer
+        ∙ ap Some (get_or_push old cell cell place (sym more.1)))),
+  )
 ]
 
 -- adding a cell does not change the index of any other cell

@@ -23,3 +23,5 @@ pub mod Distinct
 pub mod Choosing
 pub mod Composing
 pub mod Pairing
+pub mod Chaining
+pub mod Keeping

@@ -1,8 +1,10 @@
 -- Definitions that only contracts of private functions use; no clause of a public function refers to them.
 
+pub mod Chained
 pub mod Chosen
 pub mod Composed
 pub mod Hashed
+pub mod Kept
 pub mod Known
 pub mod Numbered
 pub mod Parts

@@ -1,7 +1,7 @@
 //! Joins two diagrams into one diagram, whose leaf at a letter is the index of the pair of the two diagrams' leaves.
 
 ghost use Rattle.std.specs.Prelude.{◌≡◌, ℕ, ◌+◌, IfOk, Some};
-ghost use Rattle.indexmap.specs.IndexMap.{get};
+ghost use Rattle.ps_diagram.specs.Inner.Kept.{result_for};
 ghost use Rattle.ps_diagram.specs.Inner.Chosen.{IsPairOf, Meet};
 ghost use Rattle.ps_diagram.specs.Inner.Known.{KnowsPairs, pair_eq};
 ghost use Rattle.ps_diagram.specs.Pairs.{Adds, IsPaired, MeetAt};
@@ -45,11 +45,11 @@ impl Store {
     ) -> Result<Node, AllocError>
         requires first { IsNode self.old first }
         requires second { IsNode self.old second }
-        requires known { KnowsPairs (IsPairOf pairs.old.keys) self.old (get pair_eq known.old.table) }
+        requires known { KnowsPairs (IsPairOf pairs.old.keys) self.old (result_for pair_eq known.old.table) }
         ensures made { MakesTree self.old self.new result
             (IsPairOf pairs.new.keys (tree_of self.old first) (tree_of self.old second)) }
         ensures adds { Adds (Meet (tree_of self.old first) (tree_of self.old second)) pairs.old.keys pairs.new.keys }
-        ensures known { KnowsPairs (IsPairOf pairs.new.keys) self.new (get pair_eq known.new.table) }
+        ensures known { KnowsPairs (IsPairOf pairs.new.keys) self.new (result_for pair_eq known.new.table) }
     {
         if self.is_nothing(first) {
             return Ok(first);

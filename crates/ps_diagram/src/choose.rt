@@ -1,7 +1,7 @@
 //! Chooses between two diagrams at each letter.
 
 ghost use Rattle.std.specs.Prelude.{◌≡◌, ℕ, ◌+◌, ◌<◌, IfOk, Some};
-ghost use Rattle.indexmap.specs.IndexMap.{get};
+ghost use Rattle.ps_diagram.specs.Inner.Kept.{result_for};
 ghost use Rattle.ps_diagram.specs.Inner.Chosen.{IsChosen, IsCut, KnowsTriples};
 ghost use Rattle.ps_diagram.specs.Inner.Rests.{test_eq};
 ghost use Rattle.ps_diagram.specs.Leaves.{chosen};
@@ -53,10 +53,10 @@ impl Store {
         requires truth { IsNode self.old truth }
         requires one { IsNode self.old one }
         requires other { IsNode self.old other }
-        requires known { KnowsTriples self.old (get test_eq known.old.table) }
+        requires known { KnowsTriples self.old (result_for test_eq known.old.table) }
         ensures made { MakesTree self.old self.new result
             (IsChosen (tree_of self.old truth) (tree_of self.old one) (tree_of self.old other)) }
-        ensures known { KnowsTriples self.new (get test_eq known.new.table) }
+        ensures known { KnowsTriples self.new (result_for test_eq known.new.table) }
     {
         if one == other {
             return Ok(one);

@@ -2,6 +2,7 @@
 
 ghost use Rattle.std.specs.Prelude.{◌≡◌, ◌≢◌, ℕ, ◌+◌, ◌<◌, Bool, AllPairs, IfOk, IsSome, Some, length, nat_eq};
 ghost use Rattle.indexmap.specs.IndexMap.{get};
+ghost use Rattle.ps_diagram.specs.Inner.Kept.{result_for};
 ghost use Rattle.ps_diagram.specs.Tree.{Tree, IsBlind, leaf_at};
 ghost use Rattle.ps_diagram.specs.Table.{IsNode, IsSoundTable, Keeps, MakesTree, tree_of};
 ghost use Rattle.ps_diagram.specs.Inner.Known.{Knows};
@@ -122,11 +123,11 @@ impl Store {
         tests: &mut Memo<(u32, Node, Node)>,
     ) -> Result<Node, AllocError>
         requires lent { IsLent self.old other.now node }
-        requires known { Knows (IsDivided self.old split) other.now self.old (get nat_eq known.old.table) }
-        requires tests { KnowsTests self.old (get test_eq tests.old.table) }
+        requires known { Knows (IsDivided self.old split) other.now self.old (result_for nat_eq known.old.table) }
+        requires tests { KnowsTests self.old (result_for test_eq tests.old.table) }
         ensures made { MakesTree self.old self.new result (IsDivided self.new split (tree_of other.now node)) }
-        ensures known { Knows (IsDivided self.new split) other.now self.new (get nat_eq known.new.table) }
-        ensures tests { KnowsTests self.new (get test_eq tests.new.table) }
+        ensures known { Knows (IsDivided self.new split) other.now self.new (result_for nat_eq known.new.table) }
+        ensures tests { KnowsTests self.new (result_for test_eq tests.new.table) }
     {
         match other.cell(node) {
             View::Nothing => self.place_of_leaf(None),
@@ -170,10 +171,10 @@ impl Store {
         requires leading { AreLeading self.old proposition low high }
         requires low_later { IsBlind (proposition + 1) (tree_of self.old low) }
         requires high_later { IsBlind (proposition + 1) (tree_of self.old high) }
-        requires tests { KnowsTests self.old (get test_eq tests.old.table) }
+        requires tests { KnowsTests self.old (result_for test_eq tests.old.table) }
         ensures made { MakesTree self.old self.new result
             (IsDividedTest self.new split proposition (tree_of self.old low) (tree_of self.old high)) }
-        ensures tests { KnowsTests self.new (get test_eq tests.new.table) }
+        ensures tests { KnowsTests self.new (result_for test_eq tests.new.table) }
     {
         let _ = self.allocator();
         if split >> proposition & 1 == 1 {
@@ -193,10 +194,10 @@ impl Store {
         tests: &mut Memo<(u32, Node, Node)>,
     ) -> Result<Node, AllocError>
         requires leading { AreLeading self.old proposition low high }
-        requires tests { KnowsTests self.old (get test_eq tests.old.table) }
+        requires tests { KnowsTests self.old (result_for test_eq tests.old.table) }
         ensures made { MakesTree self.old self.new result
             (IsTested self.new proposition (tree_of self.old low) (tree_of self.old high)) }
-        ensures tests { KnowsTests self.new (get test_eq tests.new.table) }
+        ensures tests { KnowsTests self.new (result_for test_eq tests.new.table) }
     {
         if low == high {
             return Ok(low);

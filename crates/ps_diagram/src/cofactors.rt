@@ -1,7 +1,7 @@
 //! Computes what remains of a diagram after each letter over a few propositions has been read.
 
 ghost use Rattle.std.specs.Prelude.{◌≡◌, ℕ, ◌+◌, ◌^◌, ◌<◌, ◌≤◌, IfOk, nat_eq};
-ghost use Rattle.indexmap.specs.IndexMap.{get};
+ghost use Rattle.ps_diagram.specs.Inner.Kept.{result_for};
 ghost use Rattle.ps_diagram.specs.Tree.{IsBlind};
 ghost use Rattle.ps_diagram.specs.Table.{MakesTree, tree_of};
 ghost use Rattle.ps_diagram.specs.Inner.Known.{Knows};
@@ -75,9 +75,9 @@ impl Store {
         known: &mut Memo<Node>,
     ) -> Result<Node, AllocError>
         requires lent { IsLent self.old other.now node }
-        requires known { Knows (IsCofactor split letter) other.now self.old (get nat_eq known.old.table) }
+        requires known { Knows (IsCofactor split letter) other.now self.old (result_for nat_eq known.old.table) }
         ensures made { MakesTree self.old self.new result (IsCofactor split letter (tree_of other.now node)) }
-        ensures known { Knows (IsCofactor split letter) other.now self.new (get nat_eq known.new.table) }
+        ensures known { Knows (IsCofactor split letter) other.now self.new (result_for nat_eq known.new.table) }
     {
         match other.cell(node) {
             View::Nothing => self.constant(None),

@@ -1,7 +1,7 @@
 //! Replaces the propositions of a diagram by Boolean functions (truths), given as diagrams.
 
 ghost use Rattle.std.specs.Prelude.{◌≡◌, ◌<◌, ◌≤◌, ℕ, All, IfOk, IfSome, OnOk, length, nat_eq};
-ghost use Rattle.indexmap.specs.IndexMap.{get};
+ghost use Rattle.ps_diagram.specs.Inner.Kept.{result_for};
 ghost use Rattle.ps_diagram.specs.Composing.{IsLetterOfTruths};
 ghost use Rattle.ps_diagram.specs.Inner.Composed.{IsComposed, IsOnlySide};
 ghost use Rattle.ps_diagram.specs.Inner.Known.{Knows};
@@ -45,10 +45,10 @@ impl Store {
         requires held { IsNode other.now node }
         requires one_each { other.now.propositions ≤ length truths.now }
         requires truths { All (IsNode self.old) truths.now }
-        requires known { Knows (IsComposed self.old truths.now) other.now self.old (get nat_eq known.old.table) }
+        requires known { Knows (IsComposed self.old truths.now) other.now self.old (result_for nat_eq known.old.table) }
         ensures made { MakesTree self.old self.new result (IsComposed self.old truths.now (tree_of other.now node)) }
         ensures known { OnOk result
-            (Knows (IsComposed self.new truths.now) other.now self.new (get nat_eq known.new.table)) }
+            (Knows (IsComposed self.new truths.now) other.now self.new (result_for nat_eq known.new.table)) }
     {
         let (proposition, low, high) = match other.cell(node) {
             View::Nothing => return self.none(),

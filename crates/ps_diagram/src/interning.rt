@@ -4,8 +4,8 @@ ghost use Rattle.std.specs.Prelude.{◌≡◌, ◌<◌, [], IfOk, IfSome, Some, 
 ghost use Rattle.ps_diagram.specs.Inner.Placed.{PlacesCell};
 ghost use Rattle.ps_diagram.specs.declared.view.View.TheVariants.{Leaf, Nothing};
 
+use crate::key_list::KeyList;
 use crate::view::View;
-use indexmap::IndexSet;
 use std::alloc::{AllocError, Global};
 use std::marker::Model;
 
@@ -18,7 +18,7 @@ const UNKNOWN: u32 = u32::MAX;
 #[derive(Debug, Drop)]
 pub(crate) struct Cells {
     /// The cells.
-    list: IndexSet<View>,
+    list: KeyList<View>,
     /// For each small leaf, the index of its cell, or `UNKNOWN`.
     leaves: Vec<u32>,
 }
@@ -30,9 +30,9 @@ impl Model for Cells {
 
     ghost Value = { List View };
 
-    ghost view = { λ c. c.list.keys };
+    ghost view = { λ c. c.list };
 
-    ghost invariant = { λ c. ArePlacesOfLeaves c.list.keys c.leaves.items };
+    ghost invariant = { λ c. ArePlacesOfLeaves c.list c.leaves.items };
 }
 
 impl Cells {
@@ -41,7 +41,7 @@ impl Cells {
         ensures { result ≡ [] }
     {
         Cells {
-            list: IndexSet::new(alloc),
+            list: KeyList::new(alloc),
             leaves: Vec::new(alloc),
         }
     }
@@ -50,7 +50,7 @@ impl Cells {
     pub(crate) fn copy(&self) -> Result<Self, AllocError>
         ensures { IfOk result (λ cells. cells ≡ self.now) }
     {
-        let list = self.list.clone()?;
+        let list = self.list.copy()?;
         let leaves = self.leaves.clone()?;
         Ok(Cells { list, leaves })
     }
@@ -90,7 +90,7 @@ impl Cells {
     fn place_by_hash(&mut self, cell: View) -> Result<usize, AllocError>
         ensures { PlacesCell self.old self.new cell result }
     {
-        let (place, _) = self.list.insert_full(cell)?;
+        let place = self.list.place_of(cell)?;
         Ok(place)
     }
 

@@ -4,6 +4,7 @@ ghost use Rattle.std.specs.Prelude.{◌≡◌, ℕ, ◌+◌, ◌^◌, ◌<◌, �
 ghost use Rattle.std.specs.Prelude.{option_map, option_and_then, unwrap_or, slice_index, is_none, cond};
 ghost use Rattle.std.specs.Option.{option_copied};
 ghost use Rattle.indexmap.specs.IndexMap.{get, index_of};
+ghost use Rattle.ps_diagram.specs.Inner.Kept.{result_for};
 ghost use Rattle.ps_diagram.specs.Tree.{leaf_at};
 ghost use Rattle.ps_diagram.specs.Table.{IsNode, MakesDiagram, MakesTree, leaf_of, tree_of};
 ghost use Rattle.ps_diagram.specs.Inner.Known.{IsChangeable, IsMapped, Knows};
@@ -245,11 +246,11 @@ impl Store {
     ) -> Result<Node, AllocError>
         requires fits { IsChangeable (R.fits rule.now) (unwrap_or (option_copied other) self.old) self.old node }
         requires known { Knows (IsMapped (R.rule rule.now)) (unwrap_or (option_copied other) self.old) self.old
-            (get nat_eq known.old.table) }
+            (result_for nat_eq known.old.table) }
         ensures made { MakesTree self.old self.new result
             (IsMapped (R.rule rule.now) (tree_of (unwrap_or (option_copied other.entry) self.old) node)) }
         ensures known { Knows (IsMapped (R.rule rule.now)) (unwrap_or (option_copied other.entry) self.new) self.new
-            (get nat_eq known.new.table) }
+            (result_for nat_eq known.new.table) }
     {
         match self.cell_of(other, node) {
             View::Nothing => self.constant(rule.changed(None)),

@@ -1,7 +1,7 @@
 //! Overlays two diagrams that never have different leaves at one letter.
 
 ghost use Rattle.std.specs.Prelude.{◌≡◌, ◌≢◌, ℕ, ◌+◌, ◌^◌, ◌<◌, IfOk, IfErr, OnOk, Some};
-ghost use Rattle.indexmap.specs.IndexMap.{get};
+ghost use Rattle.ps_diagram.specs.Inner.Kept.{result_for};
 ghost use Rattle.ps_diagram.specs.Table.{IsNode, MakesDiagram, MakesTree, leaf_of, tree_of};
 ghost use Rattle.ps_diagram.specs.Split.{AreConstants};
 ghost use Rattle.ps_diagram.specs.Leaves.{AreCompatible, either_leaf};
@@ -43,10 +43,10 @@ impl Store {
     ) -> Result<Node, OverlayError>
         requires first { IsNode self.old first }
         requires second { IsNode self.old second }
-        requires known { KnowsPairs IsOverlay self.old (get pair_eq known.old.table) }
+        requires known { KnowsPairs IsOverlay self.old (result_for pair_eq known.old.table) }
         ensures made { MakesTree self.old self.new result
             (IsOverlay (tree_of self.old first) (tree_of self.old second)) }
-        ensures known { KnowsPairs IsOverlay self.new (get pair_eq known.new.table) }
+        ensures known { KnowsPairs IsOverlay self.new (result_for pair_eq known.new.table) }
         ensures clash { IfErr result (IsClash (tree_of self.old first) (tree_of self.old second)) }
     {
         if self.is_nothing(first) {

@@ -1,7 +1,7 @@
 //! The leaves of a node, and the least letter of each.
 
 ghost use Rattle.std.specs.Prelude.{◌≡◌, ℕ, ◌+◌, ◌^◌, ◌<◌, IfOk, OnOk, MatchOption, is_some, nat_eq};
-ghost use Rattle.indexmap.specs.IndexMap.{get};
+ghost use Rattle.ps_diagram.specs.Inner.Kept.{result_for};
 ghost use Rattle.ps_diagram.specs.Letters.{IsLeastLetter};
 ghost use Rattle.ps_diagram.specs.Reached.{AreLeaves, Gathers, HaveFound, IsGathered, LeadsToLeaf};
 ghost use Rattle.ps_diagram.specs.Split.{root_of};
@@ -54,8 +54,8 @@ impl Store {
     ) -> Result<(), AllocError>
         requires held { IsNode self.now node }
         requires begun { letter < 2 ^ root_of self.now.propositions (tree_of self.now node) }
-        requires seen { HaveFound self.now (λ q. is_some (get nat_eq seen.old.table q)) found.old.entries }
-        ensures seen { OnOk result (HaveFound self.now (λ q. is_some (get nat_eq seen.new.table q)) found.new.entries) }
+        requires seen { HaveFound self.now (λ q. is_some (result_for nat_eq seen.old.table q)) found.old.entries }
+        ensures seen { OnOk result (HaveFound self.now (λ q. is_some (result_for nat_eq seen.new.table q)) found.new.entries) }
         ensures found { OnOk result (Gathers self.now.propositions (tree_of self.now node) letter found.old.entries
             found.new.entries) }
     {

@@ -3,7 +3,8 @@
 ghost use Rattle.std.specs.Cmp.Rules.{hashing};
 ghost use Rattle.std.proofs.Common.{rules};
 
-use std::hash::{Hash, Hasher};
+use crate::chains::{Key, mixed};
+use std::hash::Hash;
 use std::marker::Model;
 
 /// A decision diagram, as a node of a store. A node may be used with the store that made it, and with later copies of
@@ -44,26 +45,86 @@ pub enum View {
 impl Hash for View {
     ghost use Rattle.ps_diagram.specs.Inner.Hashed.{hashed};
 
-    ghost hash_input = { λ view. hashed view };
+    ghost hash = { hash_of_view };
 
-    ghost respects_eq = { Prim.search (hashing, rules) };
+    ghost alike = { Prim.search (hashing, rules) };
 
-    fn hash<H: Hasher>(&self, state: &mut H) {
+    #[inline(always)]
+    fn hash(&self, seed: u64) -> u64 {
         match self {
-            View::Nothing => state.write_u8(0),
-            View::Leaf(value) => state.write_u64(*value),
+            View::Nothing => 0,
+            View::Leaf(value) => mixed(seed, *value, u64::MAX),
             View::Test {
                 proposition,
                 low,
                 high,
-            } => {
-                state.write_usize(low.place);
-                state.write_usize(
-                    high.place
-                        .wrapping_mul(64)
-                        .wrapping_add(*proposition as usize),
-                );
-            }
+            } => mixed(
+                seed,
+                (low.place as u64)
+                    .wrapping_mul(64)
+                    .wrapping_add(*proposition as u64),
+                high.place as u64,
+            ),
         }
+    }
+}
+
+impl Key for Node {
+    ghost use Rattle.ps_diagram.specs.Inner.Chained.{mixed};
+
+    ghost hash = { λ seed node. mixed seed node 0 };
+
+    ghost alike = { Prim.search (hashing, rules) };
+
+    #[inline(always)]
+    fn hash(&self, seed: u64) -> u64 {
+        mixed(seed, self.place as u64, 0)
+    }
+}
+
+impl Key for (Node, Node) {
+    ghost use Rattle.ps_diagram.specs.Inner.Chained.{mixed};
+
+    ghost hash = { λ seed pair. mixed seed pair.0 pair.1 };
+
+    ghost alike = { Prim.search (hashing, rules) };
+
+    #[inline(always)]
+    fn hash(&self, seed: u64) -> u64 {
+        mixed(seed, self.0.place as u64, self.1.place as u64)
+    }
+}
+
+impl Key for (Node, Node, Node) {
+    ghost use Rattle.ps_diagram.specs.Inner.Chained.{mixed};
+
+    ghost hash = { λ seed key. mixed (mixed seed key.0 key.1) key.2 0 };
+
+    ghost alike = { Prim.search (hashing, rules) };
+
+    #[inline(always)]
+    fn hash(&self, seed: u64) -> u64 {
+        mixed(
+            mixed(seed, self.0.place as u64, self.1.place as u64),
+            self.2.place as u64,
+            0,
+        )
+    }
+}
+
+impl Key for (u32, Node, Node) {
+    ghost use Rattle.ps_diagram.specs.Inner.Chained.{mixed};
+
+    ghost hash = { λ seed key. mixed (mixed seed key.0 key.1) key.2 0 };
+
+    ghost alike = { Prim.search (hashing, rules) };
+
+    #[inline(always)]
+    fn hash(&self, seed: u64) -> u64 {
+        mixed(
+            mixed(seed, self.0 as u64, self.1.place as u64),
+            self.2.place as u64,
+            0,
+        )
     }
 }

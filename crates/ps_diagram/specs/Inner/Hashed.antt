@@ -1,10 +1,10 @@
--- The numbers that a store hashes to look up a cell.
-use Rattle.std.specs.Prelude.{ℕ, ◌+◌, ◌*◌, ◌%◌, ◌^◌, List, ◌++◌}
-use Rattle.std.specs.Hash as fed
+-- The hash by which a store looks up a cell.
+use Rattle.std.specs.Prelude.{ℕ, ◌+◌, ◌-◌, ◌*◌, ◌%◌, ◌^◌}
+use Rattle.ps_diagram.specs.Inner.Chained.{mixed}
 use Rattle.ps_diagram.specs.declared.view.View.{View}
 use Rattle.ps_diagram.specs.declared.view.View.TheVariants.{Nothing, Leaf, Test}
 
-abbrev pub hashed : View → List (List ℕ)
-hashed Nothing = fed.u8 0
-hashed (Leaf k) = fed.u64 k
-hashed (Test p low high) = fed.usize low ++ fed.usize ((high * 64 % 2 ^ 64 + p) % 2 ^ 64)
+abbrev pub hash_of_view : ℕ → View → ℕ
+hash_of_view seed Nothing = 0
+hash_of_view seed (Leaf k) = mixed seed k (2 ^ 64 - 1)
+hash_of_view seed (Test p low high) = mixed seed ((low * 64 % 2 ^ 64 + p) % 2 ^ 64) high

@@ -1,5 +1,5 @@
 use Rattle.std.proofs.Common.{sym, rules}
-use Rattle.indexmap.specs.IndexMap.{get}
+use Rattle.ps_diagram.specs.Inner.Kept.{result_for}
 use Rattle.ps_diagram.specs.Inner.Rests.{test_eq}
 use Rattle.ps_diagram.proofs.KnownLemmas.{keeps_three, keeps_trans}
 use Rattle.ps_diagram.proofs.Choosing.{chosen_sides, triples_kept, triples_put}
@@ -37,13 +37,13 @@ returns-in_err-put-clause-made t c = fails
 
 pub returns-in_err-put-clause-known : goal.returns-in_err-put-clause-known
 returns-in_err-put-clause-known t c = rw c.in_err-put.ensures.err
-    (triples_kept (get test_eq c.chosen-2.new.known.table) c.test.ensures.keeps c.chosen-2.ensures.known)
+    (triples_kept (result_for test_eq c.chosen-2.new.known.table) c.test.ensures.keeps c.chosen-2.ensures.known)
 
 pub returns-clause-made : goal.returns-clause-made
 returns-clause-made t c =
     chosen_sides c.cut-proposition.ensures c.in_ok-low.ensures.made c.in_ok-high.ensures.made c.in_ok-made.ensures
 
 pub returns-clause-known : goal.returns-clause-known
-returns-clause-known t c = triples_put (get test_eq c.chosen-2.new.known.table) (get test_eq c.put.new.self.table)
+returns-clause-known t c = triples_put (result_for test_eq c.chosen-2.new.known.table) (result_for test_eq c.put.new.self.table)
     c.put.ensures.put c.test.ensures.keeps c.chosen-2.ensures.known c.requires.truth c.requires.one c.requires.other
     (returns-clause-made t c)

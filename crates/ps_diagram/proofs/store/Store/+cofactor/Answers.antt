@@ -1,5 +1,5 @@
 use Rattle.std.proofs.Common.{arith, sym, nat_eq, rules}
-use Rattle.indexmap.specs.IndexMap.{get}
+use Rattle.ps_diagram.specs.Inner.Kept.{result_for}
 use Rattle.ps_diagram.specs.Inner.Rests.{IsCofactor}
 use Rattle.ps_diagram.proofs.Alone.{bit_false}
 use Rattle.ps_diagram.proofs.Cells.{keeps_refl}
@@ -32,8 +32,8 @@ pub returns-in_ok-put-in-Test-clause-known : goal.returns-in_ok-put-in-Test-clau
 returns-in_ok-put-in-Test-clause-known t c =
     let other = c.args.other.now in
     let last = c.test.new.self in
-    let was = get nat_eq c.cofactor-in-Test-2.new.known.table in
-    knows_more (IsCofactor c.args.split c.args.letter) other last was (get nat_eq c.put.new.self.table)
+    let was = result_for nat_eq c.cofactor-in-Test-2.new.known.table in
+    knows_more (IsCofactor c.args.split c.args.letter) other last was (result_for nat_eq c.put.new.self.table)
     c.put.ensures.put (knows_kept (IsCofactor c.args.split c.args.letter) other other c.cofactor-in-Test-2.new.self last
     was (keeps_refl other) c.test.ensures.keeps c.cofactor-in-Test-2.ensures.known) c.requires.lent.held
     c.in_ok-made-in-Test.ensures.held (returns-in_ok-put-in-Test-clause-made t c).leaf

@@ -1,6 +1,6 @@
 use Rattle.std.proofs.Common.{◌≡◌, ◌<◌, All, nat_eq, length, get_or, sym, arith, rules}
 use Rattle.std.proofs.lemmas.List.{get_or_default}
-use Rattle.indexmap.specs.IndexMap.{get}
+use Rattle.ps_diagram.specs.Inner.Kept.{result_for}
 use Rattle.ps_diagram.specs.Inner.Composed.{IsComposed}
 use Rattle.ps_diagram.specs.Table.{IsNode}
 use Rattle.ps_diagram.proofs.Composing.{composed_kept, composed_sides, bits_before, side_of}
@@ -36,8 +36,8 @@ returns-clause-known t c =
     let k = keeps_trans c.composed_by-2.ensures.made.keeps c.composed_by-3.ensures.made.keeps in
     let made = returns-clause-made t c in
     let held : All (IsNode before) truths = λ i d less. k.held _ (c.requires.truths i d less) in
-    knows_more (IsComposed last truths) c.args.other.now last (get nat_eq c.composed_by-3.new.known.table)
-    (get nat_eq c.put.new.self.table) c.put.ensures.put (composed_kept truths c.choose.ensures.keeps held
-    c.args.other.now (get nat_eq c.composed_by-3.new.known.table) c.in_ok-high.ensures.known)
+    knows_more (IsComposed last truths) c.args.other.now last (result_for nat_eq c.composed_by-3.new.known.table)
+    (result_for nat_eq c.put.new.self.table) c.put.ensures.put (composed_kept truths c.choose.ensures.keeps held
+    c.args.other.now (result_for nat_eq c.composed_by-3.new.known.table) c.in_ok-high.ensures.known)
     c.requires.held c.in_ok-made.ensures.held
     (λ letter f bits. made.leaf letter f (bits_before truths made.keeps c.requires.truths letter f bits))

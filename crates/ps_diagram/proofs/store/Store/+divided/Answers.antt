@@ -1,5 +1,5 @@
 use Rattle.std.proofs.Common.{sym, ap, nat_eq, rules}
-use Rattle.indexmap.specs.IndexMap.{get}
+use Rattle.ps_diagram.specs.Inner.Kept.{result_for}
 use Rattle.ps_diagram.specs.Tree.{leaf_at}
 use Rattle.ps_diagram.specs.Table.{tree_of}
 use Rattle.ps_diagram.specs.Inner.Rests.{IsDivided}
@@ -47,7 +47,7 @@ returns-in_err-put-in-Test-clause-made t c = fails (search (rules, keeps_trans))
 pub returns-in_err-put-in-Test-clause-known : goal.returns-in_err-put-in-Test-clause-known
 returns-in_err-put-in-Test-clause-known t c =
     rw c.in_err-put-in-Test.ensures.err (known_divided_kept c.args.other.now c.args.split
-    (get nat_eq c.divided-in-Test.new.known.table) c.divided_test.ensures.made.keeps c.divided-in-Test.ensures.known)
+    (result_for nat_eq c.divided-in-Test.new.known.table) c.divided_test.ensures.made.keeps c.divided-in-Test.ensures.known)
 
 pub returns-in-Nothing-clause-known : goal.returns-in-Nothing-clause-known
 returns-in-Nothing-clause-known t c = search (rules, known_divided_kept)
@@ -77,7 +77,7 @@ pub returns-in_ok-put-in-Test-clause-known : goal.returns-in_ok-put-in-Test-clau
 returns-in_ok-put-in-Test-clause-known t c =
     let s = c.args.other.now in
     let last = c.divided_test.new.self in
-    knows_more (IsDivided last c.args.split) s last (get nat_eq c.divided-in-Test.new.known.table)
-    (get nat_eq c.put.new.self.table) c.put.ensures.put (known_divided_kept s c.args.split
-    (get nat_eq c.divided-in-Test.new.known.table) c.divided_test.ensures.made.keeps c.divided-in-Test.ensures.known)
+    knows_more (IsDivided last c.args.split) s last (result_for nat_eq c.divided-in-Test.new.known.table)
+    (result_for nat_eq c.put.new.self.table) c.put.ensures.put (known_divided_kept s c.args.split
+    (result_for nat_eq c.divided-in-Test.new.known.table) c.divided_test.ensures.made.keeps c.divided-in-Test.ensures.known)
     c.requires.lent.held c.in_ok-made-in-Test.ensures.made.held (returns-in_ok-put-in-Test-clause-made t c).leaf

@@ -1,6 +1,6 @@
 use Rattle.std.proofs.Common.{◌≡◌, rules, ℕ, nat_eq, true}
 use Rattle.std.specs.Prelude.{is_some}
-use Rattle.indexmap.specs.IndexMap.{get}
+use Rattle.ps_diagram.specs.Inner.Kept.{result_for}
 use Rattle.indexmap.proofs.CallerLemmas.{insert_entry-new}
 use Rattle.ps_diagram.specs.Reached.{Gathers}
 use Rattle.ps_diagram.specs.Table.{tree_of}
@@ -10,7 +10,7 @@ use Rattle.ps_diagram.proofs.store.Store.+gather.Goals as goal
 
 pub returns-then-is_some-clause-found : goal.returns-then-is_some-clause-found
 returns-then-is_some-clause-found t c =
-    let is : is_some (get nat_eq c.args.seen.now.table c.args.node) ≡ true = cc in
+    let is : is_some (result_for nat_eq c.args.seen.now.table c.args.node) ≡ true = cc in
     gathers_none c.args.self.now.propositions (tree_of c.args.self.now c.args.node) c.args.letter
     c.args.found.now.entries (c.requires.seen c.args.node is)
 
@@ -34,6 +34,6 @@ pub returns-in_ok-put-in-Test-clause-found : goal.returns-in_ok-put-in-Test-clau
 returns-in_ok-put-in-Test-clause-found t c = found t c
 
 pub returns-in_ok-put-in-Test-clause-seen : goal.returns-in_ok-put-in-Test-clause-seen
-returns-in_ok-put-in-Test-clause-seen t c = seen_more c.args.self.now (get nat_eq c.gather-in-Test.new.seen.table)
-    (get nat_eq c.put.new.self.table) c.args.node c.args.node c.gather-in-Test.new.found.entries c.put.ensures.put
+returns-in_ok-put-in-Test-clause-seen t c = seen_more c.args.self.now (result_for nat_eq c.gather-in-Test.new.seen.table)
+    (result_for nat_eq c.put.new.self.table) c.args.node c.args.node c.gather-in-Test.new.found.entries c.put.ensures.put
     c.in_ok-gather-in-Test-2.ensures.seen (found t c).whole

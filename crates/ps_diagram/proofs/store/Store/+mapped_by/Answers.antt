@@ -1,6 +1,6 @@
 use Rattle.std.proofs.Common.{sym, ℕ, nat_eq, Bool, true, false, rules, arith}
 use Rattle.std.specs.Option.{option_copied, unwrap_or}
-use Rattle.indexmap.specs.IndexMap.{get}
+use Rattle.ps_diagram.specs.Inner.Kept.{result_for}
 use Rattle.ps_diagram.specs.Tree.{leaf_at}
 use Rattle.ps_diagram.specs.Table.{tree_of}
 use Rattle.ps_diagram.specs.Inner.Known.{IsMapped}
@@ -85,9 +85,9 @@ returns-in_ok-put-in-Test-clause-known g t c =
     let last = c.test.new.self in
     let made = returns-in_ok-put-in-Test-clause-made g t c in
     let j = read_keeps other made.keeps in
-    knows_more (IsMapped rule) (unwrap_or other last) last (get nat_eq c.mapped_by-in-Test.new.known.table) (get nat_eq
+    knows_more (IsMapped rule) (unwrap_or other last) last (result_for nat_eq c.mapped_by-in-Test.new.known.table) (result_for nat_eq
     c.put.new.self.table) c.put.ensures.put (knows_kept (IsMapped rule) (unwrap_or other mid)
-    (unwrap_or other last) mid last (get nat_eq c.mapped_by-in-Test.new.known.table) (read_keeps other c.test.ensures.keeps)
+    (unwrap_or other last) mid last (result_for nat_eq c.mapped_by-in-Test.new.known.table) (read_keeps other c.test.ensures.keeps)
     c.test.ensures.keeps c.mapped_by-in-Test.ensures.known) (j.held c.args.node c.requires.fits.held)
     c.in_ok-changed-in-Test.ensures.held (kept (λ u. IsMapped rule u (tree_of last c.in_ok-changed-in-Test.changed)) j
     c.requires.fits.held made.leaf)

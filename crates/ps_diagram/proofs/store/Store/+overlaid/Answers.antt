@@ -1,5 +1,5 @@
 use Rattle.std.proofs.Common.{sym, true, false, rules}
-use Rattle.indexmap.specs.IndexMap.{get}
+use Rattle.ps_diagram.specs.Inner.Kept.{result_for}
 use Rattle.ps_diagram.specs.Inner.Known.{IsOverlay, pair_eq}
 use Rattle.ps_diagram.proofs.KnownLemmas.{keeps_three, keeps_trans, pairs_kept, pairs_put}
 use Rattle.ps_diagram.proofs.Joining.{overlay_sides, clash_side, clash_passes}
@@ -38,13 +38,15 @@ returns-in_err-put-clause-made t c = fails
     (keeps_three c.overlaid.ensures.made.keeps c.overlaid-2.ensures.made.keeps c.test.ensures.keeps) (search rules)
 
 pub returns-in_err-put-clause-known : goal.returns-in_err-put-clause-known
-returns-in_err-put-clause-known t c = rw c.in_err-put.ensures.err (search (rules, pairs_kept))
+returns-in_err-put-clause-known t c = rw c.in_err-put.ensures.err
+    (pairs_kept IsOverlay (result_for pair_eq c.overlaid-2.new.known.table) c.test.ensures.keeps
+    c.overlaid-2.ensures.known)
 
 pub returns-clause-made : goal.returns-clause-made
 returns-clause-made t c =
     overlay_sides c.in-Some-split.ensures c.in_ok-low.ensures.made c.in_ok-high.ensures.made c.in_ok-node.ensures
 
 pub returns-clause-known : goal.returns-clause-known
-returns-clause-known t c = pairs_put IsOverlay (get pair_eq c.overlaid-2.new.known.table)
-    (get pair_eq c.put.new.self.table) c.put.ensures.put c.test.ensures.keeps c.overlaid-2.ensures.known
+returns-clause-known t c = pairs_put IsOverlay (result_for pair_eq c.overlaid-2.new.known.table)
+    (result_for pair_eq c.put.new.self.table) c.put.ensures.put c.test.ensures.keeps c.overlaid-2.ensures.known
     c.requires.first c.requires.second (returns-clause-made t c)

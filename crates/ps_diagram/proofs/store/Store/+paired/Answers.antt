@@ -1,5 +1,5 @@
 use Rattle.std.proofs.Common.{◌+◌, sym, false, rules}
-use Rattle.indexmap.specs.IndexMap.{get}
+use Rattle.ps_diagram.specs.Inner.Kept.{result_for}
 use Rattle.ps_diagram.specs.Inner.Known.{pair_eq}
 use Rattle.ps_diagram.specs.Inner.Chosen.{IsPairOf}
 use Rattle.ps_diagram.specs.Tree.{IsBlind}
@@ -60,7 +60,9 @@ returns-in_err-put-clause-adds t c =
     adds_sides c.paired.ensures.made.keeps c.in-Some-split.ensures c.paired.ensures.adds c.paired-2.ensures.adds
 
 pub returns-in_err-put-clause-known : goal.returns-in_err-put-clause-known
-returns-in_err-put-clause-known t c = rw c.in_err-put.ensures.err (search (rules, pairs_kept))
+returns-in_err-put-clause-known t c = rw c.in_err-put.ensures.err (pairs_kept
+    (IsPairOf c.paired-2.new.pairs.keys) (result_for pair_eq c.paired-2.new.known.table) c.test.ensures.keeps
+    c.paired-2.ensures.known)
 
 pub returns-clause-adds : goal.returns-clause-adds
 returns-clause-adds t c =
@@ -72,6 +74,6 @@ returns-clause-made t c =
     c.in_ok-made.ensures
 
 pub returns-clause-known : goal.returns-clause-known
-returns-clause-known t c = pairs_put (IsPairOf c.paired-2.new.pairs.keys) (get pair_eq c.paired-2.new.known.table)
-    (get pair_eq c.put.new.self.table) c.put.ensures.put c.test.ensures.keeps c.paired-2.ensures.known
+returns-clause-known t c = pairs_put (IsPairOf c.paired-2.new.pairs.keys) (result_for pair_eq c.paired-2.new.known.table)
+    (result_for pair_eq c.put.new.self.table) c.put.ensures.put c.test.ensures.keeps c.paired-2.ensures.known
     c.requires.first c.requires.second (returns-clause-made t c)

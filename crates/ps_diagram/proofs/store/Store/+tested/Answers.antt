@@ -1,6 +1,6 @@
 use Rattle.std.proofs.Common.{true, false, sym, ◌+◌, rules, ◌∙◌}
 use Rattle.std.proofs.lemmas.Bool.{eqb-true}
-use Rattle.indexmap.specs.IndexMap.{get}
+use Rattle.ps_diagram.specs.Inner.Kept.{result_for}
 use Rattle.ps_diagram.specs.Table.{tree_of}
 use Rattle.ps_diagram.specs.Tree.{IsBlind}
 use Rattle.ps_diagram.specs.Inner.Rests.{test_eq}
@@ -62,7 +62,7 @@ returns-in_err-put-clause-made t c = fails (search (rules, keeps_trans)) (search
 
 pub returns-in_err-put-clause-tests : goal.returns-in_err-put-clause-tests
 returns-in_err-put-clause-tests t c = rw c.in_err-put.ensures.err
-    (tests_kept (get test_eq c.tested-2.new.tests.table) c.test.ensures.keeps c.tested-2.ensures.tests)
+    (tests_kept (result_for test_eq c.tested-2.new.tests.table) c.test.ensures.keeps c.tested-2.ensures.tests)
 
 pub returns-clause-made : goal.returns-clause-made
 returns-clause-made t c =
@@ -70,6 +70,6 @@ returns-clause-made t c =
     c.in_ok-made.ensures
 
 pub returns-clause-tests : goal.returns-clause-tests
-returns-clause-tests t c = tests_put (get test_eq c.tested-2.new.tests.table) (get test_eq c.put.new.self.table)
+returns-clause-tests t c = tests_put (result_for test_eq c.tested-2.new.tests.table) (result_for test_eq c.put.new.self.table)
     c.args.proposition c.put.ensures.put c.test.ensures.keeps c.tested-2.ensures.tests c.requires.leading.low_held
     c.requires.leading.high_held (returns-clause-made t c)
