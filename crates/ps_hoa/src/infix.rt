@@ -97,6 +97,7 @@ fn row<G: Infix>(
 }
 
 /// A list with the first operand, and with space for a second operand.
+#[inline(always)]
 fn begun<V: Drop>(alloc: Global, first: V) -> Result<Vec<V>, AllocError>
     ensures { IfOk result (λ operands. operands.items ≡ first ∷ []) }
 {
@@ -153,6 +154,7 @@ fn operand<G: Infix>(
 }
 
 /// Whether the next token is the connective.
+#[inline(always)]
 fn is_at(tokens: &Tokens, connective: Connective) -> bool
     ensures { (result ≡ true) ↔ ((next_of (stream_of tokens.now)).sign.kind ≡ kind_of connective) }
 {

@@ -35,6 +35,7 @@ impl Infix for Scope<'_, '_> {
 
     ghost grammar = { labels.grammar };
 
+    #[inline(always)]
     fn leaf(&self, tokens: &mut Tokens) -> Result<Label, HoaFault> {
         let token = tokens.advance();
         leaf_of(token, self)
@@ -59,6 +60,7 @@ impl Infix for Scope<'_, '_> {
 }
 
 /// The operand that a single token represents.
+#[inline(always)]
 fn leaf_of(token: Token, scope: &Scope) -> Result<Label, HoaFault>
     ensures { Takes expression (labels.leaf_in scope.now.names) (labels.BadLeaf scope.now)
         (piece_of token.entry) result }

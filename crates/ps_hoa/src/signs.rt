@@ -134,6 +134,7 @@ pub(crate) fn unescaped(alloc: Global, inner: &[u8]) -> Result<Vec<u8>, AllocErr
 
 /// The number that a run of digits represents, if it does not exceed the greatest `INT`. A byte less than the digit `0`
 /// counts as `0`, so the function accepts any bytes.
+#[inline(always)]
 pub(crate) fn int_of(digits: &[u8]) -> Option<u32>
     ensures { result ≡ (if nat_le (decimal_value digits.now) number_limit then Some
         (decimal_value digits.now) else None) }

@@ -81,6 +81,7 @@ enum Class {
 }
 
 #[tactic(auto, unfolding(crate::specs::Bytes::class_of))]
+#[inline(always)]
 fn class_of(byte: u8) -> Class
     ensures value { result ≡ class byte }
     ensures token { IsTokenClass result }
@@ -222,6 +223,7 @@ fn byte_at(bytes: &[u8], at: usize) -> u8
     if at < bytes.len() { bytes[at] } else { 0 }
 }
 
+#[inline(always)]
 fn number_step(first: u8, bytes: &[u8]) -> Step
     ensures { result ≡ number_step first bytes.now }
 {
@@ -233,6 +235,7 @@ fn number_step(first: u8, bytes: &[u8]) -> Step
     }
 }
 
+#[inline(always)]
 fn name_step(bytes: &[u8]) -> Step
     ensures { result ≡ name_step bytes.now }
 {
@@ -244,6 +247,7 @@ fn name_step(bytes: &[u8]) -> Step
     }
 }
 
+#[inline(always)]
 fn alias_step(bytes: &[u8]) -> Step
     ensures { result ≡ alias_step bytes.now }
 {
@@ -253,6 +257,7 @@ fn alias_step(bytes: &[u8]) -> Step
     }
 }
 
+#[inline(never)]
 fn text_step(bytes: &[u8]) -> Step
     ensures { result ≡ text_step bytes.now }
 {
@@ -270,6 +275,7 @@ pub(crate) fn begins_with(bytes: &[u8], word: &[u8]) -> bool
     bytes.starts_with(word)
 }
 
+#[inline(never)]
 fn dash_step(bytes: &[u8]) -> Step
     ensures { result ≡ dash_step bytes.now }
 {
@@ -284,6 +290,7 @@ fn dash_step(bytes: &[u8]) -> Step
     }
 }
 
+#[inline(never)]
 fn comment_step(bytes: &[u8]) -> Step
     ensures { result ≡ comment_step bytes.now }
 {
@@ -298,6 +305,7 @@ fn comment_step(bytes: &[u8]) -> Step
 
 /// The blank, the comment or the token that begins with the first byte.
 #[tactic(auto, unfolding(crate::specs::Scan::scan_step))]
+#[inline(always)]
 fn step_at(bytes: &[u8]) -> Step
     ensures { result ≡ scan_step bytes.now }
 {
@@ -326,6 +334,7 @@ struct Lexeme {
 }
 
 /// The first token from an offset on, after blanks and comments.
+#[inline(always)]
 fn first_lexeme(source: &[u8], from: usize) -> Lexeme
     requires { from ≤ length source.now }
     ensures blanks { AreBlanks source.now from result.start }
@@ -380,6 +389,7 @@ impl History {
     }
 
     /// Whether a name that may occur only once has occurred.
+    #[inline(never)]
     fn has(&self, name: &[u8]) -> bool
         ensures { result ≡ is_known self.now name.now }
     {
@@ -393,6 +403,7 @@ impl History {
     }
 
     /// The kind of a token that follows the recorded tokens.
+    #[inline(always)]
     fn kind_of(&self, kind: Kind, text: &[u8]) -> Kind
         ensures { result ≡ kind_here self.now kind text.now }
     {
@@ -405,6 +416,7 @@ impl History {
         }
     }
 
+    #[inline(never)]
     fn with_name(&mut self, name: &[u8])
         ensures { self.new ≡ with_occurred self.old name.now }
     {
@@ -414,6 +426,7 @@ impl History {
     }
 
     /// Records that a token has occurred.
+    #[inline(always)]
     fn pass(&mut self, kind: Kind, text: &[u8])
         ensures { self.new ≡ history_after self.old kind text.now }
     {
@@ -518,6 +531,7 @@ impl<'a> Tokens<'a> {
 
 /// The token for a lexeme, which is the kind and the span of a token. The kind of the token also depends on the names
 /// that occurred before it, which `history` records.
+#[inline(always)]
 fn token_of<'a>(source: &'a [u8], lexeme: Lexeme, history: History) -> Token<'a>
     requires { IsLexeme source.now lexeme }
     ensures kept { IsOwnKind source.now history lexeme.kind result }
