@@ -40,10 +40,9 @@ pub enum View {
     },
 }
 
-/// A store finds the node with a given view by the view's hash, or, for most small leaves, in a table. To save time, at
-/// most two numbers are hashed for a view.
-impl Hash for View {
-    ghost use Rattle.ps_diagram.specs.Inner.Hashed.{hashed};
+/// A test is hashed by its two nodes, with the proposition in the low bits of the first.
+impl Key for View {
+    ghost use Rattle.ps_diagram.specs.Inner.Hashed.{hash_of_view};
 
     ghost hash = { hash_of_view };
 
