@@ -1,5 +1,5 @@
 -- Reading a text, making an automaton's game and testing a certificate have results, by laws of lower crates.
--- - `game_text_some`: reading a text as a game has a result
+-- - `game_text_some`: for every text, reading it as a game has a result, which may be a fault
 -- - `certified_some`, `certified_is`: reading two texts as a game and a certificate has a result; the game is well
 --   formed, and the certificate fits it
 -- - `tests_some`, `judge_some`: a test of a certificate, and the command `judge`, have a result

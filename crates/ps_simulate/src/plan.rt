@@ -54,7 +54,8 @@ impl Plan {
         Plan::by_places(alloc, &places)
     }
 
-    /// The plan of a circuit, given the index of each of its variables. Fails if out of memory.
+    /// The plan of a circuit, which lists the gates that a step evaluates, in order. `places` gives each variable's index
+    /// in the table of values. Fails if out of memory.
     fn by_places(alloc: Global, places: &Places) -> Result<Self, AllocError>
         ensures { IfOk result (IsPlan places.now) }
     {

@@ -9,7 +9,7 @@
 --   than `there`
 -- - `read_as`, `fault_as`: if `Covers` holds for P and Q, each result of parsing P is a result of parsing Q, and the
 --   first fault of P is the first fault of Q
--- - `after P left`: the remainder of P after the symbols `left`
+-- - `after P left`: the grammar of what can still follow in a text of the grammar P after the symbols `left`
 -- - `read_after`, `fault_after`: if P has no error in the symbols `left`, a result of parsing `after P left` behind
 --   them is a result of parsing P
 use Rattle.std.proofs.Common.{◌≡◌, ℕ, ◌+◌, ◌⊎◌, List, [], ◌∷◌, ◌++◌, length, Option, Some, refl, ap, subst}
