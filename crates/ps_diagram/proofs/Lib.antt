@@ -23,5 +23,5 @@ pub mod Distinct
 pub mod Choosing
 pub mod Composing
 pub mod Pairing
-pub mod Chaining
-pub mod Keeping
+pub mod KeyChains
+pub mod KeptKeys

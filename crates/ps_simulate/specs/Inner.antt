@@ -1,6 +1,6 @@
 -- Definitions that only private contracts use; no public clause refers to them.
 
-pub mod Marking
+pub mod AddedNeeds
 pub mod Moving
 pub mod Namings
 pub mod StimulusReading

@@ -1,7 +1,7 @@
 //! The gates that a step needs.
 
 ghost use Rattle.std.specs.Prelude.{◌<◌, length, All, IfOk};
-ghost use Rattle.ps_simulate.specs.Inner.Marking.{Marks};
+ghost use Rattle.ps_simulate.specs.Inner.AddedNeeds.{AddsNeeds};
 ghost use Rattle.ps_simulate.specs.NeededGates.{AreNeeded, IsPlanOfNeeded, IsScheduled, NeedsWhatItReads, NeedsWire};
 ghost use Rattle.ps_simulate.specs.Plans.{IsPlan, IsRowInTable};
 ghost use Rattle.ps_simulate.specs.declared.plan.Plan.{Plan};
@@ -36,21 +36,21 @@ fn needed_places(alloc: Global, plan: &Plan) -> Result<Vec<bool>, AllocError>
     Ok(needed)
 }
 
-/// Marks as needed the values of the given wires (literals).
+/// Records that the values of the given wires (literals) are needed.
 fn need_each(wires: &[Wire], needed: &mut [bool])
     requires within { All (λ w. w.place < length needed.old) wires.now }
-    ensures { Marks NeedsWire needed.old needed.new wires.now }
+    ensures { AddsNeeds NeedsWire needed.old needed.new wires.now }
 {
     for wire in wires {
         needed[wire.place as usize] = true;
     }
 }
 
-/// Marks as needed the values that the needed rows of the plan read, from the last row to the first.
+/// Records that the values that the needed rows of the plan read are needed, from the last row to the first.
 fn need_what_is_read(rows: &[Row], needed: &mut [bool])
     requires within { All (IsRowInTable (length needed.old)) rows.now }
     requires scheduled { IsScheduled rows.now }
-    ensures { Marks NeedsWhatItReads needed.old needed.new rows.now }
+    ensures { AddsNeeds NeedsWhatItReads needed.old needed.new rows.now }
 {
     for number in (0..rows.len()).rev() {
         let row = rows[number];

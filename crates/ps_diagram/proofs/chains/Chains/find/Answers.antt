@@ -1,7 +1,7 @@
 use Rattle.std.proofs.Common.{◌≡◌, ◌-◌, ◌<◌, ◌∙◌, false, ap, arith, rules, sym, length, get_or}
 use Rattle.std.proofs.lemmas.List.{get_or_default}
 use Rattle.ps_diagram.specs.Inner.Chained.{chain_in}
-use Rattle.ps_diagram.proofs.Chaining.{begun, chained_alike, walked}
+use Rattle.ps_diagram.proofs.KeyChains.{begun, chained_alike, walked}
 use Rattle.ps_diagram.proofs.chains.Chains.find.Goals as goal
 
 pub loop-next-init : goal.loop-next-init

@@ -1,5 +1,5 @@
 use Rattle.ps_diagram.specs.Inner.Chained.{chain_in}
-use Rattle.ps_diagram.proofs.Chaining.{IsBehind}
+use Rattle.ps_diagram.proofs.KeyChains.{IsBehind}
 use Rattle.ps_diagram.proofs.chains.Chains.find.Given as goal
 
 abbrev pub invariant-loop-next : goal.invariant-loop-next

@@ -1,7 +1,7 @@
 use Rattle.std.proofs.Common.{◌≡◌, ◌+◌, ◌∙◌, arith, sym, ap, get_or}
 use Rattle.std.proofs.lemmas.List.{get_or_default, length-set}
 use Rattle.ps_diagram.specs.Inner.Chained.{chain_in}
-use Rattle.ps_diagram.proofs.Chaining.{linked}
+use Rattle.ps_diagram.proofs.KeyChains.{linked}
 use Rattle.ps_diagram.proofs.chains.Chains.link.Goals as goal
 
 pub returns-clause-chained : goal.returns-clause-chained

@@ -1,6 +1,6 @@
 use Rattle.std.proofs.Common.{◌∙◌, arith, length}
 use Rattle.ps_diagram.specs.Inner.Chained.{AreChained}
-use Rattle.ps_diagram.proofs.Chaining.{chained_pushed}
+use Rattle.ps_diagram.proofs.KeyChains.{chained_pushed}
 use Rattle.ps_diagram.proofs.key_list.KeyList.place_of.Goals as goal
 
 pub link-requires-clause-chained : goal.link-requires-clause-chained

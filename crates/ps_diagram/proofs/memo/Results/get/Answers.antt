@@ -1,6 +1,6 @@
 use Rattle.std.proofs.Common.{◌∙◌, ◌<◌, Some, ap, arith, length, sym}
 use Rattle.std.proofs.lemmas.List.{get_or_default}
-use Rattle.ps_diagram.proofs.Keeping.{none_kept, result_kept}
+use Rattle.ps_diagram.proofs.KeptKeys.{none_kept, result_kept}
 use Rattle.ps_diagram.proofs.memo.Results.get.Goals as goal
 
 pub returns-in-Some : goal.returns-in-Some

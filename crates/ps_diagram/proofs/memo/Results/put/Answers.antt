@@ -1,5 +1,5 @@
 use Rattle.std.proofs.Common.{◌∙◌, ◌++◌, ◌∷◌, [], ap, arith, inl, inr}
-use Rattle.ps_diagram.proofs.Keeping.{put_one}
+use Rattle.ps_diagram.proofs.KeptKeys.{put_one}
 use Rattle.ps_diagram.proofs.memo.Results.put.Goals as goal
 
 pub returns-then-place-len-clause-put : goal.returns-then-place-len-clause-put
