@@ -12,7 +12,8 @@ use Rattle.ps_game.specs.Drafts.{IsFirstUnknown, NoneUnknown}
 parts : (n x : ℕ) (found : Option ℕ) → cond (nat_le n x) (Some x) found ≡ None → (x < n) × (found ≡ None)
 parts n x found none = grind (arith, nat_tests)
 
--- if the head of a list is less than n, the first number that is at least n is found in the tail
+-- if w is the first number of a list that is at least n, and the list's head is less than n, w is also the first such
+-- number of the tail
 behind : (n x w : ℕ) (found : Option ℕ) → cond (nat_le n x) (Some x) found ≡ Some w → x < n → found ≡ Some w
 behind n x w found is small = grind (arith, nat_tests)
 

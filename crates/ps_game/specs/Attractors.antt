@@ -15,14 +15,14 @@ pub record IsClosedUnderAttraction (game : ParityGame) (subgame : ℕ → Bool) 
   pub other : (v : ℕ) → IsTrue (subgame v) → owner_of game v ≢ player →
       ((w : ℕ) → LeadsInto game subgame v w → IsTrue (set w)) → IsTrue (set v)
 
--- an edge within the subgame leads from v to w, and w is in the set and has a smaller rank
+-- an edge within the subgame leads from v to w, and w is in the set and has a smaller rank than v
 pub record LeadsDown (game : ParityGame) (subgame set : ℕ → Bool) (rank : ℕ → ℕ) (v w : ℕ) : Type 0 where
   pub leads : LeadsInto game subgame v w
   pub inside : IsTrue (set w)
   pub falls : rank w < rank v
 
--- outside the target, the player's move in the table and each edge of the other player within the subgame lead from the
--- set to a vertex of the set with a smaller rank
+-- for each vertex v that is in the set and not in the target: if the player owns v, the table has a move at v, and this
+-- move leads down (`LeadsDown`). If the other player owns v, all edges from v within the subgame lead down
 pub record Falls (game : ParityGame) (subgame : ℕ → Bool) (player : ℕ) (target set : ℕ → Bool) (table : ℕ → Option ℕ)
     (rank : ℕ → ℕ) : Type 0 where
   pub own : (v : ℕ) → IsTrue (set v) → ¬ IsTrue (target v) → owner_of game v ≡ player →

@@ -1,5 +1,5 @@
--- The edges that remain when a player moves by a table of moves, the priorities of a game by parity, and the condition
--- on these edges that a progress measure (the counts) must meet.
+-- The edges that remain when a player moves by a table of moves, and the condition that a progress measure (the counts)
+-- must meet on these edges. The list of all priorities of one parity that occur in a game.
 use Rattle.std.specs.Prelude.{◌≡◌, ℕ, ◌%◌, ◌<◌, ◌≤◌, List, Option, Some, Bool, IsTrue}
 use Rattle.std.specs.List.{All, Contains}
 use Rattle.std.specs.List.Sorted.{IsStrictlyIncreasing}
@@ -31,8 +31,8 @@ pub record ListsPriorities (game : ParityGame) (parity : ℕ) (list : List ℕ) 
 
 -- the rule of counts: the condition that a progress measure (the counts for one priority) must meet on one edge. If
 -- neither end of the edge has a priority above the given one, the count of the edge's target is at most the count of
--- its source. If, in addition, the edge's source has the given priority, the count of the target is less than the count
--- of the source
+-- its source. If the source has the given priority, and the target has at most this priority, the count of the target
+-- is less than the count of the source
 pub record KeepsRule (priority from_priority to_priority from_count to_count : ℕ) : Type 0 where
   pub never_rises : from_priority ≤ priority → to_priority ≤ priority → to_count ≤ from_count
   pub falls : from_priority ≡ priority → to_priority ≤ priority → to_count < from_count

@@ -73,7 +73,7 @@ abbrev pub HasLoop : List ℕ → Type 0
 HasLoop path = (i : ℕ) × (j : ℕ) × IsLoop path i j
 
 -- each history table of the player for paths of up to n vertices loses on some path of n + 1 vertices from v
--- (`IsBeaten`). If n is at least the game's number of vertices, this path has a loop
+-- (`IsBeaten`). If the game has at most n vertices, this path has a loop
 abbrev pub AllHistoriesBeaten : ParityGame → ℕ → ℕ → Type 0
 AllHistoriesBeaten game player v =
     (n : ℕ) (table : List ℕ → ℕ) → IsHistoryTable game player n table →

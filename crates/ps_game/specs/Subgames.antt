@@ -32,8 +32,8 @@ pub record IsTop (game : ParityGame) (walk : ℕ → ℕ) (k top : ℕ) : Type 0
   pub stands : (t : ℕ) × (t < k) × (priority_of game (walk t) ≡ top)
 
 -- The set is within the subgame. At each of the player's vertices of the set, the table gives a successor in the set.
--- The other player's edges within the subgame do not leave the set. The player wins each cycle in the set on which the
--- player moves by the table
+-- The other player's edges within the subgame do not leave the set. If a cycle lies within the set, and the player's
+-- moves on this cycle are those of the table, the player wins the cycle (`IsRound`)
 pub record HoldsWithin (game : ParityGame) (subgame : ℕ → Bool) (player : ℕ) (set : ℕ → Bool)
     (table : ℕ → Option ℕ) : Type 0 where
   pub within : IsWithin set subgame

@@ -246,7 +246,7 @@ fn places_in(numbers: &mut [usize], ids: &Ids)
     }
 }
 
-/// The largest length of a list whose numbers are compared pairwise.
+/// The largest length of a list whose numbers are compared pairwise in the test for repeated numbers.
 const FEW: usize = 8;
 
 /// A quick test for repeated numbers: if the result is true, no number occurs twice in the list. The numbers of a short
