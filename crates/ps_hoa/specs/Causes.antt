@@ -46,7 +46,7 @@ abbrev pub is_spelled : List ℕ → Bool
 is_spelled name =
     bytes_eq name (codes "HOA:") || bytes_eq name (codes "State:") || is_some (item_named name)
 
--- the name begins with a capital letter, and the grammar does not define it
+-- the name begins with a capital letter, and is neither `HOA:` nor `State:` nor the name of a known header item
 unfoldable pub is_unknown_capital : List ℕ → Bool
 is_unknown_capital name = if is_spelled name then false else begins_capital name
 

@@ -62,7 +62,8 @@ label_grammar names = record {
 abbrev pub IsLabel : List (List ℕ) → ℕ → List Sign → Expression → Type 0
 IsLabel names = IsRow (label_grammar names) connectives.Or
 
--- the atoms of a condition are constants, and sets that are visited; `!` never comes before an operand
+-- the atoms of a condition are `t`, `f`, and `Inf` or `Fin` with a set or the complement of a set; no operand has `!`
+-- before it
 abbrev pub condition_grammar : Grammar Condition
 condition_grammar = record {
   IsAtom =

@@ -32,8 +32,9 @@ abbrev pub plus : ℕ → Option ℕ → Option ℕ
 plus k None = None
 plus k (Some n) = Some (k + n)
 
--- The number of bytes up to the end of the comment that the given bytes continue. The comment is nested in `depth`
--- further comments. If `skip` is true, the first byte is the second byte of a `/*` or a `*/`.
+-- The given bytes begin inside a comment that is nested in `depth` further comments. The result is the number of bytes
+-- up to and including the `*/` that closes the outermost comment. If `skip` is true, the first byte is the second byte
+-- of a `/*` or a `*/`.
 unfoldable pub comment_len : List ℕ → Bool → ℕ → Option ℕ
 comment_len [] skip depth = None
 comment_len (b ∷ bs) true depth = one_more (comment_len bs false depth)

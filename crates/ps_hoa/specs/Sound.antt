@@ -41,7 +41,7 @@ IsStated e = (label : Expression) × (e.guard ≡ stated label)
 abbrev pub IsOfState : EdgeData → Type 0
 IsOfState e = e.guard ≡ of_state
 
--- the edges are taken at successive letters, from the letter k on
+-- the edge with the index i in the list is taken only at the letter k + i
 abbrev pub AreAtLetters : ℕ → List EdgeData → Type 0
 AreAtLetters k [] = Unit {0}
 AreAtLetters k (e ∷ es) = (e.guard ≡ at_letter k) × AreAtLetters (k + 1) es

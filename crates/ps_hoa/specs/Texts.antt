@@ -56,7 +56,8 @@ pub record IsBehindBlanks (bytes blanks rest : List ℕ) : Type 0 where
 abbrev pub is_version_byte : ℕ → Bool
 is_version_byte b = is_name_byte b || nat_eq b 46
 
--- the longest run of bytes that a version may contain
+-- the version: the longest prefix of `bytes` that consists only of bytes that a version may contain. The other bytes
+-- are `rest`
 pub record IsVersion (bytes version rest : List ℕ) : Type 0 where
   pub split : bytes ≡ version ++ rest
   pub run : AllBytes is_version_byte version

@@ -80,7 +80,7 @@ fn count_of_states(states: Option<u32>, start: u32, rows: &[Row]) -> u32
     }
 }
 
-/// The greatest state among `named`, the states that have a row in `rows`, and the targets of their edges.
+/// The greatest of these states: `named`, the states that have a row in `rows`, and the targets of the rows' edges.
 fn greatest_state(named: u32, rows: &[Row]) -> u32
     ensures { result ≡ files.greatest_state named (map row_data rows.now) }
 {

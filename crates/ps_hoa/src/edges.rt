@@ -28,7 +28,7 @@ use std::alloc::{AllocFailed, Global};
 /// The largest number of edges that a text may have.
 pub(crate) const EDGE_LIMIT: usize = 1_048_576;
 
-/// The limit on states: if the header has no `States:`, every state must be less than the limit.
+/// The largest number of states. If the header has no `States:`, every state must be less than this number.
 const STATE_LIMIT: u32 = 65_535;
 
 /// The ways in which the edges of a state are labelled.

@@ -5,8 +5,8 @@ ghost use Rattle.ps_hoa.specs.Causes.{cause_number};
 
 use ps_text::faults::{Cause, Fault};
 
-/// Why an HOA text is rejected. Each description ends with the part of HOA v1 that the text violates, in brackets. The
-/// limits and the rules for names are psyn's own, not those of HOA v1.
+/// Why an HOA text is rejected. Most descriptions name in brackets the part of the format description that the text
+/// violates. The limits and the rules for names are psyn's own, not those of HOA v1.
 #[derive(Clone, Copy, Debug, PartialEq, Eq)]
 pub enum HoaCause {
     /// The text does not begin with `HOA:` (HOA v1: header).

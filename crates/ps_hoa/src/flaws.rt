@@ -14,7 +14,7 @@ use crate::header::{Acceptance, Header};
 use crate::indices::Indices;
 use ps_label::Label;
 
-/// The limit on states: if the header has no `States:`, every state must be less than the limit.
+/// The largest number of states. If the header has no `States:`, every state must be less than this number.
 const STATE_LIMIT: u32 = 65_535;
 
 /// What is wrong with a header. If a header has several flaws, the one with the smallest number in psyn's list of

@@ -75,7 +75,8 @@ pub(crate) fn item_named(name: &[u8]) -> Option<Item>
     None
 }
 
-/// The number of header items that may occur only once. `History` records for each of them whether it has occurred.
+/// The number of header items that may occur only once. `History` records for each of these items whether it has
+/// occurred.
 pub(crate) const ONCE_COUNT: usize = 4;
 
 /// The index of an item among the header items that may occur only once, if it is one of them.

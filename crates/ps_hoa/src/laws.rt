@@ -27,8 +27,8 @@ pub fn sound_files()
     ensures { (text : List ℕ) (file : FileData) → ReadsFile text (Ok file) → IsSoundFile file }
 {}
 
-/// In a sound file, each row is sound, `row_of` gives a row of the requested state, and each edge of a sound row is
-/// sound.
+/// In a sound file (`IsSoundFile`), each row is sound (`IsSoundRow`), and if `row_of` gives a row, it is a row of the
+/// requested state. Each edge of a sound row is sound (`IsSoundEdge`).
 pub fn sound_parts()
     ensures row { (file : FileData) → IsSoundFile file → (k : ℕ) (row : RowData) → slice_get file.rows k ≡ Some row →
         IsSoundRow file row }

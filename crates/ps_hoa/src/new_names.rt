@@ -43,7 +43,7 @@ fn proposition(alloc: Global, tokens: &mut Tokens, names: &mut Propositions) -> 
     Ok(())
 }
 
-/// Reads a name that no earlier proposition has.
+/// Reads the name of a new proposition; the name of an earlier proposition is rejected.
 fn new_name(alloc: Global, tokens: &mut Tokens, names: &Propositions) -> Result<Vec<u8>, HoaFault>
     ensures part { ReadsAs (λ name. name.items) (one parts.string_in (parts.IsBadName names.now)) tokens.old
         result tokens.new }
@@ -78,7 +78,7 @@ fn has_control(name: &[u8]) -> bool
     false
 }
 
-/// Reads a name that no earlier alias has.
+/// Reads the name of a new alias; the name of an earlier alias is rejected.
 pub(crate) fn new_alias<'a>(tokens: &mut Tokens<'a>, names: &Names) -> Result<&'a [u8], HoaFault>
     ensures part { ReadsAs (λ name. name.now) (one alias_name_in (parts.IsBadAlias names.now)) tokens.old
         result tokens.new }

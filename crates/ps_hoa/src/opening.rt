@@ -16,7 +16,7 @@ use crate::tokens::{Tokens, begins_with, behind_blanks, is_name_byte, is_same};
 /// The largest number of bytes that a text may have.
 const TEXT_LIMIT: usize = 16_777_216;
 
-/// The number of bytes at the start of a text that can belong to a version.
+/// The length of the longest prefix that consists only of bytes that a version, such as `v1`, may contain.
 fn version_at(bytes: &[u8]) -> usize
     ensures { IsRun is_version_byte bytes.now result }
 {

@@ -45,7 +45,8 @@ fn refusal(token: Token) -> HoaCause
     }
 }
 
-/// Whether a name begins with a capital letter and is not defined by the grammar.
+/// Whether a name begins with a capital letter, and is neither `HOA:` nor `State:` nor the name of a header item that
+/// the parser knows.
 #[tactic(auto, unfolding(crate::specs::Causes::is_unknown_capital))]
 fn is_unknown(name: &[u8]) -> bool
     ensures { result ≡ is_unknown_capital name.now }

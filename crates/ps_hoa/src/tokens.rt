@@ -181,8 +181,8 @@ fn quoted_at(bytes: &[u8]) -> Option<usize>
     None
 }
 
-/// The number of bytes up to the end of the comment that the given bytes continue, including comments nested in it. The
-/// result is `None` if the comment is not closed.
+/// The given bytes begin after the `/*` of a comment. The result is the number of bytes up to and including the `*/`
+/// that closes this comment; comments may be nested in it. The result is `None` if the comment is not closed.
 fn comment_at(bytes: &[u8]) -> Option<usize>
     ensures value { result ≡ comment_len bytes.now false 0 }
     ensures within { IfSome result (λ n. n ≤ length bytes.now) }

@@ -59,8 +59,8 @@ header_apart test e t h k = false_true (sym e ∙ ap test (sym h) ∙ k)
 pub some_there : (o : Option (Unit {0})) → (o ≡ None → ⊥) → o ≡ Some tt
 some_there o h = grind arith
 
--- whether a name begins with a capital letter and is not defined by the grammar; this is the definition
--- `is_unknown_capital` of specs/Causes, unfolded
+-- whether a name begins with a capital letter, and is neither `HOA:` nor `State:` nor the name of a known header item;
+-- this is the definition `is_unknown_capital` of specs/Causes, unfolded
 abbrev pub is_unknown : List ℕ → Bool
 is_unknown name = cond (is_spelled name) false (begins_capital name)
 

@@ -1,6 +1,8 @@
 -- Contracts of the parsing functions.
--- - `ReadsAs view part old result new`: the part was parsed, or the result is the first error of the part
--- - `Takes view take Bad piece result`: the next token is taken, has an error, or is not allowed here
+-- - `ReadsAs view part old result new`: the part was parsed, or the result is the first error of the part or out of
+--   memory. `old` and `new` are the unread tokens before and after the call
+-- - `Takes view take Bad piece result`: a function may return `result` for the token `piece`: the value that `take`
+--   gives the token, an error of the token (`Bad`), the error that it is not allowed here, or out of memory
 use Rattle.std.specs.Prelude.{◌≡◌, ◌≤◌, ◌⊎◌, Option, None, Some, Result, Ok, Err}
 use Rattle.ps_text.specs.Answers.{Piece}
 use Rattle.ps_text.specs.Parts.{Part, refusal_of}

@@ -1,4 +1,4 @@
--- The indices of the states' rows in the list of rows.
+-- The index that a state's row has in the list of rows.
 -- - `row_place n rows`: the index of the first row of state n, if the state has a row
 use Rattle.std.specs.Prelude.{ℕ, suc, List, [], ◌∷◌, if◌then◌else◌, nat_eq, Option, None, Some}
 use Rattle.ps_hoa.specs.Files.{RowData}

@@ -1,8 +1,8 @@
 -- Definitions that the parser of single tokens uses.
 -- - `IsTestOf test kind`: the given kind is the only one that passes the test
 -- - `inside text`: a text without its first and its last byte
--- - `IsLeaf part`: each text of the part begins with a word, an `INT` or an alias name, and does not begin a longer
---   text of the part
+-- - `IsLeaf part`: each text of the part begins with a word, an `INT` or an alias name, and is no proper prefix of
+--   another text of the part
 use Rattle.std.specs.Prelude.{ℕ, ◌≡◌, Bool, true, false, List, drop}
 use Rattle.ps_text.specs.Parts.{Part}
 use Rattle.ps_text.proofs.Laws.{Laws, Nothing}
