@@ -7,8 +7,8 @@
 -- - `answers_now solver`: the answers that the solver may give for a game, given the text that it was fed last
 -- - `Answered old new`: what is known of the answer to a game after a call of the solver, with its data before (`old`)
 --   and after (`new`): the data before the call allowed this answer, and the data after it record that it was given
--- - `IsKept old new`: a call changed neither whether the solver is sure nor its text, and every answer that the solver
---   may give after the call was possible before
+-- - `IsKept old new`: a call, with the solver's data before (`old`) and after (`new`) it, changes neither whether the
+--   solver is sure nor its text; each answer that is allowed after the call was allowed before
 use Rattle.std.specs.Prelude.{◌≡◌, ℕ, Bool, List, Option, None, Some, Result}
 use Rattle.ps_certificate.specs.Certificates.{CertificateData}
 use Rattle.ps_game.specs.Games.{NamedGameData}

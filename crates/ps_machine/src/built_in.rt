@@ -47,8 +47,8 @@ const CELLS_EACH: u64 = 64;
 struct Budget {
     /// The number of times that the recursion may assign a vertex to a player.
     placed: u64,
-    /// The number of array cells that an attempt at strategy improvement may read or write. An attempt that fails for
-    /// another reason than this limit sets the limit to 0, and no other attempt follows.
+    /// The number of array cells that an attempt at strategy improvement may read or write. An attempt that fails
+    /// without reaching this limit sets it to 0, and no other attempt follows.
     cells: u64,
 }
 
@@ -209,8 +209,8 @@ fn attempted<A: Arena>(
 }
 
 /// The certificate for two regions, into which the vertices are divided, and for two tables of moves, one for each
-/// player. A player need not win from the vertices of that player's region. If each player, moving by that player's
-/// table, wins from every vertex of that player's region, the result is a certificate; otherwise it is None.
+/// player. The regions and the moves may be wrong. If each player, moving by that player's table, wins from every
+/// vertex of that player's region, the result is a certificate; otherwise it is None.
 fn tried<A: Arena>(
     alloc: Global,
     arena: &A,

@@ -30,7 +30,7 @@ impl Divided {
         }
     }
 
-    /// The classes of a state for which they have been computed.
+    /// The classes that have been computed for a state.
     pub fn of(&self, state: u32) -> &Classes
         requires { IsSome (get nat_eq self.now.classes state) }
         ensures { get nat_eq self.now.classes state ≡ Some result.now }

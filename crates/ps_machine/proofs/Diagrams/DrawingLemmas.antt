@@ -96,7 +96,7 @@ setting {order} plan = search (rules, small_mover)
 
 -- ## Successors
 
--- the list `numbers` has, for each letter of the list `letters`, the vertex that stands for `key` of this letter
+-- the list `numbers` has, for each letter x of the list `letters`, the vertex that stands for the key `key x`
 module _ (keys : List Key) (key : ℕ → Key) (numbers : List ℕ) {P : ℕ → Type 0} {letters : List ℕ} {next : List Key}
     (listed : IsListOf P letters) (are : next ≡ map key letters) (zip : AllZip (StandsAt keys) numbers next) where
   letter_of_number : {w : ℕ} → Contains numbers w → (x : ℕ) × P x × StandsAt keys w (key x)

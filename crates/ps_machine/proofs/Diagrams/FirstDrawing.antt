@@ -53,7 +53,8 @@ module _ {a : AutomatonData} {keys : List Key} {is_first : Bool} {board : Board}
   add_row eq {rows} {row} {new} h e is =
       grind (arith, keeps_rows eq row e, all_rows (IsRow is_first board kept) eq rows row e h.each is)
 
-  -- the list `places` also has the index of the machine's row for one more leaf
+  -- let `places` have the index of the machine's row for each of the first n leaves; if `more` has it for the leaf at
+  -- the index n, and keeps the entries of all other leaves, `more` has it for each of the first n + 1 leaves
   pub note_more : {rows : List Row} {places more : List ℕ} {n leaf place : ℕ} {row : Row} →
       AreNoted a keys is_first board kept letter found old rows places n → ((d : ℕ × ℕ) → (get_or found n d).0 ≡ leaf) →
       slice_get rows place ≡ Some row → row.letter ≡ letter → ((v : ℕ) → StandsAt keys v (step_key (pair_of a leaf)) →

@@ -140,8 +140,8 @@ module _ {order : Order} {a : AutomatonData} {mask : ℕ} {t : Table} {keys : Li
         same_pair reply.state reply.priority,
       )
 
-  -- a row answers the letter x at the state q correctly if its letter is the least for the winner's step and its memory
-  -- state is that of the vertex to which this step leads
+  -- let x be the least letter of its class at the state q; the row with `letter` and `memory` is right for x if
+  -- `letter` is the least letter that makes the winner's step, and `memory` is the memory state after this step
   answer_by : {kept : List ℕ} (letter memory : ℕ) → IsClassLetter (board_of order a) q x →
       IsMove (board_of order a) q x letter → step_of a q (x + letter) ≡ step →
       ((v : ℕ) → StandsAt keys v (First step.state step.priority) → StandsFor false keys kept memory v step.state) →

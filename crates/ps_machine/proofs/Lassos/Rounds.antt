@@ -52,7 +52,7 @@ pub record Round (game : ParityGame) (certificate : CertificateData) (v w : ℕ)
 
 module _ {board : Board} {mover : ℕ} {keys : List Key} {game : ParityGame} {certificate : CertificateData}
     (s : Setting board mover keys game certificate) where
-  -- each index in the list of keys is a vertex of the game
+  -- if the list `keys` has a key at the index v, v is a vertex of the game
   pub within_game : (v : ℕ) {key : Key} → StandsAt keys v key → v < vertex_count game
   within_game v {key = k} at = omega (arith, slice_get_within keys v k at, s.by_keys.count)
 
@@ -122,8 +122,8 @@ module _ {board : Board} {mover : ℕ} {keys : List Key} {game : ParityGame} {ce
   pub second_owner : (v : ℕ) {q x : ℕ} → StandsAt keys v (Second q x) → owner_of game v ≡ 1 - mover
   second_owner v {q} {x} at = owner_at v at
 
-  -- A step of the machine is two moves in the game, one of them by the winner of vertex 0. This player must also win
-  -- the vertex at which this player moves: then the certificate's move there is an edge.
+  -- A step of the machine is two moves in the game, one of them by the winner of vertex 0. The lemmas assume that this
+  -- player also wins the vertex where the player makes this move; so the certificate's move there is an edge.
   pub round_first : (v q p x letter w : ℕ) → mover ≡ winner_at_start certificate →
       winner_of certificate v ≡ winner_at_start certificate →
       StandsAt keys v (First q p) → StepsFirst board keys certificate v q x letter → IsSecondLetter board x →

@@ -86,8 +86,8 @@ module _ (is_first : Bool) (keys : List Key) (used : List ℕ) where
     kept_last : get_or new_kept (length kept) 0 ≡ n
     kept_last = get_or_push kept n 0 (length kept) refl
 
-    -- if the vertices before n keep their memory states, and n has a memory state too, each reachable first-player
-    -- vertex up to n has one
+    -- if `kept'` and `anchors'` have a memory state for n, and for each vertex that has one in `kept` and `anchors`,
+    -- they have one for each reachable first-player vertex up to n
     found_more : (kept' anchors' : List ℕ) → ((v x : ℕ) → HasMemory kept anchors v x → HasMemory kept' anchors' v x) →
         HasMemory kept' anchors' n new_anchor → (v r l : ℕ) → v < n + 1 → Contains used v →
         StandsAt keys v (First r l) →

@@ -1,5 +1,5 @@
--- The reachable vertices, the memory states and the propositions of a certificate's machine exist, since definitions in
--- this file compute them.
+-- A certificate's machine has lists of reachable vertices, memory states and propositions: definitions in this file
+-- compute lists that satisfy `AreUsed`, `AreMemories` and `AreListedBelow`.
 use Rattle.std.proofs.Common.{◌≡◌, inl, inr, ℕ, zero, suc, ◌+◌, ◌<◌, ◌≤◌, Bool, List, [], length, take}
 use Rattle.std.proofs.Common.{get_or, nat_eq, Option, None, Some, refl, sym, arith, add-one, rules}
 use Rattle.std.specs.Prelude.{slice_get}

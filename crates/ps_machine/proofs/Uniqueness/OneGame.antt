@@ -135,8 +135,9 @@ module _ (board : Board) (mover : ℕ) where
       let front = listed_front game v k.0 in
       grind (arith, counts_front)
 
-  -- Suppose that at most v different numbers occur among vertex 0 and the successors of the vertices less than v. Then
-  -- the successors of v add no number: the first number that they add would be v, but no vertex is its own successor.
+  -- Let the different numbers among vertex 0 and the successors of the vertices less than v be, in order, 0, 1, and so
+  -- on, at most v of them. With the successors of v there are still at most v: otherwise v would be one of its own
+  -- successors, but no vertex is its own successor.
   still : (keys : List Key) (game : ParityGame) (v c d : ℕ) → IsIt keys game → v < vertex_count game →
       Counts (listed game v) c → c ≤ v → Counts (listed game (suc v)) d → d ≤ v
   still keys game v c d is lt counts le next = elim (cases_lt v d) [

@@ -119,8 +119,8 @@ module _ (names : List (List ℕ)) (board : Board) (mover : ℕ) (keys : List Ke
     same_memories : m.memories ≡ o.memories
     same_memories = cc (of.memories, same_kept, other.memories)
 
-    -- a step of the machine o at the letter x; its memory states stand for vertices in `of.kept`, which is the list of
-    -- the machine m and, by `same_kept`, also o's own
+    -- The step of the machine o in the memory state `memory` at the letter x. The vertices of memory states are looked
+    -- up in m's list `of.kept`; by `same_kept`, o's list equals m's.
     record Steps (memory x : ℕ) : Type 0 where
       vertex : ℕ
       state : ℕ

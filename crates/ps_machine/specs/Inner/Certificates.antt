@@ -1,4 +1,5 @@
--- The certificates that psyn's own solver makes, and those from which a machine is made. (For private functions.)
+-- Conditions on certificates: psyn's own solver finds certificates that satisfy `IsLeastCertificate`, and a machine is
+-- made from a certificate that satisfies `IsValidFor`. (For private functions.)
 use Rattle.std.specs.Prelude.{◌≡◌, ◌<◌, IfErr, IfOk, Result}
 use Rattle.ps_certificate.specs.Certificates.{CertificateData, Fits, IsValid}
 use Rattle.ps_certificate.specs.Least.{HasLeastCounts}

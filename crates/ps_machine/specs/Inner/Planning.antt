@@ -1,5 +1,5 @@
--- The definitions of `Drawing`, `Placing` and `Dividing`, applied to the fields of the struct `Plan`. (For private
--- functions.)
+-- Conditions on a `Plan`, and on the diagrams that are made from it. Most definitions here are definitions of other
+-- files, such as `Drawing` and `Placing`, with fields of the `Plan` as arguments. (For private functions.)
 -- - `IsPlanned plan`: the machine can be made from the plan
 -- - `AreDividedBy plan`: the plan has the classes of letters of each state at which the first player moves
 -- - `IsReadyPlan plan`: the plan satisfies `IsPlanned` and `AreDividedBy`
