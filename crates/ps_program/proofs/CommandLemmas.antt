@@ -65,8 +65,9 @@ abbrev behind_first : {X : Type 0} → List X → List X
 behind_first [] = []
 behind_first (x ∷ xs) = xs
 
--- if clap reads a command's name with each choice of its flags as the expected `Line`, without errors, `AreRead` holds
--- for each choice; the premise is one equation between two lists, with an element for each choice
+-- If clap reads a command's name with each choice of its flags as the expected `Line`, without errors, `AreRead` holds
+-- for each choice. The premise equates two lists, with an element for each choice: what clap returns, and what is
+-- expected.
 choices_read : (name : Text) (line : (Text → Bool) → Line) (choices : List (List Text)) →
     map (heard name) choices ≡ map (λ flags. ([], line (is_among flags))) choices
     → AllByRecursion (λ flags. AreRead (words_with name flags) (line (is_among flags))) choices

@@ -39,8 +39,8 @@ then_one step next one more x y (inl (l, s, e)) (inr (v, t, n)) = absurd (ok_is_
 then_one step next one more x y (inr (v, s, n)) (inl (l, t, e)) = absurd (ok_is_not_err v l (one (Ok v) (Err l) s t))
 then_one {V} {W} step next one more x y (inr (v, s, n)) (inr (w, t, m)) = grind arith
 
--- let the first of two steps have at most one result, and let the second step's results x and y be equal for each value
--- without the property `Open`; then results x and y of both steps are equal, or the first step's value is `Open`
+-- Results x and y of two steps in a row are equal, or the first step's value is `Open`. The premises: the first step
+-- has at most one result; for each value that is not `Open`, results x and y of the second step are equal.
 pub then_one_or : {V W : Type 0} (step : Result V (List ℕ) → Type 0) (next : V → Result W (List ℕ) → Type 0)
     (Open : V → Type 0) → IsOne step
     → (x y : Result W (List ℕ)) → ((v : V) → next v x → next v y → (x ≡ y) ⊎ Open v)

@@ -1,5 +1,5 @@
--- Each input has an answer, if its command calls no solver and is not `verify`, or if some certificate of its game is a
--- possible answer of the solver.
+-- Each input has an answer if its command calls no solver and is not `verify`. An input with `solve`, `cert` or `synth`
+-- has an answer under the conditions that `specs/Answered.antt` states.
 use Rattle.std.proofs.Common.{ℕ, List, Ok, refl}
 use Rattle.std.specs.Prelude.{codes}
 use Rattle.ps_certificate.specs.Certificates.{IsClosed, IsValid}

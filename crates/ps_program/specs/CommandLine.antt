@@ -165,7 +165,7 @@ flag name = record (new_rule name) { long = Some name; action = Some SetTrue }
 abbrev pub command_with : Text → List Text → Shape
 command_with name flags = record (new_shape name) { rules = map flag flags }
 
--- the command has exactly the given flags, and no flag that applies to other commands too
+-- the command has exactly the given flags, and no global flag (one that clap also accepts after a subcommand)
 pub record HasFlags (name : Text) (flags : List Text) (command : Command) : Type 0 where
   pub shape : (app_of command).top ≡ command_with name flags
   pub local : (out-Command command).has_globals ≡ false

@@ -1,7 +1,7 @@
 -- The program's answer is determined, with three exceptions: which cycle `judge` reports if a player loses, which
 -- stimulus `verify` reports, and which certificate a solver chooses. Even in the exceptional cases, any two answers
 -- have something in common.
--- - `IsUndetermined line texts`: the command in the line may have more than one correct answer
+-- - `IsUndetermined line texts`: for these texts, the command in the line may have more than one correct answer
 -- - `IsReplaying solver`: the solver only returns the result of parsing the text that it was fed, unless memory runs
 --   out
 -- - `AgreeAsReports order full text a b`: two reports for a text have the same winner and the automaton's game

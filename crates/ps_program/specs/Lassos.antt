@@ -29,8 +29,7 @@ abbrev pub lasso_line : LassoFault → List ℕ
 lasso_line fault = line_text (fault_number fault) (fault_name fault) []
 
 -- The verdict on a lasso, or the line that reports a fault. It is a fault if the lap is empty, or if the circuit's
--- symbols are not those of its role (controller or environment). An empty lap of the lasso is reported before wrong
--- symbols of the circuit.
+-- symbols are not those of its role (controller or environment). If both faults occur, only the empty lap is reported.
 abbrev pub TellsVerdict : Role → FileData → CircuitData → StimulusData → Result Reply (List ℕ) → Type 0
 TellsVerdict role file c s (Ok reply) =
     IsCircuit c × (0 < length s.lap) × HasSymbols role file.names file.controllable c

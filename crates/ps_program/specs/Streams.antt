@@ -8,7 +8,7 @@ abbrev pub stalls : {E : Type 0} → Result ℕ E → List ℕ → Bool
 stalls (Ok n) bytes = n == 0 && nat_lt 0 (length bytes)
 stalls (Err e) bytes = false
 
--- if it is known what a sink contained before, its new contents are these bytes and then a prefix of the text
+-- if it is known what a sink contained before, it now contains the same bytes, followed by a prefix of the text
 abbrev pub AppendsSome : Option (List ℕ) → Option (List ℕ) → List ℕ → Type 0
 AppendsSome before after text = (sent : List ℕ) × StartsWith text sent × Appends before after sent
 

@@ -9,14 +9,15 @@ ghost use Rattle.ps_program.specs.Solvers.{solvers_of};
 
 use ps_machine::Solver;
 
-/// Whatever the solvers, an input has at most one answer: each program that meets the definitions writes the same bytes
-/// and ends with the same exit status, unless it runs out of memory. Only for five commands (`judge`, `verify`,
-/// `solve`, `cert` and `synth`) may two answers to an input differ. If `judge` finds cycles that make a player lose,
-/// the law does not say which of them the answer names. If `verify` finds that the circuit loses, the law does not say
-/// which losing stimulus the answer shows. If `solve`, `cert` or `synth` accepts its text, any two answers that do not
-/// report a fault agree on the winners. Two answers to `synth` without a fault have the same status, first line and
-/// game; two answers to `solve` or `cert` without a fault have the same regions. With `synth --cert`, the whole answer
-/// is determined if the second solver only returns the certificate whose text it was fed.
+/// Whatever the solvers, an input has at most one answer, unless its command is `judge`, `verify`, `solve`, `cert` or
+/// `synth`. If there is only one answer, each program that meets the definitions writes the same bytes and ends with
+/// the same exit status, unless it runs out of memory. Two answers to one of the five commands may differ, as follows.
+/// If `judge` finds cycles that make a player lose, the law does not say which of them the answer names. If `verify`
+/// finds that the circuit loses, the law does not say which losing stimulus the answer shows. If `solve`, `cert` or
+/// `synth` accepts its text, any two answers that do not report a fault agree on the winners. Two answers to `synth`
+/// without a fault have the same status, first line and game; two answers to `solve` or `cert` without a fault have the
+/// same regions. With `synth --cert`, the whole answer is determined if the second solver only returns the certificate
+/// whose text it was fed.
 pub fn one_answer<S: Solver, T: Solver>(built_in: &S, replay: &T)
     ensures answer { HasOneAnswer (solvers_of (S.known built_in.now) (T.known replay.now)) }
     ensures certified { HasOneCertified (solvers_of (S.known built_in.now) (T.known replay.now)) }
@@ -62,7 +63,8 @@ pub fn missing_text_is_told<S: Solver, T: Solver>(built_in: &S, replay: &T)
 ///
 /// The second condition is that some report can have the texts that psyn writes for the game, the certificate and the
 /// circuit; a text may be too long for a `Vec`. Parsing the text of the certificate or the circuit must give the same
-/// value again. So must parsing the game's text, unless it is longer than the parser accepts.
+/// value again. Parsing the game's text must give the same game again, unless the text is longer than the parser
+/// accepts.
 ///
 /// The command `verify` is left out, because a proof for it would have to decide, as the code does, whether an
 /// automaton accepts all lasso traces of a circuit.

@@ -32,7 +32,7 @@ pub fn closed(alloc: Global, texts: &[u8]) -> Result<Answer, Refusal>
 ///
 /// # Errors
 ///
-/// Fails like `closed`; in addition, wrong counts of a certificate are reported, after all its other flaws.
+/// Fails like `closed`, and also if the certificate is closed but some of its counts are wrong.
 pub fn check(alloc: Global, texts: &[u8]) -> Result<Answer, Refusal>
     ensures { Gives reply_of (AnswersCheck texts.now) result }
 {
