@@ -52,8 +52,8 @@ pub solver_fault : (May : MayAnswer) (named : NamedGameData) (answer : Result Ce
     IsFaultFor named fault given → IsSolverFault May named given
 solver_fault May named answer fault given may names is refused = grind (arith, refused_as)
 
--- An answer that the solver gave in a call was possible before the call. So a fault that states why the answer given is
--- not a valid certificate also states why some possible answer is not one.
+-- if a fault states why the answer of a call is not a valid certificate, it states this of an answer that was possible
+-- before the call, since a call gives only such answers
 pub fault_might : (old new : SolverData) (named : NamedGameData) (given : SynthFault) →
     IsSolverFault (Answered old new) named given → IsSolverFault (answers_now old) named given
 fault_might old new named (BadCycle ids) h = record {

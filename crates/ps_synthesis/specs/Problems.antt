@@ -3,7 +3,8 @@
 --   for which the vertex stands
 -- - `IsProblem p`: the problem's game is the game of its automaton, in its order of moves
 -- - `IsProblemOf order text p`: the problem has the automaton and the game of the text, in the given order of moves
--- - `ReturnsOnly game certificate`: the possible answers of a solver that returns only this certificate for a game
+-- - `ReturnsOnly game certificate`: the possible answers of a solver that solves only this game, and always returns
+--   this certificate for it
 -- - `IsReportFault p certificate fault`: `fault` is a possible reason why no report is made for the problem from the
 --   certificate that the solver returned
 use Rattle.std.specs.Prelude.{◌≡◌, ℕ, ◌<◌, List, Ok}

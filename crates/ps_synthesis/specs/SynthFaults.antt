@@ -1,5 +1,5 @@
 -- Why a text gets no report. For each fault that synthesis returns, these definitions state the reason.
--- - `HasNoAutomaton text fault`: the text describes a file that has no automaton
+-- - `HasNoAutomaton text fault`: the text describes a file that has no automaton, for the reason that `fault` states
 -- - `OfGame order text P`: an accepted text has a game for which P holds
 -- - `IsLost May game ids`: the solver reported a cycle of the game's vertices, and these vertices have the given ids
 -- - `IsNotCertified May game`: the solver returned a certificate that does not fit or is not valid

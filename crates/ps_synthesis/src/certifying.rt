@@ -19,7 +19,8 @@ use std::alloc::{AllocError, Global};
 /// # Errors
 ///
 /// Fails with the solver's fault, or with `NotCertified` if the solver's certificate does not fit the game or is not
-/// valid. A sure solver fails only if memory runs out.
+/// valid; fails at any time if memory runs out. If the solver is sure (it returns only valid certificates that fit the
+/// game, and fails only if memory runs out), this function also fails only if memory runs out.
 pub fn certified<S: Solver>(
     alloc: Global,
     game: &NamedGame,

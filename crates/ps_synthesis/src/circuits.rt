@@ -43,8 +43,8 @@ pub fn circuit_of_certificate(
 {
     one_game();
     let machine = machine_of_certificate(alloc, automaton, order, game, certificate)?;
-    // The proof needs the fact that `machine` satisfies `IsMachine`. The contract of `player` states `IsWholeMachine`,
-    // which includes `IsMachine`, so `player` is called here, before the machine is freed.
+    // The law `certified_circuit_answers` needs `IsMachine` for `machine`, which the contract of `player` guarantees
+    // (as part of `IsWholeMachine`). So `player` is called before the machine is freed, though its result is not used.
     let _ = machine.player();
     let circuit = encode(alloc, &machine);
     drop(machine);

@@ -5,12 +5,12 @@
 //! With a sure solver, every accepted text gets a report, unless memory runs out or the circuit would need more
 //! variables than AIGER literals can number. Whatever the solver returns, each report is right, in the following sense.
 //! The printed game is the game of the text's automaton. The printed certificate assigns each vertex of the printed
-//! game to one of the players. Let the player to whom a vertex is assigned follow the printed moves. In each play from
-//! the vertex, this player then wins every loop: its greatest priority is even for player 0, and odd for player 1. From
-//! a vertex that is assigned to the other player, a player wins neither by a strategy of finite memory nor by a history
-//! table, which maps each play so far to a move. If player 0 wins the start vertex, the printed circuit is a
-//! controller, and the automaton accepts each of the controller's ultimately periodic traces. If player 1 wins the
-//! start vertex, the printed circuit is an environment. The automaton then accepts none of the environment's ultimately
+//! game to one of the players. If the player to whom a vertex is assigned follows the printed moves, this player wins
+//! every loop of each play from the vertex. Player 0 wins a loop if its greatest priority is even, and player 1 if it
+//! is odd. From a vertex that is assigned to the other player, a player wins neither by a strategy of finite memory nor
+//! by a history table, which maps each play so far to a move. If player 0 wins the start vertex, the printed circuit is
+//! a controller, and the automaton accepts each of the controller's ultimately periodic traces. If player 1 wins the
+//! start vertex, the printed circuit is an environment. The automaton accepts none of this environment's ultimately
 //! periodic traces, and rejects every trace of a finite-state controller that plays against the environment.
 //!
 //! [`synthesise_by`] does the whole synthesis with a given solver. [`Problem`] takes the same steps one by one, for
