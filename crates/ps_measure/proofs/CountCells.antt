@@ -1,5 +1,5 @@
--- Linked lists (chains) of cells that hold the counts of vertices: the counts of a chain after one more cell, and the
--- rows of counts that the chains store.
+-- Linked lists (chains) of cells that hold the counts of vertices: the counts of a chain that begins with a newly
+-- appended cell, and the rows of counts that the chains store.
 use Rattle.std.proofs.Common.{◌≡◌, ◌≢◌, ℕ, zero, suc, ◌+◌, ◌-◌, ◌<◌, ◌≤◌, ◌==◌, ◌∙◌, ◌++◌, ◌∷◌, [], List, length, map}
 use Rattle.std.proofs.Common.{max, get_or, inl, inr, refl, sym, ap, add-one, arith, Option, Some, cond}
 use Rattle.std.proofs.Common.{replicate, rules}

@@ -41,8 +41,8 @@ module _ {g : Digraph} {c : ComponentsData} (weight : ℕ → ℕ) {m : ℕ} (co
   all_here : weight_from m (slice_get c.numbers v) (weight v) ≡ weight v
   all_here = rw is (ap (λ b. cond b (weight v) 0) (le-leb m m (omega arith)))
 
-  -- the components from m on have in total at least the weight of v, a vertex of component m, plus the total weight of
-  -- the components from a number k > m on
+  -- let k be greater than m: the total weight of the components from m on is at least the total weight of the
+  -- components from k on, plus the weight of v, a vertex of component m
   pub weights_from-more : {k : ℕ} → m < k → weights_from c weight k g.count + weight v ≤ weights_from c weight m g.count
   weights_from-more {k} less =
       let none : weight_from k (slice_get c.numbers v) (weight v) ≡ 0 = rw is (grind (arith, lt-leb)) in

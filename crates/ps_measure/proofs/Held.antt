@@ -1,4 +1,5 @@
--- A player who holds a region by a table of moves loses no cycle of edges that remain within the region.
+-- If moving by a table keeps plays inside a region and the player wins each of their loops (`Holds`), the player loses
+-- no cycle of edges that remain within the region.
 use Rattle.std.proofs.Common.{◌≡◌, ℕ, ◌+◌, ◌<◌, ◌∙◌, List, [], ◌∷◌, ◌++◌, length, map, inl, inr, refl}
 use Rattle.std.proofs.Common.{sym, arith, Option, Bool, rules}
 use Rattle.std.specs.Prelude.{slice_index, IsTrue}

@@ -40,8 +40,8 @@ module _ {g : Digraph} {weight : ℕ → ℕ} {c : ComponentsData} {values : Lis
   pub number_within : m < length values
   number_within = omega (arith, components.below v m to, column.each)
 
-  -- Suppose that x is a lower bound for the counts of v's component, and at most the total weight of this component and
-  -- all later ones. Then the values stay correct (`IsColumn`) if x replaces the component's value.
+  -- if x is a lower bound for the counts of v, and at most the total weight of v's component and all later ones, the
+  -- values stay correct (`IsColumn`) when x replaces the value of v's component
   set_column : (x : ℕ) → ((d : ℕ → ℕ) → AreCounts g weight d → x ≤ d v) → x ≤ weights_from c weight m g.count →
       IsColumn g weight c (slice_set values m x)
   set_column x least bounded = record {
@@ -60,8 +60,8 @@ module _ {g : Digraph} {weight : ℕ → ℕ} {c : ComponentsData} {values : Lis
   root_column {w} link heavy = set_column 1 (λ d counts. omega (arith, counts w v link))
       (omega (arith, weights_from-least weight components v to))
 
-  -- the value of a later component that has a link to v, plus the weight of v, is a possible new value of the component
-  -- of v
+  -- if a later component has a link to v, the values stay correct (`IsColumn`) when the later component's value plus
+  -- the weight of v replaces the value of v's component
   module _ {k : ℕ} (falls : m < k) where
     sum_bounded : slice_index values k + weight v ≤ weights_from c weight m g.count
     sum_bounded = omega (arith, column.bounded k, weights_from-more weight components v to falls)

@@ -1,4 +1,4 @@
--- Rows of counts, each of which is stored as a chain (linked list) of cells. The number of the first cell of a vertex's
+-- Rows of counts; each row is stored as a chain (linked list) of cells. The number of the first cell of a vertex's
 -- chain determines the counts of the vertex. Cell i has the number i + 1, and the number 0 ends a chain.
 use Rattle.std.specs.Prelude.{◌≡◌, ℕ, zero, suc, ◌<◌, ◌≤◌, ◌==◌, List, length, map, max, Option, None, Some}
 use Rattle.std.specs.Prelude.{if◌then◌else◌, slice_get, slice_index}

@@ -12,17 +12,17 @@ pub trait Packable: Copy + Debug {
     /// A value whose numbers take 4 bytes each.
     type Narrow: Copy + Debug;
 
-    /// In clauses, the value for which a narrow one stands.
+    /// In clauses, the value that has the same numbers as the given value of the type `Narrow`.
     ghost value: { Self.Narrow → Self };
 
     /// In clauses, the value at an index past the end of a list. All of its numbers are 0.
     ghost zero: { Self };
 
-    /// The value with 4 bytes for each number. Returns `None` if a number does not fit.
+    /// The value with 4 bytes for each number. Returns `None` if a number does not fit in 4 bytes.
     fn narrowed(self) -> Option<Self::Narrow>
         ensures { IfSome result (λ narrow. value narrow ≡ self) };
 
-    /// The value for which a narrow one stands.
+    /// The value that has the same numbers as the given value of the type `Narrow`.
     fn of(narrow: Self::Narrow) -> Self
         ensures { result ≡ value narrow };
 }
@@ -43,7 +43,7 @@ impl Packable for usize {
     }
 }
 
-/// The number in 4 bytes. Returns `None` if it does not fit.
+/// The number in 4 bytes. Returns `None` if the number does not fit in 4 bytes.
 #[inline(always)]
 pub(crate) fn narrow(number: usize) -> Option<u32>
     ensures { IfSome result (λ narrow. narrow ≡ number) }

@@ -42,8 +42,8 @@ pub record IsCounting (g : Digraph) (weight : ℕ → ℕ) (c : ComponentsData) 
   pub column : IsColumn g weight c values
 
 -- The condition that the link from w to v imposes on the values of components. If w and v are in the same component, v
--- must have weight 0. Otherwise, the component of v must be earlier than the component of w, and its value must be at
--- least the value of w's component plus the weight of v.
+-- must have weight 0. If they are in different components, v's component must be the earlier one. The value of v's
+-- component must then be at least the value of w's component plus the weight of v.
 pub data IsPassed (weight : ℕ → ℕ) (c : ComponentsData) (values : List ℕ) (w v : ℕ) : Type 0 where
   inside : (k : ℕ) → IsIn c w k → IsIn c v k → weight v ≡ 0 → IsPassed weight c values w v
   across : (k m : ℕ) → IsIn c w k → IsIn c v m → m < k → slice_index values k + weight v ≤ slice_index values m →
