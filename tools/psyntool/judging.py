@@ -114,7 +114,8 @@ def path_of(request):
 
 
 def draw(request, path, answer, texts, automaton=None):
-    """Writes the picture if the answer is a lost cycle, and says so on standard error."""
+    """If the answer is a lost cycle and a path is given, writes the picture there; unless --quiet is given, a line on
+    standard error names the file."""
     found = re.fullmatch(r"fault 40 BadCycle((?: \d+)+)\n", answer.text)
     if not path or not found:
         return

@@ -17,7 +17,7 @@ def checked(paths, flag, prefix):
     for path in paths:
         if os.path.isdir(path):
             raise Refused(f"{flag}: {path} is a folder")
-        # renaming the finished file to this path would replace a device or a pipe
+        # a device or a pipe is refused, because renaming the finished file to this path would replace it
         if os.path.exists(path) and not os.path.isfile(path):
             raise Refused(f"{flag}: {path} is no plain file")
     return paths

@@ -31,7 +31,8 @@ def run(request):
 
 
 def of_parts(request):
-    """Runs the program on a list of parts, and prints the page of the program's answer."""
+    """Composes the parts of a list, runs the program on the composed automaton, and prints a page that is made from the
+    program's answer. If the answer is a fault or was cut off, prints and explains the answer instead."""
     text = Composer(specification.asked(request)).composed().text()
     whole = files.Text(Kind.AUTOMATON, "the automaton of these parts", text.encode("utf-8", "surrogateescape"))
     answer = program.ask(files.joined("synth", ["--full"], [whole]))

@@ -21,7 +21,7 @@ def run(request):
         raise Refused(f"shrink needs abc: none of {', '.join(NAMES)} is installed")
     texts = request.texts()
     before = circuit.read(texts[1].string)
-    # abc refuses a circuit without gates and latches
+    # a circuit with neither gates nor latches is not given to abc, which would refuse it
     after = by_abc(abc, before) if size(before) > (0, 0) else before
     chosen = after if size(after) < size(before) else before
     judged = [texts[0], files.Text(Kind.CIRCUIT, f"the circuit of {abc}" if chosen is after else texts[1].name, chosen.text().encode("utf-8", "surrogateescape"))]

@@ -1,5 +1,6 @@
 """Three sentences on what is proved of a circuit that psyn prints, and the proved clauses that they cite. For each
-clause: the record of the specification that has it as a field, the record's file, and a paraphrase."""
+clause: the record of a crate's formal specification that has the clause as a field, the record's file, and a
+paraphrase."""
 from dataclasses import dataclass
 
 ANSWERS, PROMISES = "crates/ps_traces/specs/Answers.antt", "crates/ps_synthesis/specs/Promises.antt"

@@ -30,8 +30,8 @@ class Asking:
 
 @dataclass(frozen=True)
 class Core:
-    """Whether there is a controller, and a minimal set of parts that decides this. The parts are assumptions if there
-    is a controller, and guarantees otherwise."""
+    """Whether there is a controller, and a minimal set of parts that decides this. All parts of this set are
+    assumptions if there is a controller, and guarantees otherwise."""
 
     has_controller: bool
     parts: tuple
