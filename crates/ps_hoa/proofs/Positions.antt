@@ -1,6 +1,6 @@
 -- How the index of the first entry that passes a test changes when an entry is appended.
--- - `pushed_position`: after an entry is appended, the first entry that passes is the same as before, or it is the new
---   entry
+-- - `pushed_position`: after an entry is appended, the first entry that passes the test is the same as before, or it is
+--   the new entry
 use Rattle.std.proofs.Common.{◌≡◌, ℕ, ◌+◌, ◌≤◌, Bool, true, cond, eqb, List, [], ◌∷◌, ◌++◌, length}
 use Rattle.std.proofs.Common.{None, Some, arith, length-append, rules}
 use Rattle.std.specs.List.{position, position_or_len}

@@ -1,6 +1,6 @@
 -- Codes for the meanings of HOA texts. The code of a meaning consists of simple data, such as tuples and lists of
--- numbers. Decoding it gives the meaning again, so different meanings have different codes. An acceptance condition is
--- encoded as an expression, which is the type that labels have.
+-- numbers. Decoding the code gives the meaning again, so different meanings have different codes. An acceptance
+-- condition is encoded as an expression, which is the type that labels have.
 use Rattle.std.specs.Prelude.{◌≡◌, ℕ, ◌⊎◌, Bool, true, false, List, Option, None, Some, refl}
 use Rattle.std.proofs.Common.{inl, inr, ap}
 use Rattle.std.specs.Coded.{Coded, code_by, coded_list, coded_option, coded×, coded⊎, coded_ℕ}

@@ -1,6 +1,6 @@
 -- Proofs of `Laws` for the acceptance sets, labels and edges of a body: which tokens can begin them, and which can
 -- continue them. `Joint` states of a part and the part after it that no token can both continue the first part and
--- begin the second. For states, see proofs/Grammar/StateLaws.
+-- begin the second. The proofs for states are in proofs/Grammar/StateLaws.
 -- - `laws_marks` to `laws_edge`: proofs of `Laws` for the body's acceptance sets, labels and edges
 -- - `joint_braces`, `joint_sets`: `Joint` for neighbours among `{`, the numbers of the sets, and `}`
 -- - `joint_bracket`, `joint_label`: `Joint` for neighbours among `[`, a label, and `]`

@@ -4,7 +4,8 @@
 --   neither accepted nor an error
 -- - `takes_refused`, `takes_bad`: the contract `Takes` holds for the fault of a token that is not allowed here, and for
 --   the fault of a token with an error
--- - `of_taken`: a fact about each value that the grammar accepts without an error is a fact about the result
+-- - `of_taken`: if a property holds for each value that the token can have when it is accepted, it holds for the value
+--   that a function returns for the token
 use Rattle.std.proofs.Common.{◌≡◌, ℕ, ◌≤◌, Bool, cond, List, [], codes, Option, None, Some, Result, Ok, Err, IfOk}
 use Rattle.std.proofs.Common.{false, refl, sym, ap, inl, inr, arith}
 use Rattle.ps_text.specs.Answers.{Piece, Stream}
@@ -92,7 +93,8 @@ least_same f g e = rw e (omega arith)
 
 -- ## The value of one token
 
--- what holds of every value that the grammar accepts without an error holds of the result
+-- if P holds for each value that the token can have when it is accepted, P holds for the value of `result`, unless
+-- `result` is an error
 pub of_taken : {V X : Type 0} {view : X → V} {take : Sign → Option V} {Bad : Sign → HoaCause → Type 0}
     (piece : Piece Sign) (result : Result X HoaFault) (P : X → Type 0) →
     ((x : X) → IsTaken take Bad piece.sign (view x) → P x) → Takes view take Bad piece result → IfOk result P

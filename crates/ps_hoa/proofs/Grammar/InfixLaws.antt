@@ -4,7 +4,8 @@
 -- - `laws_both`, `laws_rows`, `laws_nested`: proofs of `Laws` for rows of operands, and for rows in parentheses
 -- - `laws_negation`, `laws_holding`, `laws_operand`: proofs of `Laws` for `!` with its operand, for an operand that
 --   contains another operand, and for any operand
--- - `joint_bar`: `Joint` for the check of the nesting depth and the operand after it, which contains no other operand
+-- - `joint_bar`: at the limit of nesting, `Joint` for the check that rejects an operand which contains another operand,
+--   and the operand after this check
 use Rattle.std.proofs.Common.{rules, arith, ◌≡◌, ℕ, zero, suc, Bool, true, List, Option, None, Some, refl}
 use Rattle.ps_text.specs.Parts.{Part, then_by}
 use Rattle.ps_text.proofs.Barred.{laws_barred}

@@ -1,5 +1,5 @@
--- Proofs of `Laws` for a state and for the whole body: which tokens can begin them, and which can continue them. Also
--- proofs of `Joint` for their parts: no token can both continue one part and begin the next.
+-- Proofs of `Laws` for a state and for the whole body: which tokens can begin them, and which can continue them.
+-- `Joint` is proved for the parts of a state and of the body: no token can both continue one part and begin the next.
 -- - `laws_state`, `laws_states`, `laws_ended`, `laws_body`: proofs of `Laws` for one state, for all states, and for the
 --   body
 -- - `joint_state`, `joint_state_label`, `joint_number`, `joint_name`, `joint_marks`: `Joint` for neighbouring parts of

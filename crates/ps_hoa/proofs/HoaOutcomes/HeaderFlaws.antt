@@ -1,5 +1,6 @@
 -- The flaws of a header at `--BODY--`: either there is a flaw with the smallest number, or the header has no flaw.
--- - `no_acceptance_least` to `none_is_sound`: a flaw is the least if those with smaller numbers are absent
+-- - `no_acceptance_least` to `no_controllable_least`: a flaw is the least if those with smaller numbers are absent
+-- - `none_is_sound`: a header without any of these flaws is sound (`IsSoundHeader`)
 -- - `judge_header`: a header has a least flaw, or none
 -- - `judge_body_token`: the token `--BODY--` has a least error, or none
 -- - `said_none` to `is_said_some`: the code's test for `None` is true exactly if the header lacks the item

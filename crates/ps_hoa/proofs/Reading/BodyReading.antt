@@ -1,12 +1,12 @@
 -- Lemmas for each way in which the functions that parse edges can return.
--- - `int_signs`, `bracket_signs`: the parts that consist of an `INT` or of a `[`
+-- - `int_signs`, `bracket_signs`: `IsOfSigns` holds for the grammars of the single tokens `INT` and `[`
 -- - `int_begins`: a next token of the kind `Int` begins the part that consists of an `INT`
 -- - `target_reads`, `target_fails`, `target_alternates`: lemmas for a target that is parsed, for one with an error, and
 --   for one that is followed by `&`
 -- - `edge_begins`, `bracket_serves`, `int_serves`: an edge begins with `[` or an `INT`, and has a label exactly if it
 --   begins with `[`
--- - `braces_serve`, `no_braces_serve`: lemmas for a next token `{`, which begins acceptance sets, and for any other
---   next token, so that the edge or state names no acceptance set
+-- - `braces_serve`, `no_braces_serve`: if the next token is `{`, it begins acceptance sets; if it is any other token,
+--   the edge or state names no acceptance set
 -- - `pushed_edge`: appending an edge to a state's row appends its abstract value to those of the row's edges
 use Rattle.std.proofs.Common.{◌⊎◌, ◌++◌, map, ◌≡◌, true, inl, ℕ, List, [], ◌∷◌, Option, Some, Ok, Err, refl, sym, inr}
 use Rattle.std.proofs.Common.{ap, ◌∙◌, rules}

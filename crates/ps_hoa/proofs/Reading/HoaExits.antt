@@ -1,11 +1,10 @@
 -- Lemmas about the ways in which a parsing function of HOA texts can return.
 -- - `Serves old P Q`: each result of parsing P from `old` on, be it a value or an error, is also a result of parsing Q
--- - `serves_as`, `itself`, `serves_both`: `Serves` holds if `Stands` holds for the two parts at the next token; it
---   holds for a part and itself; it is transitive
+-- - `serves_as`, `itself`, `serves_both`: `Serves` holds if `Stands` holds for the two parts at the next token;
+--   `Serves` is reflexive and transitive
 -- - `serves_meets`: if `Serves old P Q` holds, a result that meets the contract of P also meets the contract of Q
 -- - `Leads P old Q now`: if Q, read from `now`, stops at an error, then P, read from `old`, stops at the same error
--- - `here`, `first`: `Leads` holds for a part and itself; it also holds if P is a sequence of two parts, and Q is the
---   first of them
+-- - `here`, `first`: `Leads P old Q old` holds if P is Q, or if P is a sequence of two parts and Q is the first of them
 -- - `behind`: if a part is followed by another and was parsed, an error that stops the second part also stops the two
 --   parts together
 -- - `under`: an error that stops a part also stops the same part with its value mapped

@@ -1,8 +1,10 @@
 -- Lemmas about an `INT` that is checked first for the errors of the relation B, then for those of the relation E. No
 -- error of E has a smaller number than any error of B.
--- - `takes_err`: if the check for B fails, its error is also the right one for both relations together
--- - `takes_further`: if the check for B succeeds, the error of E with the smallest number is the right one for both
--- - `takes_both`: if the check for B succeeds, and the `INT` has no error of E, the `INT` is accepted
+-- - `takes_err`: if the check for the errors of B fails, its error is also the right result of checking for the errors
+--   of both relations
+-- - `takes_further`: if the `INT` has no error of B, its error of E with the smallest number has the smallest number of
+--   all its errors
+-- - `takes_both`: if the check for the errors of B succeeds, and the `INT` has no error of E, the `INT` is accepted
 use Rattle.std.proofs.Common.{◌≡◌, ℕ, ◌≤◌, ◌⊎◌, Option, None, Some, IfSome, Result, Err, IsErrAnd, sym, subst, inl, inr}
 use Rattle.std.proofs.Common.{◌∙◌, arith, false, rules}
 use Rattle.std.proofs.lemmas.Result.{err_from_is_err_and}

@@ -1,5 +1,6 @@
 -- An HOA text begins with `HOA:` and its version. In a text that is not too long, a missing `HOA:` or a version other
--- than `v1` is the first error. Otherwise the tokens after the version determine the text's meaning or first error.
+-- than `v1` is the first error. If `HOA:` and the version `v1` are there, the tokens after the version determine the
+-- text's meaning or first error.
 use Rattle.std.proofs.Common.{Bool, ◌≡◌, ℕ, ◌+◌, ◌-◌, ◌≤◌, true, false, List, ◌++◌, length, take, drop, ap, sym, subst}
 use Rattle.std.proofs.Common.{◌∙◌, arith, length-drop, rules}
 use Rattle.std.specs.Prelude.{codes, Result}

@@ -1,9 +1,9 @@
 -- Lemmas for each way in which the functions that parse states can return.
--- - `next_signs`, `end_signs`: the parts that consist of `State:` or of `--END--`
+-- - `next_signs`, `end_signs`: `IsOfSigns` holds for the grammars of the single tokens `State:` and `--END--`
 -- - `state_enters`, `avoids_state`: lemmas for a next token that is `State:`, and for any other next token
 -- - `label_serves`, `no_label_serves`: lemmas for a state with a label, and for a state without a label
 -- - `name_serves`, `no_name_serves`: lemmas for a state with a name, and for a state without a name
--- - `edges_serve`: parsing further edges of equal rows, after equally many edges, gives equal results
+-- - `edges_serve`: parsing further edges of equal rows, after equally many edges of earlier states, gives equal results
 -- - `state_loop`, `edge_loop`, `set_loop`: the properties of states, edges and sets that the loops over them need
 --   (`Loop`)
 use Rattle.std.proofs.Common.{arith, ◌≡◌, true, false, List, [], Option, None, Some, is_some, refl, sym, ap, ◌∙◌, rules}

@@ -1,7 +1,8 @@
--- Lists in which each number is kept only once. If all numbers have a property, the kept numbers have it, and the kept
--- numbers differ.
+-- Lists to which a number is added only if it is not yet in the list (`once`). The numbers in such a list differ. If
+-- all numbers that are added have a property, the numbers in the list have it.
 -- - `neither`: if a disjunction is false, both operands are false
--- - `all_once`, `different_once`: after one more number, the kept numbers still have the property, and still differ
+-- - `all_once`, `different_once`: after one more number, the numbers in the list still have the property, and still
+--   differ
 use Rattle.std.proofs.Common.{◌≡◌, ℕ, Bool, true, false, cond, List, [], ◌∷◌, ◌++◌, refl, arith, rules}
 use Rattle.std.proofs.lemmas.Bool.{cond_both}
 use Rattle.std.specs.List.{AllByRecursion}
