@@ -1,5 +1,5 @@
--- A chain has the same truth value as its acceptance condition, which is true exactly if the greatest priority that the
--- chain gives to the edges is even.
+-- A chain has the same truth value as its acceptance condition, whichever acceptance sets are met. For the sets of one
+-- or more edges, both are true exactly if the greatest priority that the chain gives to these edges is even.
 use Rattle.std.proofs.Common.{rules, ◌≡◌, ℕ, ◌<◌, ◌≤◌, Bool, true, false, cond, List, [], ◌∷◌, ◌++◌, length, Some, refl}
 use Rattle.std.proofs.Common.{ap, sym, ◌∙◌, arith}
 use Rattle.ps_hoa.specs.Conditions.{Condition, Conditions, constant, infinitely, finitely, all_hold, any_holds}
@@ -68,8 +68,8 @@ abbrev joined : Bool → Bool → Bool → Bool
 joined true a b = cond a true b
 joined false a b = cond a b false
 
--- The first operand of a disjunction or conjunction is a link. If `met` holds for the link's acceptance set, the truth
--- value of the whole is the link's flag. Otherwise it is the truth value of the other operands.
+-- The first operand of a disjunction or conjunction is a link. If `met` holds for the link's acceptance set, the
+-- disjunction or conjunction has the truth value of the link's flag, and otherwise that of the other operands.
 link_decides : (met : ℕ → Bool) (accepts : Bool) (c : Condition) {link : ChainLink} (b : Bool) →
     link_of accepts c ≡ Some link → joined accepts (holds met c) b ≡ cond (met link.colour) link.accepts b
 link_decides met accepts c b e = grind arith

@@ -128,7 +128,8 @@ module _ {file : FileData} {row : RowData} (row_sound : IsSoundRow file row) {ta
       within = joined.within;
     }
 
--- if f describes the joined edges, so does the function that first reduces its argument modulo the number of letters
+-- if f describes the joined edges, so does the function that reduces its argument modulo the number of letters, and
+-- then applies f
 pub joined_mod : {file : FileData} {row : RowData} {count : ℕ} {targets : List Target} (f : ℕ → Option ℕ) →
     AreJoined file row count targets f → AreJoined file row count targets (λ letter. f (letter % 2 ^ length file.names))
 joined_mod {file} f j = record {

@@ -118,7 +118,7 @@ letter_below {file} a letter small =
     let few : 2 ^ length file.names ≤ 2 ^ 6 = pow-le-pow_right (omega arith) a.few in
     omega (arith, small, few)
 
--- a set of the letters at which a label is true, computed from the sets of the aliases
+-- a set that is computed for a label from the sets of the aliases has exactly the letters at which the label is true
 pub label_in : {file : FileData} {sets : LetterSets} → AreLetterSets file sets → (letter set : ℕ) (e : Expression) →
     letter < 2 ^ length file.names →
     ((letter : ℕ) → letter < 64 → is_in letter set ≡ truth (membership letter sets.aliases.items) letter e) →

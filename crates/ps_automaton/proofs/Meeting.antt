@@ -1,5 +1,5 @@
--- The diagram of an edge has a leaf exactly at the letters at which the edge is taken. Lemmas about such diagrams,
--- about two diagrams that have a leaf at a common letter (`Meet`), and about diagrams in a store that has grown.
+-- The diagram of an edge has a leaf exactly at the letters at which the edge is taken. Lemmas about the diagrams of
+-- edges, about two diagrams that have a leaf at a common letter (`Meet`), and about diagrams in a store that has grown.
 use Rattle.std.proofs.Common.{arith, ◌≡◌, ℕ, ◌^◌, ◌<◌, inl, inr, Bool, Option, Some, None, IsTrue, refl, sym}
 use Rattle.std.proofs.Common.{ap, ◌∙◌}
 use Rattle.std.specs.Option.{option_map}

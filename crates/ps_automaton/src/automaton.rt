@@ -75,9 +75,9 @@ impl Automaton {
     ///
     /// # Errors
     ///
-    /// Fails if the acceptance condition contains a complemented set, or else is not a chain. Otherwise fails if two
-    /// edges of a state are taken at a common letter, but differ in their targets or sets. Also fails if memory runs
-    /// out.
+    /// Fails if the acceptance condition contains a complemented set, or else is not a chain. If the condition is a
+    /// chain, fails if two edges of a state are taken at a common letter, but differ in their targets or sets. Also
+    /// fails if memory runs out.
     pub fn build(alloc: Global, file: &HoaFile) -> Result<Automaton, AutomatonFault>
         ensures built { IfOk result (λ automaton. (chain : Chain) × IsBuiltFrom file.now chain automaton) }
         ensures admitted { OnOk result (IsAdmitted file.now) }

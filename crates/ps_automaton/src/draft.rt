@@ -194,7 +194,7 @@ fn node_by_letters(pairs: &mut Pairs, levels: &Levels, guards: &Guards) -> Resul
 }
 
 /// The diagram of the steps of a state, made letter by letter, or None if `edges_by_letter` returns None. If the result
-/// is None, nothing has changed.
+/// is None, `pairs` is unchanged.
 fn node_by_sets(
     pairs: &mut Pairs,
     levels: &Levels,

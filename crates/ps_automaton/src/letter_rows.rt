@@ -14,8 +14,8 @@ use ps_hoa::{HoaFile, Row};
 use std::alloc::{AllocError, Global};
 
 /// For each letter, the index of the first edge of a row that is taken there, if there is one. If two edges with
-/// different targets are taken at one letter, the result is None. The contract allows None for every row, because the
-/// edges are then joined as diagrams, which is slower, but as correct. Fails if out of memory.
+/// different targets are taken at one letter, the result is None. The contract allows None for every row: the edges are
+/// then joined as diagrams, which is slower, but also correct. Fails if out of memory.
 pub(crate) fn edges_by_letter(
     alloc: Global,
     sets: &LetterSets,

@@ -30,8 +30,8 @@ pub(crate) struct LetterSets {
 
 impl LetterSets {
     /// The sets of a file's propositions and aliases, or None if the file has more than 6 propositions. The contract
-    /// allows None for every file, because without these sets the edges are joined as diagrams, which is slower, but
-    /// as correct. Fails if out of memory.
+    /// allows None for every file: without sets of letters the edges are joined as diagrams, which is slower, but also
+    /// correct. Fails if out of memory.
     pub(crate) fn of(alloc: Global, file: &HoaFile) -> Result<Option<LetterSets>, AllocError>
         ensures { IfOk result (λ made. IfSome made (AreLetterSets file.now)) }
     {

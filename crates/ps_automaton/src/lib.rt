@@ -24,10 +24,11 @@
 //! | `refusal_is_one` | each file is either admitted, or refused for exactly one fault |
 //! | `greatest_level_decides` | a part of a run meets the acceptance condition exactly if its greatest priority is even |
 //!
-//! If there are at most 6 propositions, `build` joins the edges of a state letter by letter: a set of letters is then a
-//! bit mask of 64 bits. Otherwise, or if two edges clash, `build` joins the edges one after another, as decision
-//! diagrams, so it does not visit every letter if a label uses only a few of many propositions. For an automaton with n
-//! states, `accepts` reads the word's repeated part (lap) at most 2 * (n + 1) times.
+//! If a state's edges have implicit labels, there is one edge for each letter, and `build` joins no edges. If they have
+//! labels, and there are at most 6 propositions, `build` joins the edges letter by letter: a set of letters is then a
+//! bit mask of 64 bits. If there are more propositions, or if two edges clash, `build` joins the edges one after
+//! another, as decision diagrams. So it does not visit every letter if a label uses only a few of many propositions.
+//! For an automaton with n states, `accepts` reads the word's repeated part (lap) at most 2 * (n + 1) times.
 #![tactic(auto)]
 
 mod automaton;

@@ -215,8 +215,8 @@ pub record MakesSteps {E : Type 0} (g : Guards) (levels : Levels) (old new : Pai
   pub node : IfOk result (λ node. (q : ℕ) → row_of g.file.now q ≡ Some (row_data g.row.now) → IsStepsOf g.file.now
       (chain_data levels.chain) q new.steps.keys new.store node)
 
--- the precondition for building the diagrams of the steps of all states: the diagrams of the aliases are in the store,
--- the sets of letters are right, and `AreSteps` holds for the list of steps
+-- the precondition for building the diagrams of all states' steps: the diagrams of the aliases are in the store,
+-- `AreLetterSets` holds for the sets of letters, if there are any, and `AreSteps` for the list of steps
 pub record IsSource (s : Source) (pairs : Pairs) : Type 0 where
   pub letters : pairs.store.propositions ≡ length s.file.now.names
   pub aliases : AreNodesOf pairs.store s.file.now.aliases s.aliases.now

@@ -33,7 +33,8 @@ pub record AreLetterSets (file : FileData) (sets : LetterSets) : Type 0 where
 -- ## The first edge at each letter
 
 -- How one more edge changes the first edge at a letter, given as an index or None. `taken` states whether the edge with
--- the index `place` is taken at the letter. If an earlier edge is taken there too, both edges have the same target.
+-- the index `place` is taken at the letter. If an earlier edge is also taken at this letter, the index does not
+-- change, and both edges have the same target.
 abbrev pub IsAdded : List Target → ℕ → Bool → Option ℕ → Option ℕ → Type 0
 IsAdded targets place false old new = new ≡ old
 IsAdded targets place true None new = new ≡ Some place

@@ -1,5 +1,5 @@
--- The target of an edge: the state that the edge leads to, and the edge's acceptance sets as a bit mask. They include
--- the sets of the state that the edge leaves. (For private functions.)
+-- The target of an edge: the state that the edge leads to, and the edge's acceptance sets as a bit mask. The edge's
+-- sets include those of the state that the edge leaves. (For private functions.)
 use Rattle.std.specs.Prelude.{◌≡◌, ℕ, ◌^◌, ◌<◌}
 use Rattle.ps_label.specs.Truth.{is_in}
 use Rattle.ps_hoa.specs.Files.{EdgeData, RowData}

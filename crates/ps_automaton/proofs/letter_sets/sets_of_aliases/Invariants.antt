@@ -4,8 +4,8 @@ use Rattle.ps_label.specs.Truth.{alias_truths, expressions, truths_behind}
 use Rattle.ps_automaton.specs.Inner.LetterSets.{membership}
 use Rattle.ps_automaton.proofs.letter_sets.sets_of_aliases.Given as goal
 
--- `sets` has the sets of the first aliases; evaluating the remaining aliases at a letter gives the truth values of all
--- aliases at the letter
+-- for each alias visited so far, `sets` has the set of letters at which the alias is true; evaluating the remaining
+-- aliases at a letter, with the visited aliases' truth values from `sets`, gives the truth values of all aliases there
 abbrev pub invariant-loop-alias : goal.invariant-loop-alias
 invariant-loop-alias l = record {
   one_each : length l.sets.items ≡ l.alias-index;
