@@ -4,7 +4,7 @@
 --   and still holds after each further successor is handled
 -- - `firsts_none`, `firsts_more`: `AreFirsts` holds before any vertex is handled, and still holds after each further
 --   vertex is handled
--- - `fall`: the entry of each vertex except 0 in the table is an earlier vertex
+-- - `fall`: in the table, the entry of each vertex except 0 is an earlier vertex
 -- - `way_is`: if each vertex of a list is the table's entry of the vertex after it, the list is a path
 use Rattle.std.proofs.Common.{◌≡◌, ℕ, ◌+◌, ◌-◌, ◌<◌, ◌≤◌, ◌⊎◌, inl, inr, List, length, get_or, set, refl, sym}
 use Rattle.std.proofs.Common.{ap, subst, ◌∙◌, arith, length-set, [], ◌∷◌, ◌++◌, reverse, take, drop, append-nil}

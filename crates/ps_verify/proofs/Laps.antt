@@ -1,8 +1,9 @@
 -- A lasso trace closes a cycle of the product: some repetitions of its repeated part (laps) lead from a vertex back to
 -- it.
 -- - `reached`: the vertex of the product that a lasso trace reaches after its stem and a given number of laps
--- - `laps_fall`: the number `left`, made from a vertex's count, does not rise along laps, if neither the first vertex
---   nor the laps have a priority greater than `top`. It falls if `top` is the greatest priority on these laps
+-- - `laps_fall`: the number `left`, made from a vertex's count, does not rise along some laps, if neither the first
+--   vertex nor an edge on these laps has a priority greater than `top`. `left` falls if there is at least one lap, and
+--   `top` is the greatest priority on the laps
 -- - `loop`: some laps of a lasso trace lead from a vertex of the product back to it. So the product's game has no
 --   counts (no progress measure) for the greatest priority on these laps, whatever its parity
 use Rattle.std.proofs.Common.{◌≡◌, ℕ, zero, suc, ◌+◌, ◌-◌, ◌<◌, ◌≤◌, inr, max, Bool, List, length, refl, sym}

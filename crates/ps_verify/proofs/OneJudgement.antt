@@ -1,8 +1,9 @@
 -- A circuit either wins or loses, but not both. A controller's circuit loses if the automaton rejects its trace on some
 -- stimulus, and an environment's circuit loses if the automaton accepts it. This trace is a lasso trace, so the circuit
 -- does not win.
--- - `parted`: if a trace and its letters are cut at an index, each part is a trace with its letters. The second part
---   starts from the latch values with which the first part ends
+-- - `parted`: if a list of a circuit's steps and the list of their letters are cut at an index, the letters of each
+--   part are those of its steps. The second part of the steps starts from the latch values with which the first part
+--   ends
 -- - `apart`: a circuit does not both win and lose
 -- - `wins`: a circuit wins if no stimulus is a counterexample
 use Rattle.std.proofs.Common.{◌≡◌, ℕ, zero, suc, ◌≤◌, Bool, List, [], ◌∷◌, length, take, drop}

@@ -31,9 +31,10 @@ module _ {owner : ℕ} {names : List (List ℕ)} {auto : Auto} {c : CircuitData}
     at = slice_get-get_or p.vertices i _ (omega (arith, within, product.one_each));
   }
 
-  -- From the vertex v, some steps of the circuit (`moments`) read `inputs` and lead to the vertex at the index `end`.
-  -- The letters of these steps lead the automaton from v's state to the state of that vertex. The automaton's greatest
-  -- priority on the way is the greatest priority of the vertices in `path`.
+  -- Some steps of the circuit (`moments`) read `inputs`, and lead from the product's vertex v to its vertex w, which
+  -- has the index `end`. The letters of these steps lead the automaton from v's state to w's state. `path` lists the
+  -- vertices after v. The greatest priority of the automaton's steps is the greatest priority of the vertices in
+  -- `path`.
   pub record Follows (v : ProductVertex) (path : List ℕ) (end : ℕ) (inputs : List (List Bool)) : Type 0 where
     pub w : ProductVertex
     pub at : slice_get p.vertices end ≡ Some w

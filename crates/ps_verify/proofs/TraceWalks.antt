@@ -1,7 +1,8 @@
 -- Step by step, a trace of the circuit and its letters lead from vertex to vertex of the product of circuit and
 -- automaton.
 -- - `left`: a number for each vertex, made from its count, that falls along each edge to a vertex of the priority `top`
--- - `walk`: the vertex to which the letters of a trace lead; the number `left` does not rise on the way there
+-- - `walk`: from each vertex of the product, a trace and its letters lead to a vertex of the product. On the way there,
+--   the number `left` does not rise if no priority exceeds `top`
 use Rattle.std.proofs.Common.{◌≡◌, ℕ, ◌+◌, ◌<◌, ◌≤◌, ◌⊎◌, inl, inr, Bool, List, [], ◌∷◌, length, refl, ◌∙◌}
 use Rattle.std.proofs.Common.{arith, Some}
 use Rattle.std.specs.Prelude.{nat_eq, if◌then◌else◌, slice_get}
@@ -47,7 +48,7 @@ module _ {owner : ℕ} {names : List (List ℕ)} {auto : Auto} {c : CircuitData}
   some_along q [] more = absurd (omega arith)
   some_along q (x ∷ xs) more = omega arith
 
-  -- the letters lead from the vertex v, whose index is i, to the vertex w, whose index is j
+  -- the letters lead from the product's vertex v, which has the index i, to its vertex w, which has the index j
   pub record Walk (i : ℕ) (v : ProductVertex) (letters : List ℕ) (last : List Bool) : Type 0 where
     pub j : ℕ
     pub w : ProductVertex

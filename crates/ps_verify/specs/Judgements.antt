@@ -25,17 +25,17 @@ use Rattle.ps_traces.specs.Traces.{AllAccepted, NoneAccepted}
 use Rattle.ps_verify.specs.declared.judgement.Judgement.{Judgement}
 use Rattle.ps_verify.specs.declared.judgement.Judgement.TheVariants.{Wins, Loses}
 
--- The circuit has all properties of the circuits that psyn prints, with one exception. If the circuit's player moves
--- first, the outputs must not depend on the inputs at latch values that a trace reaches; at other latch values they
--- may.
+-- A circuit that wins has the properties that `IsWitness` (of `ps_traces`) states of a printed circuit, with one
+-- exception. If the circuit's player moves first, the outputs must not depend on the inputs at latch values that a
+-- trace reaches; at other latch values they may.
 pub record IsWinning (order : Order) (role : Role) (file : FileData) (c : CircuitData) : Type 0 where
   pub symbols : HasSymbols role file.names file.controllable c
   pub in_time : IsInTimeWhereReached order role c
   pub accepted : role ≡ Controller → AllAccepted file c
   pub rejected : role ≡ Environment → NoneAccepted file c
-  -- Each periodic input extends to a lasso trace, and exactly one list of letters belongs to each trace. So the fields
-  -- `accepted` and `rejected` speak of at least one word. An environment's circuit has a joint run with each
-  -- finite-state controller, and the automaton rejects the word of this run.
+  -- Each periodic input extends to a lasso trace, and exactly one list of letters belongs to each trace. So the circuit
+  -- has at least one lasso word, and what the fields `accepted` and `rejected` state is not vacuous. An environment's
+  -- circuit has a joint run with each finite-state controller, and the automaton rejects the word of this run.
   pub goes_on : EachInputGoesOn c
   pub letters : (moments : List Moment) → HasLetters file.names c moments
   pub meetings : role ≡ Environment → (k : FiniteController) → IsController order c k → LosesMeeting file c k

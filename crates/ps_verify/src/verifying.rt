@@ -24,16 +24,16 @@ use ps_product::{Product, ProductFault};
 use ps_simulate::{Role, circuit_has_one_values};
 use std::alloc::{AllocError, Global};
 
-/// Decides whether the automaton accepts each lasso trace of a controller, or no lasso trace of an environment. If not,
-/// the result is a counterexample: a stimulus on which the automaton rejects the controller's trace, or accepts the
-/// environment's.
+/// Decides whether the circuit wins: the automaton accepts each lasso trace of a controller, or no lasso trace of an
+/// environment. If the circuit loses, the result is a counterexample: a stimulus on which the automaton rejects the
+/// controller's trace, or accepts the environment's.
 /// The latch values after the trace's first lap are those before it, so each later lap repeats the first.
 ///
 /// # Errors
 ///
 /// Fails with [`ProductFault::Symbols`] if the names of the circuit's inputs and outputs are not those of its role's
-/// propositions. Otherwise fails with [`ProductFault::Timing`] if the circuit moves first, but an output depends on an
-/// input, at some latch values that a trace reaches. Fails also if memory runs out.
+/// propositions. Fails with [`ProductFault::Timing`] if these names are right and the circuit's player moves first, but
+/// some output depends on an input, at some latch values that a trace reaches. Fails also if memory runs out.
 pub fn verified(
     alloc: Global,
     circuit: &Circuit,

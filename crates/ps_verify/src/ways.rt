@@ -1,4 +1,5 @@
-//! Paths in a game from vertex 0 to any other vertex. Each of the others must be a successor of a smaller vertex.
+//! Paths in a game from vertex 0 to any other vertex. Each vertex except 0 must be a successor of a smaller
+//! vertex.
 
 ghost use Rattle.std.specs.Prelude.{◌≡◌, ◌<◌, length, IfOk};
 ghost use Rattle.std.specs.List.{range_with_len};

@@ -1,9 +1,9 @@
 -- The inputs that the circuit reads along paths of the product of a circuit and an automaton.
 -- - `ReadsEdge p v w inputs`: in a step along the edge from v to w, the circuit reads these inputs
 -- - `ReadsPath p path letters`: the letters are the inputs of steps along the path, one for each edge
--- - `IsToldOf player p judgement`: if the judgement is `Wins`, the player wins all loops of the product. If it is
---   `Loses`, the circuit reads the stimulus's stem on a path to a cycle that the player loses, and the lap along this
---   cycle.
+-- - `IsToldOf player p judgement`: if the judgement is `Wins`, the player wins all loops of the product. If the
+--   judgement is `Loses`, the circuit reads the stimulus's stem on a path to a cycle that the player loses, and the lap
+--   along this cycle.
 use Rattle.std.specs.Prelude.{◌≡◌, ℕ, ◌+◌, ◌<◌, Bool, List, [], length, slice_get, slice_index, slice_index_or, Some}
 use Rattle.ps_game.specs.Games.{successors_of}
 use Rattle.ps_product.specs.Products.{ProductData, inputs_at}

@@ -24,7 +24,7 @@ pub record AreFirsts (game : ParityGame) (n : ℕ) (firsts : List ℕ) : Type 0 
   pub sound : (w : ℕ) → w < vertex_count game →
       (slice_index firsts w ≡ w) ⊎ HasEdge game (slice_index firsts w) w
 
--- the entry of each vertex except 0 in `firsts` is a smaller vertex
+-- in `firsts`, the entry of each vertex except 0 is a smaller vertex
 abbrev pub Fall : List ℕ → Type 0
 Fall firsts = (w : ℕ) → 0 < w → w < length firsts → slice_index firsts w < w
 
@@ -41,8 +41,8 @@ pub record IsWayTo (game : ParityGame) (way : List ℕ) (v : ℕ) : Type 0 where
   pub from : slice_index way 0 ≡ 0
   pub ends : last_vertex way ≡ v
 
--- `way` leads from the vertex v back to the vertex `first`, where each next vertex is the entry of the one before it in
--- `firsts`
+-- `way` leads from the vertex v to the vertex `first`: in `firsts`, the entry of each vertex of `way` except the last
+-- is the next vertex of `way`
 pub record IsWayBack (firsts : List ℕ) (way : List ℕ) (v first : ℕ) : Type 0 where
   pub begins : 0 < length way
   pub from : slice_index way 0 ≡ v
