@@ -87,7 +87,7 @@ over-constant b [] f d h = ap (λ t. record { draft = d; literal = cond t 1 0 })
 over-constant b (v ∷ vs) f d h = over-skip v vs f d (λ bits e. grind arith)
     ∙ over-constant b vs (onto true f) d (λ bits e. h (true ∷ bits) (ap suc e))
 
--- the value of f at a list of n bits depends only on the bits after index k
+-- the value of f at a list of n bits depends only on the bits whose indices are greater than k
 abbrev IsBehind : ℕ → ℕ → (List Bool → Bool) → Type 0
 IsBehind n k f = (a b : List Bool) → length a ≡ n → length b ≡ n →
     ((j : ℕ) → k < j → get_or a j false ≡ get_or b j false) → f a ≡ f b

@@ -1,12 +1,11 @@
 -- The circuit of a machine.
 -- - `number_of_bits bits`: the number with these binary digits, lowest digit first
--- - `memory_of_code b code`: the memory state with a code, which is its number; memory state 0 for a code that belongs
---   to no memory state
+-- - `memory_of_code b code`: the memory state whose number is `code`; memory state 0 if no memory state has this number
 -- - `memory_of b latches`: the memory state whose code the latches hold
 -- - `Encodes b c`: the circuit c begins in memory state 0 of the machine b, and each of the circuit's steps is a step
 --   of the machine
--- - `IsTidy c`: the circuit's variables are numbered in order, no gate reads a constant or the same variable twice, and
---   no two gates read the same two literals
+-- - `IsTidy c`: the circuit's variables are numbered in order, no gate reads a constant, no gate reads the same
+--   variable twice, and no two gates read the same two literals
 use Rattle.std.specs.Prelude.{◌≡◌, ◌≢◌, ℕ, ◌+◌, ◌*◌, ◌^◌, ◌<◌, ◌≤◌, Bool, false, cond, List, [], ◌∷◌, length, map}
 use Rattle.std.specs.Prelude.{Option, Some, None, All, AllPairs, nat_lt, if◌then◌else◌, slice_index_or}
 use Rattle.std.specs.List.{range_with_len}

@@ -9,8 +9,8 @@
 -- - `code_wanted m w latches code d`: the literal of the bit w of the machine's step, for memory states with the codes
 --   `code` to `code` + 2^latches - 1
 -- - `bits_wired m latches ws d`: the literals of the bits `ws` of the machine's step, built one after another
--- - `MakesLiteral, MakesLiterals old new result all`: the contract of a function that builds the gates in `all`, and
---   returns the literal (or the list of literals) in `all`
+-- - `MakesLiteral, MakesLiterals old new result all`: a call extends the gates `old` of the builder to `new`; if the
+--   call succeeds, `new` has exactly the gates in `all`, and `result` is the literal (or the list of literals) in `all`
 use Rattle.std.specs.Prelude.{◌≡◌, ℕ, Bool, Err, IfOk, List, length, map, Option, Result, Some, Vec}
 use Rattle.std.specs.Global.{Global}
 use Rattle.std.specs.List.{range_with_len}
