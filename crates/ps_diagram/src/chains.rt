@@ -8,7 +8,7 @@ use std::alloc::{AllocError, Global};
 /// The number of chains of a table that is not empty, at first.
 const FEWEST: usize = 16;
 
-/// A chain with more keys than this is broken up, unless there are `SPARSE` chains for each key.
+/// A chain with more keys than this is broken up, unless there are at least `SPARSE` times as many chains as keys.
 const LONG: u32 = 32;
 
 const SPARSE: usize = 32;
