@@ -26,7 +26,8 @@ module _ {c : CircuitData} (is : IsCircuit c) where
       read_at c values (wire_of c literal) ≡ bit_of values literal
   read_is values literal known = rw (place_known is literal known).1 refl
 
-  -- the value of the variable with the index k + 1 is the value of the literal that defines this variable
+  -- the variable with the index k + 1 has the value of the literal at the index k in `definitions c`; the variable with
+  -- the index 0 is the constant
   value_defined : (values : List Bool) (k : ℕ) {literal : ℕ} → k < length (definitions c) →
       get_or (definitions c) k 0 ≡ literal → value_at c values (suc k) ≡ bit_of values literal
   value_defined values k {literal} lt e =

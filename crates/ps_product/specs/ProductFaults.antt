@@ -1,6 +1,6 @@
 -- Why a circuit and an automaton have no product.
--- - `IsProductRefusal order role a c fault`: why there is no product: the circuit's symbols are wrong, or its outputs
---   depend on inputs that come later
+-- - `IsProductRefusal order role a c fault`: `fault` is a true reason why a and c have no product: the symbols of c are
+--   wrong, or its outputs depend on inputs that come later; `OutOfMemory` is always allowed
 -- - `asked_of role`: the circuit's player, 0 for a controller; the opponent owns all vertices
 use Rattle.std.specs.Prelude.{ℕ, ⊤, IsTrue}
 use Rattle.ps_automaton.specs.Automata.{AutomatonData}
@@ -19,8 +19,9 @@ pub record IsTooEarly (order : Order) (role : Role) (c : CircuitData) : Type 0 w
   pub first : IsTrue (moves_first order role)
   pub sees : ¬ SeesNoInputWhereReached c
 
--- why there is no product. `Symbols`: the circuit's symbols are wrong. `Timing`: the symbols are right, but the circuit
--- moves first, and its outputs depend on the inputs of the same step. `OutOfMemory`: memory may run out at any time
+-- the fault is a true reason why there is no product. `Symbols`: the circuit's symbols are wrong. `Timing`: the symbols
+-- are right, but the circuit moves first, and its outputs depend on the inputs of the same step. `OutOfMemory`: memory
+-- may run out at any time
 abbrev pub IsProductRefusal : Order → Role → AutomatonData → CircuitData → ProductFault → Type 0
 IsProductRefusal order role a c Symbols = ¬ HasSymbols role a.names a.controllable c
 IsProductRefusal order role a c Timing = HasSymbols role a.names a.controllable c × IsTooEarly order role c

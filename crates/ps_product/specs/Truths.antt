@@ -2,7 +2,8 @@
 -- - `truth_at t truth letter`: the value of the function `truth` at the letter
 -- - `IsTruth t truth`: `truth` is `Never`, `Always`, or a node that is true at some but not all letters
 -- - `bits_at propositions letter`: the bits of these propositions at a letter
--- - `MakesTruth old new result bit`: a call made the function that has, at each letter, the value that `bit` gives
+-- - `MakesTruth old new result bit`: a call that changed the table from `old` to `new` kept all nodes, and returned the
+--   function with the value `bit letter` at each letter, or failed
 -- - `IsTruthOf c propositions latches t truth literal`: the function `truth` has the literal's bit at each letter
 -- - `AreTruthsOf`, `IsOutcome`: like `IsTruthOf`, but for a list of literals, and for a circuit's outputs and next
 --   latches
