@@ -1,5 +1,5 @@
-"""Checks that everything exists that the programs in bench/ import. The gate does not prove these programs, so it would
-not notice an import of a module that has moved."""
+"""Checks that everything exists that the programs in bench/ import. The gate does not prove the programs in bench/, so
+it would not notice an import of a module that has moved."""
 import glob
 import os
 import re

@@ -34,7 +34,8 @@ GRANTS = (
 
 
 def certificate_of_game(version):
-    """In the game's certificate, the count of a vertex is the number of vertices of priority 1 after it."""
+    """In the game's certificate, the count of a vertex is the number of vertices of priority 1 that follow it on the
+    path."""
     lines = [f"psyncert {version}", f"vertices {VERTICES}", "odd 1", "even 2"]
     for place in range(VERTICES):
         move, count = min(place + 1, VERTICES - 1), max(0, VERTICES - 2 - place)

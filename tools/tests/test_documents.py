@@ -113,8 +113,8 @@ class Names(unittest.TestCase):
         self.assertIn(f"{len(edits)} in {len(crates)} crates", told["CONTRIBUTING.md"])
 
     def test_the_toolchain_has_the_logic_that_the_documents_name(self):
-        """The documents name the logic of the installed toolchain (kit). They need not name this kit itself, since
-        several kits have the same logic."""
+        """The documents name the logic of the installed toolchain (kit), by the hash that `rt version` prints. The
+        documents need not name the kit itself, since several kits have the same logic."""
         said = subprocess.run(["rt", "version"], capture_output=True, text=True, check=True).stdout.strip()
         logic = re.search(r"logic \w+$", said)
         self.assertTrue(logic, said)

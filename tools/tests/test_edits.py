@@ -1,9 +1,9 @@
 """Tests of the edits, which are deliberate changes to the code that the prover must refuse: each edit still applies to
 its crate, and is in the right folder.
 
-The gate tries the edits in crates/*/must-fail, which are the wrong bodies listed in NAMED. All other edits are in
-crates/*/more-edits. Each edit in crates/*/more-edits has a row in docs/EDITS.tsv, in which `tools/try-edits` records
-the verdict.
+The gate tries the edits in crates/*/must-fail, which are the wrong bodies listed in NAMED. Edits that the gate does not
+try are in crates/*/more-edits. Each edit in crates/*/more-edits has a row in docs/EDITS.tsv, in which `tools/try-edits`
+records the verdict.
 """
 import glob
 import importlib.machinery

@@ -61,7 +61,8 @@ def is_cycle(links):
 
 class Loops(unittest.TestCase):
     def test_all_cycles_of_drawn_graphs(self):
-        """The enumeration finds a cycle of each truth exactly if some set of links is such a cycle."""
+        """For true and for false, `has_loop` finds a cycle at which the condition has this value exactly if a search
+        through all sets of links finds one."""
         chance, told = random.Random("loops"), {}
         for _ in range(1000):
             count = chance.randrange(1, 4)
@@ -90,7 +91,8 @@ class Verify(unittest.TestCase):
         self.assertLessEqual({"wins", "loses", "fault 74 Timing"}, told.keys(), told)
 
     def test_literals_drawn_of_larger_circuits(self):
-        """`bench/verify.py --changed` runs the same test with more literals and more circuits."""
+        """In each circuit of the gallery, changes a few literals, one at a time. `bench/verify.py --changed` changes
+        more literals, and those of further circuits too."""
         psyn, told = program(), {}
         for said, case in verify.cases(psyn, [*verify.gallery(psyn)]):
             self.assertEqual(case.judged(case.text), "wins", said)

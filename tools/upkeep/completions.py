@@ -96,8 +96,8 @@ def valued():
 
 
 def many(value=""):
-    """The flags that take all words up to the next flag. If `value` is given, only those of them whose value has this
-    name on the usage line."""
+    """The flags that take all words up to the next flag. If `value` is given, flags whose value has another name on the
+    usage line are left out."""
     flags = {flag.name: flag for command in COMMANDS.values() for flag in command.all_flags if flag.many}
     return [name for name, flag in flags.items() if value in ("", flag.value)]
 

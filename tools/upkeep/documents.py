@@ -129,8 +129,8 @@ def furnish(room):
 
 
 def wrong_answers(name, fences, room, environment):
-    """The commands of the fences whose output differs from what the document shows. All commands run in the same
-    folder, one after another."""
+    """The commands of the fences whose output differs from what the document shows. All commands of the document run in
+    the folder `room`, one after another."""
     wrong = []
     for fence in fences:
         for command, wanted in fence.commands():

@@ -39,7 +39,7 @@ def sweep(program, shim, path, expected):
 
 
 def sweep_test(program, shim, name):
-    """The number of allocations in a test, and those whose failure makes the test fail."""
+    """The number of allocations in a test, and a list of the numbers of those whose failure makes the test fail."""
     growths, failed = 0, []
     while True:
         asked, tells = os.pipe()

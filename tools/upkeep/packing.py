@@ -25,8 +25,8 @@ class NotPassed(Exception):
 
 
 def gate_lines(log):
-    """The last result line of `rt ci` and the last one of tools/test-tools in a log of `tools/test-all`. Each of these
-    lines states how many tests passed and failed."""
+    """The last result line of `rt ci` and the last one of tools/test-tools in a log of `tools/test-all`. A result line
+    states how many tests passed and failed."""
     lines = []
     for pattern in PASSED:
         found = list(re.finditer(pattern, log))

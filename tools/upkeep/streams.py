@@ -76,7 +76,7 @@ def by_bytes(length, number, expected):
 
 def sweep_by_bytes(program, shim, path, expected, at_once):
     """Runs the program with reads and writes of at most one byte: once undisturbed, and then with each read and write
-    disturbed in turn. Returns the number of runs, and those whose results are wrong."""
+    disturbed in turn. Returns the number of runs, and a list of the runs whose results are wrong."""
     length = os.path.getsize(path)
     calls = length + 1 + len(expected[0])
     runs = [("not", 0), *((way, number) for way in ("fails", "interrupted") for number in range(1, calls + 1))]

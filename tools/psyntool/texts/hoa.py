@@ -63,8 +63,8 @@ class Reader:
         return self.tokens[self.at].offset if self.at < len(self.tokens) else 0
 
     def take(self, pattern="", must=True):
-        """Takes the next token if its text matches the pattern, and returns this text. Otherwise raises `Unreadable`
-        or, if `must` is false, returns an empty text."""
+        """Takes the next token if its text matches the pattern, and returns this text. If no token is left or its text
+        does not match, raises `Unreadable` or, if `must` is false, returns an empty text."""
         text = self.now
         if not text or not re.fullmatch(pattern or ".*", text, re.S):
             if must:
