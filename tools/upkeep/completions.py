@@ -8,7 +8,7 @@ from psyntool.table import COMMANDS
 HEAD = "# completion of psyn for {}; written by tools/release and tools/install from the table of commands"
 BASH = """\
 _psyn() {
-  # a word may be quoted so far
+  # the word typed so far may begin with a quote and have backslashes, which are removed
   local word=${COMP_WORDS[COMP_CWORD]//\\\\/} before=${COMP_WORDS[COMP_CWORD - 1]}
   word=${word#[\\"\\']}
   local command= many= flags= words= endings= name place=0 at kinds=() all=() those=()
@@ -43,7 +43,7 @@ _psyn() {
   for name in "${all[@]}"; do
     if [[ -d $name || -n $endings && $name =~ \\.($endings)$ ]]; then those+=("$name"); fi
   done
-  # where no name has an ending of the kind, any file may be meant
+  # if no name is a folder or has one of the endings, all names are offered
   COMPREPLY=("${those[@]}")
   [[ ${#those[@]} -gt 0 ]] || COMPREPLY=("${all[@]}")
 }
