@@ -14,9 +14,10 @@ GAMES is a Python file. In this file, FAMILIES maps a family's name to a functio
 family's name, and the numbers with which the family's function is called. `YARDSTICK solve --out sol --stats FILE`
 prints the winners and moves of the game in FILE, and on standard error `counts_ms` and other words with their values.
 psyn computes the counts for these winners and moves. The line of each game begins with the numbers of its vertices,
-edges and different priorities. For each program, the line has the least time of --runs (3) runs in milliseconds, for
-both players and without reading and writing. Then the line has psyn's time divided by that of YARDSTICK, and psyn's
-nanoseconds for each edge. Both programs must find the same sum of the counts and the same number of nonzero counts.
+edges and different priorities. For each program, the line has the milliseconds for both players together, without
+reading and writing: the least of --runs (3) runs. Then the line has psyn's time divided by that of YARDSTICK, and
+psyn's nanoseconds for each edge. Both programs must find the same sum of the counts and the same number of nonzero
+counts.
 
 --random makes N small games. Their winners and moves are random, and need not be right. Before these games come a few
 fixed games, whose numbers of nonzero counts are known. The counts and the number of nonzero counts, or the existence of
@@ -149,7 +150,7 @@ def remaining(nodes, winners, moves, player):
 
 
 def reached(edges, start):
-    """The vertices to which paths of at least one edge lead."""
+    """The vertices to which paths of at least one edge lead from the vertex `start`."""
     seen, pending = set(), [start]
     while pending:
         v = pending.pop()

@@ -12,15 +12,15 @@ half, and then the two unions.
 
 A line for each number of cubes has psyn's and BuDDy's least time of --runs (3) runs in milliseconds, for the unions
 alone, and psyn's time divided by BuDDy's. Then the line has the number of psyn's nodes, the number of nodes made in a
-second, and the times of two calls of `classes`: for the first eight propositions, and for every fourth one. Of a list
-of random letters, psyn and BuDDy must find equally many in the union.
+second, and the times of two calls of `classes`: for the first eight propositions, and for every fourth one of the first
+16. Of a list of random letters, psyn and BuDDy must find equally many in the union.
 
 With --labels, the diagram of one label of COUNT characters (10000, 20000, 50000, 100000) over 64 propositions is timed.
 There are two kinds of labels: `any` is a disjunction of conjunctions of five literals among twelve neighbouring
 propositions, and `all` is a conjunction of such disjunctions. A line for each label has its characters, the least
 seconds of --runs runs, and the growth of the time for each doubling of the characters since the line above. Then the
 line has the number of nodes that were made, and the number of nodes of the diagram. At its end, the line has the number
-of classes and the time of `classes`, for the first eight propositions and for every eighth one.
+of classes and the time of each of two calls of `classes`: for the first eight propositions, and for every eighth one.
 """
 import argparse
 import math

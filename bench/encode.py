@@ -15,9 +15,10 @@ Each machine but the last one has twice as many memory states as the one before.
 memory states, or fewer if an automaton for so many would have more states than psyn reads. A line for each machine has
 the memory states, the latches, the gates, the milliseconds, and the milliseconds divided by the milliseconds of the
 line above. For twice as many memory states, this quotient is 2.0 to 2.3 if the time is proportional to memory states
-times latches. The latches are a factor because each holds a bit of a memory state's code, and the bits are computed one
-after another. Then the line has the number of gates that are made in a second, and the number of bits of the machine's
-steps that are computed in a second.
+times latches. The time grows with the number of latches because each latch holds a bit of a memory state's code, and
+the bits are computed one after another. Then the line has the number of gates that are made in a second, and the number
+of bits that are computed in a second: one bit for each latch and each output, at each of the 2^latches values of the
+latches.
 """
 import argparse
 import os

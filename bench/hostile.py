@@ -64,8 +64,8 @@ def written(kind, rungs, room):
 
 
 def written_apart(kind, rungs, room):
-    """Calls `written` in a process of its own. Otherwise the memory that the texts take in this process would be
-    counted for the processes that the script starts later."""
+    """Calls `written` in a process of its own, so that the memory that the texts take is not counted for the processes
+    that the script starts later."""
     with multiprocessing.get_context("fork").Pool(1) as pool:
         return pool.apply(written, (kind, rungs, room))
 

@@ -50,8 +50,8 @@ def inputs(count):
 
 def priorities(count):
     """An automaton with a state for each acceptance set of a chain condition; the edges from state q are in set q. If
-    the input is true, state q leads to state q + 1, and the last state to state 0. Otherwise the output chooses between
-    q / 2 and q / 3, rounded down."""
+    the input is true, state q leads to state q + 1, and the last state to state 0. If the input is false, state q leads
+    to state q / 2 or q / 3 (rounded down), as the output chooses."""
     chain = "t"
     for k in reversed(range(count)):
         chain = f"Inf({k}) | ({chain})" if k % 2 == 0 else f"Fin({k}) & ({chain})"
