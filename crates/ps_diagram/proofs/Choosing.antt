@@ -10,8 +10,8 @@ use Rattle.ps_diagram.proofs.Dividing.{test_same}
 use Rattle.ps_diagram.proofs.KnownLemmas.{MayBePut, one_more}
 use Rattle.ps_diagram.proofs.MadeDiagrams.{by-sides}
 
--- the if-then-else of three nodes is made of that of their low sides, made first, that of their high sides, and a test
--- of the two
+-- the if-then-else of three nodes split at p is a test of p; its sides are the if-then-else of the nodes' low sides,
+-- made first, and that of their high sides
 pub chosen_sides : {E : Type 0} {t u v w : Table} {a b c low high made : ℕ} {s : Cut} → IsCut t a b c s →
     MakesTree {E = E} t u (Ok low) (IsChosen (tree_of t s.truth.low) (tree_of t s.one.low) (tree_of t s.other.low)) →
     MakesTree {E = E} u v (Ok high) (IsChosen (tree_of u s.truth.high) (tree_of u s.one.high)

@@ -15,8 +15,8 @@ use Rattle.ps_diagram.specs.declared.split.Split.{Split}
 use Rattle.ps_diagram.proofs.Sides.{side_at}
 use Rattle.ps_diagram.proofs.MadeDiagrams.{by-sides}
 
--- the overlay of two nodes is made of the overlay of their low sides, made first, that of their high sides, and a test
--- of the two
+-- the overlay of two nodes split at p is a test of p; its sides are the overlay of the nodes' low sides, made first,
+-- and that of their high sides
 pub overlay_sides : {E F : Type 0} {t u v w : Table} {a b low high made : ℕ} {s : Split} → IsSplit t a b s →
     MakesTree {E = E} t u (Ok low) (IsOverlay (tree_of t s.left.low) (tree_of t s.right.low)) →
     MakesTree {E = E} u v (Ok high) (IsOverlay (tree_of u s.left.high) (tree_of u s.right.high)) →

@@ -63,7 +63,8 @@ none_chained f list links heads empty = record {
   });
 }
 
--- while the chain of a key is walked: the rest of the chain begins with `next`, and no later key equals the given key
+-- while the chain of a key is walked: `next` is the chain's next key, counted from 1 in the list, or 0 at the chain's
+-- end; no key after it in the list equals the given key
 pub record IsBehind {K : Type 0} (f : K → ℕ) (eq : K → K → Bool) (list : List K) (key : K) (next : ℕ) : Type 0 where
   pub within : next ≤ length list
   pub here : (i : ℕ) (d : K) → next ≡ i + 1 → f (get_or list i d) ≡ f key
@@ -103,7 +104,7 @@ module _ {K : Type 0} (f : K → ℕ) (eq : K → K → Bool) (alike : (x y : K)
         ];
       }
 
--- the chains of a list stay right when a key is appended to the list that is in no chain yet
+-- if a key is appended to a list, but to no chain yet, the list's chains stay right
 last_pushed : {K : Type 0} (f : K → ℕ) (list : List K) (x : K) (n b last : ℕ) → n ≤ length list →
     IsLastIn f list n b last → IsLastIn f (list ++ x ∷ []) n b last
 last_pushed f list x n b last few h = record {

@@ -181,8 +181,8 @@ pub side_blind : (t : Table) {value n level : ℕ} {product : Product} (b : Bool
 side_blind t true none node side e empty h = rw e (λ f g same. empty f ∙ sym (empty g))
 side_blind t false none node side e empty h = rw e (product_blind h)
 
--- `leaf_where value c` is the leaf `value` if c is true, and otherwise None. It makes no difference whether b chooses
--- between two such leaves, or between their conditions
+-- `leaf_where value c` is the leaf `value` if the condition c is true, and otherwise None. If b chooses one of two
+-- conditions, the leaf for the chosen condition is the one that b chooses from the leaves for the two
 tested : (value : ℕ) (b x y rest : Bool) → cond b (leaf_where value (x && rest)) (leaf_where value (y && rest)) ≡ leaf_where value (cond b x y && rest)
 tested value true x y rest = refl
 tested value false x y rest = refl

@@ -1,7 +1,7 @@
 -- What a call that makes a node gives (`MakesNode`) at each of its exits.
 --
 -- - `fails`: an earlier step of the call failed
--- - `gives`: the result is a node that the table had
+-- - `gives`: the call leaves the table as it is, and returns one of its nodes
 -- - `after`, `by-last`: earlier steps keep all nodes, and the last step makes the node that the call returns
 -- - `by-sides`: two nodes are made first, and the result is made from them
 use Rattle.std.proofs.Common.{ℕ, IfOk, Ok, Result}

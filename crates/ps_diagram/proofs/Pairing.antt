@@ -88,8 +88,8 @@ pair_blind xs once level a b c h ba bb f g e =
     paired_alike xs once (leaf_at a g) (leaf_at b g) (leaf_at c f) (leaf_at c g) (rw (ba f g e, bb f g e) at (h f))
     (h g)
 
--- the diagram of pairs of two nodes is made of that of their low sides, made first, that of their high sides, and a
--- test of the two
+-- the diagram of pairs of two nodes split at p is a test of p; its sides are the diagrams of pairs of the nodes' low
+-- sides, made first, and of their high sides
 pub pair_sides : {E : Type 0} {Q : ℕ × ℕ → Type 0} {xs ys : List (ℕ × ℕ)} {t u v w : Table} {a b low high made : ℕ}
     {s : Split} → IsSplit t a b s → Adds Q xs ys →
     MakesTree {E = E} t u (Ok low) (IsPairOf xs (tree_of t s.left.low) (tree_of t s.right.low)) →

@@ -29,9 +29,9 @@ pub side_at : {t : Table} {node p low high : ℕ} (v : Bool) → IsSides t node 
     leaf_at (tree_of t node) (changed f p v) ≡ leaf_at (tree_of t (cond v high low)) f
 side_at v h f = search (rules, side_leaf)
 
--- Nodes are numbers. The node `first` tests the proposition a, and `second` tests b. They are replaced by x and y,
--- which are not greater. A node that tests the smaller of a and b (both nodes, if a is b) is replaced by a smaller
--- number. So the sum of the two numbers falls.
+-- Nodes are numbers. The nodes `first` and `second` test the propositions a and b; x and y are sides of these nodes at
+-- the smaller of a and b. A side is never greater than its node, and is less if the node tests this proposition. So the
+-- sum of x and y is less than the sum of the two nodes.
 pub falls : (a b : ℕ) {r : ℕ} (first second x y : ℕ) → r ≡ min a b → x ≤ first → y ≤ second → (a ≡ r → x < first) →
     (b ≡ r → y < second) → x + y < first + second
 falls a b first second x y e hx hy lx ly = search (rules, cases_lt)

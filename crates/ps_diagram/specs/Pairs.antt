@@ -1,4 +1,4 @@
--- A list of pairs of leaves without repeats, and leaves that are indices in this list.
+-- Leaves that are indices in a list of pairs of leaves, and pairs that are added to this list.
 use Rattle.std.specs.Prelude.{◌≡◌, ◌⊎◌, ℕ, ◌^◌, ◌<◌, List, Option, Some, None, slice_get}
 use Rattle.ps_diagram.specs.Table.{Table, leaf_of}
 

@@ -7,7 +7,8 @@
 -- - `Keeps old new`: each old node is in the new table, with the same tree and so with the same leaf at each letter
 -- - `MakesDiagram old new result leaf`: a call keeps the old nodes; at each letter, the node that it makes has the leaf
 --   `leaf letter`, or no leaf if this is None
--- - `IsSoundTable`: what is true of every store
+-- - `IsSoundTable t`: each test has two earlier nodes as its sides, all trees are ordered and reduced, and different
+--   nodes have different trees; this is true of every store
 use Rattle.std.specs.Prelude.{◌≡◌, ℕ, ◌<◌, ◌≤◌, IfOk, List, Option, Result, [], ◌∷◌, ◌++◌, fold, length}
 use Rattle.std.specs.Prelude.{slice_index_or}
 use Rattle.ps_diagram.specs.declared.view.View.{View}

@@ -5,7 +5,7 @@ ghost use Rattle.ps_diagram.specs.Inner.Chained.{AreChained, IsChainHead, IsLast
 
 use std::alloc::{AllocError, Global};
 
-/// The number of chains of a table that is not empty, at first.
+/// The number of chains that are made when a list gets its first key.
 const FEWEST: usize = 16;
 
 /// A chain with more keys than this is broken up, unless there are at least `SPARSE` times as many chains as keys.
@@ -124,8 +124,8 @@ impl Chains {
         self.heads[chain] = place as u32 + 1;
     }
 
-    /// Makes room for one more key in the chains of a list. A long chain is broken up: `passed` is the number of keys in
-    /// the new key's chain.
+    /// Makes room for one more key in the chains of a list. If there is no room, or if the new key's chain is too long
+    /// (see `LONG`), the number of chains is doubled. `passed` is the number of keys in this chain.
     #[inline(always)]
     pub(crate) fn make_room<K: Key>(&mut self, list: &[K], passed: u32) -> Result<(), AllocError>
         requires { AreChained K.hash list.now (length list.now) self.old }

@@ -30,8 +30,8 @@
 //! the least letter that leads to it; `path_to` finds this letter for one leaf. `classes(node, split)` divides the
 //! letters over the propositions of `split` into classes: two letters are in one class exactly if the node has the same
 //! leaf for both, whatever the truth values of the other propositions (`AreClasses`). `classes_from` divides the
-//! letters for a node of another store. `classes` and `classes_from` keep every node of the store, too. `copy` returns
-//! a new store with the same nodes.
+//! letters for a node of another store. Like the calls in the table, `classes` and `classes_from` keep every node of
+//! the store. `copy` returns a new store with the same nodes.
 //!
 //! A store never drops a node. Equal diagrams are one node, which is found by a hash table or, for small leaves, by a
 //! table indexed by the leaf. `negated`, `guard`, `fill`, `relabel` and `relabel_from` visit each node of the given
@@ -41,8 +41,9 @@
 //! needed, and the node's result is not kept: the node is visited again if another node leads to it. Most calls visit
 //! only a few nodes, so the first few nodes are not kept in a memo table, and may be visited more often. `of_letter`
 //! makes one node for each proposition. For a product of literals, `of_label` makes at most one node for each literal.
-//! For any other conjunction or disjunction, it joins the diagrams of the operands, or of their negations: first those
-//! of each half of the list, then the two results. `classes` first copies the store.
+//! For any other disjunction, it joins the diagrams of the operands: first those of each half of the list, then the two
+//! results. For any other conjunction, it joins the diagrams of the operands' negations in this way, and negates the
+//! result. `classes` first copies the store.
 #![tactic(auto)]
 
 mod both;

@@ -115,7 +115,7 @@ impl LeafRule for Placed<'_> {
     }
 }
 
-/// The rule that replaces a missing leaf by the leaf 1, and removes each leaf.
+/// The rule that gives letters without a leaf the leaf 1, and letters with a leaf none.
 #[derive(Drop)]
 struct Negated;
 

@@ -43,7 +43,7 @@ impl Store {
         }
     }
 
-    /// The sides of a node at a proposition. The node must not test a proposition before this one.
+    /// The sides of a node at a proposition. The node must test no proposition that comes before the given one.
     pub(crate) fn sides(&self, node: Node, proposition: u32) -> Sides
         requires held { IsNode self.now node }
         requires later { proposition ≤ root_of self.now.propositions (tree_of self.now node) }

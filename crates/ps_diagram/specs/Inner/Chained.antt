@@ -11,7 +11,7 @@ folded a b = bit_xor (bit_and (a * b) (2 ^ 64 - 1)) (a * b / 2 ^ 64)
 abbrev pub mixed : ℕ → ℕ → ℕ → ℕ
 mixed seed first second = folded (bit_xor seed first) (bit_xor 0x9e37_79b9_7f4a_7c15 second)
 
--- the index of the chain of a key, of the given number of chains
+-- the index of a key's chain if there are `chains` chains in all
 unfoldable pub chain : {K : Type 0} → (ℕ → K → ℕ) → (seed chains : ℕ) → K → ℕ
 chain hash seed chains key = bit_and (hash seed key) (chains - 1)
 
