@@ -1,7 +1,7 @@
 -- Lemmas about the functions that parse the small parts of a certificate's text byte by byte, including the cases in
 -- which they fail.
--- - `two_first`, `two_second`, `two_fails`: `take_two` allows two bytes; the next byte is the first of them, is the
---   second, or is neither, so that parsing fails
+-- - `two_first`, `two_second`, `two_fails`: `take_two` allows either of two bytes; the next byte is the first of them,
+--   is the second, or is neither, so that parsing fails
 -- - `zero_passed`, `digits_passed`, `none_passed`: the function for numbers reads a single 0, reads digits, or finds no
 --   number
 -- - `end_reads`, `end_missing`, `end_fails`: lemmas for the end of a line of priorities: it is read, some priorities

@@ -152,7 +152,7 @@ pub own_edge : {game : ParityGame} {certificate : CertificateData} {v w : ℕ} �
     owner_of game v ≡ winner_of certificate v → choice_of certificate v ≡ Some w → Remains game certificate v w
 own_edge {game} {certificate} {v} {w} right own is = search (rules, Remains-own, IsSomeAnd-at)
 
--- at a vertex that its winner owns, the winner's moves allow only one edge
+-- at a vertex that its winner owns, the winner's moves allow no edge but the one to the winner's move `w`
 pub own_edges : (game : ParityGame) (certificate : CertificateData) (v : ℕ) {w : ℕ} → owner_of game
     v ≡ winner_of certificate v → choice_of certificate v ≡ Some w → {w' : ℕ} → Remains game certificate v w' → w' ≡ w
 own_edges game certificate v own is {w'} remains = search rules

@@ -1,7 +1,8 @@
 -- The grammar of a number obeys the grammar laws of the crate `ps_text`. Each condition on a number is decidable, so
 -- parsing a number from any bytes has a result: a value or an error.
--- - `judged_by`, `number_by`: the grammar laws hold for a number that is an error if a given condition holds, and for a
---   number that may disagree with the game
+-- - `judged_by`: the grammar laws hold for the grammar of a number; a decidable condition states which numbers are
+--   errors
+-- - `number_by`: the same, where the condition is that the number disagrees with the game
 -- - `decide_next`, `judge_priority`, `judge_zero`, `judge_missing`: the errors of numbers, and of the end of a line,
 --   are decidable
 use Rattle.std.proofs.Common.{◌≡◌, ℕ, ◌^◌, ◌<◌, ◌≤◌, ◌⊎◌, List, [], ◌∷◌, length, drop, refl, inl, inr, arith, rules}

@@ -1,6 +1,6 @@
 -- The parts of a certificate text's grammar obey the grammar laws of the crate `ps_text`: these lemmas state which
--- bytes a part can begin with, and which bytes can continue a part. Only a number or a move can be continued, by a
--- digit; what comes after a number or a move begins with a space, a colon or a newline. The lemma about a chain of
+-- bytes a part can begin with, and which bytes can extend a part to a longer one. Only a digit can extend a number, a
+-- move or a pair; what comes after one of these begins with a space, a colon or a newline. The lemma about a chain of
 -- grammar parts has the name of the chain's first part.
 use Rattle.std.proofs.Common.{◌≡◌, ℕ, zero, suc, ◌⊎◌, Bool, true, false, cond, eqb, List, [], ◌∷◌, length, drop, Option}
 use Rattle.std.proofs.Common.{Some, None, refl, ap, inl, inr, arith, rules}
@@ -127,7 +127,7 @@ chain_count n = count_by n (lawful_counts n)
 pub chain_counts : (n : ℕ) → Chain (byte 32) (λ _. then_by (number Never) (counts_behind n)) Separates Nothing ⊥
 chain_counts n = spaced (λ _. (chain_count n).whole)
 
--- a pair (a space, a priority, a colon and a count) begins with a space, and only a digit can continue it
+-- a colon and a count, with which a pair ends, begin with the colon, and only a digit can extend them
 pub chain_colon : (pairs : Pairs) (p : ℕ) →
     Chain (byte 58) (λ _. mapped (λ m. with_pair pairs p m) (judged IsZero)) (At 58) AtDigit ⊥
 chain_colon pairs p =
@@ -142,7 +142,7 @@ abbrev pub behind_space : List ℕ → Pairs → Field Pairs
 behind_space ps pairs = then_by
     (judged (WrongPriority ps pairs)) (λ p. then_by (byte 58) (λ _. mapped (λ m. with_pair pairs p m) (judged IsZero)))
 
--- a space and a count, as one part in a chain of parts, obey the grammar laws of the crate `ps_text`
+-- a pair (a space, a priority, a colon and a count) begins with a space, and only a digit can extend the pair
 pub chain_pair : (priorities : List ℕ) (pairs : Pairs) → Chain (byte 32) (λ _. behind_space priorities pairs) (At 32)
     AtDigit ⊥
 chain_pair ps pairs = tight (byte_of 32) (λ _. (chain_priority ps pairs).whole)

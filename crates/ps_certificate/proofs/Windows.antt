@@ -13,7 +13,7 @@ use Rattle.ps_certificate.specs.Inner.Prefixes.{IsAt}
 use Rattle.ps_certificate.proofs.Lists.{rising_far}
 use Rattle.ps_certificate.proofs.SuccessorEdges.{Contains-at}
 
--- if a search of a list returned an index of a number, the list contains this number
+-- if a search for a number in a list returned an index, the list contains the number
 pub Contains-found : (list : List ℕ) (number : ℕ) (found : Option ℕ) → IfSome found (IsAt list number) →
     is_some found ≡ true → Contains list number
 Contains-found list number found h k = search (rules, Contains-at)
@@ -31,8 +31,8 @@ pub record AreMarks (game : ParityGame) (window : List ℕ) (seen : List Bool) (
   pub passed : (k v : ℕ) → k < length window → v < vertex → priority_of game v ≡ get_or window k 0 →
       get_or seen k false ≡ true
 
--- if the list `window` contains the priority of `vertex`, marking it gives the marks for the vertices up to and
--- including `vertex`
+-- if the list `window` contains the priority of `vertex`, marking this priority gives the marks for the vertices up to
+-- and including `vertex`
 pub AreMarks-found : {game : ParityGame} {window : List ℕ} {seen : List Bool} {vertex place priority : ℕ} →
     IsStrictlyIncreasing window → vertex < vertex_count game → priority ≡ priority_of game vertex → IsAt
     window priority place → AreMarks game window seen vertex → AreMarks game window (set seen place true) (vertex + 1)

@@ -1,4 +1,5 @@
--- Certificates that have the same winners and moves, and which of them has the least counts.
+-- Certificates that have the same winners and moves, and which of them has the least counts, that is, the smallest
+-- count for each vertex and priority.
 -- - `SaysTheSame game c d`: the certificates c and d have the same winners and moves
 -- - `DiffersInCounts game c d`: the certificates c and d have the same winners, moves and priorities
 -- - `HasLeastCounts game c`: no valid certificate with the winners, moves and priorities of c has, for any vertex and
@@ -19,8 +20,9 @@ pub record DiffersInCounts (game : ParityGame) (one other : CertificateData) : T
   pub even : one.even ≡ other.even
   pub same : SaysTheSame game one other
 
--- no valid certificate that differs from this one only in counts has, for any vertex and priority, a smaller count.
--- Each count of this one for a priority less than the vertex's own is 0; the rule of counts never uses such a count
+-- No valid certificate that differs from `certificate` only in counts has, for any vertex and priority, a smaller
+-- count. In `certificate`, a vertex's count for a priority less than the vertex's own is 0; the rule of counts never
+-- uses such a count.
 pub record HasLeastCounts (game : ParityGame) (certificate : CertificateData) : Type 0 where
   pub least : (other : CertificateData) → Fits game other → IsValid game other →
       DiffersInCounts game certificate other →

@@ -4,7 +4,8 @@
 -- - `entry_line compact odd even ids id entry`: the line of the vertex with the given id
 -- - `IsWritable count odd even entry`: the winner, the move and the number of counts of an entry fit the game, so its
 --   line can be written
--- - `IsWord n`, `HasWords ids c`: a number, or all numbers of a certificate, fit in 64 bits
+-- - `IsWord n`: the number n fits in 64 bits
+-- - `HasWords ids c`: the ids, their number, and the priorities and counts of c all fit in 64 bits
 -- - `text_in compact game c`: the text of certificate c: the first line, the number of vertices, the priorities, and a
 --   line for each vertex
 -- - `certificate_text`, `compact_text`: the plain text and the compact text of a certificate
@@ -82,7 +83,7 @@ certificate_text game certificate = text_in false game certificate
 abbrev pub compact_text : NamedGameData → CertificateData → List ℕ
 compact_text game certificate = text_in true game certificate
 
--- the ids of a game, their number, and the numbers of a certificate fit in 64 bits
+-- the ids of a game, the number of these ids, and the priorities and counts of a certificate all fit in 64 bits
 pub record HasWords (all : List ℕ) (certificate : CertificateData) : Type 0 where
   pub count : IsWord (length all)
   pub ids : All IsWord all

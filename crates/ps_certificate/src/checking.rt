@@ -101,9 +101,10 @@ fn unranked_through<A: Arena>(
 }
 
 /// Checks whether a certificate is valid: it is closed, and each edge that the winner's moves allow obeys the rule of
-/// counts. If the certificate is not valid, the error is its first flaw. The first flaw is the one that
-/// [`crate::closed`] returns, if there is one. Otherwise it is the first edge, of those that the winner's moves allow,
-/// that breaks the rule of counts, ordered by vertex, successor and priority. Allocates no memory.
+/// counts. If the certificate is not valid, the error is its first flaw. If the certificate is not closed, its first
+/// flaw is the one that [`crate::closed`] returns. If it is closed, its first flaw is the first edge, of those that the
+/// winner's moves allow, that breaks the rule of counts, ordered by vertex, successor and priority. Allocates no
+/// memory.
 ///
 /// # Errors
 ///

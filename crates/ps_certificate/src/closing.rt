@@ -40,7 +40,8 @@ fn has_right_move<A: Arena>(arena: &A, certificate: &Certificate, vertex: usize)
     }
 }
 
-/// The end of a vertex's first edge that the winner's moves allow and that leads to a vertex with the other winner.
+/// The successor to which a vertex's first escape leads. An escape is an edge that the winner's moves allow, but that
+/// leads to a vertex with the other winner.
 fn first_escape<A: Arena>(arena: &A, certificate: &Certificate, vertex: usize) -> Option<usize>
     requires { HasRightEntry (A.game arena.now) certificate.now vertex }
     ensures none { IfNone result (StaysInside (A.game arena.now) certificate.now vertex) }

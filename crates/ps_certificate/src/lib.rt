@@ -5,8 +5,8 @@
 //! if it is one of these moves, or if it leaves a vertex that the loser owns. The rule of counts is this: along an edge
 //! that the winner's moves allow, the count for a priority does not rise if neither end of the edge has a greater
 //! priority. The count for a priority p falls along an edge that the winner's moves allow, from a vertex of priority p
-//! to a vertex of priority at most p. The file docs/CERTIFICATES.md describes the format and the rule, for those who
-//! write another checker of certificates.
+//! to a vertex of priority at most p. The file docs/CERTIFICATES.md describes the format of certificates and the rule
+//! of counts, for those who write another checker of certificates.
 //!
 //! | Call | What it gives |
 //! |---|---|

@@ -51,8 +51,8 @@ fn pairs(
     Ok(())
 }
 
-/// Parses a pair. Returns the index of the pair's priority, and the pair's count; the priority must be greater than
-/// `last`.
+/// Parses a pair, whose priority must be greater than `last`. Returns the index of this priority in the list
+/// `priorities`, and the pair's count.
 fn pair(
     cursor: &mut Cursor,
     priorities: Rising<'_>,
@@ -71,7 +71,7 @@ fn pair(
     Ok((place, count))
 }
 
-/// Parses the priority of a pair, which must be greater than `last`. Returns its index.
+/// Parses the priority of a pair, which must be greater than `last`. Returns its index in the list `priorities`.
 fn priority(
     cursor: &mut Cursor,
     priorities: Rising<'_>,

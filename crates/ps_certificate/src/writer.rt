@@ -211,7 +211,8 @@ fn write_pair(out: &mut Vec<u8>, priority: u64, count: u64) -> Result<(), AllocE
     write_number(out, count)
 }
 
-/// Writes numbers, each after a space. Most of the numbers are counts of 0, so a run of zeros is written at once.
+/// Writes numbers, each after a space. Most of the numbers are counts of 0, so up to 40 successive zeros are written in
+/// one step.
 fn write_fields(out: &mut Vec<u8>, numbers: &[u64]) -> Result<(), AllocError>
     ensures bytes { OnOk result (out.new.items ≡ out.old.items ++ fields numbers.now) }
     ensures words { OnOk result (All IsWord numbers.now) }

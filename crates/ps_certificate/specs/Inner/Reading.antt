@@ -89,7 +89,8 @@ abbrev pub all_entries : Bool → List ℕ → List ℕ → List ℕ → Field C
 all_entries compact odd even ids = mapped (λ es. record { odd = odd; even = even; entries = es })
     (entries compact odd even ids ids)
 
--- parsing the remaining lines of the vertices gives the same result as parsing the text from its start
+-- if the lines before the vertices' lines were parsed, each result of parsing the vertices' lines is a result of
+-- parsing the whole text; otherwise the fault is the whole text's first error, or out of memory
 abbrev pub TellsHead : List ℕ → List ℕ → List ℕ → Stream Seen → Result Bool CertFault → Stream Seen → Type 0
 TellsHead odd even ids old (Ok compact) new = Carries causes (certificate odd even ids) old
     (all_entries compact odd even ids) new
