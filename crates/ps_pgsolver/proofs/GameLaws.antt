@@ -1,5 +1,5 @@
--- The grammar of a whole game text obeys the grammar laws of the crate `ps_text`, which state what can follow each
--- node, and what can follow the last one.
+-- The grammar of a whole game text obeys the grammar laws of the crate `ps_text`. By these laws, nothing can extend a
+-- node's text, and only a number, with which another node begins, can extend a game text.
 use Rattle.std.proofs.Common.{◌≡◌, ℕ, cond, List, [], Option, None, Some, refl, ap, arith, rules}
 use Rattle.std.proofs.lemmas.Slice.Eq.{bytes_eq-Decides}
 use Rattle.std.proofs.lemmas.Bool.{cases_Bool}

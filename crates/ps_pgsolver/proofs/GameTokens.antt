@@ -265,6 +265,6 @@ lexed (suc k) before w l = step before w (λ before' w' m. lexed k before' w' (o
 pub tokens_found : (text : List ℕ) → AreGameTokens text (stream_of text)
 tokens_found text = (lexed (suc (length text)) [] text (omega arith), refl)
 
--- any list that is specified as the tokens of a text equals the list that the lexer produces
+-- any list that meets the specification of a text's tokens (`AreGameTokens`) equals the list that the lexer produces
 pub only_tokens : (text : List ℕ) (s : Stream Sign) → AreGameTokens text s → s ≡ stream_of text
 only_tokens text s h = search (rules, has_one_tokenisation, tokens_differ, tokens_found)

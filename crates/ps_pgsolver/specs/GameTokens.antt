@@ -1,7 +1,8 @@
 -- The tokens of a game text, as a relation between the text's bytes and a list of tokens with offsets.
 -- - `IsByteRun p text rest`: `text` is a run of bytes that pass the test p, and `rest` does not begin with such a byte
 -- - `IsToken before sign text rest`: the bytes `text`, between the bytes `before` and `rest`, are the token `sign`
--- - `AreGameTokens text stream`: the list `stream` has the tokens of the whole text, which have blanks between them
+-- - `AreGameTokens text stream`: the list `stream` has the tokens of the whole text, in which any number of blanks may
+--   stand before, between and after the tokens
 --
 -- A number is a longest run of digits, a word is a longest run of letters, and a name is between quotes. Some tokens
 -- are never allowed: a word directly after a number, a number directly after a word, a name without its closing quote,

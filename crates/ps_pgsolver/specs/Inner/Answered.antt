@@ -27,7 +27,7 @@ ReadsKnown Knows view part old result new =
     IfOk result (λ x. (ids : List ℕ) → Knows ids (view x) → WasRead (part (Some ids)) old (view x) new)
 
 -- One more item is parsed, so that the list `before` grows to `after`. If a list of known ids contains all successors
--- in `after`, it contains all those in `before`, and parsing the item with these known ids gives `after`, too
+-- in `after`, it contains all those in `before`, and parsing the same item with these known ids gives `after` again.
 abbrev pub AddsKnown : {V X : Type 0} → (List ℕ → V → Type 0) → V → V → (Option (List ℕ) → Part Sign V PgCause) →
     Stream Sign → Result X PgFault → Stream Sign → Type 0
 AddsKnown Knows before after part old result new =
