@@ -1,6 +1,6 @@
--- Outside the target, let each move of the player and each edge of the other player within the subgame lead from a set
--- to a smaller rank in the set (`Falls`). Then the set is contained in every set that is closed under attraction to the
--- target.
+-- Let the vertices of a set, which is in the subgame, have ranks. Outside the target, let each move of the player, and
+-- each edge of the other player within the subgame, lead from the set to a vertex of the set with a smaller rank
+-- (`Falls`). Then the set is contained in every set that is closed under attraction to the target.
 use Rattle.std.proofs.Common.{◌≡◌, ℕ, zero, suc, ◌<◌, Bool, Option, IsSomeAnd, rules, IsTrue, refl, arith}
 use Rattle.std.proofs.lemmas.Bool.{cases_eq, false≢true}
 use Rattle.ps_game.specs.Games.{ParityGame}

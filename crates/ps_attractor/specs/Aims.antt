@@ -1,5 +1,6 @@
--- An attractor computation: the tables with which it starts, and its result, the attractor to the vertices of the
--- worklist from index `aim.begin` on. A vertex with the level `aim.free` is in the subgame and not yet attracted.
+-- An attractor computation: the tables with which it starts, and its result, the attractor to the target. At the start,
+-- the worklist has exactly the target's vertices from index `aim.begin` on. A vertex with the level `aim.free` is in
+-- the subgame and not yet attracted.
 use Rattle.std.specs.Prelude.{◌≡◌, ◌≢◌, ℕ, ◌<◌, ◌≤◌, ◌⊎◌, length, drop, Option, Bool, IsTrue, slice_index}
 use Rattle.ps_game.specs.Games.{ParityGame, vertex_count}
 use Rattle.ps_game.specs.Subgames.{IsWithin, LeadsInto, IsSubgame}

@@ -19,7 +19,8 @@ pub record HasVertex (game : ParityGame) (tables : TablesData) (v : ℕ) : Type 
   pub fits : FitsGame game tables
   pub vertex : v < vertex_count game
 
--- the edge from v to the attracted vertex w can be examined: the tables are ready, and both are vertices of the game
+-- the edge from v to the attracted vertex w can be examined: `IsReady` holds for the tables, and v and w are vertices
+-- of the game
 pub record CanLook (game : ParityGame) (limit : ℕ) (aim : Aim) (tables : TablesData) (v w : ℕ) : Type 0 where
   pub ready : IsReady game limit aim tables
   pub vertex : v < vertex_count game
