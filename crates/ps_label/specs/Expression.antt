@@ -30,7 +30,7 @@ abbrev mutual
   operands end_of-Label = last
   operands (more_of-Label l row) = more (expression l) (operands row)
 
--- the operands of a conjunction or disjunction, from a list of expressions
+-- a list of expressions as the operands of a conjunction or disjunction
 abbrev pub operands_in : List Expression → Operands
 operands_in [] = last
 operands_in (e ∷ es) = more e (operands_in es)
