@@ -1,5 +1,6 @@
--- Each line of an AIGER text adds defining literals and used literals. If all used literals are defined, the lines form
--- a circuit, except that a gate may depend on itself.
+-- The line of an input, latch, output or gate appends the literals that it defines, and the literals that it uses, to
+-- those of the earlier lines. If all used literals are defined, the lines form a circuit, except that a gate may depend
+-- on itself.
 -- - `Lined kind most before read d`: the lines d of one kind append their defining literals to `before` and their used
 --   literals to `read`; no variable is defined twice or is above `most`
 -- - `gates_placed`: for each gate of a parsed text, the offset of its line is recorded

@@ -79,7 +79,8 @@ reads_on : {A : Type 0} {P : Field A} {Q : A → Field DraftData} {First More : 
     {next : Stream Seen} → ReadsPart P now a next → Reached start next (Q a)
 reads_on j {now = now} r a {next} m = grind (arith, past j r.left m, length-append m.0.taken next.pieces)
 
--- the numbers of the first line, with `most` as the greatest variable; the parser's code stores this variable as `most`
+-- the numbers d of the first line, except that `most`, the number that the parser's code stores, replaces the greatest
+-- variable
 abbrev pub numbers : ℕ → HeaderData → HeaderData
 numbers most d = record { most = most; inputs = d.inputs; latches = d.latches; outputs = d.outputs; gates = d.gates }
 

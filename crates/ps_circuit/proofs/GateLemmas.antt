@@ -110,8 +110,8 @@ sound-more {d} {s} is room sides none = record {
 pub drafted_are : (a b : Drafted) → a.given ≡ b.given → a.gates ≡ b.gates → a ≡ b
 drafted_are a b e f = ap₂ (λ n g. record { given = n; gates = g }) e f
 
--- the builder's new gates are well formed, include each old gate with its old variable, and have the gate `s` at the
--- index `place`
+-- after a call, the builder's gates are well formed, include each earlier gate with the same variable, and have the
+-- gate `s` at the index `place`
 pub record Placed (old new : Drafted) (s : Sides) (place : ℕ) : Type 0 where
   pub sound : IsSoundDraft new
   pub extends : Extends old new

@@ -67,7 +67,7 @@ gate_first {d} {e} s x k lt within =
 place_within : (d : Drafted) (s : Sides) → place_of d s ≤ length d.gates
 place_within d s = search (rules, bool_cases, present_place, absent_place)
 
--- making a gate finds the first existing gate with the same two literals
+-- if a gate with the same two literals exists, making a gate adds none, and returns the literal of the first such gate
 pub gate-found : (e : Drafted) {s : Sides} (place : ℕ) → slice_get e.gates place ≡ Some s →
     ((k : ℕ) → k < place → has_sides s (get_or e.gates k s) ≡ false) →
     gate_of e s ≡ record { draft = e; literal = 2 * (e.given + 1 + place) }

@@ -23,7 +23,7 @@ module _ (R : ℕ → ℕ → Type 0) (n : ℕ) (falls : (i j : ℕ) → R i j �
   there i lt = slice_get-get_or (range_with_len 0 n) i 0 (omega (arith, length-range_with_len 0 n))
       ∙ ap Some (omega (arith, get_or-range_with_len 0 n i 0 lt))
 
-  -- the numbers from 0 on are an order of the gates
+  -- the indices less than n, in ascending order, are an order in which each gate comes after the gates that it reads
   pub order-of_numbers : IsOrder R n (range_with_len 0 n)
   order-of_numbers = record {
     within = λ k i h. omega (arith, here k i h);

@@ -1,6 +1,6 @@
 -- If a part of the AIGER grammar finds no error in a text, the value that it parses from the text has the property
--- `Good` that a lemma states. Whether a text has an error also depends on the bytes after it, so each byte is given
--- together with the bytes that follow it (`Placed`).
+-- `Good` that a lemma states. Whether a byte is an error also depends on the bytes after it, so each byte has a list
+-- of the bytes after it. `Placed` states that these lists are right.
 -- - `Safe part Good`: a value that is parsed without an error has the property `Good`, whatever follows
 -- - `Followed part Good`: a value that is parsed without an error has the property `Good` if a space, a tab, a newline
 --   or the end follows
@@ -25,7 +25,7 @@ use Rattle.ps_circuit.specs.Inner.Reading.{Grown, none, more}
 use Rattle.ps_circuit.proofs.CircuitParts.{Lawful}
 use Rattle.ps_circuit.proofs.SignLaws.{Separates, separates_digit}
 
--- each byte of the list is given with the bytes that follow it
+-- each byte of the text has, in the field `behind`, the list of the bytes that follow it
 abbrev pub Placed : List Seen → Type 0
 Placed [] = Unit {0}
 Placed (s ∷ signs) = (s.behind ≡ bytes_of signs) × Placed signs

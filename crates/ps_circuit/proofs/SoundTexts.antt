@@ -154,7 +154,8 @@ safe_header = safe_then safe_any (λ _ _. safe_before (followed_field WrongMost)
       | inr more ↦ absurd (right Literal (more, refl))
     ]
 
--- the result of parsing is well formed if the offset of each gate's line is recorded
+-- if the offset of each gate's line is recorded, `IsSoundDraft` holds: if all used literals are defined, the parsed
+-- parts form a circuit, except that a gate may depend on itself
 abbrev IsSoundIfPlaced : DraftData → Type 0
 IsSoundIfPlaced d = length d.starts ≡ length d.circuit.gates → IsSoundDraft d
 

@@ -45,7 +45,7 @@ use Rattle.ps_circuit.proofs.CircuitTextLaws.{chain_number, chain_space, chain_n
 use Rattle.ps_circuit.proofs.SignLaws.{AtKind}
 use Rattle.ps_circuit.proofs.NumberLemmas.{number_any}
 
--- the bytes that are given together with the next byte are those that follow it in the text
+-- the list `behind` of the next byte has the bytes that follow this byte in the text
 behind_is : {old new : Stream Seen} {t : Seen} (at : ℕ) {bytes : List ℕ} → IsAhead old → next_of old ≡ Some t →
     new ≡ tail old → new.pieces ≡ pieces_at at bytes → t.behind ≡ bytes
 behind_is {old} {t} at {bytes} x n e k = go x.1 x.2

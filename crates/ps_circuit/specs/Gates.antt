@@ -60,9 +60,9 @@ mux_of d s high low =
     else chosen_of d s high low
 
 -- What a call of a builder ensures. If the number of gates were unlimited, the builder would have the gates of `all`
--- after the call, and the call would return the literal of `all`. If the call succeeds, the builder has these gates,
--- and the call returns this literal. If the variables' values v satisfy the equations of the gates, the literal has the
--- value `value v`.
+-- after the call, and the call would return the literal of `all`. If the call succeeds, the builder has the gates of
+-- `all`, and the call returns the literal of `all`. If the variables' values v satisfy the equations of the gates, this
+-- literal has the value `value v`.
 pub record MakesGates (old new : Drafted) (result : Result ℕ EncodeFault) (all : Made) (value : (ℕ → Bool) → Bool)
     (Needs : Type 0) : Type 0 where
   -- the existing gates remain, even if the call fails

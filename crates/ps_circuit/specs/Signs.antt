@@ -21,7 +21,7 @@ Field V = Part Seen V AigCause
 abbrev pub number_at : ℕ → List ℕ → Number
 number_at at digits = record { value = decimal_value digits; offset = at }
 
--- the grammar of a number of any size; its value includes the offset of its first digit
+-- the grammar of a number of any size, which gives the number and the offset of its first digit
 unfoldable pub number : (ℕ → AigCause → Type 0) → Field Number
 number Wrong = run is_digit number_at (λ digits f. Wrong (decimal_value digits) f)
 

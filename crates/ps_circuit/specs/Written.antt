@@ -34,8 +34,8 @@ abbrev pub symbol_line : ℕ → ℕ → Option (List ℕ) → List ℕ
 symbol_line letter k None = []
 symbol_line letter k (Some name) = letter ∷ decimal k ++ 32 ∷ name ++ 10 ∷ []
 
--- a line of the symbol table for each name in a list of optional names, the first of which belongs to the input, latch
--- or output with the number k
+-- a line of the symbol table for each name in a list of optional names; the first entry of the list belongs to the
+-- input, latch or output with the number k
 abbrev pub symbol_lines : ℕ → ℕ → List (Option (List ℕ)) → List ℕ
 symbol_lines letter k [] = []
 symbol_lines letter k (n ∷ ns) = symbol_line letter k n ++ symbol_lines letter (k + 1) ns

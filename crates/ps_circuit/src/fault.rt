@@ -5,8 +5,8 @@ ghost use Rattle.ps_circuit.specs.Causes.{cause_number};
 
 use ps_text::faults::{Cause, Fault};
 
-/// What is wrong with the AIGER text of a circuit. Most descriptions name in brackets a section of the AIGER 1.9 format
-/// description. The last two errors, `UnsetLatch` and `Sections`, are limits of psyn: AIGER allows such texts.
+/// What is wrong with the AIGER text of a circuit. For most errors, sections of the AIGER 1.9 format description are
+/// named in parentheses. The last two errors, `UnsetLatch` and `Sections`, are limits of psyn: AIGER allows such texts.
 #[derive(Clone, Copy, Debug, PartialEq, Eq)]
 pub enum AigCause {
     /// A byte is not allowed at its position, or the text ends too early. The error also stands for a symbol of an
@@ -22,8 +22,8 @@ pub enum AigCause {
     Undefined,
     /// A gate depends on itself (AIGER 1.9: and-gates).
     Cyclic,
-    /// A latch has no first value, since its own literal is its reset (AIGER 1.9: reset logic). psyn rejects such a
-    /// latch, because psyn runs circuits and needs first values.
+    /// A latch's reset is the latch's own literal, so the latch has no first value (AIGER 1.9: reset logic). psyn
+    /// rejects such a latch, because psyn runs circuits and needs first values.
     UnsetLatch,
     /// One of the counts B, C, J and F of the header is not 0, so the text has a section of bad states, constraints,
     /// justice or fairness. Only psyn, not AIGER, requires the sections of bad states, constraints, justice and

@@ -41,8 +41,8 @@ fn variables_of(alloc: Global, gates: &[Gate]) -> Result<Ids, AllocError>
     Ok(variables)
 }
 
-/// For each gate, the indices of the gates whose variables its literals have. A gate's index is the index of its
-/// variable in the list `variables`.
+/// For each gate, the indices of the gates that it reads. A gate's index is the index of its variable in the list
+/// `variables`.
 fn links_to(alloc: Global, gates: &[Gate], variables: &Ids) -> Result<Vec<Links>, AllocError>
     ensures { IfOk result (λ links. links.items ≡ links_by (place_in variables.now) gates.now) }
 {

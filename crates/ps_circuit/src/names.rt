@@ -29,8 +29,8 @@ pub struct Names {
 }
 
 impl Names {
-    /// The names before any line of the symbol table is read: a place without a name for each input, latch and output.
-    /// Fails if out of memory.
+    /// The names before any line of the symbol table is read: each input, latch and output has the entry `None`. Fails
+    /// if out of memory.
     pub fn none(
         alloc: Global,
         inputs: usize,
@@ -48,7 +48,7 @@ impl Names {
     }
 }
 
-/// A list of `count` items, none of which is a name.
+/// A list of `count` optional names, all of which are missing.
 fn no_names(alloc: Global, count: usize) -> Result<Vec<Option<Vec<u8>>>, AllocError>
     ensures each { IfOk result (λ names. vec_len names ≡ count) }
     ensures none { IfOk result (λ names. map name_bytes names.items ≡ replicate count None) }
@@ -65,8 +65,7 @@ fn no_names(alloc: Global, count: usize) -> Result<Vec<Option<Vec<u8>>>, AllocEr
 /// # Errors
 ///
 /// [`AigCause::Syntax`] at the first byte that is not allowed in a line of the symbol table, or at the letter of a
-/// symbol. A symbol's letter is rejected if the input, latch or output does not exist or already has a name. Fails if
-/// out of memory.
+/// symbol whose input, latch or output does not exist or already has a name. Fails if out of memory.
 pub fn symbols(alloc: Global, cursor: &mut Cursor, names: &mut Names) -> Result<(), AigFault>
     requires { AreNames names.old (vec_len names.old.inputs) (vec_len names.old.latches) (vec_len names.old.outputs) }
     ensures exact { Tells (λ _. names_data names.new) (many parts.symbol_line (names_data names.old)) cursor.old

@@ -2,8 +2,8 @@
 -- circuit.
 -- - `IsWritable`: a well-formed circuit that may have cycles, with fewer than 2^64 inputs, latches, outputs and gates
 -- - `reread_header`: parsing the first line gives the numbers that were written
--- - `IsNew kind most d x`: the input, latch, output or gate x can follow the lines d without an error: if x defines a
---   variable, no earlier line defines it, and no literal of x is wrong
+-- - `IsNew kind most d x`: the input, latch, output or gate x can follow the lines d without an error, if `most` is the
+--   greatest variable
 -- - `reread_input`, `reread_latch`, `reread_output`, `reread_gate`: parsing a line of each kind gives the item that was
 --   written
 use Rattle.std.proofs.Common.{◌≡◌, ℕ, ◌^◌, ◌<◌, ◌≤◌, Bool, true, false, if◌then◌else◌, List, [], ◌∷◌, ◌++◌, rules}
@@ -124,9 +124,9 @@ reread_reset true latch {rest} two = reread_then (chain_reset latch) (reread_mor
 
 -- ## Lines
 
--- The input, latch, output or gate x can follow the lines d without an error. Its own literal, if it has one, is not
--- negated, constant or too large, and no earlier line defines the variable of this literal. The literals that x uses
--- are not too large.
+-- The input, latch, output or gate x can follow the lines d without an error. If x is an input, a latch or a gate, its
+-- own literal is not negated, constant or too large, and no earlier line defines the variable of this literal. The
+-- literals that x uses are not too large.
 pub record IsNew {X : Type 0} (kind : LineKind X) (most : ℕ) (d : Lines X) (x : X) : Type 0 where
   pub definitions : All (λ l. (2 ≤ l) × IsGood (WrongDefinition most d.defined) l) (kind.defines (x ∷ []))
   pub literals : All (IsGood (WrongLiteral most)) (kind.reads (x ∷ []))

@@ -1,7 +1,9 @@
--- The contracts of the AIGER parser's private functions, in terms of the bytes that these functions move past.
--- - `Tells view part old result new`: either the function parsed the grammar's part `part`, or its result is this
---   part's first error
--- - `TellsNumber old result new`: either the function moved past a number, or no number begins at the cursor
+-- The contracts of the AIGER parser's private functions, in terms of the bytes that these functions move past. `old` is
+-- what is unread before the call of a function, and `new` is what is unread after it.
+-- - `Tells view part old result new`: the function parsed the grammar's part `part`, and `view` maps its result to the
+--   value of this part; or its result is the part's first error, or out of memory
+-- - `TellsNumber old result new`: the function moved past a number, which is its result; or `old` does not begin with a
+--   digit, and the result is an error
 use Rattle.std.specs.Prelude.{◌≡◌, ℕ, ◌-◌, ◌^◌, ◌<◌, List, [], length, Result, Ok, Err, min}
 use Rattle.ps_text.specs.Answers.{Stream}
 use Rattle.ps_text.specs.Readers.{Meets}
@@ -16,7 +18,7 @@ use Rattle.ps_circuit.specs.Causes.{AigFault}
 use Rattle.ps_text.specs.declared.faults.Fault.TheVariants.{Text}
 
 -- either the function parsed a part of the grammar, starting at `old` and ending at `new`, or its result is the first
--- error of this part
+-- error of this part or out of memory
 abbrev pub Tells : {V X : Type 0} → (X → V) → Field V → Stream Seen → Result X AigFault → Stream Seen → Type 0
 Tells view part old result new = Meets found_of aig_causes view part old result new
 

@@ -7,7 +7,8 @@
 --   parsed parts, was successful or returned its fault
 -- - `AddsInput`, `AddsLatch`, `AddsOutput`, `AddsGate`: one more line was read, of an input, a latch, an output or a
 --   gate
--- - `IsRow`: lines of one kind (of inputs, latches, outputs or gates) are read one after another
+-- - `IsRow line`: to read lines of one kind (of inputs, latches, outputs or gates) is to read one line, which has at
+--   least one byte, and then the remaining lines
 -- - `Grown Adds c d`: c is what was read up to some line, and d is what was read after any number of further lines
 use Rattle.std.specs.Prelude.{◌≡◌, ◌≢◌, ℕ, ◌-◌, ◌<◌, ◌⊎◌, Bool, List, [], ◌∷◌, ◌++◌, slice_index_or, slice_get, length}
 use Rattle.std.specs.Prelude.{map, All, AllPairs, Contains, Option, None, Some, Result, Ok, Err}
