@@ -150,8 +150,8 @@ module _ {g : Digraph} {statuses : List Status} {active bounds : List ℕ} {pend
   there_too : (i : ℕ) (e : Pending) → slice_get pending i ≡ Some e → slice_get (pending ++ but.skipped) i ≡ Some e
   there_too i e h = slice_get-append_left pending but.skipped i e h
 
-  -- a pending link was pending before and starts at an earlier index of the search path, or it is a link of the new
-  -- vertex
+  -- a pending link is a link of the new vertex, or it was pending before and starts before the new vertex on the search
+  -- path
   entry_cases : (i : ℕ) (e : Pending) → slice_get pending' i ≡ Some e →
       ((slice_get pending i ≡ Some e) × (i < length pending) × (e.from < place))
       ⊎ ((length pending ≤ i) × (e.from ≡ place) × Link g item e.to)

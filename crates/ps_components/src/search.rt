@@ -72,8 +72,9 @@ impl Search {
         self.order.clear();
     }
 
-    /// Starts a new search, which visits the given roots and all vertices reachable from the roots. The statuses of the
-    /// vertices that were visited before, which `order` lists, are reset first. Fails if out of memory.
+    /// Starts a new search, which visits the given roots and all vertices reachable from the roots. First, each vertex
+    /// that the previous search visited gets the status `Unseen`; the list `order` has these vertices. Fails if out of
+    /// memory.
     pub fn again<G: Graph>(&mut self, graph: &G, roots: &[usize]) -> Result<(), AllocError>
         requires listed { AreListed self.old.statuses self.old.order.items }
         requires within { All (λ v. v < (G.graph graph.now).count) roots.now }
