@@ -74,8 +74,8 @@ impl<'a, A: Arena> Plan<'a, A> {
         }
     }
 
-    /// Lowers the value of a vertex to the value that follows from the choice of the vertex's owner, if that value is
-    /// less. Returns whether the vertex's value was lowered. Fails if out of memory.
+    /// Lowers the value of a vertex to the value computed from the choice of the vertex's owner, if that value is less.
+    /// Returns whether the vertex's value was lowered. Fails if out of memory.
     pub fn lower(&mut self, vertex: usize, fuel: &mut Fuel) -> Result<bool, AllocError>
         requires { vertex < length self.old.rows.items }
         ensures { length self.new.rows.items ≡ length self.old.rows.items }
@@ -89,7 +89,7 @@ impl<'a, A: Arena> Plan<'a, A> {
         Ok(true)
     }
 
-    /// The row of a vertex that follows from the choice of the vertex's owner, if this row is worth less than the
+    /// The new row of a vertex, computed from the choice of the vertex's owner, if this row is worth less than the
     /// vertex's present value. Fails if out of memory.
     fn lower_row(&self, vertex: usize, fuel: &mut Fuel) -> Result<Option<Row>, AllocError>
         requires { vertex < length self.now.rows.items }

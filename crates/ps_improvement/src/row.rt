@@ -14,7 +14,7 @@ pub struct Cell {
 }
 
 /// The priorities that a play meets before it stops, in descending order, each with the number of times that the play
-/// meets it. No count in a row is 0.
+/// meets it. Each `count` is at least 1.
 pub type Row = Vec<Cell>;
 
 /// The value of a play for player 0.

@@ -75,8 +75,9 @@ impl<'a, A: Arena> Settling<'a, A> {
         Ok(false)
     }
 
-    /// Computes the values of the vertices of the current component, given the present choices of the players. All
-    /// values are endless at first, and are lowered until none changes or the fuel is spent. Fails if out of memory.
+    /// Computes the values of the vertices of the current component, given the present choices of the players. At
+    /// first, each of these vertices has the value of an endless play. Values are lowered until none changes or the
+    /// fuel is spent. Fails if out of memory.
     fn evaluate(&mut self, fuel: &mut Fuel) -> Result<(), AllocError>
         ensures { self.new.ground ≡ self.old.ground }
     {
