@@ -4,8 +4,8 @@
 -- - `laws_first`: the laws of a grammar of one symbol, if a given set has each symbol that is accepted or is an error
 -- - `laws_forms`: a choice between two grammars satisfies the laws, if neither has an empty text and they begin with
 --   different symbols
--- - `laws_option`: a grammar or nothing satisfies the laws, if the grammar has no empty text and no symbol continues
---   its texts
+-- - `laws_option`: `either P (give v)` (an optional P) satisfies the laws, if P has no empty text and no symbol
+--   continues a text of P
 -- - `laws_all`, `laws_times_all`: the grammar of any number of items, or of a given number of items, satisfies the
 --   laws, if no item is empty and no symbol continues an item
 -- - `laws_last`: a grammar and the grammar after it satisfy `Laws` together if no symbol both continues the first and

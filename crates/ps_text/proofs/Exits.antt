@@ -1,15 +1,19 @@
 -- What a parsing function returns at each of its exits. The contract of a parsing function is `Meets found causes view
--- part old result new`: a `Reads` for an Ok, and a `Stops` for an Err. The functions that a parsing function calls have
--- such contracts, too; the proofs use them as `c.call.ensures` and `c.in_err-call.ensures`.
+-- part old result new`: a `Reads` for an Ok, and a `Stops` for an Err. The proofs use the contracts of the called
+-- functions as `c.call.ensures`; for a call with `?`, as `c.in_ok-call.ensures` if the call succeeds, and as
+-- `c.in_err-call.ensures` if it fails.
 -- - `reads_then j m n`: the first call parsed its grammar (m), and the other calls parsed the rest (n)
 -- - `stops_first causes j old o s`: the first call failed, so the function fails
 -- - `stops_behind causes j m o s`: the first call parsed its grammar, and a later call failed
 -- - `reads_next`, `stops_bad`, `stops_refusal`: the exits of a function that parses one symbol: the symbol is accepted;
 --   it is an error; it is not allowed, or the text ends
--- - `reads_give`, `reads_mapped`, `stops_mapped`: the exits if no symbol was taken, and if a function is applied to the
---   value of a parsed grammar
--- - `exits found causes view part old new e r s c`: the exit of a `?`, which returns the error e as the result r
--- - `then_meets`: the exit at which the result of the last call is returned unchanged
+-- - `reads_give`: if no symbol was taken, `give v` was parsed
+-- - `reads_mapped`, `stops_mapped`: if P was parsed, `mapped h P` was parsed; if P failed, `mapped h P` fails with the
+--   same error
+-- - `exits found causes view part old new e r s c`: if a `?` returns the error e of a failed parse as the result r, the
+--   contract of the function is met
+-- - `then_meets`: a function that parses P, and then returns the result of its call for Q unchanged, meets the contract
+--   for `then_by P Q`
 -- - `carries_start`, `carries_then`, `carries_reads`, `carries_stops`: the invariant `Carries` of a parsing loop holds
 --   at the start and after a grammar was parsed; at the loop's exits, it gives the result of parsing the whole
 --

@@ -1,7 +1,7 @@
 -- A grammar and the grammar after it satisfy `Laws` together, with smaller sets of symbols than in `laws_then`.
--- - `laws_next`: the laws hold if neither grammar has an empty text, and no symbol both continues a text of the first
---   and begins a text of the second
--- - `laws_tight`: the laws hold if the first grammar has no empty text, and no symbol continues a text of it
+-- - `laws_next`: `then_by P Q` satisfies the laws, if neither P nor Q has an empty text, and no symbol both continues a
+--   text of P and begins a text of Q
+-- - `laws_tight`: `then_by P Q` satisfies the laws, if P has no empty text and no symbol continues a text of P
 use Rattle.std.proofs.Common.{arith}
 use Rattle.ps_text.specs.Parts.{Part, then_by}
 use Rattle.ps_text.proofs.Laws.{Laws, Nothing, Or, When, Apart, weaker}

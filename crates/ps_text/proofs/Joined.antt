@@ -83,8 +83,8 @@ module _ {T A B F : Type 0} {P : Part T A F} {Q : A → Part T B F} (j : Joint P
           stops_at P front (ap first_of f) s (begins_on P.IsText front m t (rw e at (text_begins P.IsText k.is_left)))
       go (longer t m e f) = not_inside m k.is_left begun e (text_begins (Q k.value).IsText k.is_right) f
 
-  -- if the symbols `front` begin a text of P, and Q, after a text of P, has an error at the symbol after them, this
-  -- text of P is all of `front`
+  -- if `front` begins a text of P, and Q has an error at the next symbol, then Q begins at this symbol: the text of P
+  -- before Q is all of `front`
   no_behind : (front : List T) (t : T) (f : F) → Begins P.IsText front →
       ((a : A) → P.IsText front a → (Q a).IsCause [] t f → ⊥) → IsBehind P.IsText (λ a. (Q a).IsCause) front t f → ⊥
   no_behind front t f begun none k = go k.right k.split k.is_cause

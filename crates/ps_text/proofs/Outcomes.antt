@@ -3,10 +3,12 @@
 -- error of a symbol has the smallest number, or that the symbol has no error.
 -- - `has_give` to `has_barred`: one lemma for each combinator: a grammar that the combinator makes has an outcome
 --   for each list of symbols
--- - `entered_or_broken`: the next symbol begins a grammar without an empty text, or the grammar rejects the symbol
+-- - `entered_or_broken`: if P has no empty text, the next symbol begins a text of P or is an error of P, or else P
+--   rejects this symbol or the end of the text
 -- - `has_refusal`: if the next symbol does not begin the grammar, which has no empty text, the outcome is a fault at
 --   this symbol
--- - `some_answer`: each text has an answer; `some_answer_of` has the premises of the law `some_answer` of ps_text
+-- - `some_answer`: each text has an answer, if the grammar satisfies `Laws` and has outcomes
+-- - `some_answer_of`: each text has an answer, under the premises of the law `some_answer` (src/answers.rt)
 use Rattle.std.proofs.Common.{◌≡◌, ℕ, zero, suc, ◌<◌, ◌≤◌, ◌⊎◌, List, [], ◌∷◌, ◌++◌, length, Option, None, Some, Result}
 use Rattle.std.proofs.Common.{Ok, Err, refl, sym, ap, subst, inl, inr, ◌∙◌, arith, rules}
 use Rattle.ps_text.specs.Answers.{Begins, Piece, Stream, Found, HasOneMeaning, first_of, signs, offset_of}

@@ -1,5 +1,5 @@
--- Grammars made by the combinators `give`, `one` and `mapped`: they satisfy the laws (`Laws`), and the lemmas state
--- when they are parsed and when they fail. Grammars made by `then_by` satisfy the laws, too.
+-- Grammars made by the combinators `give`, `one` and `mapped`: lemmas state when they are parsed and when they fail.
+-- Grammars made by these combinators or by `then_by` satisfy the laws (`Laws`).
 -- - `laws_give`, `laws_one`, `laws_mapped`, `laws_then`: a grammar that one of these combinators makes satisfies the
 --   laws; for `then_by`, no symbol may both continue the first grammar and begin the second
 -- - `refused`: the fault of a grammar without an empty text, if the next symbol does not begin the grammar

@@ -80,9 +80,9 @@ pub record IsByteRun {V : Type 0} (p : ℕ → Bool) (see : ℕ → List ℕ →
   pub all : AllOf p (bytes_of text)
   pub value : v ≡ see (first_at text) (bytes_of text)
 
--- A run is a sequence of bytes of one class, as long as possible. `see` computes the value of a run from the run's
--- offset and its bytes. Bad states which errors a run can have. An error of a run is reported at the run's first byte,
--- whatever follows the run.
+-- A run consists of at least one byte; all its bytes pass the test p, and the byte after it, if there is one, does not.
+-- `see` computes the value of a run from the run's offset and its bytes. Bad states which errors a run can have. An
+-- error of a run is reported at the run's first byte, whatever follows the run.
 abbrev pub run : {V C : Type 0} → (ℕ → Bool) → (ℕ → List ℕ → V) → (List ℕ → C → Type 0) → Part Seen V C
 run p see Bad = record { IsText = IsByteRun p see; IsCause = λ front s f. (front ≡ []) × IsBadRun p Bad s f }
 

@@ -51,9 +51,9 @@ abbrev pub refusal_of : {T F : Type 0} → Causes T F → Option T → F
 refusal_of causes None = causes.syntax
 refusal_of causes (Some t) = unwrap_or (causes.own t) causes.syntax
 
--- After the symbols `front`, f is an error at the next symbol or at the end. In one case, f is an error of the grammar
--- (IsCause). In another case, the next symbol is the error f wherever it occurs. In the last case, f is the error for a
--- symbol, or an end, that is not allowed.
+-- After the symbols `front`, f is an error at the next symbol or at the end. There are three cases: f is an error of
+-- the grammar (IsCause); the next symbol is the error f wherever it occurs; or f is `syntax`, and the grammar does not
+-- allow this symbol or the end.
 pub data IsWrong {T V F : Type 0} (causes : Causes T F) (part : Part T V F) (front : List T) (there : Option T)
     (f : F) : Type 0 where
   by_part : (t : T) → there ≡ Some t → part.IsCause front t f → IsWrong causes part front there f

@@ -1,10 +1,9 @@
 -- Grammars over bytes that satisfy the laws (`Laws`) and have an outcome for each list of symbols; `Lawful` states
--- both. A grammar that a combinator makes from such grammars satisfies `Lawful`, too, under the conditions of the
--- combinator's lemma.
+-- both. A grammar made by a combinator satisfies `Lawful` if its parts do, under the conditions of the combinator's
+-- lemma.
 -- - `Lawful number syntax part First More Null`: the grammar satisfies the laws with the sets First and More and the
 --   condition Null, and has an outcome for each list of symbols
--- - `Chain number syntax P Q First More Null`: the grammars P and Q, one after the other, satisfy `Joint`, and `then_by
---   P Q` satisfies `Lawful`
+-- - `Chain number syntax P Q First More Null`: `Joint P Q` holds, and `then_by P Q` satisfies `Lawful`
 -- - `larger`: `Lawful` still holds with larger sets of symbols
 -- - `chained`, `next`, `tight`: `Chain` holds if no symbol both continues a text of P and begins a text of Q. The lemma
 --   `next` requires that neither grammar has an empty text; the lemma `tight` requires that P has no empty text, and

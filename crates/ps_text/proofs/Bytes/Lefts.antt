@@ -3,7 +3,7 @@
 --   parsing `whole` from `start`
 -- - `unread`, `past`: at the start, the whole grammar is still to be parsed; after the first of two grammars was
 --   parsed, the second one is still to be parsed
--- - `stops_at`, `exits_at`: the next grammar fails, and its error is returned
+-- - `stops_at`, `exits_at`: if the next grammar fails, the whole grammar fails with the same error
 -- - `stops_last`, `exits_last`, `reads_last`: the results if only one grammar is left, and a function is applied to its
 --   value
 -- - `branch`: if the next symbol decides for one of several alternatives, only this alternative is left

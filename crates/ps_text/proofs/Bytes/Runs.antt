@@ -1,6 +1,6 @@
 -- Grammars of runs of bytes satisfy the laws (`Laws`). A run without an error is parsed; a run with an error, or
 -- without any byte, is a fault.
--- - `laws_run`: a run begins and continues with bytes that pass
+-- - `laws_run`: the grammar of runs satisfies the laws: a run begins and continues with bytes that pass the test
 -- - `bad_is`: an error that the grammar has at the first symbol of a run is an error of this whole run
 -- - `run_read`: a run without an error is parsed, if the byte after it does not pass the test
 -- - `run_reads`, `run_bad`, `run_stops`: the result after the parser moved past a run without an error, past a run with
