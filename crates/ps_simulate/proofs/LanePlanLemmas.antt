@@ -153,7 +153,8 @@ rows_more rows places gates first second front k lt in_order at_first at_second 
       map-append (move_row places) (take k rows) (r ∷ []),
     )
 
--- a renumbering of indices still has its properties after one more row's value gets its new index
+-- Let a renumbering keep the indices below `front`, and give the values of the first n rows successive new indices from
+-- `front` on. Both still hold, with n + 1 instead of n, once the value of row n gets the index front + n.
 module _ (rows : List Row) (places : List ℕ) (front : ℕ) {size : ℕ} (n : ℕ) {target : ℕ} (lt : n < length rows)
     (e : target ≡ (get_or rows n no_row).target) (gates : All (IsGateRow front size) rows) (many : length places ≡ size)
   where

@@ -1,5 +1,5 @@
 -- A step may leave out rows (gates) of the evaluation plan that no output, no latch's next value and no remaining row
--- reads. The outputs and the next values of the latches stay the same.
+-- reads. Without these rows, the step has the same outputs and the same next values of the latches.
 use Rattle.std.proofs.Common.{◌≡◌, ◌≢◌, ℕ, suc, ◌<◌, ◌≤◌, ◌⊎◌, ◌&&◌, inl, inr, Bool, true, false, List, [], ◌∷◌, map}
 use Rattle.std.proofs.Common.{length}
 use Rattle.std.proofs.Common.{get_or, refl, sym, subst, ap, ap₂, ◌∙◌, arith, All, length-set, get_or-set_same}

@@ -21,7 +21,8 @@ pub record HasNoLassoFault (role : Role) (a : AutomatonData) (c : CircuitData) (
     pub some : 0 < length lap
     pub symbols : HasSymbols role a.names a.controllable c
 
--- the fault applies, and no earlier fault does; the fault `OutOfMemory` can occur whatever the arguments are
+-- the fault applies, and none that precedes it in the order `Width`, `EmptyLap`, `Symbols` applies; the fault
+-- `OutOfMemory` is possible for all arguments
 abbrev pub IsLassoFault : Role → AutomatonData → CircuitData → List (List Bool) → List (List Bool) → LassoFault → Type 0
 IsLassoFault role a c stem lap Width = ¬ AreWide c stem lap
 IsLassoFault role a c stem lap EmptyLap = AreWide c stem lap × (lap ≡ [])

@@ -19,10 +19,10 @@ pub struct Operands {
 }
 
 /// What a step evaluates in 256 runs at once: the gates, the outputs and the next values of the latches. The table has
-/// the values of the gates in the order of evaluation, so the plan need not store their indices. A gate then takes only
-/// eight bytes, for the two literals that it reads, and a step writes the table from front to back. The table of a
-/// large circuit does not fit into the processor's fastest caches, so the time of a step depends on how much it reads
-/// from and writes to the table.
+/// the values of the gates in the order of evaluation, so the plan need not store their indices. In the plan for 256
+/// runs, a gate takes only eight bytes, for the two literals that it reads, and a step writes the table from front to
+/// back. The table of a large circuit does not fit into the processor's fastest caches, so the time of a step depends
+/// on how much it reads from and writes to the table.
 #[derive(Drop)]
 pub struct LanePlan {
     /// The length of the table of values, which has an entry for each variable of the circuit, the constant 0 included.
@@ -60,8 +60,9 @@ impl LanePlan {
     }
 }
 
-/// A renumbering of the indices of a table of values: the new index for each old one. The indices before the gates
-/// stay, and the gates get the following indices, in the order of their rows. Fails if out of memory.
+/// A renumbering of the indices of a table of values: the new index for each old one. Indices below `front` stay the
+/// same; the gates get the new indices `front`, `front + 1` and so on, in the order of their rows. Fails if out of
+/// memory.
 fn moved_places(
     alloc: Global,
     rows: &[Row],

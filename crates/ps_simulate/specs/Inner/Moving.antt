@@ -9,7 +9,7 @@ pub record CanMove (places : List ℕ) (w : Wire) : Type 0 where
   pub within : w.place < length places
   pub small : moved places w.place < 2 ^ 31
 
--- the same for both wires that the row reads
+-- the indices of both wires that the row reads have new indices, which can be the variables of literals
 pub record CanMoveRow (places : List ℕ) (r : Row) : Type 0 where
   pub first : CanMove places r.first
   pub second : CanMove places r.second

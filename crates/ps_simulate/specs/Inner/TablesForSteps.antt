@@ -1,4 +1,5 @@
--- The tables of values in which the rows (gates) of a plan can be evaluated. Filling such a table begins a step.
+-- The tables of values in which the rows (gates) of a plan can be evaluated. A step of a circuit first fills such a
+-- table: it copies the inputs and the latches, and evaluates the rows.
 use Rattle.std.specs.Prelude.{◌≡◌, ℕ, ◌+◌, ◌<◌, ◌≤◌, Bool, false, List, length, slice_index_or, All}
 use Rattle.ps_simulate.specs.declared.lane_plan.Operands.{Operands}
 use Rattle.ps_simulate.specs.declared.plan.Row.{Row}
@@ -13,7 +14,8 @@ pub record IsTableFor (rows : List Row) (inputs latches values : List Bool) : Ty
   pub room : 1 + length inputs + length latches ≤ length values
   pub constant : slice_index_or values 0 false ≡ false
 
--- the same for 256 runs at once; the values of the gates are in the table from the index `front` on
+-- the conditions of `IsTableFor`, but on a table for 256 runs at once, which has the values of the gates from index
+-- `front` on
 pub record IsLaneTableFor (front : ℕ) (gates : List Operands) (inputs latches values : List (List ℕ)) : Type 0 where
   pub within : All (IsRowInTable (length values)) (rows_from front gates)
   pub fit : front + length gates ≤ length values
