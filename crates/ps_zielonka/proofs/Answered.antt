@@ -1,6 +1,6 @@
 -- The end of an iteration in which the player keeps all tops (the attractor's target vertices): plays go on from the
--- tops to vertices that the player won. This solves the last pending call. At each top that the player owns, the table
--- has a move to a vertex that the player won.
+-- tops to vertices that the player won. Such an iteration solves the last pending call. At each top that the player
+-- owns, the table has a move to a vertex that the player won.
 use Rattle.std.proofs.Common.{◌≡◌, ◌≢◌, ℕ, ◌+◌, ◌-◌, ◌*◌, ◌<◌, ◌≤◌, ◌⊎◌, inl, inr, List, [], ◌∷◌, ◌++◌, true, length}
 use Rattle.std.proofs.Common.{Some, get_or, refl, sym, ap, arith, rules}
 use Rattle.std.specs.Prelude.{IsTrue}

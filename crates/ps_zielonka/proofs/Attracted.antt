@@ -1,6 +1,7 @@
 -- Each target in a subgame has an attractor: vertices are added to the target one at a time, as long as one can be
 -- added.
--- - `all_or_some`: all numbers less than a bound have one property, or some number has another property.
+-- - `all_or_some`: if each number below a bound has the property P or the property Q, then all these numbers have P, or
+--   one of them has Q.
 -- - `size`: the number of vertices of a set that are less than a bound.
 -- - `update`: a function that is changed at one vertex.
 -- - `Attracted`: the set of the vertices from which the player can force every play to the target.

@@ -1,5 +1,5 @@
 -- An iteration (turn) of a call begins: the tops, which are the attractor's target, and the vertices attracted to them
--- get the call's level. The call is then pending, and the next recursive call begins.
+-- get the call's level. Once the iteration has begun, the call is pending, and the next recursive call begins.
 use Rattle.std.proofs.Common.{◌≡◌, ℕ, ◌+◌, ◌*◌, ◌<◌, ◌≤◌, inl, inr, List, [], ◌∷◌, ◌++◌, length, get_or, Bool, rules}
 use Rattle.std.proofs.Common.{false, refl, sym, ap, ◌∙◌, arith}
 use Rattle.std.specs.Prelude.{IsTrue}

@@ -150,7 +150,8 @@ module _ (b : Begun) where
         b.sound.is_order.falls b.cursor there.place there.after there.before,
       )
 
-  -- an undecided vertex before index `behind` of the list of vertices by descending priority was placed as a top
+  -- each undecided vertex of the call before index `behind` of the list of vertices by descending priority was placed
+  -- in the trail before the attraction began, which makes it a top
   placed_before : {v : ℕ} (inside : IsTrue (undecided b v)) (there : InOrder b v) → there.place < b.behind →
       IsPlaced b.aim b.old b.mid v
   placed_before {v} inside there before =

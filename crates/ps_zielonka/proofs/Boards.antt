@@ -106,8 +106,8 @@ reopened_lost {level = level} spare k u {mid = mid} new at_k within not_won now 
     (λ j less. get_or_append_left mid.trail (u ∷ []) 0 j less) (λ j more before. grind (arith, get_or_push))
     (λ _. grind (arith, get_or-set_same)) (λ won. absurd (not_won won)) refl (length-set mid.level u level) so_far)
 
--- once all vertices of the list `spare`, which were taken off the trail, are handled, each vertex that the player won
--- is `UNPLACED`, and each other vertex is in the trail again (`IsReopened`)
+-- once all vertices of the list `spare`, which were taken off the trail, are handled, those that the player won are
+-- `UNPLACED`, and the other vertices of the list are in the trail again (`IsReopened`)
 pub reopened_end : {winner : List ℕ} {player level turn : ℕ} (k : ℕ) {spare : List ℕ} (old : TablesData)
     {cut new : TablesData} → turn ≤ length old.trail → cut.level ≡ old.level → cut.moves ≡ old.moves →
     cut.trail ≡ take turn old.trail → IsTakenOff turn old.trail spare → k ≡ length spare →

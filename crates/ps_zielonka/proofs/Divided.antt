@@ -5,7 +5,7 @@
 -- - `all_mine`: if the opponent wins no vertex outside the attractor, the player holds the whole subgame.
 -- - `both_parts`: if the opponent wins vertices outside the attractor, the opponent holds its own attractor to them,
 --   and the vertices outside this second attractor are divided between the players.
--- - `game_divided`: the law `each_game_is_divided`.
+-- - `game_divided`: the lemma that proves the law `each_game_is_divided`.
 use Rattle.std.proofs.Common.{◌≡◌, ◌≢◌, ℕ, zero, suc, ◌-◌, ◌%◌, ◌<◌, ◌⊎◌, inl, inr, Bool, true, false, not, ◌&&◌}
 use Rattle.std.proofs.Common.{◌||◌, Option, None, Some, IsSomeAnd, nat_eq, replicate, refl, sym, subst, ap, ◌∙◌, arith}
 use Rattle.std.specs.Prelude.{IsTrue}
@@ -329,8 +329,8 @@ module _ (game : ParityGame) (is_game : IsGame game) where
             | inr (u, less, theirs) ↦ some_theirs u theirs
           ]
 
-    -- if v has the greatest priority of the subgame, an iteration of the algorithm solves the subgame; its tops are all
-    -- vertices of this priority
+    -- let v have the greatest priority of the subgame; then an iteration of the algorithm, with all vertices of this
+    -- priority as the attractor's target (the tops), solves the subgame
     with_top : (v : ℕ) → IsGreatest game subgame (vertex_count game) v → Solved subgame
     with_top v g =
         let player : ℕ = priority_of game v % 2 in

@@ -98,10 +98,10 @@ pub HoldsWithin-none : (game : ParityGame) (subgame : ℕ → Bool) (player : �
     ((v : ℕ) → ¬ IsTrue (set v)) → HoldsWithin game subgame player set table
 HoldsWithin-none game subgame player set table none = search rules
 
--- A player holds the union of two sets within the larger subgame by a table on three conditions. The player holds the
--- first set within the larger subgame by this table. The player holds the second set within the smaller subgame by the
--- same table. Each edge in the larger subgame from a vertex of the other player in the second set leads into the
--- smaller subgame or to the first set.
+-- Within the larger subgame, a player holds the union of two sets by a table if three conditions hold. First, the
+-- player holds the first set within the larger subgame by this table. Second, the player holds the second set within
+-- the smaller subgame by the same table. Third, each edge in the larger subgame from a vertex of the other player in
+-- the second set leads into the smaller subgame or to the first set.
 pub HoldsWithin-beside : {game : ParityGame} {smaller larger : ℕ → Bool} {player : ℕ} {first second : ℕ → Bool}
     (set : ℕ → Bool) {table : ℕ → Option ℕ} → IsWithin smaller larger → IsWithin first set → IsWithin second set →
     ((v : ℕ) → IsTrue (set v) → IsTrue (first v) ⊎ IsTrue (second v)) →

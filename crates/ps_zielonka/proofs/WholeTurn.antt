@@ -23,8 +23,9 @@ pub IsWon-without : (game : ParityGame) {rest lost : ℕ → Bool} {win : ℕ �
 IsWon-without game {rest} {lost} {win} table player {other} is_player is_other differ is_won solved =
     search (rules, kept_of, false≢true, to_keeps)
 
--- if no top (target vertex) of the opponent has an edge to a vertex of `lost`, no undecided vertex of the opponent
--- outside `lost` has an edge to a vertex of `lost`
+-- Let no top (target vertex of the attractor) that the opponent owns have an edge to a vertex of `lost`, the vertices
+-- outside the attractor that the opponent wins. Then no undecided vertex outside `lost` that the opponent owns has an
+-- edge to a vertex of `lost`.
 none_to_lost : {game : ParityGame} {open_part rest lost left : ℕ → Bool} {win : ℕ → ℕ} {table : ℕ → Option ℕ}
     {player other : ℕ} → player < 2 → other < 2 → other ≢ player →
     (turned : IsTurned game open_part rest player win table) → IsWon rest nothing win other lost →

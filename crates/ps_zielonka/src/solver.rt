@@ -16,8 +16,8 @@ use std::alloc::{AllocError, Global};
 /// wins all other vertices.
 ///
 /// Fails if out of memory. For games with 2^63 - 2 vertices or more, or 2^64 edges or more, the call always returns the
-/// out-of-memory error. No other error is needed: each vertex of a game is won by one of the players, so there is
-/// always a solution.
+/// out-of-memory error. Lack of memory is the only error: each vertex of a game is won by one of the players, so there
+/// is always a solution.
 pub fn regions<A: Arena>(
     alloc: Global,
     arena: &A,

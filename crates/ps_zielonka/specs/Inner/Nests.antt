@@ -1,8 +1,8 @@
 -- The pending recursive calls of the solver, expressed by one number for each vertex: the code of its level
 -- (`code_of`). A call of depth k, counted from 0, solves the vertices with a code of 2k + 1 or more. In a call of depth
 -- k, the vertices with the code 2k + 1 are decided, and those with the code 2k + 2 were attracted in the call's current
--- iteration. All other vertices of the call are left to the next recursive call. Vertices that no call has decided or
--- attracted have the largest code, `UNPLACED`.
+-- iteration. The vertices with a code above 2k + 2 are left to the next recursive call. Vertices that no call has
+-- decided or attracted have the largest code, `UNPLACED`.
 use Rattle.std.specs.Prelude.{◌≡◌, ◌≢◌, ℕ, zero, suc, ◌+◌, ◌*◌, ◌%◌, ◌^◌, ◌<◌, ◌≤◌, ◌⊎◌, Bool, true, false, IsTrue}
 use Rattle.std.specs.Prelude.{cond}
 use Rattle.std.specs.Prelude.{List, [], ◌∷◌, length, slice_index, slice_index_or, nat_le}
@@ -197,8 +197,8 @@ pub record IsTakenOff (turn : ℕ) (trail spare : List ℕ) : Type 0 where
   pub all : length spare + turn ≡ length trail
   pub same : (j : ℕ) → j < length spare → slice_index spare j ≡ slice_index trail (turn + j)
 
--- The vertices that satisfy `Off` and were won by the player have the level `UNPLACED` again. All other vertices that
--- satisfy `Off` have the given level, and exactly these are in the trail from index `turn` on
+-- The vertices that satisfy `Off` and were won by the player have the level `UNPLACED` again. The vertices that satisfy
+-- `Off` and were not won by the player have the given level, and exactly these are in the trail from index `turn` on.
 pub record IsReopened (winner : List ℕ) (player level turn : ℕ) (Off : ℕ → Type 0) (old new : TablesData) : Type 0 where
   pub longer : turn ≤ length new.trail
   pub front : (j : ℕ) → j < turn → slice_index new.trail j ≡ slice_index old.trail j
