@@ -46,7 +46,7 @@ position_nowhere ids id none = position_none (is_id id) ids
 abbrev pub IsAt : List ℕ → ℕ → ℕ → Type 0
 IsAt ids place id = (place < length ids) × (slice_index ids place ≡ id)
 
--- if the list has the id at `place`, the first index of the id in the list is `place`
+-- if a list without repeats has the id at `place`, searching the list for the id gives the index `place`
 pub found_at : (ids : List ℕ) {shown : List ℕ} (id place : ℕ) → AreDistinct ids → ids ≡ shown → IsAt ids place id →
     Some place ≡ position (is_id id) shown
 found_at ids id place distinct same at =
