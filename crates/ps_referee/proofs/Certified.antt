@@ -70,9 +70,8 @@ module _ {game : ParityGame} (is_game : IsGame game) {player : ℕ} {set : ℕ �
       let keep = (ranks.columns k within).keep v w (grind (arith, remains_for)) in
       grind arith
 
-  -- Let the certificate c state that the player wins each vertex of the set, and let a valid certificate d differ from
-  -- c at most in counts. On each edge that remains within the set, the counts of d then keep the rule of counts
-  -- (`KeepsRule`).
+  -- If the certificate c states that the player wins a set of vertices, each valid certificate d that differs from c at
+  -- most in counts keeps the rule of counts (`KeepsRule`) on the remaining edges within the set.
   others_keep : (d : CertificateData) → IsValid game d → DiffersInCounts game c d → opposing d player ≡ priorities →
       ((u : ℕ) → u < vertex_count game → IsTrue (set u) → IsSide game player set table priorities rows c u) → (k : ℕ) →
       k < length priorities →
@@ -98,9 +97,10 @@ module _ {game : ParityGame} (is_game : IsGame game) {player : ℕ} {set : ℕ �
 abbrev pub made_of : List ℕ → List ℕ → List EntryData → CertificateData
 made_of odd even entries = record { odd = odd; even = even; entries = entries }
 
--- Player 0 wins the set `region` by its table, without leaving the set. Player 1 does so in the set `lost`, which
--- contains all other vertices. `odd_rows` are the least counts for player 0's set, and `even_rows` those for player 1's
--- set. The certificate's entries have the winners, the winners' moves and these counts.
+-- By its table of moves, player 0 wins the set `region` without leaving it. By its own table, player 1 wins the set
+-- `lost` without leaving it; `lost` contains all other vertices. `odd_rows` are the least counts for player 0's set,
+-- and `even_rows` those for player 1's set. The certificate's entry for a vertex has the vertex's winner, the winner's
+-- move, and the vertex's least counts in the winner's set.
 record AreBoth (game : ParityGame) (region lost : ℕ → Bool) (first second : ℕ → Option ℕ) (odd even : List ℕ)
     (odd_rows even_rows : List (List ℕ)) (entries : List EntryData) : Type 0 where
   is_game : IsGame game

@@ -1,5 +1,6 @@
 -- The steps of judging a claimed solution. A correct solution has no flaw, and no player loses a cycle of remaining
--- edges among the vertices that the player is claimed to win. So the only possible fault is out of memory.
+-- edges among the vertices that the player is claimed to win. So judging a correct solution returns no fault except out
+-- of memory.
 use Rattle.std.proofs.Common.{◌≡◌, ◌⊎◌, inl, inr, ℕ, zero, suc, ◌<◌, List, Option, Bool, refl, sym, subst, arith}
 use Rattle.std.proofs.Common.{rules, not, Result, Ok, Err, IsErrAnd}
 use Rattle.std.specs.Result.{IfErr}

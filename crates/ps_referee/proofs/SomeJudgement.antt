@@ -12,11 +12,14 @@ use Rattle.ps_referee.specs.Solutions.{IsCertificateOf, IsCycleOf, IsSolution, c
 use Rattle.ps_referee.proofs.Judged.{first_holds, judged}
 use Rattle.ps_referee.proofs.PlayersPart.{lost_same}
 
--- what two laws state (`first_flaw_is_there`, `counts_are_there`); the lemmas below take proofs of it as arguments
+-- what the law `first_flaw_is_there` states, of which the lemmas below take a proof: a certificate has no wrong move or
+-- edge (`IsClosed`), or it has a first flaw
 abbrev pub ClosedOrFlawed : Type 0
 ClosedOrFlawed = (game : ParityGame) (certificate : CertificateData) → IsClosed game certificate ⊎
     (¬ IsClosed game certificate × ((flaw : Flaw) × IsFirstFlaw game certificate flaw))
 
+-- what the law `counts_are_there` states, of which the lemmas below take a proof: for a player, a set and a table of
+-- moves, there are least counts, or there is a cycle within the set that the player loses
 abbrev pub RanksOrCycle : Type 0
 RanksOrCycle = (game : ParityGame) (player : ℕ) (set : ℕ → Bool) (table : ℕ → Option ℕ) →
     ((priorities : List ℕ) × (rows : List (List ℕ)) × AreRanks game player set table priorities rows) ⊎

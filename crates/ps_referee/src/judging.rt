@@ -22,10 +22,11 @@ use std::alloc::{AllocError, Global};
 ///
 /// # Errors
 ///
-/// A wrong solution is rejected. If its moves and edges have a flaw, the error is [`JudgeFault::Unclosed`] with the
-/// first flaw, as [`ps_certificate::closed`] reports it. Otherwise the error is [`JudgeFault::BadCycle`] with a cycle
-/// of remaining edges that is lost by the player who is claimed to win the cycle's vertices. If out of memory, the
-/// error is [`JudgeFault::OutOfMemory`]; a correct solution has no other error.
+/// A wrong solution is rejected. If the moves and edges of a solution have a flaw, the error is
+/// [`JudgeFault::Unclosed`] with the first flaw, as [`ps_certificate::closed`] reports it. If a wrong solution has no
+/// such flaw, the error is [`JudgeFault::BadCycle`] with a cycle of remaining edges that is lost by the player who is
+/// claimed to win the cycle's vertices. If out of memory, the error is [`JudgeFault::OutOfMemory`]; a correct solution
+/// has no other error.
 pub fn judge<A: Arena>(
     alloc: Global,
     arena: &A,
@@ -106,8 +107,9 @@ fn closing<A: Arena>(alloc: Global, solution: &Solution<'_, A>) -> Result<(), Ju
     }
 }
 
-/// The certificate of a solution without a flaw in its moves and edges. If the solution is wrong, the fault is out of
-/// memory, or a cycle of remaining edges that is lost by the player who is claimed to win the cycle's vertices.
+/// The certificate of a solution without a flaw in its moves and edges. If a solution without a flaw is wrong, the
+/// fault is out of memory, or a cycle of remaining edges that is lost by the player who is claimed to win the cycle's
+/// vertices.
 fn counting<A: Arena>(alloc: Global, solution: &Solution<'_, A>) -> Result<Certificate, JudgeFault>
     requires { IsClosed (A.game solution.now.arena.now)
         (claimed (A.game solution.now.arena.now) solution.now.won.now solution.now.first.now solution.now.second.now) }

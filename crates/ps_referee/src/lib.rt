@@ -2,9 +2,9 @@
 //!
 //! A solution claims which vertices player 0 wins, and by which moves each player wins; player 1 is claimed to win all
 //! other vertices. If the solution is correct, [`judge`] returns its certificate, with the least counts. If the
-//! solution is wrong, [`judge`] returns the reason. The reason is the first flaw, which is a wrong move or a remaining
-//! edge to a vertex with the other winner. If a wrong solution has no flaw, the reason is a cycle: the player who is
-//! claimed to win the cycle's vertices loses the cycle.
+//! solution is wrong, [`judge`] returns the reason. A flaw is a wrong move, or a remaining edge to a vertex with the
+//! other winner. If the solution has flaws, the reason for its rejection is the first of them. If a wrong solution has
+//! no flaw, the reason is a cycle: the player who is claimed to win the cycle's vertices loses the cycle.
 //!
 //! | Call | What it gives |
 //! |---|---|
