@@ -19,7 +19,7 @@ use Rattle.ps_aiger.specs.Encoded.{letter_over}
 pub same_letter : (a b : ℕ) → ((p : ℕ) → is_in p a ≡ is_in p b) → a ≡ b
 same_letter a b same = search (rules, same_from_bits, same_bit, bit_at-lt)
 
--- a number without bits from n on is less than 2^n
+-- a number whose set bits are all below bit n is less than 2^n
 pub few_bits : (n x : ℕ) → ((p : ℕ) → n ≤ p → is_in p x ≡ false) → x < 2 ^ n
 few_bits n x off =
     let bit : ℕ → Bool = λ p. is_in p x in

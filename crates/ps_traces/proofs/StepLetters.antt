@@ -25,7 +25,7 @@ module _ {role : Role} {names : List (List ℕ)} {controllable : List ℕ} {c : 
       let found = once.some k (within symbols k (get_or names p []) s.is) in
       grind (arith, some_same, names_differ)
 
-  -- for each proposition there is a bit, which is the step's bit of the input or output with the proposition's name
+  -- a bit that is, in the step m, the value of each input and each output with the name of the proposition p
   bit_of : (m : Moment) (p : ℕ) → (bit : Bool) ×
       ((k : ℕ) → IsSymbol names c.input_names k p → bit ≡ get_or m.inputs k false) ×
       ((k : ℕ) → IsSymbol names c.output_names k p → bit ≡ get_or m.outputs k false)

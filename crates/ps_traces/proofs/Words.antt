@@ -26,7 +26,8 @@ first_along : (c : CircuitData) (from to : List Bool) (ms : List Moment) → Goe
 first_along c from to [] on = sym on
 first_along c from to (m ∷ ms) (next, at, step, on) = at
 
--- a property that holds for each step of a circuit and the step's letter holds at each index of a trace
+-- let P hold for each step of a circuit: for the latches before the step, the step's letter and the latches after it;
+-- then P holds for the step at each index of a trace
 at_each : (names : List (List ℕ)) (c : CircuitData) (P : List Bool → ℕ → List Bool → Type 0)
     → ((m : Moment) (letter : ℕ) (next : List Bool) → Steps c m.latches m.inputs m.outputs next →
     IsLetterOf names c m letter → P m.latches letter next)

@@ -1,5 +1,5 @@
--- A periodic input of a circuit is a stem, and after it a lap that repeats for ever. Every periodic input extends to a
--- lasso trace of the circuit.
+-- A periodic input of a circuit is a sequence of letters: a stem, and after it a lap that repeats for ever. Every
+-- periodic input extends to a lasso trace of the circuit.
 -- - `inputs_of moments`: the inputs of each step
 -- - `GoesOnInLasso c stem lap`: some lasso trace first reads the stem and one or more repetitions of the lap, and then
 --   repeats one or more repetitions of the lap for ever

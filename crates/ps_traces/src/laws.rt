@@ -65,9 +65,10 @@ pub fn verdict_is_there()
     circuit_has_one_values();
 }
 
-/// The outputs of a circuit are called in time if its player moves second, or if they depend only on the latches.
-/// Outputs that are in time at all latch values are in time at the latch values that traces reach. The laws about joint
-/// traces require only that outputs are in time at latch values that traces reach.
+/// If the player of a circuit moves first, the circuit's outputs must not depend on its inputs (`IsInTime`). A circuit
+/// whose outputs are independent of its inputs at all latch values has this property at the latch values that traces
+/// reach. If the environment moves first, the laws about joint traces require that its circuit's outputs are
+/// independent of the inputs, but only at latch values that traces reach.
 pub fn in_time_where_reached()
     ensures { (order : Order) (role : Role) (c : CircuitData) → IsInTime order role c →
         IsInTimeWhereReached order role c }
@@ -107,7 +108,8 @@ pub fn circuit_has_machine_words()
 {}
 
 /// If the automaton accepts the words of all lassos of player 0's machine, it accepts the words of all lasso traces of
-/// the machine's circuit. The same holds for player 1's machine, with "rejects" for "accepts".
+/// the machine's circuit. If the automaton rejects the words of all lassos of player 1's machine, it rejects the words
+/// of all lasso traces of the machine's circuit.
 pub fn circuit_is_won()
     ensures accepted { (file : FileData) (m : Behaviour) (c : CircuitData) → IsMachine m → m.names ≡ file.names →
         Encodes m c → LassosWon file m → m.player ≡ 0 → AllAccepted file c }

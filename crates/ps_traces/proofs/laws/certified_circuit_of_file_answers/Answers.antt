@@ -1,5 +1,6 @@
--- The machine of a valid certificate belongs to the player who wins vertex 0, and this player wins all lassos of the
--- machine. This is true for the game of any automaton of the file.
+-- Let a valid certificate be given for the game of any automaton of the file. The certificate's machine belongs to the
+-- player who wins vertex 0, and this player wins all lassos of the machine. So the circuit of the machine satisfies
+-- `IsWitness`.
 use Rattle.std.proofs.Common.{◌≡◌, ℕ, ◌==◌, subst, rules}
 use Rattle.ps_machine.specs.Keys.{mover_of}
 use Rattle.ps_traces.specs.Answers.{IsWitness}
