@@ -17,9 +17,9 @@ use std::alloc::Global;
 ///
 /// Reading stops at the first read that fails, or at the first byte past `INPUT_LIMIT`. Nothing is written after a
 /// write or a flush that failed, or after a write that accepted no bytes. If a write or the flush failed, or if a write
-/// accepted no bytes, the exit status is 1. Then the output is a beginning of the answer, or the whole answer if only
-/// the flush failed. The solver `built_in` solves games; the solver `replay` is used if the input contains a
-/// certificate.
+/// accepted no bytes, the exit status is 1. If a write failed or accepted no bytes, the output is a prefix of the
+/// answer; if only the flush failed, the output is the whole answer. The solver `built_in` solves games; the solver
+/// `replay` is used if the input contains a certificate.
 pub fn run<R: Source, W: Sink>(
     alloc: Global,
     reader: &mut R,

@@ -17,9 +17,9 @@ use std::alloc::Global;
 ///
 /// # Errors
 ///
-/// Fails with the first error of the text, or else with the reason why psyn builds no automaton from it. For a text
-/// with an automaton, fails with the solver's fault, or because the solver's certificate does not fit the game or is
-/// not valid. With a valid certificate, fails if the circuit is too large. Fails at any time if memory runs out.
+/// Fails with the first error of the text, or else with the reason why psyn builds no automaton from it. If the solver
+/// fails, fails with the solver's fault. Fails if the solver's certificate does not fit the game or is not valid. With
+/// a valid certificate, fails if the circuit is too large. Fails at any time if memory runs out.
 pub fn synthesise(
     alloc: Global,
     text: &[u8],
