@@ -2,7 +2,7 @@
 use Rattle.std.specs.Prelude.{ℕ, Bool, List, All}
 use Rattle.ps_simulate.specs.NeededGates.{Needs}
 
--- the new list marks what each item (a wire or a row) needs, as `Has` states, and each value that the old list marks
+-- the new list records what each item (a wire or a row) needs, as `Has` states, and what the old list records
 pub record AddsNeeds {X : Type 0} (Has : List Bool → X → Type 0) (old new : List Bool) (items : List X) : Type 0 where
   pub needed : All (Has new) items
   pub kept : (p : ℕ) → Needs old p → Needs new p
