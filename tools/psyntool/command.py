@@ -152,7 +152,7 @@ class Request:
 
     @property
     def passed(self):
-        """The given flags that are passed to the program."""
+        """Of the flags on the command line, those that the tool hands on to the program."""
         return [name for name in self.given if name in {flag.name for flag in self.command.flags}]
 
     def has(self, flag):

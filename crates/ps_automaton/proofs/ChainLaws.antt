@@ -44,7 +44,8 @@ first_left_out : (base : Bool) (link : ChainLink) (links : List ChainLink) (edge
 first_left_out base link links [] unmet = refl
 first_left_out base link links (has ∷ edges) unmet = grind (arith, first_left_out base link links edges)
 
--- if a chain has no links, the greatest priority of one or more edges is the priority that the chain's base gives
+-- a chain without links gives every edge the same priority, which depends on the chain's base (`base_number`); this is
+-- then the greatest priority of one or more edges
 greatest_of_base : (base : Bool) (has : ℕ → Bool) (edges : List (ℕ → Bool)) →
     greatest base [] (has ∷ edges) ≡ base_number base
 greatest_of_base base has [] = omega arith

@@ -1,6 +1,6 @@
 -- Lemmas about the result of synthesis. A fault comes from the solver only if the solver is not sure, that is, if it
--- may return a wrong certificate or fail though memory suffices. The result depends only on the answers that the solver
--- may give.
+-- may return a wrong certificate or fail though memory suffices. Each result of synthesis that is possible after a call
+-- of the solver was also possible before this call.
 use Rattle.std.proofs.Common.{rules, arith, ◌≡◌, ℕ, Bool, true, false, List, Result, Ok, Err, inl, inr, subst}
 use Rattle.std.specs.Prelude.{Option}
 use Rattle.ps_hoa.specs.Files.{FileData}

@@ -5,7 +5,8 @@ use crate::fault::{FaultLine, Place};
 use ps_automaton::AutomatonFault;
 use ps_synthesis::SynthFault;
 
-/// The reason why a file has no automaton is reported by a line, or as lack of memory.
+/// What the program prints if a file has no automaton: a line that reports the reason. If the reason is lack of memory,
+/// the result is that memory ran out.
 impl From<AutomatonFault> for Refusal {
     ghost use Rattle.ps_program.specs.StageFaults.{IsAutomatonTold};
 

@@ -41,7 +41,8 @@ pub fn two_texts(texts: &[u8]) -> Result<(&[u8], &[u8]), Refusal>
     }
 }
 
-/// The three texts of an input. Fails if a text is missing, even if another text has an error.
+/// The three texts that two lines `%%` divide, as the command `lasso` reads them. Fails if a text is missing, even if
+/// another text has an error.
 pub fn three_texts(texts: &[u8]) -> Result<(&[u8], &[u8], &[u8]), Refusal>
     ensures { Gives (λ parts. (parts.0.now, parts.1.now, parts.2.now)) (CutsInThree texts.now) result }
 {

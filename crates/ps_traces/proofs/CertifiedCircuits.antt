@@ -28,7 +28,8 @@ pub is_for : (order : Order) (file : FileData) (chain : Chain) (a : AutomatonDat
     → m.is_first ≡ (mover_of order == m.player) → m.player < 2 → IsMachineFor order (role_of m.player) file m
 is_for order file chain a m built has turn two = search (rules, reads_as, turn_is)
 
--- in the game of any automaton of the file, a player reads the propositions that its role reads
+-- in the game of any automaton of the file, the propositions of a player's opponent are those that a circuit in the
+-- player's role (controller or environment) has as inputs
 file_reads_as : (order : Order) (file : FileData) (auto : Auto) (player p : ℕ) → player < 2 →
     is_others (mover_of order == player) (board_of_file order file auto) p ≡ is_read_by (role_of player)
     file.controllable p
