@@ -10,7 +10,8 @@ use Rattle.std.specs.List.{slice_get}
 use Rattle.ps_diagram.specs.declared.view.View.{View}
 use Rattle.ps_diagram.specs.declared.view.View.TheVariants.{Leaf, Nothing}
 use Rattle.ps_diagram.specs.Tree.{Tree, IsFrom, IsReduced}
-use Rattle.ps_diagram.specs.Inner.Chained.{IsPlacedKey}
+use Rattle.ps_keys.proofs.BucketLemmas.{old_or_new}
+use Rattle.ps_keys.specs.Keys.{IsPlacedKey}
 use Rattle.ps_diagram.specs.Inner.Parts.{IsPart}
 use Rattle.ps_diagram.specs.Inner.Placed.{AddsCell, ArePlacesOfLeaves}
 use Rattle.ps_diagram.specs.Table.{Table, tree_by, trees_of, tree_at, tree_in, tree_of, IsNode, IsCellWithin}
@@ -71,9 +72,6 @@ pub keeps_refl : (t : Table) → Keeps t t
 keeps_refl t = record { propositions = refl; held = λ node h. h; same = λ node h. refl }
 
 -- a number less than n + 1 is less than n, or is n
-pub old_or_new : (k n : ℕ) → k < n + 1 → (k < n) ⊎ (k ≡ n)
-old_or_new k n h = elim (cases_lt k n) [ inl lt ↦ inl lt | inr ge ↦ inr (omega arith) ]
-
 -- if each entry of a list has a property at its index, and an appended entry has the property too, each entry of the
 -- longer list has the property
 pub push_each : {X : Type 0} (P : ℕ → X → Type 0) (d : X) (xs : List X) {more : List X} (x : X) {count : ℕ} →

@@ -23,5 +23,3 @@ pub mod Distinct
 pub mod Choosing
 pub mod Composing
 pub mod Pairing
-pub mod KeyChains
-pub mod KeptKeys

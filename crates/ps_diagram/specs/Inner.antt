@@ -1,6 +1,5 @@
 -- Definitions that only contracts of private functions use; no clause of a public function refers to them.
 
-pub mod Chained
 pub mod Chosen
 pub mod Composed
 pub mod Hashed

@@ -4,8 +4,8 @@ ghost use Rattle.std.specs.Prelude.{◌≡◌, ◌<◌, [], IfOk, IfSome, Some, 
 ghost use Rattle.ps_diagram.specs.Inner.Placed.{PlacesCell};
 ghost use Rattle.ps_diagram.specs.declared.view.View.TheVariants.{Leaf, Nothing};
 
-use crate::key_list::KeyList;
 use crate::view::View;
+use ps_keys::KeyList;
 use std::alloc::{AllocError, Global};
 use std::marker::Model;
 

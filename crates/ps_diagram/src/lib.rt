@@ -47,14 +47,12 @@
 #![tactic(auto)]
 
 mod both;
-mod chains;
 mod choose;
 mod classes;
 mod cofactors;
 mod composed;
 mod fault;
 mod interning;
-mod key_list;
 mod labels;
 mod letter;
 mod maps;

@@ -3,7 +3,7 @@
 ghost use Rattle.std.specs.Cmp.Rules.{hashing};
 ghost use Rattle.std.proofs.Common.{rules};
 
-use crate::chains::{Key, mixed};
+use ps_keys::{Hashed, Word, mixed};
 use std::hash::Hash;
 use std::marker::Model;
 
@@ -41,7 +41,7 @@ pub enum View {
 }
 
 /// A test is hashed by its two nodes, with the proposition in the low bits of the first.
-impl Key for View {
+impl Hashed for View {
     ghost use Rattle.ps_diagram.specs.Inner.Hashed.{hash_of_view};
 
     ghost hash = { hash_of_view };
@@ -68,8 +68,19 @@ impl Key for View {
     }
 }
 
-impl Key for Node {
-    ghost use Rattle.ps_diagram.specs.Inner.Chained.{mixed};
+impl Word for Node {
+    ghost word = { λ node. node };
+
+    ghost equal = { Prim.search (hashing, rules) };
+
+    #[inline(always)]
+    fn word(&self) -> u64 {
+        self.place as u64
+    }
+}
+
+impl Hashed for Node {
+    ghost use Rattle.ps_keys.specs.Hashes.{mixed};
 
     ghost hash = { λ seed node. mixed seed node 0 };
 
@@ -78,52 +89,5 @@ impl Key for Node {
     #[inline(always)]
     fn hash(&self, seed: u64) -> u64 {
         mixed(seed, self.place as u64, 0)
-    }
-}
-
-impl Key for (Node, Node) {
-    ghost use Rattle.ps_diagram.specs.Inner.Chained.{mixed};
-
-    ghost hash = { λ seed pair. mixed seed pair.0 pair.1 };
-
-    ghost alike = { Prim.search (hashing, rules) };
-
-    #[inline(always)]
-    fn hash(&self, seed: u64) -> u64 {
-        mixed(seed, self.0.place as u64, self.1.place as u64)
-    }
-}
-
-impl Key for (Node, Node, Node) {
-    ghost use Rattle.ps_diagram.specs.Inner.Chained.{mixed};
-
-    ghost hash = { λ seed key. mixed (mixed seed key.0 key.1) key.2 0 };
-
-    ghost alike = { Prim.search (hashing, rules) };
-
-    #[inline(always)]
-    fn hash(&self, seed: u64) -> u64 {
-        mixed(
-            mixed(seed, self.0.place as u64, self.1.place as u64),
-            self.2.place as u64,
-            0,
-        )
-    }
-}
-
-impl Key for (u32, Node, Node) {
-    ghost use Rattle.ps_diagram.specs.Inner.Chained.{mixed};
-
-    ghost hash = { λ seed key. mixed (mixed seed key.0 key.1) key.2 0 };
-
-    ghost alike = { Prim.search (hashing, rules) };
-
-    #[inline(always)]
-    fn hash(&self, seed: u64) -> u64 {
-        mixed(
-            mixed(seed, self.0 as u64, self.1.place as u64),
-            self.2.place as u64,
-            0,
-        )
     }
 }

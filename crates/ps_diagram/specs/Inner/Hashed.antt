@@ -1,6 +1,6 @@
 -- The hash by which a store looks up a cell.
 use Rattle.std.specs.Prelude.{ℕ, ◌+◌, ◌-◌, ◌*◌, ◌%◌, ◌^◌}
-use Rattle.ps_diagram.specs.Inner.Chained.{mixed}
+use Rattle.ps_keys.specs.Hashes.{mixed}
 use Rattle.ps_diagram.specs.declared.view.View.{View}
 use Rattle.ps_diagram.specs.declared.view.View.TheVariants.{Nothing, Leaf, Test}
 

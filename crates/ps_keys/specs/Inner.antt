@@ -1,0 +1,3 @@
+-- Definitions that only contracts of private functions use; no clause of a public function refers to them.
+
+pub mod Buckets

@@ -1,0 +1,92 @@
+//! A list of keys that finds the index of a key by its hash.
+
+ghost use Rattle.std.specs.Prelude.{◌≡◌, ◌^◌, ◌<◌, [], IfOk, length};
+ghost use Rattle.ps_keys.specs.Keys.{IsLastEqual, PlacesKey};
+
+use crate::buckets::Buckets;
+use crate::hashed::Hashed;
+use std::alloc::{AllocError, Global};
+use std::marker::Model;
+
+/// A list of keys, which finds the index of a key by its hash. `place_of` appends only keys that the list lacks.
+#[derive(Debug, Drop)]
+pub struct KeyList<K: Hashed> {
+    list: Vec<K>,
+    buckets: Buckets,
+}
+
+impl<K: Hashed> Model for KeyList<K> {
+    ghost use Rattle.std.specs.Prelude.{List, length};
+    ghost use Rattle.ps_keys.specs.Inner.Buckets.{AreInBuckets};
+
+    ghost Value = { List K };
+
+    ghost view = { λ k. k.list.items };
+
+    ghost invariant = { λ k. AreInBuckets K.hash k.list.items (length k.list.items) k.buckets };
+}
+
+impl<K: Hashed> KeyList<K> {
+    /// No keys.
+    pub fn new(alloc: Global) -> Self
+        ensures { result ≡ [] }
+    {
+        KeyList {
+            list: Vec::new(alloc),
+            buckets: Buckets::new(alloc),
+        }
+    }
+
+    /// The same keys.
+    pub fn copy(&self) -> Result<Self, AllocError>
+        ensures { IfOk result (λ keys. keys ≡ self.now) }
+    {
+        let mut list = Vec::new(*self.list.allocator());
+        list.extend_from_slice(&self.list)?;
+        let buckets = self.buckets.copy()?;
+        Ok(KeyList { list, buckets })
+    }
+
+    /// The keys.
+    #[inline(always)]
+    pub fn as_slice(&self) -> &[K]
+        ensures { result.now ≡ self.now }
+    {
+        &self.list
+    }
+
+    /// The number of keys.
+    #[inline(always)]
+    pub fn len(&self) -> usize
+        ensures value { result ≡ length self.now }
+        ensures few { result < 2 ^ 32 }
+    {
+        let _ = &self.buckets;
+        self.list.len()
+    }
+
+    /// The index of the last key in the list that equals the given key.
+    #[inline(always)]
+    pub fn find(&self, key: K) -> Option<usize>
+        ensures { IsLastEqual K.eq self.now key result }
+    {
+        self.buckets.find(&self.list, key).0
+    }
+
+    /// The index of a key in the list; a new key is appended. Fails if out of memory, or if the list has 2^32 - 1 keys
+    /// already.
+    #[inline(always)]
+    pub fn place_of(&mut self, key: K) -> Result<usize, AllocError>
+        ensures { PlacesKey K.eq self.old self.new key result }
+    {
+        let (found, passed) = self.buckets.find(&self.list, key);
+        if let Some(place) = found {
+            return Ok(place);
+        }
+        self.buckets.make_room(&self.list, passed)?;
+        let place = self.list.len();
+        self.list.push(key)?;
+        self.buckets.link(&self.list, place);
+        Ok(place)
+    }
+}
