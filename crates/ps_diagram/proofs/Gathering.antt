@@ -7,12 +7,14 @@ use Rattle.std.proofs.lemmas.List.Elements.{All-from_recursion}
 use Rattle.std.proofs.lemmas.List.Kept.{AllPairs-cons}
 use Rattle.std.proofs.Math.Nat.{pow-suc}
 use Rattle.std.proofs.Math.Pow.{pow_mono}
-use Rattle.std.specs.Prelude.{AllPairs, Any, MatchOption, is_some}
+use Rattle.std.specs.Prelude.{AllPairs, Any, is_none, is_some, length}
 use Rattle.std.specs.List.{AllByRecursion}
 use Rattle.std.specs.Map.{lookup}
 use Rattle.ps_label.specs.Truth.{is_in}
 use Rattle.ps_diagram.specs.Leaves.{either_leaf}
 use Rattle.ps_diagram.specs.Letters.{assignment, IsBefore, IsLeastLetter}
+use Rattle.ps_diagram.specs.Inner.LeafTables.{place_in}
+use Rattle.ps_diagram.specs.Inner.Numbered.{pair_at}
 use Rattle.ps_diagram.specs.Inner.Parts.{IsChoice}
 use Rattle.ps_diagram.specs.Reached.{LeadsToLeaf, AreLeaves, IsFound, IsFirstLetterTo, AreRising, Gathers, IsGathered}
 use Rattle.ps_diagram.specs.Reached.{HaveFound}
@@ -21,6 +23,7 @@ use Rattle.ps_diagram.specs.Table.{Table, tree_of}
 use Rattle.ps_diagram.specs.Tree.{Tree, final, choice, leaf_at, IsFrom}
 use Rattle.ps_diagram.proofs.Cells.{bool_cases}
 use Rattle.ps_diagram.proofs.KnownLemmas.{MayBePut}
+use Rattle.ps_diagram.proofs.LeafTables.{no_place_found, place_at}
 use Rattle.ps_diagram.proofs.Halving.{one_bit}
 use Rattle.ps_diagram.proofs.Letters.{no_bit, top_bit, lower_bit}
 
@@ -38,7 +41,7 @@ found_last : (xs : List (ℕ × ℕ)) (k z : ℕ) → lookup (nat_eq k) xs ≡ N
     lookup (nat_eq k) (xs ++ (k, z) ∷ []) ≡ Some z
 found_last xs k z e = rw (lookup-append (nat_eq k) xs ((k, z) ∷ []), e, eq-eqb k k refl)
 
-found_more : (xs ys : List (ℕ × ℕ)) (leaf : ℕ) → IsFound xs leaf → IsFound (xs ++ ys) leaf
+pub found_more : (xs ys : List (ℕ × ℕ)) (leaf : ℕ) → IsFound xs leaf → IsFound (xs ++ ys) leaf
 found_more xs ys leaf h = (h.0, rw (lookup-append (nat_eq leaf) xs ys, h.1))
 
 all_map : (P Q : ℕ × ℕ → Type 0) (xs : List (ℕ × ℕ)) → ((x : ℕ × ℕ) → P x → Q x) → AllByRecursion P xs →
@@ -61,10 +64,10 @@ rising_append : (P Q : ℕ × ℕ → Type 0) (xs ys : List (ℕ × ℕ)) → ((
 rising_append P Q [] ys f ps qs h g = g
 rising_append P Q (x ∷ xs) ys f ps qs h g = search (rules, all_append, all_map, rising_append P Q xs ys f ps.1 qs h.1 g)
 
-pub some_of : (o : Option ℕ) → is_some o ≡ true → (z : ℕ) × (o ≡ Some z)
+pub some_of : (o : Option ℕ) → is_none o ≡ false → (z : ℕ) × (o ≡ Some z)
 some_of o h = search rules
 
-pub none_of : (o : Option ℕ) → is_some o ≡ false → o ≡ None
+pub none_of : (o : Option ℕ) → is_none o ≡ true → o ≡ None
 none_of o h = search rules
 
 -- ## Nodes at which no new leaves are found
@@ -204,26 +207,10 @@ least_of : (t : Table) (node : ℕ) {leaf place : ℕ} → IsFirstLetterTo t.pro
     IsLeastLetter (LeadsToLeaf t node leaf) place
 least_of t node h = search (rules, zero_bit)
 
-entry_of : (P : ℕ → ℕ → Type 0) (es : List (ℕ × ℕ)) (leaf : ℕ) {z : ℕ} → AllByRecursion (λ pair. P pair.0 pair.1) es →
-    lookup (nat_eq leaf) es ≡ Some z → P leaf z
-entry_of P [] leaf h e = cc
-entry_of P (pair ∷ es) leaf {z} h e = elim (bool_cases (nat_eq leaf pair.0)) [
-  | inl is ↦ grind (arith, eqb-true)
-  | inr isnt ↦ entry_of P es leaf h.1 (rw isnt at e)
-]
-
 -- collecting leaves from an empty list finds each leaf with the least letter that leads to it
 firsts : {t : Table} {node : ℕ} {found : List (ℕ × ℕ)} → IsGathered t node found →
     AllByRecursion (λ pair. IsFirstLetterTo t.propositions (tree_of t node) 0 pair.0 pair.1) found
 firsts h = rw h.all.is h.all.first
-
-pub path_found : {t : Table} {node : ℕ} (leaf : ℕ) {found : List (ℕ × ℕ)} → IsGathered t node found → (o : Option ℕ) →
-    o ≡ lookup (nat_eq leaf) found →
-    MatchOption o ((letter : ℕ) → LeadsToLeaf t node leaf letter → ⊥)
-    (λ letter. IsLeastLetter (LeadsToLeaf t node leaf) letter)
-path_found leaf {found} h None e = λ letter at. not_found found leaf (sym e) (h.all.whole (assignment letter) leaf at.1)
-path_found {t} {node} leaf {found} h (Some z) e =
-    least_of t node (entry_of (IsFirstLetterTo t.propositions (tree_of t node) 0) found leaf (firsts h) (sym e))
 
 any_of_found : (es : List (ℕ × ℕ)) (leaf : ℕ) {z : ℕ} → lookup (nat_eq leaf) es ≡ Some z →
     Any (λ pair. pair.0 ≡ leaf) es
@@ -245,3 +232,17 @@ are_leaves {t} {node} {found} h = record {
   each = search (rules, any_of_found, h.all.whole);
   rising = pairs_of found (subst AreRising (sym h.all.is) h.all.rising);
 }
+
+-- ## One leaf of the whole node
+
+pub path_none : {t : Table} {node : ℕ} (leaf : ℕ) {found : List (ℕ × ℕ)} → IsGathered t node found →
+    place_in found leaf ≡ None → (letter : ℕ) → LeadsToLeaf t node leaf letter → ⊥
+path_none leaf {found} h none letter at =
+    not_found found leaf (no_place_found found leaf none) (h.all.whole (assignment letter) leaf at.1)
+
+pub path_some : {t : Table} {node : ℕ} (leaf i : ℕ) {found : List (ℕ × ℕ)} → IsGathered t node found →
+    place_in found leaf ≡ Some i → (i < length found) × IsLeastLetter (LeadsToLeaf t node leaf) (pair_at found i).1
+path_some {t} {node} leaf i {found} h e =
+    let at = place_at found leaf i e in
+    let all = are_leaves h in
+    (at.0, rw at.1 at (all.least i (0, 0) at.0))

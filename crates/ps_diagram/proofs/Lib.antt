@@ -5,6 +5,7 @@ pub mod Sides
 pub mod Joining
 pub mod KnownLemmas
 pub mod MadeDiagrams
+pub mod LeafTables
 pub mod Letters
 pub mod Clashing
 pub mod Literals

@@ -5,6 +5,7 @@ pub mod Composed
 pub mod Hashed
 pub mod Kept
 pub mod Known
+pub mod LeafTables
 pub mod Numbered
 pub mod Parts
 pub mod Placed

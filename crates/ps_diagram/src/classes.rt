@@ -1,22 +1,21 @@
 //! Divides the letters over some of the propositions into classes.
 
 ghost use Rattle.std.specs.Prelude.{◌≡◌, ◌≢◌, ℕ, ◌+◌, ◌<◌, Bool, AllPairs, IfOk, IsSome, Some, length, nat_eq};
-ghost use Rattle.indexmap.specs.IndexMap.{get};
 ghost use Rattle.ps_diagram.specs.Inner.Kept.{result_for};
 ghost use Rattle.ps_diagram.specs.Tree.{Tree, IsBlind, leaf_at};
 ghost use Rattle.ps_diagram.specs.Table.{IsNode, IsSoundTable, Keeps, MakesTree, tree_of};
 ghost use Rattle.ps_diagram.specs.Inner.Known.{Knows};
 ghost use Rattle.ps_diagram.specs.Split.{AreConstants, IsConstant};
 ghost use Rattle.ps_diagram.specs.Classes.{AreClasses};
-ghost use Rattle.ps_diagram.specs.Inner.Numbered.{AreOf, AreOfLeaves, IsPlaced};
+ghost use Rattle.ps_diagram.specs.Inner.Numbered.{AreOf, AreOfLeaves};
 ghost use Rattle.ps_diagram.specs.Inner.Rests.{AreLeading, IsDivided, IsDividedTest, IsLent, IsTested, KnowsTests};
 ghost use Rattle.ps_diagram.specs.Inner.Rests.{test_eq};
 
+use crate::leaf_table::LeafTable;
 use crate::memo::Memo;
 use crate::split::Split;
 use crate::store::Store;
 use crate::view::{Node, View};
-use indexmap::IndexMap;
 use std::alloc::{AllocError, Global};
 
 /// If letters over at most this many propositions are divided into classes, each of these letters is tried.
@@ -70,7 +69,7 @@ impl Store {
     {
         let _ = other.allocator();
         let divided = self.rests(other, node, split)?;
-        let leaves = self.leaves(divided)?;
+        let leaves = self.found_below(divided)?;
         let classes = self.classes_of_leaves(divided, &leaves)?;
         Ok(classes)
     }
@@ -95,7 +94,7 @@ impl Store {
     fn classes_of_leaves(
         &mut self,
         divided: Node,
-        leaves: &[(u64, u64)],
+        leaves: &LeafTable,
     ) -> Result<Classes, AllocError>
         requires held { IsNode self.old divided }
         requires leaves { AllPairs (λ a b. a.0 ≢ b.0) leaves.now }
@@ -105,8 +104,8 @@ impl Store {
         ensures classes { IfOk result
             (λ c. AreOfLeaves leaves.now (tree_of self.old divided) (tree_of self.new c.places) c.list.items) }
     {
-        let (list, places) = numbered(self.allocator(), leaves)?;
-        let places = self.placed(divided, &places)?;
+        let list = listed(self.allocator(), leaves.as_slice())?;
+        let places = self.placed(divided, leaves)?;
         let _ = self.allocator();
         Ok(Classes { list, places })
     }
@@ -248,20 +247,12 @@ impl Store {
     }
 }
 
-/// Makes a list with one class for each leaf; the class has the leaf's least letter. Also makes a table, which maps
-/// each leaf to the index of its class.
-fn numbered(
-    alloc: Global,
-    leaves: &[(u64, u64)],
-) -> Result<(Vec<Class>, IndexMap<u64, u64>), AllocError>
-    requires differ { AllPairs (λ a b. a.0 ≢ b.0) leaves.now }
-    ensures list { IfOk result (λ r. AreOf leaves.now (length leaves.now) r.0.items) }
-    ensures places { IfOk result (λ r. IsPlaced (get nat_eq r.1) r.0.items) }
+/// Makes a list with one class for each leaf; the class has the leaf's least letter.
+fn listed(alloc: Global, leaves: &[(u64, u64)]) -> Result<Vec<Class>, AllocError>
+    ensures { IfOk result (λ list. AreOf leaves.now (length leaves.now) list.items) }
 {
-    let mut list = Vec::new(alloc);
-    let mut places = IndexMap::new(alloc);
+    let mut list = Vec::with_capacity(alloc, leaves.len())?;
     for pair in leaves {
-        let _ = places.insert(pair.0, list.len() as u64)?;
         let rest = Node {
             place: pair.0 as usize,
         };
@@ -270,5 +261,5 @@ fn numbered(
             rest,
         })?;
     }
-    Ok((list, places))
+    Ok(list)
 }

@@ -54,6 +54,7 @@ mod composed;
 mod fault;
 mod interning;
 mod labels;
+mod leaf_table;
 mod letter;
 mod maps;
 mod memo;

@@ -3,17 +3,17 @@
 ghost use Rattle.std.specs.Prelude.{◌≡◌, ℕ, ◌+◌, ◌^◌, ◌<◌, ◌≤◌, Bool, Option, Some, None, IfOk, IfSome, length, nat_eq};
 ghost use Rattle.std.specs.Prelude.{option_map, option_and_then, unwrap_or, slice_index, is_none, cond};
 ghost use Rattle.std.specs.Option.{option_copied};
-ghost use Rattle.indexmap.specs.IndexMap.{get, index_of};
 ghost use Rattle.ps_diagram.specs.Inner.Kept.{result_for};
 ghost use Rattle.ps_diagram.specs.Tree.{leaf_at};
 ghost use Rattle.ps_diagram.specs.Table.{IsNode, MakesDiagram, MakesTree, leaf_of, tree_of};
+ghost use Rattle.ps_diagram.specs.Inner.LeafTables.{place_in};
 ghost use Rattle.ps_diagram.specs.Inner.Known.{IsChangeable, IsMapped, Knows};
 ghost use Rattle.ps_diagram.specs.Inner.Parts.{IsPart};
 
+use crate::leaf_table::LeafTable;
 use crate::memo::Memo;
 use crate::store::Store;
 use crate::view::{Node, View};
-use indexmap::IndexMap;
 use std::alloc::AllocError;
 
 /// A rule that states by what each leaf, or a missing leaf, of a diagram is replaced.
@@ -98,19 +98,22 @@ impl LeafRule for Replaced<'_> {
     }
 }
 
-/// The rule that replaces the leaf k by the value to which a map maps k.
+/// The rule that replaces the leaf k by the index of k in a table.
 #[derive(Drop)]
-struct Placed<'a>(&'a IndexMap<u64, u64>);
+struct Placed<'a>(&'a LeafTable);
 
 impl LeafRule for Placed<'_> {
     ghost fits = { λ _ _. Unit {0} };
 
-    ghost rule = { λ s leaf. option_and_then (λ k. get nat_eq s.0.now k) leaf };
+    ghost rule = { λ s leaf. option_and_then (λ k. place_in s.0.now k) leaf };
 
     fn changed(&self, leaf: Option<u64>) -> Option<u64> {
         match leaf {
             None => None,
-            Some(k) => self.0.get(&k).copied(),
+            Some(k) => match self.0.find(k) {
+                None => None,
+                Some(place) => Some(place as u64),
+            },
         }
     }
 }
@@ -207,17 +210,13 @@ impl Store {
         self.mapped(None, node, &Negated)
     }
 
-    /// The diagram that has, at each letter, the value to which the map `places` maps the node's leaf.
-    pub(crate) fn placed(
-        &mut self,
-        node: Node,
-        places: &IndexMap<u64, u64>,
-    ) -> Result<Node, AllocError>
+    /// The diagram that has, at each letter, the index in the table of the node's leaf.
+    pub(crate) fn placed(&mut self, node: Node, leaves: &LeafTable) -> Result<Node, AllocError>
         requires held { IsNode self.old node }
         ensures { MakesTree self.old self.new result
-            (IsMapped (λ leaf. option_and_then (λ k. get nat_eq places.now k) leaf) (tree_of self.old node)) }
+            (IsMapped (λ leaf. option_and_then (λ k. place_in leaves.now k) leaf) (tree_of self.old node)) }
     {
-        self.mapped(None, node, &Placed(places))
+        self.mapped(None, node, &Placed(leaves))
     }
 
     /// The diagram of a node of the store `other`, or of this store if `other` is None, with its leaves replaced by the

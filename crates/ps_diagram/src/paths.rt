@@ -7,10 +7,10 @@ ghost use Rattle.ps_diagram.specs.Reached.{AreLeaves, Gathers, HaveFound, IsGath
 ghost use Rattle.ps_diagram.specs.Split.{root_of};
 ghost use Rattle.ps_diagram.specs.Table.{IsNode, tree_of};
 
+use crate::leaf_table::LeafTable;
 use crate::memo::Memo;
 use crate::store::Store;
 use crate::view::{Node, View};
-use indexmap::IndexMap;
 use std::alloc::{AllocError, Global};
 
 impl Store {
@@ -19,7 +19,8 @@ impl Store {
         requires held { IsNode self.now node }
         ensures { IfOk result (λ found. AreLeaves self.now node found.items) }
     {
-        listed(self.allocator(), self.found_below(node)?)
+        let found = self.found_below(node)?;
+        Ok(found.into_list())
     }
 
     /// The least letter that leads from the node to the leaf, if any letter does.
@@ -29,16 +30,20 @@ impl Store {
             (λ found. MatchOption found ((letter : ℕ) → LeadsToLeaf self.now node leaf letter → ⊥)
             (λ letter. IsLeastLetter (LeadsToLeaf self.now node leaf) letter)) }
     {
-        Ok(self.found_below(node)?.get(&leaf).copied())
+        let found = self.found_below(node)?;
+        match found.find(leaf) {
+            Some(place) => Ok(Some(found.as_slice()[place].1)),
+            None => Ok(None),
+        }
     }
 
     /// The leaves of a node, in the order of their least letters.
-    fn found_below(&self, node: Node) -> Result<IndexMap<u64, u64>, AllocError>
+    pub(crate) fn found_below(&self, node: Node) -> Result<LeafTable, AllocError>
         requires held { IsNode self.now node }
-        ensures { IfOk result (λ found. IsGathered self.now node found.entries) }
+        ensures { IfOk result (λ found. IsGathered self.now node found) }
     {
         let mut seen = Memo::new(self.allocator());
-        let mut found = IndexMap::new(self.allocator());
+        let mut found = LeafTable::new(self.allocator());
         self.gather(node, 0, &mut seen, &mut found)?;
         Ok(found)
     }
@@ -50,20 +55,20 @@ impl Store {
         node: Node,
         letter: u64,
         seen: &mut Memo<Node>,
-        found: &mut IndexMap<u64, u64>,
+        found: &mut LeafTable,
     ) -> Result<(), AllocError>
         requires held { IsNode self.now node }
         requires begun { letter < 2 ^ root_of self.now.propositions (tree_of self.now node) }
-        requires seen { HaveFound self.now (λ q. is_some (result_for nat_eq seen.old.table q)) found.old.entries }
-        ensures seen { OnOk result (HaveFound self.now (λ q. is_some (result_for nat_eq seen.new.table q)) found.new.entries) }
-        ensures found { OnOk result (Gathers self.now.propositions (tree_of self.now node) letter found.old.entries
-            found.new.entries) }
+        requires seen { HaveFound self.now (λ q. is_some (result_for nat_eq seen.old.table q)) found.old }
+        ensures seen { OnOk result (HaveFound self.now (λ q. is_some (result_for nat_eq seen.new.table q)) found.new) }
+        ensures found { OnOk result (Gathers self.now.propositions (tree_of self.now node) letter found.old
+            found.new) }
     {
         match self.cell(node) {
             View::Nothing => Ok(()),
             View::Leaf(value) => {
-                if !found.contains_key(&value) {
-                    found.insert(value, letter)?;
+                if found.find(value).is_none() {
+                    found.push(value, letter)?;
                 }
                 Ok(())
             }
@@ -82,11 +87,4 @@ impl Store {
             }
         }
     }
-}
-
-/// The entries of a map, as a list.
-fn listed(alloc: Global, found: IndexMap<u64, u64>) -> Result<Vec<(u64, u64)>, AllocError>
-    ensures { IfOk result (λ pairs. pairs.items ≡ found.entries) }
-{
-    found.into_iter().collect(alloc)
 }

@@ -1,11 +1,12 @@
 use Rattle.std.proofs.Common.{◌∙◌}
 use Rattle.ps_diagram.proofs.Classing.{classes_of}
+use Rattle.ps_diagram.proofs.Gathering.{are_leaves}
 use Rattle.ps_diagram.proofs.KnownLemmas.{keeps_trans}
 use Rattle.ps_diagram.proofs.Numbering.{leaves_differ}
 use Rattle.ps_diagram.proofs.store.Store.classes_from.Goals as goal
 
 pub classes_of_leaves-requires-clause-leaves : goal.classes_of_leaves-requires-clause-leaves
-classes_of_leaves-requires-clause-leaves c = leaves_differ (rw (← c.deref.ensures.value) at c.in_ok-leaves.ensures)
+classes_of_leaves-requires-clause-leaves c = leaves_differ (are_leaves c.in_ok-leaves.ensures)
 
 pub returns-clause-keeps : goal.returns-clause-keeps
 returns-clause-keeps c = keeps_trans c.rests.ensures.keeps c.classes_of_leaves.ensures.keeps
@@ -16,4 +17,4 @@ returns-clause-classes c =
     classes_of c.classes_of_leaves.ensures.keeps c.allocator.ensures.sound c.in_ok-classes.ensures.sound
     (c.classes_of_leaves.ensures.keeps.propositions ∙ c.rests.ensures.keeps.propositions ∙ c.requires.letters)
     c.args.split c.requires.held c.in_ok-divided.ensures.held c.in_ok-classes.ensures.held c.in_ok-divided.ensures.leaf
-    (rw (← c.deref.ensures.value) at c.in_ok-leaves.ensures) of.listed of.found of.mapped
+    (are_leaves c.in_ok-leaves.ensures) of.listed of.found of.mapped
