@@ -1,6 +1,6 @@
 -- Diagrams whose leaves are node numbers.
 use Rattle.std.proofs.Common.{◌≡◌, ℕ, ◌+◌, Bool, true, false, cond, Ok, Option, Some, ap, inl, inr, sym, ◌∙◌, rules}
-use Rattle.std.specs.Prelude.{IsSome}
+use Rattle.std.specs.Prelude.{IsSomeAnd}
 use Rattle.std.proofs.lemmas.Bool.{eqb-true}
 use Rattle.ps_label.specs.Truth.{is_in}
 use Rattle.ps_diagram.specs.Tree.{Tree, final, leaf_at, IsBlind, IsTestOf}
@@ -127,8 +127,9 @@ tests_put {t = t} known new n put k h hx hy m p a b =
 
 -- diagrams in which each leaf is the number of a node
 
-pub names_of : (t : Table) (level : ℕ) (d : Tree) → LeadsToNodes t level d → (f : ℕ → Bool) → IsSome (leaf_at d f)
-names_of t level d h f = let r = h f in rw r.1
+pub names_of : (t : Table) (level : ℕ) (d : Tree) → LeadsToNodes t level d → (f : ℕ → Bool) →
+    IsSomeAnd (leaf_at d f) (IsNode t)
+names_of t level d h f = let r = h f in rw r.1 r.2
 
 pub place_of : (t : Table) (level : ℕ) (d : Tree) → LeadsToNodes t level d → (node : ℕ) →
     ((f : ℕ → Bool) → leaf_at d f ≡ Some node) → IsNode t node × IsBlind level (tree_of t node)

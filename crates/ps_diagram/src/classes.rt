@@ -1,6 +1,7 @@
 //! Divides the letters over some of the propositions into classes.
 
-ghost use Rattle.std.specs.Prelude.{◌≡◌, ◌≢◌, ℕ, ◌+◌, ◌<◌, Bool, AllPairs, IfOk, IsSome, Some, length, nat_eq};
+ghost use Rattle.std.specs.Prelude.{◌≡◌, ◌≢◌, ℕ, ◌+◌, ◌^◌, ◌<◌, Bool, All, AllPairs, IfOk, IsSomeAnd, Some};
+ghost use Rattle.std.specs.Prelude.{length, nat_eq};
 ghost use Rattle.ps_diagram.specs.Inner.Kept.{result_for};
 ghost use Rattle.ps_diagram.specs.Tree.{Tree, IsBlind, leaf_at};
 ghost use Rattle.ps_diagram.specs.Table.{IsNode, IsSoundTable, Keeps, MakesTree, tree_of};
@@ -98,12 +99,14 @@ impl Store {
     ) -> Result<Classes, AllocError>
         requires held { IsNode self.old divided }
         requires leaves { AllPairs (λ a b. a.0 ≢ b.0) leaves.now }
+        requires nodes { All (λ pair. IsNode self.old pair.0) leaves.now }
         ensures keeps { Keeps self.old self.new }
         ensures sound { IfOk result (λ _. IsSoundTable self.new) }
         ensures held { IfOk result (λ c. IsNode self.new c.places) }
         ensures classes { IfOk result
             (λ c. AreOfLeaves leaves.now (tree_of self.old divided) (tree_of self.new c.places) c.list.items) }
     {
+        let _ = self.count();
         let list = listed(self.allocator(), leaves.as_slice())?;
         let places = self.placed(divided, leaves)?;
         let _ = self.allocator();
@@ -237,24 +240,26 @@ impl Store {
     fn node_at(&self, node: Node) -> Node
         requires held { IsNode self.now node }
         requires constant { IsConstant (tree_of self.now node) }
-        requires names { (f : ℕ → Bool) → IsSome (leaf_at (tree_of self.now node) f) }
+        requires names { (f : ℕ → Bool) → IsSomeAnd (leaf_at (tree_of self.now node) f) (IsNode self.now) }
         ensures { (f : ℕ → Bool) → leaf_at (tree_of self.now node) f ≡ Some result }
     {
         let place = self.eval(node, 0).unwrap();
+        let _ = self.count();
         Node {
-            place: place as usize,
+            place: place as u32,
         }
     }
 }
 
 /// Makes a list with one class for each leaf; the class has the leaf's least letter.
 fn listed(alloc: Global, leaves: &[(u64, u64)]) -> Result<Vec<Class>, AllocError>
+    requires { All (λ pair. pair.0 < 2 ^ 32) leaves.now }
     ensures { IfOk result (λ list. AreOf leaves.now (length leaves.now) list.items) }
 {
     let mut list = Vec::with_capacity(alloc, leaves.len())?;
     for pair in leaves {
         let rest = Node {
-            place: pair.0 as usize,
+            place: pair.0 as u32,
         };
         list.push(Class {
             letter: pair.1,

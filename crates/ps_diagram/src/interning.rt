@@ -1,6 +1,6 @@
 //! The cells of a store, one for each node, and the index (place) of each.
 
-ghost use Rattle.std.specs.Prelude.{◌≡◌, ◌<◌, [], IfOk, IfSome, Some, length, slice_get, slice_index_or};
+ghost use Rattle.std.specs.Prelude.{◌≡◌, ◌^◌, ◌<◌, [], IfOk, IfSome, Some, length, slice_get, slice_index_or};
 ghost use Rattle.ps_diagram.specs.Inner.Placed.{PlacesCell};
 ghost use Rattle.ps_diagram.specs.declared.view.View.TheVariants.{Leaf, Nothing};
 
@@ -56,15 +56,24 @@ impl Cells {
     }
 
     /// The cell at an index of the list.
-    pub(crate) fn at(&self, place: usize) -> View
+    pub(crate) fn at(&self, place: u32) -> View
         requires { place < length self.now }
         ensures { result ≡ slice_index_or self.now place Nothing }
     {
-        self.list.as_slice()[place]
+        self.list.as_slice()[place as usize]
+    }
+
+    /// The number of cells.
+    pub(crate) fn len(&self) -> usize
+        ensures value { result ≡ length self.now }
+        ensures few { result < 2 ^ 32 }
+    {
+        let _ = &self.leaves;
+        self.list.len()
     }
 
     /// The index of a cell in the list. A cell that is not in the list is appended.
-    pub(crate) fn place_of(&mut self, cell: View) -> Result<usize, AllocError>
+    pub(crate) fn place_of(&mut self, cell: View) -> Result<u32, AllocError>
         ensures { PlacesCell self.old self.new cell result }
     {
         match cell {
@@ -74,7 +83,7 @@ impl Cells {
     }
 
     /// The index of a leaf's cell in the list; a new cell is appended.
-    fn place_of_leaf(&mut self, leaf: u64) -> Result<usize, AllocError>
+    fn place_of_leaf(&mut self, leaf: u64) -> Result<u32, AllocError>
         ensures { PlacesCell self.old self.new (Leaf leaf) result }
     {
         if let Some(place) = self.known(leaf) {
@@ -87,19 +96,20 @@ impl Cells {
     }
 
     /// The index of a cell in the list, found by its hash; a new cell is appended.
-    fn place_by_hash(&mut self, cell: View) -> Result<usize, AllocError>
+    fn place_by_hash(&mut self, cell: View) -> Result<u32, AllocError>
         ensures { PlacesCell self.old self.new cell result }
     {
         let place = self.list.place_of(cell)?;
-        Ok(place)
+        let _ = self.list.len();
+        Ok(place as u32)
     }
 
     /// The index of a leaf's cell, if the table of small leaves has it.
-    fn known(&self, leaf: u64) -> Option<usize>
+    fn known(&self, leaf: u64) -> Option<u32>
         ensures { IfSome result (λ place. slice_get self.now place ≡ Some (Leaf leaf)) }
     {
         match self.leaves.get(leaf as usize).copied() {
-            Some(place) if place != UNKNOWN => Some(place as usize),
+            Some(place) if place != UNKNOWN => Some(place),
             _ => None,
         }
     }
@@ -116,13 +126,13 @@ impl Cells {
     }
 
     /// Records the index of a leaf's cell, if the table of small leaves has room for the leaf.
-    fn note(&mut self, leaf: u64, place: usize)
+    fn note(&mut self, leaf: u64, place: u32)
         requires { slice_get self.old place ≡ Some (Leaf leaf) }
         ensures { self.new ≡ self.old }
     {
         let leaf = leaf as usize;
-        if leaf < self.leaves.len() && place < UNKNOWN as usize {
-            self.leaves[leaf] = place as u32;
+        if leaf < self.leaves.len() && place < UNKNOWN {
+            self.leaves[leaf] = place;
         }
     }
 }

@@ -134,6 +134,15 @@ impl Store {
         })
     }
 
+    /// The number of nodes.
+    pub(crate) fn count(&self) -> usize
+        ensures value { result ≡ length self.now.cells }
+        ensures few { result < 2 ^ 32 }
+    {
+        let _ = &self.propositions;
+        self.cells.len()
+    }
+
     /// The cell of a node; the child nodes in this cell are earlier nodes of the store.
     pub(crate) fn cell(&self, node: Node) -> View
         requires held { IsNode self.now node }

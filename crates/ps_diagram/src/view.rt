@@ -11,7 +11,7 @@ use std::marker::Model;
 /// this store.
 #[derive(Debug, Clone, Copy, PartialEq, Eq, Hash)]
 pub struct Node {
-    pub(crate) place: usize,
+    pub(crate) place: u32,
 }
 
 impl Model for Node {

@@ -1,12 +1,17 @@
 use Rattle.std.proofs.Common.{◌∙◌}
+use Rattle.ps_diagram.specs.Table.{tree_of}
 use Rattle.ps_diagram.proofs.Classing.{classes_of}
 use Rattle.ps_diagram.proofs.Gathering.{are_leaves}
 use Rattle.ps_diagram.proofs.KnownLemmas.{keeps_trans}
-use Rattle.ps_diagram.proofs.Numbering.{leaves_differ}
+use Rattle.ps_diagram.proofs.Numbering.{leaves_differ, leaves_held}
 use Rattle.ps_diagram.proofs.store.Store.classes_from.Goals as goal
 
 pub classes_of_leaves-requires-clause-leaves : goal.classes_of_leaves-requires-clause-leaves
 classes_of_leaves-requires-clause-leaves c = leaves_differ (are_leaves c.in_ok-leaves.ensures)
+
+pub classes_of_leaves-requires-clause-nodes : goal.classes_of_leaves-requires-clause-nodes
+classes_of_leaves-requires-clause-nodes c =
+    leaves_held c.args.split (tree_of c.args.other.now c.args.node) (are_leaves c.in_ok-leaves.ensures) c.in_ok-divided.ensures.leaf
 
 pub returns-clause-keeps : goal.returns-clause-keeps
 returns-clause-keeps c = keeps_trans c.rests.ensures.keeps c.classes_of_leaves.ensures.keeps
