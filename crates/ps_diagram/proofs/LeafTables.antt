@@ -9,7 +9,7 @@ use Rattle.std.proofs.lemmas.List.Quantifiers.{all_pairs_push, position-Some}
 use Rattle.std.specs.List.{position_or_len}
 use Rattle.std.specs.Map.{lookup}
 use Rattle.std.specs.Prelude.{AllPairs, ◌≢◌}
-use Rattle.ps_diagram.specs.Inner.Chained.{LacksFrom}
+use Rattle.ps_keys.specs.Keys.{LacksFrom}
 use Rattle.ps_diagram.specs.Inner.LeafTables.{AreDifferent, IsPlace, LacksBefore, place_in}
 use Rattle.ps_diagram.specs.Inner.Numbered.{pair_at}
 use Rattle.ps_diagram.specs.Reached.{IsFound}

@@ -3,7 +3,7 @@
 ghost use Rattle.std.specs.Prelude.{◌≡◌, ◌++◌, ◌∷◌, [], MatchOption, None, OnErr, OnOk};
 ghost use Rattle.ps_diagram.specs.Inner.LeafTables.{IsPlace, LacksBefore, place_in};
 
-use crate::key_list::KeyList;
+use ps_keys::KeyList;
 use std::alloc::{AllocError, Global};
 use std::marker::Model;
 

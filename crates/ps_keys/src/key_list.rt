@@ -70,7 +70,7 @@ impl<K: Hashed> KeyList<K> {
     pub fn find(&self, key: K) -> Option<usize>
         ensures { IsLastEqual K.eq self.now key result }
     {
-        self.buckets.find(&self.list, key).0
+        self.buckets.find(&self.list, key).place
     }
 
     /// The index of a key in the list; a new key is appended. Fails if out of memory, or if the list has 2^32 - 1 keys
@@ -79,14 +79,14 @@ impl<K: Hashed> KeyList<K> {
     pub fn place_of(&mut self, key: K) -> Result<usize, AllocError>
         ensures { PlacesKey K.eq self.old self.new key result }
     {
-        let (found, passed) = self.buckets.find(&self.list, key);
-        if let Some(place) = found {
+        let sought = self.buckets.find(&self.list, key);
+        if let Some(place) = sought.place {
             return Ok(place);
         }
-        self.buckets.make_room(&self.list, passed)?;
+        let bucket = self.buckets.make_room(&self.list, key, sought)?;
         let place = self.list.len();
         self.list.push(key)?;
-        self.buckets.link(&self.list, place);
+        self.buckets.link(&self.list, place, bucket);
         Ok(place)
     }
 }

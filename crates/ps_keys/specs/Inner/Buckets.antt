@@ -22,6 +22,11 @@ pub record AreBucketsOf {K : Type 0} (bucket_of : K → ℕ) (list : List K) (n 
 abbrev pub bucket_in : {K : Type 0} → (ℕ → K → ℕ) → Buckets → K → ℕ
 bucket_in hash b = bucket hash b.seed (length b.heads.items)
 
+-- `bucket` is the index of the key's bucket
+pub record IsBucketOf {K : Type 0} (hash : ℕ → K → ℕ) (b : Buckets) (key : K) (bucket : ℕ) : Type 0 where
+  pub value : bucket ≡ bucket_in hash b key
+  pub within : bucket < length b.heads.items
+
 -- the first n keys of the list are in their buckets
 pub record AreInBuckets {K : Type 0} (hash : ℕ → K → ℕ) (list : List K) (n : ℕ) (b : Buckets) : Type 0 where
   pub even : length b.heads.items ≡ length b.links.items

@@ -4,6 +4,12 @@ use Rattle.ps_keys.specs.Inner.Buckets.{bucket_in}
 use Rattle.ps_keys.proofs.BucketLemmas.{begun, alike_in_bucket, walked}
 use Rattle.ps_keys.proofs.buckets.Buckets.find.Goals as goal
 
+pub returns-then-is_empty-clause-place : goal.returns-then-is_empty-clause-place
+returns-then-is_empty-clause-place g c =
+    let heads = c.args.self.now.heads in
+    let none : length heads.items ≡ 0 = search rules in
+    λ i d low high. absurd (omega (arith, high, c.requires.room, c.requires.even, none))
+
 pub loop-next-init : goal.loop-next-init
 loop-next-init g c =
     let self = c.args.self.now in
