@@ -26,12 +26,13 @@
 //! | `composed_from(other, node, truths)` | the leaf of a node of another store at the letter that the truths form |
 //!
 //! Each call in the table above, also one that fails, keeps every node of the store, with the same leaf at each letter
-//! (`Keeps`). `eval`, `same` and `view` read a node and use no memory. `leaves` lists the leaves of a node, each with
-//! the least letter that leads to it; `path_to` finds this letter for one leaf. `classes(node, split)` divides the
-//! letters over the propositions of `split` into classes: two letters are in one class exactly if the node has the same
-//! leaf for both, whatever the truth values of the other propositions (`AreClasses`). `classes_from` divides the
-//! letters for a node of another store. Like the calls in the table, `classes` and `classes_from` keep every node of
-//! the store. `copy` returns a new store with the same nodes.
+//! (`Keeps`). `eval`, `same` and `view` read a node and use no memory. `len` gives the number of a store's nodes, which
+//! are numbered from 0 (`Node::number`). `leaves` lists the leaves of a node, each with the least letter that leads to
+//! it; `path_to` finds this letter for one leaf. `classes(node, split)` divides the letters over the propositions of
+//! `split` into classes: two letters are in one class exactly if the node has the same leaf for both, whatever the
+//! truth values of the other propositions (`AreClasses`). `classes_from` divides the letters for a node of another
+//! store. Like the calls in the table, `classes` and `classes_from` keep every node of the store. `copy` returns a new
+//! store with the same nodes.
 //!
 //! A store never drops a node. Equal diagrams are one node, which is found by a hash table or, for small leaves, by a
 //! table indexed by the leaf. `negated`, `guard`, `fill`, `relabel` and `relabel_from` visit each node of the given

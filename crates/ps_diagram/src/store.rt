@@ -57,6 +57,14 @@ impl Store {
         self.propositions
     }
 
+    /// The number of nodes.
+    pub fn len(&self) -> usize
+        ensures value { result ≡ length self.now.cells }
+        ensures sound { IsSoundTable self.now }
+    {
+        self.cells.len()
+    }
+
     /// The diagram that has the given leaf at every letter.
     pub fn leaf(&mut self, value: u64) -> Result<Node, AllocError>
         ensures { MakesDiagram self.old self.new result (λ _. Some value) }

@@ -1,5 +1,6 @@
 //! Nodes of a store, and what a caller sees of a node.
 
+ghost use Rattle.std.specs.Prelude.{◌≡◌};
 ghost use Rattle.std.specs.Cmp.Rules.{hashing};
 ghost use Rattle.std.proofs.Common.{rules};
 
@@ -22,6 +23,15 @@ impl Model for Node {
     ghost view = { λ n. n.place };
 
     ghost inverse = { λ n. record { place = n } };
+}
+
+impl Node {
+    /// The number of the node. The nodes of a store are numbered from 0, in the order in which they were made.
+    pub fn number(self) -> usize
+        ensures { result ≡ self }
+    {
+        self.place
+    }
 }
 
 /// What a node is: no leaf, one leaf, or a test of a proposition with two nodes.
