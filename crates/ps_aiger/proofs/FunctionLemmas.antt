@@ -1,6 +1,6 @@
--- Lemmas about constant literals, diagram nodes that lead to no leaf, and codes that fit in 64 bits.
+-- Lemmas about constant literals, literals of inputs, nodes that lead to no leaf, and codes that fit in 64 bits.
 use Rattle.std.proofs.Common.{◌≡◌, ℕ, zero, suc, ◌+◌, ◌-◌, ◌*◌, ◌/◌, ◌%◌, ◌^◌, ◌<◌, ◌≤◌, Bool, false}
-use Rattle.std.proofs.Common.{cond, nat_eq, List, [], ◌∷◌, length, get_or, slice_get, Some, refl, sym, ap, subst, arith}
+use Rattle.std.proofs.Common.{cond, nat_eq, List, [], ◌∷◌, length, get_or, Some, refl, sym, ap, subst, arith}
 use Rattle.std.proofs.Common.{inl, inr, if◌then◌else◌}
 use Rattle.std.proofs.lemmas.Bool.{eqb-true, cases_eq, cases_lt}
 use Rattle.std.proofs.lemmas.List.{get_or_past}
@@ -13,7 +13,7 @@ use Rattle.ps_hoa.specs.Files.{is_among}
 use Rattle.ps_machine.specs.Machines.{MachineData, row_at_leaf}
 use Rattle.ps_aiger.specs.declared.functions.Wanted.{Wanted}
 use Rattle.ps_circuit.specs.Building.{Drafted, IsHeld, bit}
-use Rattle.ps_aiger.specs.Inner.Functions.{wanted_bit}
+use Rattle.ps_aiger.specs.Inner.Functions.{IsInputLiteral, wanted_bit}
 use Rattle.ps_circuit.proofs.GateLemmas.{bool_cases}
 
 pub not_among : (q : ℕ) (ps : List ℕ) → ((k : ℕ) → k < length ps → get_or ps k 0 ≡ q → ⊥) → is_among q ps ≡ false
@@ -44,12 +44,13 @@ constant_held d b = grind arith
 pub by_cond : {X Y : Type 0} (f : X → Y) (b : Bool) (h l : X) → cond b (f h) (f l) ≡ f (cond b h l)
 by_cond f b h l = grind arith
 
-pub place_small : (inputs list : List ℕ) (place p : ℕ) → list ≡ inputs → slice_get list place ≡ Some p →
-    place < length inputs
-place_small inputs list place p e h = subst (λ xs. place < length xs) e (slice_get_within list place p h)
-
-pub held_place : (d : Drafted) (n place : ℕ) → place < n → n ≤ d.given → IsHeld d (2 * (place + 1))
+held_place : (d : Drafted) (n place : ℕ) → place < n → n ≤ d.given → IsHeld d (2 * (place + 1))
 held_place d n place lt le = let half : 2 * (place + 1) / 2 ≡ place + 1 = omega arith in omega arith
+
+pub held_input : (d : Drafted) (inputs : List ℕ) (p input : ℕ) → IsInputLiteral inputs p (Some input) →
+    length inputs ≤ d.given → IsHeld d input
+held_input d inputs p input reads given = subst (IsHeld d) (sym reads.2)
+    (held_place d (length inputs) reads.0 (slice_get_within inputs reads.0 p reads.1) given)
 
 pub halves : (latches : ℕ) → (latches ≡ 0 → ⊥) → 2 ^ latches ≡ 2 ^ (latches - 1) + 2 ^ (latches - 1)
 halves zero h = absurd (h refl)

@@ -5,9 +5,10 @@
 -- - `gives`: the function returns a literal whose gates exist already, so that no gate is added
 -- - `as-made`, `by-choice`: the function returns the result of its last call, which builds exactly the wanted literal
 --   (`as-made`), or a choice between two literals, a multiplexer (`by-choice`)
+-- - `entry_of`: the entry of a tested proposition, in the table of the inputs' literals
 -- - `test-split`, `test-chosen`: if a diagram node tests an input, its literal is a choice by this input between the
 --   literals of the node's two children
-use Rattle.std.proofs.Common.{◌≡◌, ◌∙◌, ℕ, ◌+◌, ◌*◌, Bool, Err, IsErrAnd, List, Ok, Result, Some, ap, slice_get, subst, sym}
+use Rattle.std.proofs.Common.{◌≡◌, ◌∙◌, ◌<◌, ℕ, Bool, Err, IsErrAnd, List, Ok, Option, Result, Some, get_or, subst, sym}
 use Rattle.std.proofs.Common.{rules}
 use Rattle.std.proofs.lemmas.Result.{IfOk-weaker}
 use Rattle.ps_circuit.specs.declared.encode_fault.EncodeFault.{EncodeFault}
@@ -19,7 +20,8 @@ use Rattle.ps_diagram.specs.Views.{SeesTest}
 use Rattle.ps_machine.specs.Behaviours.{IsMachine}
 use Rattle.ps_machine.specs.Machines.{MachineData, behaviour}
 use Rattle.ps_aiger.specs.declared.functions.Wanted.{Wanted}
-use Rattle.ps_aiger.specs.Inner.Functions.{MakesLiteral, node_made}
+use Rattle.ps_aiger.specs.Inner.Functions.{AreInputLiterals, IsInputLiteral, MakesLiteral}
+use Rattle.ps_aiger.specs.Inner.Functions.{node_made}
 use Rattle.ps_circuit.proofs.GateLemmas.{extends-refl, extends-trans, passed_on}
 use Rattle.ps_aiger.proofs.OverLemmas.{choice_made, made-test}
 use Rattle.ps_aiger.proofs.WiredLemmas.{choice-made}
@@ -53,18 +55,25 @@ pub by-choice : {old new : Drafted} {result : Result ℕ EncodeFault} {all : Mad
     {Needs : Type 0} → MakesGates old new result all value Needs → MakesLiteral old new result all
 by-choice m = record { extends = m.extends; held = m.held; made = m.made; too_large = m.above }
 
+-- the entry of a tested proposition, in the table of the inputs' literals
+pub entry_of : (m : MachineData) (node p low high : ℕ) {s : Table} {literals : List (Option ℕ)} → s ≡ m.store →
+    SeesTest s node p low high → AreInputLiterals m literals → (d : Option ℕ) {found : Option ℕ} →
+    get_or literals p d ≡ found → IsInputLiteral m.inputs p found
+entry_of m node p low high store sees are d is = subst (IsInputLiteral m.inputs p) is
+    (are.each p d (subst (λ (t : Table). p < t.propositions) store sees.named))
+
 -- the literal of a node that tests an input is the choice, by this input, between the literals of the node's two
 -- children
-module _ (m : MachineData) (w : Wanted) (node p low high place : ℕ) (d : Drafted) (machine : IsMachine (behaviour m))
-    {s : Table} (store : s ≡ m.store) (sees : SeesTest s node p low high) {list : List ℕ} (inputs : list ≡ m.inputs)
-    (at : slice_get list place ≡ Some p) where
-  pub test-split : node_made m w node d ≡ choice_made m w (2 * (place + 1)) high low d
-  test-split = made-test m w node p low high place d machine (subst (λ t. SeesTest t node p low high) store sees)
-      (subst (λ xs. slice_get xs place ≡ Some p) inputs at)
+module _ (m : MachineData) (w : Wanted) (node p low high : ℕ) (d : Drafted) (machine : IsMachine (behaviour m))
+    {s : Table} (store : s ≡ m.store) (sees : SeesTest s node p low high) {literals : List (Option ℕ)}
+    (are : AreInputLiterals m literals) (e : Option ℕ) {input : ℕ} (is : get_or literals p e ≡ Some input) where
+  pub test-split : node_made m w node d ≡ choice_made m w input high low d
+  test-split =
+      let reads : IsInputLiteral m.inputs p (Some input) = entry_of m node p low high store sees are e is in
+      subst (λ x. node_made m w node d ≡ choice_made m w x high low d) (sym reads.2)
+      (made-test m w node p low high reads.0 d machine (subst (λ t. SeesTest t node p low high) store sees) reads.1)
 
-  pub test-chosen : {a b : Drafted} {t f input : ℕ} → node_made m w high d ≡ record { draft = a; literal = t } →
-      node_made m w low a ≡ record { draft = b; literal = f } → input ≡ 2 * (place + 1) →
-      node_made m w node d ≡ mux_of b input t f
-  test-chosen {a} {b} {t} {f} high_made low_made input_is =
+  pub test-chosen : {a b : Drafted} {t f : ℕ} → node_made m w high d ≡ record { draft = a; literal = t } →
+      node_made m w low a ≡ record { draft = b; literal = f } → node_made m w node d ≡ mux_of b input t f
+  test-chosen {a} {b} {t} {f} high_made low_made =
       choice-made _ _ (node_made m w low) a b _ t f test-split high_made low_made
-      ∙ ap (λ x. mux_of b x t f) (sym input_is)

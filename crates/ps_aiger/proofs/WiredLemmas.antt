@@ -1,12 +1,14 @@
 -- The gates of a machine's whole circuit, built for one bit of the machine's step after another.
-use Rattle.std.proofs.Common.{rules, ◌≡◌, ◌∙◌, ℕ, suc, ◌+◌, ◌-◌, ◌*◌, ◌%◌, ◌^◌, ◌<◌, ◌≤◌, List, [], ◌∷◌, ◌++◌, map}
+use Rattle.std.proofs.Common.{rules, ◌≡◌, ◌∙◌, ℕ, zero, suc, ◌+◌, ◌-◌, ◌*◌, ◌%◌, ◌^◌, ◌<◌, ◌≤◌, List, [], ◌∷◌, ◌++◌, map}
 use Rattle.std.proofs.Common.{length, drop}
-use Rattle.std.proofs.Common.{slice_get, Option, Some, refl, sym, ap, subst, arith, eqb, cond, inl, inr, append_assoc}
-use Rattle.std.proofs.Common.{append-nil}
-use Rattle.std.specs.Prelude.{slice_index}
+use Rattle.std.proofs.Common.{slice_get, Option, Some, None, refl, sym, ap, subst, arith, inl, inr, append_assoc}
+use Rattle.std.proofs.Common.{append-nil, set}
+use Rattle.std.specs.Prelude.{replicate, slice_index}
 use Rattle.std.specs.List.{range_with_len}
-use Rattle.std.proofs.lemmas.Bool.{eqb-true}
+use Rattle.std.proofs.lemmas.Bool.{cases_eq, cases_lt}
 use Rattle.std.proofs.lemmas.List.{same_lists, length-map, get_or-map, drop_more, drop_all, get_or_default}
+use Rattle.std.proofs.lemmas.List.{get_or-replicate, get_or-set_other, get_or-set_same, get_or_past, length-replicate}
+use Rattle.std.proofs.lemmas.List.{length-set}
 use Rattle.std.proofs.lemmas.List.FromFn.{length-range_with_len, get_or-range_with_len}
 use Rattle.std.proofs.lemmas.Option.{get_or_from_slice_get}
 use Rattle.std.proofs.lemmas.Simd.{map-map}
@@ -19,14 +21,14 @@ use Rattle.ps_circuit.specs.Building.{Drafted, Extends, IsHeld, variables_of}
 use Rattle.ps_aiger.specs.Inner.Built.{IsBuilt}
 use Rattle.ps_circuit.specs.Circuits.{CircuitData}
 use Rattle.ps_aiger.specs.Encoded.{memory_of_code}
-use Rattle.ps_aiger.specs.Inner.Functions.{KnowsMade, bits_wired, code_wanted, node_made}
+use Rattle.ps_aiger.specs.Inner.Functions.{IsLiteralOf, KnowsMade, bits_wired, code_wanted, literal_at, node_made}
 use Rattle.ps_circuit.specs.Gates.{Made, mux_of}
 use Rattle.ps_aiger.specs.Wires.{AreGates, IsOutOfLiterals, IsWired, IsWiredBy, Wired, code_made, next_wires}
 use Rattle.ps_aiger.specs.Wires.{output_wires, wired}
 use Rattle.ps_aiger.proofs.CircuitShape.{no_latch}
 use Rattle.ps_aiger.proofs.FunctionLemmas.{few_latches, shl_is}
-use Rattle.ps_circuit.proofs.GateLemmas.{bool_cases, drafted_are, extends-refl, extends-trans, held-extends}
-use Rattle.ps_circuit.proofs.MadeLemmas.{above-extends, mux-extends}
+use Rattle.ps_circuit.proofs.GateLemmas.{drafted_are, extends-refl, extends-trans, held-extends}
+use Rattle.ps_circuit.proofs.MadeLemmas.{above-extends, mux-extends, mux-same}
 use Rattle.ps_aiger.proofs.OverLemmas.{choose, inputs-again}
 use Rattle.ps_aiger.proofs.WireLemmas.{wired-extends}
 
@@ -55,16 +57,43 @@ made-kept m w d e known x h node literal is =
     let there = h node literal is in
     grind (arith, held-extends, inputs-again)
 
-pub made-more : (m : MachineData) (w : Wanted) (d e : Drafted) (known new : ℕ → Option ℕ) (key value : ℕ) →
-    ((q : ℕ) → new q ≡ cond (eqb key q) (Some value) (known q)) → KnowsMade m w e known → IsHeld e value →
-    node_made m w key d ≡ record { draft = e; literal = value } → KnowsMade m w e new
-made-more m w d e known new key value update h held made node literal is = elim (bool_cases (eqb key node)) [
-  | inl one ↦ grind (arith, eqb-true, some_is, inputs-again, extends-refl)
-  | inr other ↦ h node literal (sym (update node ∙ ap (λ b. cond b (Some value) (known node)) other) ∙ is)
+none_at : (n node : ℕ) → literal_at (replicate n None) node ≡ None
+none_at n node = elim (cases_lt node n) [
+  | inl within ↦ get_or-replicate n node None None within
+  | inr past ↦ get_or_past (replicate n None) node None
+      (subst (λ k. k ≤ node) (sym (length-replicate {A = Option ℕ} n None)) past)
+]
+
+pub none-known : (m : MachineData) (w : Wanted) (d : Drafted) (n : ℕ) → KnowsMade m w d (literal_at (replicate n None))
+none-known m w d n node literal is = absurd (none_is_some (sym (none_at n node) ∙ is))
+  where
+    none_is_some : None ≡ Some literal → ⊥
+    none_is_some e = cc
+
+pub made-here : (m : MachineData) (w : Wanted) (d e : Drafted) (node literal : ℕ) → IsHeld e literal →
+    node_made m w node d ≡ record { draft = e; literal = literal } → IsLiteralOf m w e node literal
+made-here m w d e node literal held made =
+    record { held = held; made = grind (arith, inputs-again, extends-refl) }
+
+pub made-more : (m : MachineData) (w : Wanted) (d : Drafted) (known : List (Option ℕ)) (key value : ℕ) →
+    KnowsMade m w d (literal_at known) → IsLiteralOf m w d key value →
+    KnowsMade m w d (literal_at (set known key (Some value)))
+made-more m w d known key value h here node literal is = elim (cases_eq node key) [
+  | inr other ↦ h node literal (sym (get_or-set_other known key node (Some value) None other) ∙ is)
+  | inl one ↦ elim (cases_lt key (length known)) [
+    | inl within ↦ subst (λ n. IsLiteralOf m w d n literal) (sym one) (subst (IsLiteralOf m w d key)
+        (some_is value literal (sym (get_or-set_same known key (Some value) None within)
+        ∙ ap (literal_at (set known key (Some value))) (sym one) ∙ is)) here)
+    | inr past ↦ absurd (none_is_some (sym (get_or_past (set known key (Some value)) node None
+        (omega (arith, one, past, length-set known key (Some value)))) ∙ is))
+  ]
 ]
   where
     some_is : (a b : ℕ) → Some a ≡ Some b → a ≡ b
     some_is a b same = cc
+
+    none_is_some : None ≡ Some literal → ⊥
+    none_is_some e = cc
 
 -- ## Latches
 
@@ -73,6 +102,19 @@ pub code-zero : (m : MachineData) (w : Wanted) (latches code node : ℕ) (d : Dr
     code_wanted m w latches code d ≡ node_made m w node d
 unfolding code_made node_made
 code-zero m w latches code node d none is = grind arith
+
+-- each code from `code` on belongs to no memory state, so the literal is that of memory state 0
+pub code-beyond : (m : MachineData) (w : Wanted) (latches code node : ℕ) (d : Drafted) → length m.nodes ≤ code →
+    node ≡ slice_index m.nodes 0 → code_wanted m w latches code d ≡ node_made m w node d
+unfolding code_made
+code-beyond m w zero code node d beyond is = code-zero m w 0 code node d refl (grind arith)
+code-beyond m w (suc latch) code node d beyond is =
+    let s = 2 * (length m.inputs + 1 + latch) in
+    let made = node_made m w node d in
+    ap (λ h. choose s h (code_wanted m w latch code h.draft))
+    (code-beyond m w latch (code + 2 ^ latch) node d (omega (arith, beyond)) is)
+    ∙ ap (choose s made) (code-beyond m w latch code node made.draft beyond is
+    ∙ inputs-again m w node d made.draft (extends-refl made.draft)) ∙ mux-same made.draft s made.literal
 
 pub code-suc : (m : MachineData) (w : Wanted) (latches latch code upper s : ℕ) (d : Drafted) → latches ≡ suc latch →
     upper ≡ code + 2 ^ latch → s ≡ 2 * (length m.inputs + 1 + latch) →

@@ -14,7 +14,8 @@ ghost use Rattle.ps_aiger.specs.Wires.{AreGates, IsOutOfLiterals, IsWired, next_
 ghost use Rattle.ps_aiger.specs.Inner.Functions.{MakesLiterals, bits_wired};
 ghost use Rattle.ps_aiger.specs.declared.functions.Wanted.TheVariants.{Next, Output};
 
-use crate::functions::{Wanted, literal_of};
+use crate::functions::{Plan, Wanted, input_literals, literal_of};
+use crate::node_literals::NodeLiterals;
 use ps_circuit::{Builder, Circuit, EncodeFault, Gate, Latch, Literal, Parts, Sides};
 use ps_machine::Machine;
 use std::alloc::{AllocError, Global};
@@ -142,9 +143,16 @@ fn literals_of(
     requires given { builder.old.given ≡ length machine.now.inputs + latches }
     ensures { MakesLiterals builder.old builder.new result (bits_wired machine.now latches wanted.now builder.old) }
 {
+    let inputs = input_literals(alloc, machine)?;
+    let mut known = NodeLiterals::new(alloc, machine.store().len())?;
     let mut literals = Vec::new(alloc);
     for bit in wanted {
-        let literal = literal_of(alloc, builder, machine, *bit, latches)?;
+        let plan = Plan {
+            machine,
+            inputs: &inputs,
+            wanted: *bit,
+        };
+        let literal = literal_of(builder, &plan, &mut known, latches)?;
         literals.push(literal)?;
     }
     Ok(literals)

@@ -1,20 +1,19 @@
 //! The bits of a machine's step, as literals over inputs and latches.
 
-ghost use Rattle.std.specs.Prelude.{◌≡◌, ◌+◌, ◌^◌, ◌<◌, ◌≤◌, IfOk, IfSome, IfNone, false, length, nat_eq, slice_get};
+ghost use Rattle.std.specs.Prelude.{◌≡◌, ◌+◌, ◌^◌, ◌<◌, ◌≤◌, IfOk, IfSome, IfNone, false, length, slice_get};
 ghost use Rattle.std.specs.Prelude.{slice_index, if◌then◌else◌};
 ghost use Rattle.ps_hoa.specs.Files.{is_among};
 ghost use Rattle.ps_label.specs.Truth.{is_in};
-ghost use Rattle.indexmap.specs.IndexMap.{get};
 ghost use Rattle.ps_diagram.specs.Table.{IsNode};
-ghost use Rattle.ps_machine.specs.Machines.{behaviour, row_at_leaf};
-ghost use Rattle.ps_aiger.specs.Encoded.{memory_of_code};
-ghost use Rattle.ps_aiger.specs.Inner.Functions.{KnowsMade, MakesLiteral, code_wanted, node_made, wanted_bit};
+ghost use Rattle.ps_machine.specs.Machines.{row_at_leaf};
+ghost use Rattle.ps_aiger.specs.Inner.Functions.{AreInputLiterals, IsInputLiteral, KnowsMade, MakesLiteral};
+ghost use Rattle.ps_aiger.specs.Inner.Functions.{code_wanted, literal_at, node_made, wanted_bit};
 
-use indexmap::IndexMap;
+use crate::node_literals::NodeLiterals;
 use ps_circuit::{Builder, EncodeFault, Literal};
 use ps_diagram::{Node, View};
 use ps_machine::{Machine, Row};
-use std::alloc::Global;
+use std::alloc::{AllocError, Global};
 
 /// A bit of a row of the machine's table; a row has a next memory state and an output letter.
 #[derive(Debug, Clone, Copy, PartialEq, Eq)]
@@ -25,99 +24,129 @@ pub(crate) enum Wanted {
     Output(u32),
 }
 
-/// Builds the literal whose value is the bit `wanted` of the machine's step, for the memory state whose code the
-/// latches hold and for the letter on the inputs. Input k is variable k + 1, and the variables of the latches follow
-/// the variables of the inputs.
-pub(crate) fn literal_of(
+/// The data from which the literal of a bit of the machine's step is built. They do not change while it is built.
+#[derive(Drop)]
+pub(crate) struct Plan<'a> {
+    /// The machine.
+    pub machine: &'a Machine,
+    /// For each proposition, the literal of its input, or `None` if the machine does not read the proposition.
+    pub inputs: &'a [Option<Literal>],
+    /// The bit.
+    pub wanted: Wanted,
+}
+
+/// For each proposition, the literal of its input, or `None` if the machine does not read the proposition. Input k is
+/// variable k + 1.
+pub(crate) fn input_literals(
     alloc: Global,
-    builder: &mut Builder,
     machine: &Machine,
-    wanted: Wanted,
+) -> Result<Vec<Option<Literal>>, AllocError>
+    ensures { IfOk result (λ literals. AreInputLiterals machine.now literals.items) }
+{
+    let mut literals = Vec::new(alloc);
+    for proposition in 0..machine.store().propositions() {
+        literals.push(input_literal(machine.inputs(), proposition))?;
+    }
+    Ok(literals)
+}
+
+/// The literal of the input that reads a proposition, or `None` if there is no such input.
+fn input_literal(inputs: &[u32], proposition: u32) -> Option<Literal>
+    requires { length inputs.now ≤ 64 }
+    ensures { IsInputLiteral inputs.now proposition result }
+{
+    match place_among(inputs, proposition) {
+        Some(place) => Some(Literal::positive(place as u32 + 1)),
+        None => None,
+    }
+}
+
+/// Builds the literal whose value is the wanted bit of the machine's step, for the memory state whose code the latches
+/// hold and for the letter on the inputs. The variables of the latches follow the variables of the inputs. The table
+/// `known` is cleared first.
+pub(crate) fn literal_of(
+    builder: &mut Builder,
+    plan: &Plan<'_>,
+    known: &mut NodeLiterals,
     latches: u32,
 ) -> Result<Literal, EncodeFault>
     requires few { latches ≤ 64 }
-    requires given { builder.old.given ≡ length machine.now.inputs + latches }
-    ensures { MakesLiteral builder.old builder.new result (code_wanted machine.now wanted latches 0 builder.old) }
+    requires given { builder.old.given ≡ length plan.now.machine.now.inputs + latches }
+    requires inputs { AreInputLiterals plan.now.machine.now plan.now.inputs.now }
+    ensures { MakesLiteral builder.old builder.new result (code_wanted plan.now.machine.now plan.now.wanted latches 0
+        builder.old) }
 {
-    let mut known = IndexMap::new(alloc);
-    over_latches(builder, machine, wanted, &mut known, latches, 0)
+    known.clear();
+    over_latches(builder, plan, known, latches, 0)
 }
 
-/// The literal of the bit `wanted` of the machine's step, for the memory states whose codes are `code` plus a number
-/// less than 2^`latches`. The literal depends on the lowest `latches` latches; for each other latch, a bit of `code`
-/// stands for its value.
+/// The literal of the wanted bit of the machine's step, for the memory states whose codes are `code` plus a number less
+/// than 2^`latches`. The literal depends on the lowest `latches` latches; for each other latch, a bit of `code` stands
+/// for its value. A code that belongs to no memory state stands for memory state 0.
 fn over_latches(
     builder: &mut Builder,
-    machine: &Machine,
-    wanted: Wanted,
-    known: &mut IndexMap<Node, Literal>,
+    plan: &Plan<'_>,
+    known: &mut NodeLiterals,
     latches: u32,
     code: usize,
 ) -> Result<Literal, EncodeFault>
     requires fits { code + 2 ^ latches ≤ 2 ^ 64 }
-    requires given { length machine.now.inputs + latches ≤ builder.old.given }
-    requires known_made { KnowsMade machine.now wanted builder.old (get nat_eq known.old) }
-    ensures makes { MakesLiteral builder.old builder.new result (code_wanted machine.now wanted latches code
-        builder.old) }
-    ensures known_made { IfOk result (λ literal. KnowsMade machine.now wanted builder.new (get nat_eq known.new)) }
+    requires given { length plan.now.machine.now.inputs + latches ≤ builder.old.given }
+    requires inputs { AreInputLiterals plan.now.machine.now plan.now.inputs.now }
+    requires known_made { KnowsMade plan.now.machine.now plan.now.wanted builder.old (literal_at known.old) }
+    ensures makes { MakesLiteral builder.old builder.new result (code_wanted plan.now.machine.now plan.now.wanted
+        latches code builder.old) }
+    ensures known_made { IfOk result (λ literal. KnowsMade plan.now.machine.now plan.now.wanted builder.new
+        (literal_at known.new)) }
 {
+    if code >= plan.machine.memories() {
+        return over_inputs(builder, plan, known, plan.machine.node(0));
+    }
     if latches == 0 {
-        return over_inputs(builder, machine, wanted, known, node_at(machine, code));
+        return over_inputs(builder, plan, known, plan.machine.node(code));
     }
     let latch = latches - 1;
-    let where_true = over_latches(builder, machine, wanted, known, latch, code + (1 << latch))?;
-    let where_false = over_latches(builder, machine, wanted, known, latch, code)?;
-    let variable = machine.inputs().len() as u32 + 1 + latch;
+    let where_true = over_latches(builder, plan, known, latch, code + (1 << latch))?;
+    let where_false = over_latches(builder, plan, known, latch, code)?;
+    let variable = plan.machine.inputs().len() as u32 + 1 + latch;
     builder.mux(Literal::positive(variable), where_true, where_false)
 }
 
-/// The decision diagram by which the machine steps from the memory state with a given code. A code that belongs to no
-/// memory state stands for memory state 0.
-fn node_at(machine: &Machine, code: usize) -> Node
-    ensures node { result ≡ slice_index machine.now.nodes (memory_of_code (behaviour machine.now) code) }
-    ensures held { IsNode machine.now.store result }
-{
-    if code < machine.memories() {
-        machine.node(code)
-    } else {
-        machine.node(0)
-    }
-}
-
-/// The literal of one bit, `wanted`, of the machine's step from a memory state; `node` is the memory state's decision
+/// The literal of the wanted bit of the machine's step from a memory state; `node` is the memory state's decision
 /// diagram. The table `known` has the literals that were already built for diagram nodes.
 fn over_inputs(
     builder: &mut Builder,
-    machine: &Machine,
-    wanted: Wanted,
-    known: &mut IndexMap<Node, Literal>,
+    plan: &Plan<'_>,
+    known: &mut NodeLiterals,
     node: Node,
 ) -> Result<Literal, EncodeFault>
-    requires held { IsNode machine.now.store node }
-    requires given { length machine.now.inputs ≤ builder.old.given }
-    requires known_made { KnowsMade machine.now wanted builder.old (get nat_eq known.old) }
-    ensures makes { MakesLiteral builder.old builder.new result (node_made machine.now wanted node builder.old) }
-    ensures known_made { IfOk result (λ literal. KnowsMade machine.now wanted builder.new (get nat_eq known.new)) }
+    requires held { IsNode plan.now.machine.now.store node }
+    requires given { length plan.now.machine.now.inputs ≤ builder.old.given }
+    requires inputs { AreInputLiterals plan.now.machine.now plan.now.inputs.now }
+    requires known_made { KnowsMade plan.now.machine.now plan.now.wanted builder.old (literal_at known.old) }
+    ensures makes { MakesLiteral builder.old builder.new result (node_made plan.now.machine.now plan.now.wanted node
+        builder.old) }
+    ensures known_made { IfOk result (λ literal. KnowsMade plan.now.machine.now plan.now.wanted builder.new
+        (literal_at known.new)) }
 {
-    match machine.store().view(node) {
+    match plan.machine.store().view(node) {
         View::Nothing => Ok(Literal::FALSE),
-        View::Leaf(leaf) => Ok(constant(machine, wanted, leaf)),
+        View::Leaf(leaf) => Ok(constant(plan.machine, plan.wanted, leaf)),
         View::Test {
             proposition,
             low,
             high,
         } => {
-            let Some(place) = place_among(machine.inputs(), proposition) else {
-                return over_inputs(builder, machine, wanted, known, low);
+            let Some(input) = plan.inputs[proposition as usize] else {
+                return over_inputs(builder, plan, known, low);
             };
-            if let Some(literal) = known.get(&node) {
-                return Ok(*literal);
+            if let Some(literal) = known.get(node) {
+                return Ok(literal);
             }
-            let where_true = over_inputs(builder, machine, wanted, known, high)?;
-            let where_false = over_inputs(builder, machine, wanted, known, low)?;
-            let input = Literal::positive(place as u32 + 1);
+            let where_true = over_inputs(builder, plan, known, high)?;
+            let where_false = over_inputs(builder, plan, known, low)?;
             let literal = builder.mux(input, where_true, where_false)?;
-            known.insert(node, literal)?;
+            known.put(node, literal);
             Ok(literal)
         }
     }

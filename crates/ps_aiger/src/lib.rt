@@ -17,12 +17,14 @@
 //!
 //! The latches hold the number of a memory state in binary. Each output, and each next value of a latch, is a literal
 //! that is built from the machine's decision diagrams: each node of a diagram becomes a choice by the proposition that
-//! the node tests. A gate that exists already is not built again.
+//! the node tests. For each bit, a table that is indexed by the nodes has the literals that were built. A gate that
+//! exists already is not built again.
 #![tactic(auto)]
 
 mod encoding;
 mod functions;
 mod laws;
+mod node_literals;
 
 pub use encoding::encode;
 pub use laws::{circuit_has_literals, circuit_is_there, one_circuit};

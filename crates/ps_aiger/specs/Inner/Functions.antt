@@ -6,15 +6,18 @@
 --   bit w of the machine's row to which the diagram node leads
 -- - `IsLiteralOf m w d node literal, KnowsMade m w d known`: d already has the gates of one diagram node's literal
 --   (`IsLiteralOf`), or of all literals in the table `known` (`KnowsMade`)
+-- - `AreInputLiterals m literals`: the list has, for each proposition, the literal of the input that reads it
 -- - `code_wanted m w latches code d`: the literal of the bit w of the machine's step, for memory states with the codes
 --   `code` to `code` + 2^latches - 1
 -- - `bits_wired m latches ws d`: the literals of the bits `ws` of the machine's step, built one after another
 -- - `MakesLiteral, MakesLiterals old new result all`: a call extends the gates `old` of the builder to `new`; if the
 --   call succeeds, `new` has exactly the gates in `all`, and `result` is the literal (or the list of literals) in `all`
-use Rattle.std.specs.Prelude.{◌≡◌, ℕ, Bool, Err, IfOk, List, length, map, Option, Result, Some, Vec}
+use Rattle.std.specs.Prelude.{◌≡◌, ℕ, ◌+◌, ◌*◌, ◌<◌, Bool, false, Err, IfOk, List, MatchOption, length, map, None, Option}
+use Rattle.std.specs.Prelude.{Result, Some, Vec, slice_get, slice_index_or}
 use Rattle.std.specs.Global.{Global}
 use Rattle.std.specs.List.{range_with_len}
 use Rattle.std.specs.Option.{unwrap_or}
+use Rattle.ps_hoa.specs.Files.{is_among}
 use Rattle.ps_label.specs.Truth.{is_in}
 use Rattle.ps_diagram.specs.Table.{leaf_of}
 use Rattle.ps_machine.specs.declared.machine.Row.{Row}
@@ -52,6 +55,21 @@ pub record IsLiteralOf (m : MachineData) (w : Wanted) (d : Drafted) (node litera
 
 abbrev pub KnowsMade : MachineData → Wanted → Drafted → (ℕ → Option ℕ) → Type 0
 KnowsMade m w d known = (node literal : ℕ) → known node ≡ Some literal → IsLiteralOf m w d node literal
+
+-- the literal that a table has for a node
+abbrev pub literal_at : List (Option ℕ) → ℕ → Option ℕ
+literal_at literals node = slice_index_or literals node None
+
+-- the literal of the input that reads the proposition, or None if there is no such input
+abbrev pub IsInputLiteral : List ℕ → ℕ → Option ℕ → Type 0
+IsInputLiteral inputs p found = MatchOption found (is_among p inputs ≡ false)
+    (λ literal. (place : ℕ) × (slice_get inputs place ≡ Some p) × (literal ≡ 2 * (place + 1)))
+
+-- the list has, for each proposition, the literal of the input that reads it
+pub record AreInputLiterals (m : MachineData) (literals : List (Option ℕ)) : Type 0 where
+  pub many : length literals ≡ m.store.propositions
+  pub each : (p : ℕ) (d : Option ℕ) → p < m.store.propositions →
+      IsInputLiteral m.inputs p (slice_index_or literals p d)
 
 -- the bit w of the machine's step, as a function of the memory state and the input letter
 abbrev pub bit_wanted : Behaviour → Wanted → StepBit

@@ -1,0 +1,61 @@
+//! The literals of diagram nodes.
+
+ghost use Rattle.std.specs.Prelude.{◌≡◌, IfOk, None, Some, length, replicate, set};
+ghost use Rattle.ps_aiger.specs.Inner.Functions.{literal_at};
+
+use ps_circuit::Literal;
+use ps_diagram::Node;
+use std::alloc::{AllocError, Global};
+use std::marker::Model;
+
+/// For each node of a store of diagrams, the literal that was built for it, or `None`.
+#[derive(Drop)]
+pub(crate) struct NodeLiterals {
+    literals: Vec<Option<Literal>>,
+}
+
+impl Model for NodeLiterals {
+    ghost use Rattle.std.specs.Prelude.{ℕ, List, Option};
+
+    ghost Value = { List (Option ℕ) };
+
+    ghost view = { λ n. n.literals.items };
+}
+
+impl NodeLiterals {
+    /// A table for the given number of nodes, without literals.
+    pub(crate) fn new(alloc: Global, nodes: usize) -> Result<Self, AllocError>
+        ensures { IfOk result (λ known. known ≡ replicate nodes None) }
+    {
+        let mut literals = Vec::new(alloc);
+        literals.resize(nodes, None)?;
+        Ok(NodeLiterals { literals })
+    }
+
+    /// Removes all literals.
+    pub(crate) fn clear(&mut self)
+        ensures { self.new ≡ replicate (length self.old) None }
+    {
+        self.literals.fill(None);
+    }
+
+    /// The literal of a node.
+    pub(crate) fn get(&self, node: Node) -> Option<Literal>
+        ensures { result ≡ literal_at self.now node }
+    {
+        match self.literals.get(node.number()) {
+            Some(literal) => *literal,
+            None => None,
+        }
+    }
+
+    /// Records the literal of a node, if the table has room for the node.
+    pub(crate) fn put(&mut self, node: Node, literal: Literal)
+        ensures { self.new ≡ set self.old node (Some literal) }
+    {
+        let place = node.number();
+        if place < self.literals.len() {
+            self.literals[place] = Some(literal);
+        }
+    }
+}
