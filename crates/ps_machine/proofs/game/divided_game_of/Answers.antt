@@ -12,15 +12,15 @@ use Rattle.ps_machine.proofs.game.divided_game_of.Goals as goal
 pub returns-clause-game : goal.returns-clause-game
 returns-clause-game c =
     let e = c.new-moves.ensures in
-    let said = c.in_ok-keyed.ensures in
+    let said = c.in_ok-listed.ensures in
     game_is e.order e.automaton c.start.ensures.start said.by_keys said.numbered
 
 pub returns-clause-classes : goal.returns-clause-classes
 returns-clause-classes c =
     let e = c.new-moves.ensures in
-    let n = c.game_by_keys.new.source in
-    let keys = c.in_ok-keyed.keyed.keys.keys in
-    let said = c.in_ok-keyed.ensures in
+    let n = c.listed_game.new.source in
+    let keys = c.in_ok-listed.listed.keys in
+    let said = c.in_ok-listed.ensures in
     let are : AreDivided c.args.order c.args.automaton.now keys n.divided.store (get nat_eq n.divided.classes) =
     all_divided (First c.start.result 0) (ap (λ (p : Order × AutomatonData). p.0) said.kept ∙ e.order)
     (ap (λ (p : Order × AutomatonData). p.1) said.kept ∙ e.automaton) said.by_keys.begins

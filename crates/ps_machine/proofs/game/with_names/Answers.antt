@@ -1,4 +1,4 @@
-use Rattle.std.proofs.Common.{◌≡◌, length, refl, sym, arith, rules}
+use Rattle.std.proofs.Common.{◌≡◌, length, sym, arith, rules}
 use Rattle.std.proofs.lemmas.List.{length-map}
 use Rattle.std.proofs.lemmas.List.FromFn.{length-range_with_len}
 use Rattle.std.proofs.lemmas.Option.{slice_get_within}
@@ -13,11 +13,11 @@ use Rattle.ps_machine.proofs.game.with_names.Goals as goal
 
 pub new-requires : goal.new-requires
 new-requires c =
-    let keyed = c.args.keyed in
-    let count = vertex_count keyed.game in
+    let listed = c.args.listed in
+    let count = vertex_count listed.game in
     let all = c.requires.by_keys.count in
     let ids : length c.in_ok-ids.ids.items ≡ count = rw c.in_ok-ids.ensures.ids (length-range_with_len 0 count) in
-    let names : length c.in_ok-ids.names.items ≡ length keyed.keys.keys = search (rules, length-map) in
+    let names : length c.in_ok-ids.names.items ≡ length listed.keys = search (rules, length-map) in
     record {
       id_each = omega (arith, c.in_ok-ids.ids.ok, ids);
       name_each = omega (arith, c.in_ok-ids.names.ok, names, all);
@@ -28,13 +28,12 @@ new-requires c =
 pub returns : goal.returns
 returns c =
     let board = board_of c.args.order c.args.automaton.now in
-    let keyed = c.args.keyed in
-    let all : vertex_count keyed.game ≡ length keyed.keys.keys = sym c.requires.by_keys.count in
-    let is_game : IsGameOf board (mover_of c.args.order) keyed.keys.keys c.new.result.game = rw c.new.ensures.game
+    let listed = c.args.listed in
+    let all : vertex_count listed.game ≡ length listed.keys = sym c.requires.by_keys.count in
+    let is_game : IsGameOf board (mover_of c.args.order) listed.keys c.new.result.game = rw c.new.ensures.game
     c.requires in
-    let are_named : AreNamed board keyed.keys.keys c.new.result = search rules in
+    let are_named : AreNamed board listed.keys c.new.result = search rules in
     record {
-      keys = refl;
       game = is_game;
       named = are_named;
       file = search (rules, game_of_file);
