@@ -171,7 +171,7 @@ fn nodes_of(alloc: Global, plan: &Plan<'_>, drawing: &mut Drawing) -> Result<Vec
     ensures drawn { IfOk result (λ nodes. AreDrawnBy plan.now drawing.new.store drawing.new.rows.keys nodes.items
         (length plan.now.memories.now.kept.items)) }
 {
-    let mut nodes = Vec::new(alloc);
+    let mut nodes = Vec::with_capacity(alloc, plan.memories.kept.len())?;
     for vertex in &plan.memories.kept {
         nodes.push(drawing.node(alloc, plan, *vertex)?)?;
     }

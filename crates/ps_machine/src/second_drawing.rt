@@ -88,7 +88,7 @@ impl Drawing {
             (λ values. AllZip (λ class value. NamesAnswerBy plan.now self.new.rows.keys state class.letter value)
             classes.now values.items) }
     {
-        let mut values = Vec::new(alloc);
+        let mut values = Vec::with_capacity(alloc, classes.len())?;
         for class in classes {
             let row = plan.row_of_class(state, *class)?;
             let (place, _) = self.rows.insert_full(row)?;
