@@ -1,11 +1,13 @@
 -- Lemmas about a set of numbers that is stored as one number: the number's bit k is 1 if k is in the set.
 use Rattle.std.proofs.Common.{◌≡◌, ℕ, ◌+◌, ◌*◌, ◌^◌, ◌%◌, ◌<◌, List}
 use Rattle.std.proofs.Common.{◌∷◌, length, drop, get_or, arith, add-one, drop-cons, bit_and, bit_or}
-use Rattle.std.proofs.Common.{w64, refl}
-use Rattle.std.specs.Int.{bit_not}
+use Rattle.std.proofs.Common.{w64, refl, true, false}
+use Rattle.std.specs.Int.{bit_not, trailing_zeros}
 use Rattle.std.specs.Prelude.{◌||◌, ◌&&◌, nat_eq, not}
-use Rattle.std.proofs.lemmas.Nat.{one_shl}
+use Rattle.std.proofs.lemmas.Nat.{one_shl, and_le_l}
+use Rattle.std.proofs.Math.Arith.{lt_of_le-ne}
 use Rattle.std.proofs.lemmas.Nat.Bits.{bit_at_or, bit_at_and, bit_at_not, bit_at-lt, bit_at-pow_same, bit_at-pow_other}
+use Rattle.std.proofs.lemmas.Nat.Bits.{bit_at-zero, bit_at-trailing_zeros, bit_at_clear_same, bit_at_clear_other}
 use Rattle.ps_label.specs.Truth.{is_in}
 use Rattle.ps_hoa.specs.Files.{is_among}
 
@@ -38,3 +40,34 @@ from_place sets k within = rw add-one (drop-cons sets k 0 within)
 pub both_among : (set a b : ℕ) {xs ys us vs : List ℕ} → is_in set a ≡ is_among set xs → is_in set b ≡ is_among set ys →
     xs ≡ us → ys ≡ vs → (is_in set a || is_in set b) ≡ (is_among set us || is_among set vs)
 both_among set a b e f same alike = cc
+
+pub in_none : (p : ℕ) → is_in p 0 ≡ false
+in_none p = let is = bit_at-zero p in grind arith
+
+-- ## The least number in a set
+
+module _ (n : ℕ) (some : 0 < n) (fits : n < 2 ^ 64) where
+  abbrev pub least : ℕ
+  least = trailing_zeros w64 n
+
+  abbrev pub without_least : ℕ
+  without_least = bit_and n (bit_not w64 (1 * 2 ^ least % 2 ^ 64))
+
+  pub least_small : least < 64
+  least_small = (bit_at-trailing_zeros w64 n some fits).0
+
+  pub least_in : is_in least n ≡ true
+  least_in = let is = (bit_at-trailing_zeros w64 n some fits).1 in grind arith
+
+  pub least_gone : is_in least without_least ≡ false
+  least_gone = let is = bit_at_clear_same w64 n least least_small in grind arith
+
+  pub others_stay : (p : ℕ) → (p ≡ least → ⊥) → p < 64 → is_in p without_least ≡ is_in p n
+  others_stay p other small = let is = bit_at_clear_other w64 n least least_small p small other in grind arith
+
+  pub fewer : without_least < n
+  fewer = lt_of_le-ne (and_le_l n (bit_not w64 (1 * 2 ^ least % 2 ^ 64)))
+      (λ same. cc (least_in, least_gone, same))
+
+  pub was_in : (p : ℕ) → is_in p without_least ≡ true → is_in p n ≡ true
+  was_in p h = grind (arith, in_and p n (bit_not w64 (1 * 2 ^ least % 2 ^ 64)))

@@ -1,6 +1,6 @@
 -- The priority of an edge is the greatest among the priority of the chain's base and the priorities that a table has
 -- for the edge's sets.
-use Rattle.std.proofs.Common.{◌≡◌, ℕ, ◌+◌, ◌-◌, ◌<◌, ◌≤◌, ◌⊎◌, inl, inr, max, suc, zero, Bool, true, false, cond, List}
+use Rattle.std.proofs.Common.{◌≡◌, ℕ, ◌+◌, ◌-◌, ◌<◌, ◌≤◌, ◌⊎◌, inl, inr, max, suc, Bool, true, false, List}
 use Rattle.std.proofs.Common.{rules, [], ◌∷◌, length, map, drop, set, drop-cons, get_or, refl, arith}
 use Rattle.std.specs.Prelude.{nat_eq}
 use Rattle.std.proofs.Math.Nat.{le_antisymm}
@@ -12,27 +12,42 @@ use Rattle.ps_automaton.specs.Inner.Views.{link_data}
 use Rattle.ps_automaton.specs.declared.chain.Link as code
 use Rattle.ps_automaton.proofs.ChainLaws.{level_below_first, raised_more}
 
--- the greatest among a base priority and the priorities that the table has for those of the edge's sets whose numbers
--- are less than k
-abbrev pub most : ℕ → List ℕ → (ℕ → Bool) → ℕ → ℕ
-most base numbers has zero = base
-most base numbers has (suc k) =
-    cond (has k) (max (most base numbers has k) (get_or numbers k 0)) (most base numbers has k)
+-- the greatest among a base priority and the priorities that the table has for the edge's sets, all of which are less
+-- than 64
+pub record IsGreatestOf (base : ℕ) (numbers : List ℕ) (has : ℕ → Bool) (greatest : ℕ) : Type 0 where
+  pub base_low : base ≤ greatest
+  pub each : (s : ℕ) → s < 64 → has s ≡ true → get_or numbers s 0 ≤ greatest
+  pub least : (bound : ℕ) → base ≤ bound → ((s : ℕ) → s < 64 → has s ≡ true → get_or numbers s 0 ≤ bound) →
+      greatest ≤ bound
 
-most_below : (base : ℕ) (numbers : List ℕ) (has : ℕ → Bool) (k bound : ℕ) → base ≤ bound →
-    ((s : ℕ) → s < k → has s ≡ true → get_or numbers s 0 ≤ bound) → most base numbers has k ≤ bound
-most_below base numbers has zero bound low each = low
-most_below base numbers has (suc k) bound low each =
-    grind (arith, most_below base numbers has k bound low (λ s h. each s (omega arith)), each k (omega arith))
+pub greatest_of_none : (base : ℕ) (numbers : List ℕ) (has : ℕ → Bool) → ((s : ℕ) → has s ≡ false) →
+    IsGreatestOf base numbers has base
+greatest_of_none base numbers has none = record {
+  base_low = omega arith;
+  each = λ s small h. absurd (cc (none s));
+  least = λ bound low each. low;
+}
 
-base_below_most : (base : ℕ) (numbers : List ℕ) (has : ℕ → Bool) (k : ℕ) → base ≤ most base numbers has k
-base_below_most base numbers has zero = omega arith
-base_below_most base numbers has (suc k) = grind (arith, base_below_most base numbers has k)
+pub greatest_same : {base : ℕ} {numbers : List ℕ} (has like : ℕ → Bool) {greatest : ℕ} →
+    ((s : ℕ) → like s ≡ has s) → IsGreatestOf base numbers has greatest → IsGreatestOf base numbers like greatest
+greatest_same has like same g = record {
+  base_low = g.base_low;
+  each = λ s small h. g.each s small (cc (same s));
+  least = λ bound low each. g.least bound low (λ s small h. each s small (cc (same s)));
+}
 
-set_below_most : (base : ℕ) (numbers : List ℕ) (has : ℕ → Bool) (k s : ℕ) → s < k → has s ≡ true →
-    get_or numbers s 0 ≤ most base numbers has k
-set_below_most base numbers has zero s h is = absurd (omega arith)
-set_below_most base numbers has (suc k) s h is = grind (arith, set_below_most base numbers has k s)
+-- the same with one more set
+pub greatest_more : {base : ℕ} {numbers : List ℕ} (has more : ℕ → Bool) {greatest : ℕ} (set : ℕ) → set < 64 →
+    more set ≡ true → ((s : ℕ) → (s ≡ set → ⊥) → s < 64 → more s ≡ has s) → IsGreatestOf base numbers has greatest →
+    IsGreatestOf base numbers more (max greatest (get_or numbers set 0))
+greatest_more {base} {numbers} has more {greatest} set small is others g = record {
+  base_low = let low = g.base_low in omega arith;
+  each = λ s low h. grind (arith, g.each s, others s);
+  least = λ bound low each.
+      let before : greatest ≤ bound = g.least bound low (λ s small h. grind (arith, each s, others s, each set)) in
+      let last : get_or numbers set 0 ≤ bound = each set small is in
+      omega arith;
+}
 
 -- ## The numbers of a chain
 
@@ -79,14 +94,16 @@ attained base (link ∷ links) has small =
     at false other (inl is) = inl (rw other is)
     at false other (inr a) = search (rules, a.set, a.small, a.has_it, a.is)
 
-pub most_is_level : {chain : Chain} {base : ℕ} {numbers : List ℕ} (has : ℕ → Bool) → AreSetsBelow 64 chain.links →
-    IsTable chain base numbers → most base numbers has 64 ≡ level chain has
-most_is_level {chain} {base} {numbers} has small table = le_antisymm (most_below base numbers has 64 (level chain has)
+pub greatest_is_level : {chain : Chain} {base : ℕ} {numbers : List ℕ} (has : ℕ → Bool) {greatest : ℕ} →
+    AreSetsBelow 64 chain.links → IsTable chain base numbers → IsGreatestOf base numbers has greatest →
+    greatest ≡ level chain has
+greatest_is_level {chain} {base} {numbers} has {greatest} small table g =
+    le_antisymm (g.least (level chain has)
     (let is = table.base_is in omega (arith, base_below_level chain.base chain.links has))
     (λ s h is. omega (arith, table.by_set_is s h, alone_below_level chain.base chain.links has s is)))
     (elim (attained chain.base chain.links has small) [
-      | inl is ↦ (let e = table.base_is in omega (arith, base_below_most base numbers has 64))
-      | inr a ↦ grind (arith, set_below_most base numbers has 64 a.set a.small a.has_it)
+      | inl is ↦ (let e = table.base_is in let low = g.base_low in omega arith)
+      | inr a ↦ (let e = table.by_set_is a.set a.small in let low = g.each a.set a.small a.has_it in omega (arith, a.is))
     ])
 
 -- ## Filling the table from the end of the chain

@@ -71,10 +71,11 @@ impl Numbers {
             result ≡ level chain (λ set. labels.is_in set sets) }
     {
         let mut greatest = self.base;
-        for (set, number) in self.by_set.iter().enumerate() {
-            if is_in(set, sets) {
-                greatest = greatest.max(*number);
-            }
+        let mut rest = sets;
+        while rest != 0 {
+            let set = rest.trailing_zeros();
+            greatest = greatest.max(self.by_set[set as usize]);
+            rest &= !(1 << set);
         }
         greatest
     }

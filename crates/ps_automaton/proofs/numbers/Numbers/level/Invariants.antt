@@ -1,7 +1,15 @@
-use Rattle.std.proofs.Common.{◌≡◌}
+use Rattle.std.proofs.Common.{◌≡◌, ℕ, true}
+use Rattle.std.specs.Prelude.{◌&&◌, not}
 use Rattle.ps_label.specs.Truth.{is_in}
-use Rattle.ps_automaton.proofs.NumberTables.{most}
+use Rattle.ps_automaton.proofs.NumberTables.{IsGreatestOf}
 use Rattle.ps_automaton.proofs.numbers.Numbers.level.Given as goal
 
-abbrev pub invariant-loop-set : goal.invariant-loop-set
-invariant-loop-set l = l.greatest ≡ most l.self.base l.self.by_set (λ set. is_in set l.sets) l.set
+-- `greatest` is the greatest for those of the edge's sets that are no longer in `rest`
+abbrev pub invariant-loop-rest : goal.invariant-loop-rest
+invariant-loop-rest l = record {
+  greatest : IsGreatestOf l.self.base l.self.by_set (λ set. is_in set l.sets && not (is_in set l.rest)) l.greatest;
+  within : (set : ℕ) → is_in set l.rest ≡ true → is_in set l.sets ≡ true;
+}
+
+abbrev pub decreases-loop-rest : goal.decreases-loop-rest
+decreases-loop-rest l = l.rest
