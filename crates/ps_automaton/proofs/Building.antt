@@ -1,7 +1,6 @@
 -- The automaton that is built from a `Draft`, which holds the decision diagrams of all states' steps, is the automaton
 -- of the file.
 use Rattle.std.proofs.Common.{◌≡◌, ℕ, ◌^◌, ◌<◌, ◌≤◌, ◌⊎◌, inl, inr, false, List, length, Option, Some, rules, arith}
-use Rattle.std.specs.List.{IsDistinct}
 use Rattle.std.specs.Option.{IsSomeAnd}
 use Rattle.std.proofs.Math.Nat.{eq-or-lt_of_le}
 use Rattle.std.proofs.lemmas.Option.{slice_get_within, slice_get-get_or, get_or_from_slice_get}
@@ -14,10 +13,9 @@ use Rattle.ps_automaton.specs.Automata.{AutomatonData, IsWhole, auto_of, node_of
 use Rattle.ps_automaton.specs.Autos.{IsAutoOf, TakesEdge, TakesNone}
 use Rattle.ps_automaton.specs.Chains.{Chain, chain_of, has_complement, level}
 use Rattle.ps_automaton.specs.Inner.Drafts.{AreSteps, IsDraft, IsDraftFault, Names}
+use Rattle.ps_automaton.specs.Inner.Places.{AreDistinct}
 use Rattle.ps_automaton.specs.declared.fault.AutomatonFault.{AutomatonFault}
 use Rattle.ps_automaton.specs.declared.step.Step.{Step}
-use Rattle.ps_automaton.proofs.DistinctEntries.{one_place}
-use Rattle.ps_automaton.proofs.Steps.{step_eq, step_decides}
 
 named_within : {states : ℕ} {steps : List Step} → AreSteps states steps → (o : Option ℕ) (step : Step) →
     Names steps o step → step.state ≤ states
@@ -88,8 +86,8 @@ module _ {file : FileData} (sound : IsSoundFile file) {chain : Chain} (a : Autom
     held_within : (q : ℕ) → q ≤ file.states → IsNode a.store (node_of a q)
     held_within = at_each (λ q. IsNode a.store (node_of a q)) (λ q less. (draft.states q less).held) draft.sink_held
 
-    pub whole_built : IsDistinct step_eq a.steps → IsWhole a
-    whole_built distinct = grind (arith, held_within, leaves_within, slice_get-get_or, one_place, step_decides)
+    pub whole_built : AreDistinct a.steps → IsWhole a
+    whole_built distinct = grind (arith, held_within, leaves_within, slice_get-get_or, distinct)
 
 pub draft_refused : (file : FileData) {chain : Chain} → has_complement file.condition ≡ false →
     chain_of file.condition ≡ Some chain → (f : AutomatonFault) → IsDraftFault file f → IsRefused file f

@@ -10,6 +10,7 @@ pub mod Meeting
 pub mod Ready
 pub mod DistinctEntries
 pub mod PlaceTables
+pub mod StepTables
 pub mod EdgeUnions
 pub mod Steps
 pub mod RowSteps

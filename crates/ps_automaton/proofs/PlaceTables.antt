@@ -17,12 +17,12 @@ target_tied t = grind arith
 
 -- ## Indices
 
-module _ {old new : List Target} {t : Target} {place : ℕ} (is : IsPlaced old new t place) where
-  pub placed_keeps : (i : ℕ) (x : Target) → slice_get old i ≡ Some x → slice_get new i ≡ Some x
+module _ {X : Type 0} {old new : List X} {t : X} {place : ℕ} (is : IsPlaced old new t place) where
+  pub placed_keeps : (i : ℕ) (x : X) → slice_get old i ≡ Some x → slice_get new i ≡ Some x
   placed_keeps i x e = elim is.list [ inl same ↦ rw same e | inr more ↦ rw more (at_left old (t ∷ []) i e) ]
 
-  -- each target in the new list is in the old list, or is the added target
-  pub placed_is : (i : ℕ) (x : Target) → slice_get new i ≡ Some x → (slice_get old i ≡ Some x) ⊎ (x ≡ t)
+  -- each entry of the new list is in the old list, or is the added entry
+  pub placed_is : (i : ℕ) (x : X) → slice_get new i ≡ Some x → (slice_get old i ≡ Some x) ⊎ (x ≡ t)
   placed_is i x e = grind (arith, at_last)
 
 -- ## Tables

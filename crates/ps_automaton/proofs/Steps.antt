@@ -1,21 +1,14 @@
 -- Steps are appended to a list, each step only once.
-use Rattle.std.proofs.Common.{◌≡◌, ℕ, ◌≤◌, inl, inr, Bool, List, [], ◌∷◌, ◌++◌, length, Some, arith, eqb, ◌&&◌}
+use Rattle.std.proofs.Common.{◌≡◌, ℕ, ◌≤◌, inl, inr, List, [], ◌∷◌, ◌++◌, length, Some, arith}
 use Rattle.std.specs.List.{slice_get}
-use Rattle.std.specs.Bool.{Decides}
 use Rattle.ps_text.proofs.Simple.{same_some}
-use Rattle.indexmap.specs.IndexSet.{insert_key}
 use Rattle.ps_automaton.specs.Chains.{Chain}
 use Rattle.ps_automaton.specs.Inner.Drafts.{AreSteps, Extends, step_of_target}
 use Rattle.ps_automaton.specs.declared.targets.Target.{Target}
 use Rattle.ps_automaton.specs.declared.step.Step.{Step}
-use Rattle.ps_automaton.proofs.DistinctEntries.{at_last, inserted_keeps, inserted_is}
-
--- the test by which the code decides whether two steps are equal
-abbrev pub step_eq : Step → Step → Bool
-step_eq s t = eqb s.state t.state && eqb s.priority t.priority
-
-pub step_decides : (s t : Step) → Decides (step_eq s t) (s ≡ t)
-step_decides s t = grind arith
+use Rattle.ps_automaton.specs.Inner.Places.{IsPlaced}
+use Rattle.ps_automaton.proofs.DistinctEntries.{at_last}
+use Rattle.ps_automaton.proofs.PlaceTables.{placed_is, placed_keeps}
 
 pub extends_both : (a b c : List Step) → Extends a b → Extends b c → Extends a c
 extends_both a b c f g = λ place step e. g place step (f place step e)
@@ -24,14 +17,17 @@ pub extends_same : (a : List Step) → Extends a a
 extends_same a = λ place step e. e
 
 -- one more step
-module _ (steps : List Step) {new : List Step} (step : Step) (keys : new ≡ insert_key step_eq steps step) where
+module _ {steps new : List Step} (step : Step) {place : ℕ} (placed : IsPlaced steps new step place) where
   pub step_extends : Extends steps new
-  step_extends = λ place s e. rw keys (inserted_keeps step_eq steps step place e)
+  step_extends = placed_keeps placed
 
   pub step_within : {states : ℕ} → step.state ≤ states → AreSteps states steps → AreSteps states new
   step_within {states} low a = record {
     sink = step_extends 0 (record { state = states; priority = 1 }) a.sink;
-    within = λ place s e. grind (arith, inserted_is step_eq steps step place (rw keys at e));
+    within = λ place s e. elim (placed_is placed place s e) [
+      | inl old ↦ a.within place s old
+      | inr is ↦ rw is low
+    ];
   }
 
 abbrev pub AreNamed : Chain → List Target → List Step → List ℕ → Type 0

@@ -6,5 +6,6 @@ pub mod LetterSets
 pub mod Numbering
 pub mod Places
 pub mod Returning
+pub mod StepTables
 pub mod Targets
 pub mod Views

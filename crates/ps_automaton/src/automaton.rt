@@ -20,7 +20,6 @@ use crate::levels::Levels;
 use crate::numbers::table_of;
 use crate::pairs::Pairs;
 use crate::step::Step;
-use indexmap::IndexSet;
 use ps_diagram::{Node, Store};
 use ps_hoa::HoaFile;
 use std::alloc::{AllocError, Global};
@@ -38,7 +37,7 @@ pub struct Automaton {
     start: u32,
     store: Store,
     nodes: Vec<Node>,
-    steps: IndexSet<Step>,
+    steps: Vec<Step>,
 }
 
 impl Model for Automaton {
@@ -55,7 +54,7 @@ impl Model for Automaton {
       start = a.start;
       store = a.store;
       nodes = a.nodes.items;
-      steps = a.steps.keys;
+      steps = a.steps.items;
     } };
 
     ghost invariant = { λ a. IsWhole (record {
@@ -65,7 +64,7 @@ impl Model for Automaton {
       start = a.start;
       store = a.store;
       nodes = a.nodes.items;
-      steps = a.steps.keys;
+      steps = a.steps.items;
     }) };
 }
 
@@ -90,14 +89,14 @@ impl Automaton {
     /// The automaton of an HOA file, made from the decision diagrams of the automaton's steps.
     fn from_draft(alloc: Global, file: &HoaFile, draft: Draft) -> Result<Automaton, AllocError>
         requires { (chain : Chain) × (chain_of file.now.condition ≡ Some chain) ×
-            IsDraft file.now chain draft.pairs.steps.keys draft.pairs.store draft.nodes.items }
+            IsDraft file.now chain draft.pairs.steps draft.pairs.store draft.nodes.items }
         ensures { IfOk result (λ automaton. (chain : Chain) × IsBuiltFrom file.now chain automaton) }
     {
         let names = copied(alloc, file.names())?;
         let controllable = file.controllable().to_vec(alloc)?;
         let Draft { pairs, nodes } = draft;
         let Pairs { store, steps, .. } = pairs;
-        let _ = steps.as_slice();
+        let steps = steps.into_list();
         Ok(Automaton {
             alloc,
             names,
@@ -168,7 +167,7 @@ impl Automaton {
         ensures pair { result ≡ pair_of self.now leaf }
         ensures within { result.state ≤ self.now.states }
     {
-        self.steps.as_slice()[leaf as usize]
+        self.steps[leaf as usize]
     }
 
     /// The step from a state, or from the sink, at a letter.
@@ -178,7 +177,7 @@ impl Automaton {
         ensures within { result.state ≤ self.now.states }
     {
         match self.store.eval(self.nodes[state as usize], letter) {
-            Some(leaf) => self.steps.as_slice()[leaf as usize],
+            Some(leaf) => self.steps[leaf as usize],
             None => unreachable!(),
         }
     }
@@ -257,7 +256,7 @@ impl Automaton {
 /// The decision diagrams of the steps of a file's automaton, or the first fault for which the file has no automaton.
 fn draft_of(alloc: Global, file: &HoaFile) -> Result<Draft, AutomatonFault>
     ensures draft { IfOk result (λ draft. (chain : Chain) × (chain_of file.now.condition ≡ Some chain) ×
-        IsDraft file.now chain draft.pairs.steps.keys draft.pairs.store draft.nodes.items) }
+        IsDraft file.now chain draft.pairs.steps draft.pairs.store draft.nodes.items) }
     ensures admitted { OnOk result (IsAdmitted file.now) }
     ensures refused { IfErr result (IsRefused file.now) }
 {

@@ -24,9 +24,9 @@ use crate::letter_sets::LetterSets;
 use crate::levels::Levels;
 use crate::pairs::{Pairs, Source};
 use crate::step::Step;
+use crate::step_list::StepList;
 use crate::targets::{Target, target_of};
 use crate::union::{Union, joined};
-use indexmap::IndexSet;
 use ps_diagram::{Node, Store};
 use ps_hoa::{Guard, HoaFile, Row};
 use std::alloc::{AllocError, Global};
@@ -46,7 +46,7 @@ pub(crate) fn drafted(
     file: &HoaFile,
     levels: &Levels,
 ) -> Result<Draft, AutomatonFault>
-    ensures draft { IfOk result (λ draft. IsDraft file.now (chain_data levels.now.chain) draft.pairs.steps.keys
+    ensures draft { IfOk result (λ draft. IsDraft file.now (chain_data levels.now.chain) draft.pairs.steps
         draft.pairs.store draft.nodes.items) }
     ensures refused { IfErr result (IsDraftFault file.now) }
 {
@@ -58,10 +58,10 @@ pub(crate) fn drafted(
 /// A diagram store without diagrams, and a list of steps that has only the step to the sink.
 fn opened(alloc: Global, file: &HoaFile) -> Result<Pairs, AllocError>
     ensures letters { IfOk result (λ pairs. pairs.store.propositions ≡ length file.now.names) }
-    ensures steps { IfOk result (λ pairs. AreSteps file.now.states pairs.steps.keys) }
+    ensures steps { IfOk result (λ pairs. AreSteps file.now.states pairs.steps) }
 {
-    let mut steps = IndexSet::new(alloc);
-    let _ = steps.insert(Step {
+    let mut steps = StepList::new(alloc);
+    let _ = steps.place_of(Step {
         state: file.states(),
         priority: 1,
     })?;
@@ -75,8 +75,8 @@ fn opened(alloc: Global, file: &HoaFile) -> Result<Pairs, AllocError>
 /// The diagrams of the steps of all states, followed by the diagram of the sink.
 fn nodes_of(pairs: &mut Pairs, file: &HoaFile, levels: &Levels) -> Result<Vec<Node>, AutomatonFault>
     requires letters { pairs.old.store.propositions ≡ length file.now.names }
-    requires steps { AreSteps file.now.states pairs.old.steps.keys }
-    ensures draft { IfOk result (λ nodes. IsDraft file.now (chain_data levels.now.chain) pairs.new.steps.keys
+    requires steps { AreSteps file.now.states pairs.old.steps }
+    ensures draft { IfOk result (λ nodes. IsDraft file.now (chain_data levels.now.chain) pairs.new.steps
         pairs.new.store nodes.items) }
     ensures refused { IfErr result (IsDraftFault file.now) }
 {
@@ -97,10 +97,10 @@ fn nodes_of(pairs: &mut Pairs, file: &HoaFile, levels: &Levels) -> Result<Vec<No
 fn nodes_of_states(pairs: &mut Pairs, source: &Source) -> Result<Vec<Node>, AutomatonFault>
     requires { IsSource source.now pairs.old }
     ensures letters { OnOk result (pairs.new.store.propositions ≡ length source.now.file.now.names) }
-    ensures steps { OnOk result (AreSteps source.now.file.now.states pairs.new.steps.keys) }
+    ensures steps { OnOk result (AreSteps source.now.file.now.states pairs.new.steps) }
     ensures one_each { IfOk result (λ nodes. length nodes.items ≡ source.now.file.now.states) }
     ensures states { IfOk result (λ nodes. (q : ℕ) → q < source.now.file.now.states
-        → IsStepsOf source.now.file.now (chain_data source.now.levels.now.chain) q pairs.new.steps.keys pairs.new.store
+        → IsStepsOf source.now.file.now (chain_data source.now.levels.now.chain) q pairs.new.steps pairs.new.store
         (slice_index nodes.items q)) }
     ensures refused { IfErr result (IsDraftFault source.now.file.now) }
 {
@@ -116,7 +116,7 @@ fn state_node(pairs: &mut Pairs, source: &Source, state: u32) -> Result<Node, Au
     requires { IsSource source.now pairs.old }
     ensures grows { OnOk result (Grows source.now.file.now.states pairs.old pairs.new) }
     ensures node { IfOk result (IsStepsOf source.now.file.now (chain_data source.now.levels.now.chain) state
-        pairs.new.steps.keys pairs.new.store) }
+        pairs.new.steps pairs.new.store) }
     ensures refused { IfErr result (IsStateFault source.now.file.now state) }
 {
     let Some(row) = source.file.row(state) else {
@@ -207,7 +207,7 @@ fn node_by_sets(
     ensures none { IfOk result (λ made. IfNone made (pairs.new ≡ pairs.old)) }
     ensures node { IfOk result (λ made. IfSome made (λ node. (q : ℕ) →
         row_of guards.now.file.now q ≡ Some (row_data guards.now.row.now)
-        → IsStepsOf guards.now.file.now (chain_data levels.now.chain) q pairs.new.steps.keys pairs.new.store node)) }
+        → IsStepsOf guards.now.file.now (chain_data levels.now.chain) q pairs.new.steps pairs.new.store node)) }
 {
     let targets = targets_of(pairs.alloc, guards)?;
     let Some(edges) = edges_by_letter(pairs.alloc, sets, guards.file, guards.row, &targets)? else {
@@ -228,13 +228,13 @@ fn node_of_edges(
     requires firsts { All (λ edge. IfSome edge (λ first. first < length targets.now)) edges.now }
     requires letters { length edges.now ≡ 2 ^ pairs.old.store.propositions }
     ensures keeps { OnOk result (Keeps pairs.old.store pairs.new.store) }
-    ensures extends { OnOk result (Extends pairs.old.steps.keys pairs.new.steps.keys) }
+    ensures extends { OnOk result (Extends pairs.old.steps pairs.new.steps) }
     ensures within { OnOk result ((states : ℕ) → ((k : ℕ) (target : Target) →
         slice_get targets.now k ≡ Some target → target.state ≤ states)
-        → AreSteps states pairs.old.steps.keys → AreSteps states pairs.new.steps.keys) }
+        → AreSteps states pairs.old.steps → AreSteps states pairs.new.steps) }
     ensures held { IfOk result (λ node. IsNode pairs.new.store node) }
     ensures leaf { IfOk result (λ node. (places : List ℕ) × ArePlaces (chain_data levels.now.chain) targets.now
-        pairs.new.steps.keys places
+        pairs.new.steps places
         × ((letter : ℕ) → leaf_of pairs.new.store node letter ≡ Some
         (entry_for places (edge_at edges.now (letter % 2 ^ pairs.old.store.propositions))))) }
 {
@@ -250,7 +250,7 @@ fn targets_of(alloc: Global, guards: &Guards) -> Result<Vec<Target>, AllocError>
     requires row { IsSoundRow guards.now.file.now (row_data guards.now.row.now) }
     ensures { IfOk result (λ targets. AreTargets (row_data guards.now.row.now) targets.items) }
 {
-    let mut targets = Vec::new(alloc);
+    let mut targets = Vec::with_capacity(alloc, guards.row.edges.len())?;
     for edge in &guards.row.edges {
         targets.push(target_of(guards.row, edge))?;
     }
@@ -278,13 +278,13 @@ fn node_of_union(pairs: &mut Pairs, levels: &Levels, union: &Union) -> Result<No
     requires within { (letter : ℕ) → letter < 2 ^ pairs.old.store.propositions →
         IfSome (leaf_of pairs.old.store union.now.node letter) (λ k. k < length union.now.targets) }
     ensures keeps { OnOk result (Keeps pairs.old.store pairs.new.store) }
-    ensures extends { OnOk result (Extends pairs.old.steps.keys pairs.new.steps.keys) }
+    ensures extends { OnOk result (Extends pairs.old.steps pairs.new.steps) }
     ensures within { OnOk result ((states : ℕ) → ((k : ℕ) (target : Target) →
         slice_get union.now.targets k ≡ Some target → target.state ≤ states)
-        → AreSteps states pairs.old.steps.keys → AreSteps states pairs.new.steps.keys) }
+        → AreSteps states pairs.old.steps → AreSteps states pairs.new.steps) }
     ensures held { IfOk result (λ node. IsNode pairs.new.store node) }
     ensures leaf { IfOk result (λ node. (places : List ℕ) × ArePlaces (chain_data levels.now.chain) union.now.targets
-        pairs.new.steps.keys places
+        pairs.new.steps places
         × ((letter : ℕ) → leaf_of pairs.new.store node letter ≡ Some
         (unwrap_or (option_map (λ k. slice_index places k) (leaf_of pairs.old.store union.now.node letter)) 0))) }
 {
@@ -296,20 +296,20 @@ fn node_of_union(pairs: &mut Pairs, levels: &Levels, union: &Union) -> Result<No
 /// The indices of the steps to the given targets.
 fn places_of(
     alloc: Global,
-    steps: &mut IndexSet<Step>,
+    steps: &mut StepList,
     levels: &Levels,
     targets: &[Target],
 ) -> Result<Vec<u64>, AllocError>
-    ensures extends { OnOk result (Extends steps.old.keys steps.new.keys) }
+    ensures extends { OnOk result (Extends steps.old steps.new) }
     ensures within { OnOk result ((states : ℕ) → ((k : ℕ) (target : Target) → slice_get targets.now k ≡ Some target →
         target.state ≤ states)
-        → AreSteps states steps.old.keys → AreSteps states steps.new.keys) }
-    ensures places { IfOk result (λ places. ArePlaces (chain_data levels.now.chain) targets.now steps.new.keys
+        → AreSteps states steps.old → AreSteps states steps.new) }
+    ensures places { IfOk result (λ places. ArePlaces (chain_data levels.now.chain) targets.now steps.new
         places.items) }
 {
-    let mut places = Vec::new(alloc);
+    let mut places = Vec::with_capacity(alloc, targets.len())?;
     for target in targets {
-        let (place, _) = steps.insert_full(levels.step_to(*target))?;
+        let place = steps.place_of(levels.step_to(*target))?;
         places.push(place as u64)?;
     }
     Ok(places)

@@ -44,6 +44,7 @@ mod numbers;
 mod pairs;
 mod places;
 mod step;
+mod step_list;
 mod taken;
 mod targets;
 mod union;

@@ -2,8 +2,7 @@
 
 use crate::letter_sets::LetterSets;
 use crate::levels::Levels;
-use crate::step::Step;
-use indexmap::IndexSet;
+use crate::step_list::StepList;
 use ps_diagram::{Node, Store};
 use ps_hoa::HoaFile;
 use std::alloc::Global;
@@ -16,7 +15,7 @@ pub(crate) struct Pairs {
     /// The store of the diagrams.
     pub store: Store,
     /// The steps; a leaf is the index of its step.
-    pub steps: IndexSet<Step>,
+    pub steps: StepList,
 }
 
 /// The HOA file and its chain and aliases, from which the steps of states are built.

@@ -199,21 +199,21 @@ IsStateFault file q OutOfMemory = Unit {0}
 -- while the steps of states are built, the diagram store keeps its nodes, and the list of steps keeps its entries
 pub record Grows (states : ℕ) (old new : Pairs) : Type 0 where
   pub keeps : Keeps old.store new.store
-  pub extends : Extends old.steps.keys new.steps.keys
-  pub steps : AreSteps states new.steps.keys
+  pub extends : Extends old.steps new.steps
+  pub steps : AreSteps states new.steps
 
 -- the precondition for building the diagram of the steps of a row's state: `IsReady` holds for the row, and `AreSteps`
 -- for the list of steps
 pub record AreReady (pairs : Pairs) (g : Guards) : Type 0 where
   pub ready : IsReady pairs.store g
-  pub steps : AreSteps g.file.now.states pairs.steps.keys
+  pub steps : AreSteps g.file.now.states pairs.steps
 
 -- if the result is no error, it is the diagram of the steps of the row's state, and the diagram store and the list of
 -- steps have only grown
 pub record MakesSteps {E : Type 0} (g : Guards) (levels : Levels) (old new : Pairs) (result : Result ℕ E) : Type 0 where
   pub grows : OnOk result (Grows g.file.now.states old new)
   pub node : IfOk result (λ node. (q : ℕ) → row_of g.file.now q ≡ Some (row_data g.row.now) → IsStepsOf g.file.now
-      (chain_data levels.chain) q new.steps.keys new.store node)
+      (chain_data levels.chain) q new.steps new.store node)
 
 -- the precondition for building the diagrams of all states' steps: the diagrams of the aliases are in the store,
 -- `AreLetterSets` holds for the sets of letters, if there are any, and `AreSteps` for the list of steps
@@ -221,7 +221,7 @@ pub record IsSource (s : Source) (pairs : Pairs) : Type 0 where
   pub letters : pairs.store.propositions ≡ length s.file.now.names
   pub aliases : AreNodesOf pairs.store s.file.now.aliases s.aliases.now
   pub sets : IfSome s.sets.now (AreLetterSets s.file.now)
-  pub steps : AreSteps s.file.now.states pairs.steps.keys
+  pub steps : AreSteps s.file.now.states pairs.steps
 
 pub record IsDraft (file : FileData) (chain : Chain) (steps : List Step) (t : Table) (nodes : List ℕ) : Type 0 where
   pub letters : t.propositions ≡ length file.names

@@ -8,10 +8,9 @@ use Rattle.ps_automaton.specs.declared.targets.Target.{Target}
 abbrev pub pair_cmp : ℕ × ℕ → ℕ × ℕ → Ordering
 pair_cmp p q = ordering_then (nat_cmp p.0 q.0) (nat_cmp p.1 q.1)
 
--- each target has only one index
-abbrev pub AreDistinct : List Target → Type 0
-AreDistinct targets =
-    (i j : ℕ) (target : Target) → slice_get targets i ≡ Some target → slice_get targets j ≡ Some target → i ≡ j
+-- each entry has only one index
+abbrev pub AreDistinct : {X : Type 0} → List X → Type 0
+AreDistinct {X} entries = (i j : ℕ) (x : X) → slice_get entries i ≡ Some x → slice_get entries j ≡ Some x → i ≡ j
 
 -- the table has the index of each target, and no other entries
 pub record IsTableOf (targets : List Target) (table : ℕ → ℕ → Option ℕ) : Type 0 where
@@ -20,8 +19,8 @@ pub record IsTableOf (targets : List Target) (table : ℕ → ℕ → Option ℕ
   pub whole : (target : Target) (place : ℕ) → slice_get targets place ≡ Some target →
       table target.state target.sets ≡ Some place
 
--- the new list is the old list, or the old list with the target appended; the target is at the index `place` of the new
+-- the new list is the old list, or the old list with the entry appended; the entry is at the index `place` of the new
 -- list
-pub record IsPlaced (old new : List Target) (target : Target) (place : ℕ) : Type 0 where
-  pub list : (new ≡ old) ⊎ (new ≡ old ++ target ∷ [])
-  pub stored : slice_get new place ≡ Some target
+pub record IsPlaced {X : Type 0} (old new : List X) (entry : X) (place : ℕ) : Type 0 where
+  pub list : (new ≡ old) ⊎ (new ≡ old ++ entry ∷ [])
+  pub stored : slice_get new place ≡ Some entry

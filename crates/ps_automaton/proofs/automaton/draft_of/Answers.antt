@@ -41,7 +41,7 @@ returns-clause-admitted c =
     let file = c.args.file.now in
     let chain = chain_data c.in-Some.chain in
     let a = (goal.at.returns-clause-admitted c).In-Some in
-    let IsDrafted : Draft → Type 0 = λ d. IsDraft file chain d.pairs.steps.keys d.pairs.store d.nodes.items in
+    let IsDrafted : Draft → Type 0 = λ d. IsDraft file chain d.pairs.steps d.pairs.store d.nodes.items in
     IfOk-weaker c.drafted.result IsDrafted (λ d. IsAdmitted file) (λ d drafted. record {
       plain = no_complement a;
       chain = chain;

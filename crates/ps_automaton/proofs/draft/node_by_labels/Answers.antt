@@ -18,7 +18,7 @@ returns-clause-steps c =
     let all_edges : length c.args.guards.now.row.now.edges.items ≡ length row.edges = grind (arith, length-map) in
     let union = subst (λ n. IsUnion c.args.guards.now.file.now row n c.in_ok-union.union.targets c.joined.new.store
     c.in_ok-union.union.node) all_edges c.in_ok-union.ensures.union in
-    let steps : AreSteps c.args.guards.now.file.now.states c.node_of_union.new.pairs.steps.keys =
+    let steps : AreSteps c.args.guards.now.file.now.states c.node_of_union.new.pairs.steps =
     made.within c.args.guards.now.file.now.states
     (λ k target e. let h = union.joined.within k target e in omega (arith, h)) c.requires.steps in
     record {

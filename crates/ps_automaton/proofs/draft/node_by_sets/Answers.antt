@@ -15,7 +15,7 @@ joined c = rw c.deref.ensures.value at (rw c.in-Some.is at c.in_ok-edges.ensures
 
 all_steps : (c : In_ok-node) → AreJoined c.args.guards.now.file.now (row_data c.args.guards.now.row.now)
     (length (row_data c.args.guards.now.row.now).edges) c.in_ok-targets.targets.items (edge_at c.in-Some.edges.items) →
-    AreSteps c.args.guards.now.file.now.states c.node_of_edges.new.pairs.steps.keys
+    AreSteps c.args.guards.now.file.now.states c.node_of_edges.new.pairs.steps
 all_steps c first =
     let low : (k : ℕ) (target : Target) → slice_get c.deref-2.result.now k ≡ Some target →
     target.state ≤ c.args.guards.now.file.now.states = λ k target e.

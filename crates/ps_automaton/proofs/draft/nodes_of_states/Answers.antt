@@ -7,7 +7,7 @@ use Rattle.ps_automaton.proofs.draft.nodes_of_states.Goals as goal
 pub returns-in_err-state_node-clause-refused : goal.returns-in_err-state_node-clause-refused
 returns-in_err-state_node-clause-refused c =
     let fault = first_fault c.args.source.now.file.now (chain_data c.args.source.now.levels.now.chain)
-    c.loop-state.pairs.steps.keys c.loop-state.pairs.store c.loop-state.nodes.items c.loop-state.state
+    c.loop-state.pairs.steps c.loop-state.pairs.store c.loop-state.nodes.items c.loop-state.state
     c.loop-state.invariant.each in
     grind arith
 
@@ -22,6 +22,6 @@ loop-state-preserved c =
     grind (
       arith,
       kept_nodes g.keeps inv.nodes_of,
-      one_more file chain new.steps.keys new.store c.loop-state.nodes.items
+      one_more file chain new.steps new.store c.loop-state.nodes.items
           inv.count c.in_ok-push.ensures.items kept c.in_ok-state_node.ensures.node,
     )

@@ -9,8 +9,8 @@ abbrev pub invariant-loop-state : goal.invariant-loop-state
 invariant-loop-state l = record {
   letters : l.pairs.store.propositions ≡ length l.source.file.now.names;
   nodes_of : AreNodesOf l.pairs.store l.source.file.now.aliases l.source.aliases.now;
-  all_steps : AreSteps l.source.file.now.states l.pairs.steps.keys;
+  all_steps : AreSteps l.source.file.now.states l.pairs.steps;
   count : length l.nodes.items ≡ l.state;
-  each : (q : ℕ) → q < l.state → IsStepsOf l.source.file.now (chain_data l.source.levels.now.chain) q l.pairs.steps.keys
+  each : (q : ℕ) → q < l.state → IsStepsOf l.source.file.now (chain_data l.source.levels.now.chain) q l.pairs.steps
       l.pairs.store (get_or l.nodes.items q 0);
 }

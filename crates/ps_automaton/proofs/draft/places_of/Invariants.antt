@@ -8,11 +8,11 @@ use Rattle.ps_automaton.proofs.draft.places_of.Given as goal
 -- for each target visited so far, `places` has the index of the step to this target
 abbrev pub invariant-loop-target : goal.invariant-loop-target
 invariant-loop-target l = record {
-  extends : Extends l.fn.steps.keys l.steps.keys;
+  extends : Extends l.fn.steps l.steps;
   within : (states : ℕ) → ((k : ℕ) (target : Target) → slice_get l.targets k ≡ Some target → target.state ≤ states) →
-      AreSteps states l.fn.steps.keys → AreSteps states l.steps.keys;
+      AreSteps states l.fn.steps → AreSteps states l.steps;
   so_far : length l.places.items ≡ l.target-index;
   each : (k place : ℕ) (target : Target) → slice_get l.targets k ≡ Some target →
-      slice_get l.places.items k ≡ Some place → slice_get l.steps.keys place ≡ Some
+      slice_get l.places.items k ≡ Some place → slice_get l.steps place ≡ Some
       (step_of_target (chain_data l.levels.chain) target);
 }
