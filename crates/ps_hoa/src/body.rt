@@ -1,6 +1,6 @@
 //! The parser of the body of an HOA text.
 
-ghost use Rattle.std.specs.Prelude.{◌≡◌, ◌≢◌, ℕ, ◌+◌, ◌^◌, ◌≤◌, ◌↔◌, false, true, codes, IfOk, is_some, length};
+ghost use Rattle.std.specs.Prelude.{[], ◌≡◌, ◌≢◌, ℕ, ◌+◌, ◌^◌, ◌≤◌, ◌↔◌, false, true, codes, IfOk, is_some, length};
 ghost use Rattle.std.specs.Prelude.{option_map};
 ghost use Rattle.ps_label.specs.Expression.{expression};
 ghost use Rattle.ps_text.specs.Parts.{many, one};
@@ -18,7 +18,7 @@ ghost use Rattle.ps_hoa.specs.Views.{row_data};
 
 use crate::edges::{Labelling, edges, label_in_brackets, labelling_of, marks, state_of};
 use crate::fault::{HoaCause, HoaFault};
-use crate::file::Row;
+use crate::file::{Edge, Row};
 use crate::header::Header;
 use crate::refusal::{fault_at, refused};
 use crate::rows::Rows;
@@ -86,11 +86,26 @@ fn row(alloc: Global, tokens: &mut Tokens, header: &Header, rows: &Rows) -> Resu
         state,
         label,
         marks,
-        edges: Vec::new(alloc),
+        edges: no_edges(alloc, rows.last()),
     };
     let before = rows.edges();
     edges(alloc, tokens, header, before, &mut row)?;
     Ok(row)
+}
+
+/// An empty list of edges, which has space for as many edges as the previous state has, unless memory runs out. The
+/// space that stays unused is at most that of all edges of the text.
+fn no_edges(alloc: Global, previous: Option<&Row>) -> Vec<Edge>
+    ensures { result.items ≡ [] }
+{
+    let count = match previous {
+        Some(row) => row.edges.len(),
+        None => 0,
+    };
+    match Vec::with_capacity(alloc, count) {
+        Ok(edges) => edges,
+        Err(_) => Vec::new(alloc),
+    }
 }
 
 /// Reads `State:`, and checks that the previous state has the right number of edges.

@@ -96,12 +96,12 @@ fn row<G: Infix>(
     Ok(grammar.together(connective, operands))
 }
 
-/// A list with the first operand, and with space for a second operand.
+/// A list with the first operand, and with space for three more operands.
 #[inline(always)]
 fn begun<V: Drop>(alloc: Global, first: V) -> Result<Vec<V>, AllocError>
     ensures { IfOk result (λ operands. operands.items ≡ first ∷ []) }
 {
-    let mut operands = Vec::with_capacity(alloc, 2)?;
+    let mut operands = Vec::with_capacity(alloc, 4)?;
     operands.push(first)?;
     Ok(operands)
 }

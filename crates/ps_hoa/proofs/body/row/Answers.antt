@@ -49,7 +49,7 @@ returns-in_err-edges-clause-part c =
     let b = body_data c.args.rows.now in
     let l = option_map expression c.in_ok-label.label in
     let empty = empty_row c.in_ok-state.state l c.in_ok-marks.marks.items in
-    let same = ap (λ (es : List EdgeData). record empty { edges = es }) (ap (map edge_data) c.new.ensures.items) in
+    let same = ap (λ (es : List EdgeData). record empty { edges = es }) (ap (map edge_data) c.no_edges.ensures) in
     exit _ _ _ _ (behind (joint_state h b) c.in_ok-begin.ensures
     (behind (joint_state_label h b) c.in_ok-label.ensures (behind (joint_number h b l) c.in_ok-state.ensures.part
     (behind (joint_name h b l c.in_ok-state.state) c.pass_name.ensures (behind (joint_marks h b l c.in_ok-state.state)
@@ -62,7 +62,7 @@ returns-clause-part c =
     let b = body_data c.args.rows.now in
     let l = option_map expression c.in_ok-label.label in
     let empty = empty_row c.in_ok-state.state l c.in_ok-marks.marks.items in
-    let same = ap (λ (es : List EdgeData). record empty { edges = es }) (ap (map edge_data) c.new.ensures.items) in
+    let same = ap (λ (es : List EdgeData). record empty { edges = es }) (ap (map edge_data) c.no_edges.ensures) in
     reads_then (joint_state h b) c.in_ok-begin.ensures (reads_then (joint_state_label h b) c.in_ok-label.ensures
     (reads_then (joint_number h b l) c.in_ok-state.ensures.part
     (reads_then (joint_name h b l c.in_ok-state.state) c.pass_name.ensures
