@@ -1,7 +1,7 @@
 //! A synthesis problem is made from an HOA text, gives the game to solve, and makes a report from a certificate of that
 //! game.
 
-ghost use Rattle.std.specs.Prelude.{◌≡◌, ◌<◌, ◌↔◌, ℕ, IsTrue, List, IfOk, IfErr};
+ghost use Rattle.std.specs.Prelude.{◌≡◌, ◌<◌, ◌↔◌, ℕ, Bool, IsTrue, List, IfOk, IfErr};
 ghost use Rattle.std.specs.Result.{IsErrAnd};
 ghost use Rattle.ps_circuit.specs.Circuits.{CircuitData};
 ghost use Rattle.ps_automaton.specs.Automata.{IsBuiltFrom};
@@ -10,7 +10,9 @@ ghost use Rattle.ps_hoa.specs.Files.{FileData};
 ghost use Rattle.ps_machine.specs.Solving.{winner_at_start};
 ghost use Rattle.ps_machine.specs.Solving.{IsCertified};
 ghost use Rattle.ps_machine.specs.declared.key.Order.{Order};
+ghost use Rattle.ps_synthesis.specs.Briefs.{IsShortened};
 ghost use Rattle.ps_synthesis.specs.Inner.Certified.{IsCertifiedGame};
+ghost use Rattle.ps_synthesis.specs.Inner.Texts.{HaveTexts};
 ghost use Rattle.ps_synthesis.specs.Printing.{PrintsCertificate, PrintsCircuit, PrintsGame};
 ghost use Rattle.ps_synthesis.specs.Problems.{ReturnsOnly, IsProblem, IsProblemOf, IsReportFault};
 ghost use Rattle.ps_synthesis.specs.Reports.{IsReport};
@@ -24,7 +26,8 @@ use crate::automata::read_automaton;
 use crate::certifying::is_certified;
 use crate::circuits::circuit_of_certificate;
 use crate::fault::SynthFault;
-use crate::report::{Report, report_of};
+use crate::report::{BriefReport, Report, brief_report_of, report_of};
+use crate::texts::have_texts;
 use ps_automaton::Automaton;
 use ps_certificate::{Certificate, no_strategy_wins_outside, valid_regions_are_held};
 use ps_game::NamedGame;
@@ -152,6 +155,27 @@ impl Problem {
             compact,
         )
     }
+
+    /// The report that a valid certificate of the game gives, without the texts of the game and the certificate; the
+    /// certificate is not checked again.
+    ///
+    /// # Errors
+    ///
+    /// Fails if the circuit would need more variables than AIGER literals can number, or if memory runs out.
+    pub fn brief_report_of_certified(
+        &self,
+        alloc: Global,
+        certificate: &Certificate,
+    ) -> Result<BriefReport, SynthFault>
+        requires { IsCertified self.now.game certificate.now }
+        ensures { (compact : Bool) (order : Order) (text : List ℕ) → IsProblemOf order text self.now →
+            IsShortened (IsReportOrFault (ReturnsOnly self.now.game certificate.now) order compact text) result }
+    {
+        valid_regions_are_held();
+        no_strategy_wins_outside();
+        let _ = self.game.game.game();
+        brief_report_of_certificate(alloc, &self.automaton, self.order, &self.game, certificate)
+    }
 }
 
 /// The report that a certificate of an automaton's game gives, with the circuit of the player who wins the start
@@ -178,4 +202,28 @@ fn report_of_certificate(
 {
     let circuit = circuit_of_certificate(alloc, automaton, order, game, certificate)?;
     Ok(report_of(alloc, &game.game, certificate, &circuit, compact)?)
+}
+
+/// The brief report that a certificate of an automaton's game gives, with the circuit of the player who wins the start
+/// vertex. The texts that a report also has are there, but they are not written.
+fn brief_report_of_certificate(
+    alloc: Global,
+    automaton: &Automaton,
+    order: Order,
+    game: &AutomatonGame,
+    certificate: &Certificate,
+) -> Result<BriefReport, SynthFault>
+    requires { IsCertifiedGame order automaton.now game.now certificate.now }
+    ensures realizable { IfOk result (λ brief. IsTrue brief.realizable ↔ (winner_at_start certificate.now ≡ 0)) }
+    ensures circuit { IfOk result (λ brief. (circuit : CircuitData)
+        × PrintsCircuit brief.circuit_text.items circuit
+        × IsCircuitOf order automaton.now game.now.game.game certificate.now circuit
+        × ((file : FileData) (chain : Chain) → IsBuiltFrom file chain automaton.now →
+        IsWitness order file (winner_at_start certificate.now) circuit)) }
+    ensures texts { IfOk result (λ _. HaveTexts game.now.game certificate.now) }
+    ensures refused { IfErr result (IsCircuitFault order automaton.now game.now.game.game certificate.now) }
+{
+    let circuit = circuit_of_certificate(alloc, automaton, order, game, certificate)?;
+    have_texts(alloc, &game.game, certificate)?;
+    Ok(brief_report_of(alloc, certificate, &circuit)?)
 }
