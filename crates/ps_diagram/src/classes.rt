@@ -106,7 +106,7 @@ impl Store {
         ensures classes { IfOk result
             (λ c. AreOfLeaves leaves.now (tree_of self.old divided) (tree_of self.new c.places) c.list.items) }
     {
-        let _ = self.count();
+        let _ = self.len();
         let list = listed(self.allocator(), leaves.as_slice())?;
         let places = self.placed(divided, leaves)?;
         let _ = self.allocator();
@@ -244,7 +244,7 @@ impl Store {
         ensures { (f : ℕ → Bool) → leaf_at (tree_of self.now node) f ≡ Some result }
     {
         let place = self.eval(node, 0).unwrap();
-        let _ = self.count();
+        let _ = self.len();
         Node {
             place: place as u32,
         }

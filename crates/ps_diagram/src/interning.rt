@@ -55,13 +55,6 @@ impl Cells {
         Ok(Cells { list, leaves })
     }
 
-    /// The number of cells.
-    pub(crate) fn len(&self) -> usize
-        ensures { result ≡ length self.now }
-    {
-        self.list.len()
-    }
-
     /// The cell at an index of the list.
     pub(crate) fn at(&self, place: u32) -> View
         requires { place < length self.now }

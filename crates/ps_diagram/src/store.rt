@@ -60,6 +60,7 @@ impl Store {
     /// The number of nodes.
     pub fn len(&self) -> usize
         ensures value { result ≡ length self.now.cells }
+        ensures few { result < 2 ^ 32 }
         ensures sound { IsSoundTable self.now }
     {
         self.cells.len()
@@ -140,15 +141,6 @@ impl Store {
             propositions: self.propositions,
             cells,
         })
-    }
-
-    /// The number of nodes.
-    pub(crate) fn count(&self) -> usize
-        ensures value { result ≡ length self.now.cells }
-        ensures few { result < 2 ^ 32 }
-    {
-        let _ = &self.propositions;
-        self.cells.len()
     }
 
     /// The cell of a node; the child nodes in this cell are earlier nodes of the store.

@@ -30,7 +30,7 @@ impl Node {
     pub fn number(self) -> usize
         ensures { result ≡ self }
     {
-        self.place
+        self.place as usize
     }
 }
 

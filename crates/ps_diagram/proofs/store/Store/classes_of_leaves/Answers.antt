@@ -6,7 +6,7 @@ use Rattle.ps_diagram.proofs.store.Store.classes_of_leaves.Goals as goal
 
 pub listed-requires : goal.listed-requires
 listed-requires c = rw c.as_slice.ensures
-    (nodes_few c.args.self.now c.args.leaves.now c.count.ensures.value c.count.ensures.few c.requires.nodes)
+    (nodes_few c.args.self.now c.args.leaves.now c.len.ensures.value c.len.ensures.few c.requires.nodes)
 
 pub returns-clause-classes : goal.returns-clause-classes
 returns-clause-classes c =
