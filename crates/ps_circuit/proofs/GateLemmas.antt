@@ -1,15 +1,16 @@
 -- Lemmas about the gates of a circuit builder, before and after a gate is added.
 use Rattle.std.proofs.Common.{◌≡◌, ◌∙◌, ℕ, ◌+◌, ◌-◌, ◌*◌, ◌/◌, ◌%◌, ◌^◌, ◌<◌, ◌≤◌, ◌&&◌, ◌||◌, Bool, true, false, not}
 use Rattle.std.proofs.Common.{cond, eqb, [], ◌∷◌, ◌++◌, length, length-append, get_or, slice_get, Some, refl, sym, ap}
-use Rattle.std.proofs.Common.{ap₂, subst, arith, inl, inr, ◌⊎◌, Result, Err, IsErrAnd, rules}
+use Rattle.std.proofs.Common.{List, None, Option, ap₂, subst, arith, inl, inr, ◌⊎◌, Result, Err, IsErrAnd, rules}
 use Rattle.ps_circuit.specs.declared.encode_fault.EncodeFault.{EncodeFault}
 use Rattle.std.specs.List.{list_any}
+use Rattle.std.specs.Option.{is_some}
 use Rattle.std.proofs.Math.Bool.{not-not}
 use Rattle.std.proofs.lemmas.Bool.{eqb-true, eq-eqb, cases_eq, cases_Bool, and_parts, and_from}
-use Rattle.std.proofs.lemmas.List.Folds.{list_any_at}
-use Rattle.std.proofs.lemmas.Option.{slice_get_within, get_or_from_slice_get}
-use Rattle.indexmap.specs.IndexSet.{insert_key}
-use Rattle.ps_components.proofs.Places.{slice_get-append_left, slice_get-push_cases}
+use Rattle.std.proofs.lemmas.List.Folds.{list_any_at, list_any_none}
+use Rattle.std.proofs.lemmas.Option.{slice_get_within, slice_get-get_or, get_or_from_slice_get}
+use Rattle.ps_keys.specs.Keys.{IsLastEqual, IsPlacedKey, LacksFrom}
+use Rattle.ps_components.proofs.Places.{slice_get-append_left, slice_get-push, slice_get-push_cases}
 use Rattle.ps_circuit.specs.declared.builder.Sides.{Sides}
 use Rattle.ps_circuit.specs.contracts.builder.SidesPartialEq.TheImpl as sides_eq
 use Rattle.ps_circuit.specs.Literals.{variable, negated}
@@ -96,6 +97,52 @@ pub new-absent : (d : Drafted) (s : Sides) → list_any ((sides_eq.eq-value).it 
     IsNew d s.first s.second
 new-absent d s none k t e both = absent d s none k t e (sides_are s t (sym both.0) (sym both.1))
 
+-- the gates after a gate with the two literals was made, if there was none
+abbrev pub with_gate : List Sides → Sides → List Sides
+with_gate gates s = cond (list_any ((sides_eq.eq-value).it s) gates) gates (gates ++ s ∷ [])
+
+-- no gate has the two literals
+pub none_has : (gates : List Sides) (s : Sides) → LacksFrom (sides_eq.eq-value).it gates 0 s →
+    list_any ((sides_eq.eq-value).it s) gates ≡ false
+none_has gates s lacks = list_any_none ((sides_eq.eq-value).it s) gates (λ k d lt. elim (bool_cases
+    ((sides_eq.eq-value).it s (get_or gates k d))) [
+      | inl equal ↦ absurd (true_is_not_false (sym (ap (λ t. (sides_eq.eq-value).it t s) (sym (same_sides equal))
+          ∙ sides_same s) ∙ lacks k d (omega arith) lt))
+      | inr other ↦ other
+    ])
+
+pub is_at : (gates : List Sides) (s : Sides) (place : ℕ) → place < length gates →
+    ((d : Sides) → (sides_eq.eq-value).it (get_or gates place d) s ≡ true) → slice_get gates place ≡ Some s
+is_at gates s place within equal = slice_get-get_or gates place s within ∙ ap (λ t. Some t) (same_sides (equal s))
+
+-- one of the gates has the two literals
+pub some_has : (gates : List Sides) (s : Sides) (place : ℕ) → place < length gates →
+    ((d : Sides) → (sides_eq.eq-value).it (get_or gates place d) s ≡ true) →
+    list_any ((sides_eq.eq-value).it s) gates ≡ true
+some_has gates s place within equal = elim (bool_cases (list_any ((sides_eq.eq-value).it s) gates)) [
+  | inl there ↦ there
+  | inr none ↦ absurd (absent (record { given = 0; gates = gates }) s none place s (is_at gates s place within equal) refl)
+]
+
+pub has_gate : (gates : List Sides) (s : Sides) (found : Option ℕ) →
+    IsLastEqual (sides_eq.eq-value).it gates s found → is_some found ≡ list_any ((sides_eq.eq-value).it s) gates
+has_gate gates s None lacks = sym (none_has gates s lacks)
+has_gate gates s (Some place) is = sym (some_has gates s place is.0 is.1)
+
+pub gates_are : (old new : List Sides) (s : Sides) (place : ℕ) →
+    IsPlacedKey (sides_eq.eq-value).it old new s place → new ≡ with_gate old s
+gates_are old new s place is = elim is [
+  | inl there ↦ there.0 ∙ sym (ap (λ b. cond b old (old ++ s ∷ [])) (some_has old s place there.1 there.2))
+  | inr fresh ↦ fresh.0 ∙ sym (ap (λ b. cond b old (old ++ s ∷ [])) (none_has old s fresh.2))
+]
+
+pub gate_is_at : (old new : List Sides) (s : Sides) (place : ℕ) →
+    IsPlacedKey (sides_eq.eq-value).it old new s place → slice_get new place ≡ Some s
+gate_is_at old new s place is = elim is [
+  | inl there ↦ ap (λ gates. slice_get gates place) there.0 ∙ is_at old s place there.1 there.2
+  | inr fresh ↦ grind (arith, slice_get-push)
+]
+
 sound-more : {d : Drafted} {s : Sides} → IsSoundDraft d → variables_of d + 1 < 2 ^ 31 →
     AreSides (variables_of d + 1) s → list_any ((sides_eq.eq-value).it s) d.gates ≡ false → IsSoundDraft (more d s)
 sound-more {d} {s} is room sides none = record {
@@ -119,10 +166,9 @@ pub record Placed (old new : Drafted) (s : Sides) (place : ℕ) : Type 0 where
 
 pub placed : (old new : Drafted) (s : Sides) (place : ℕ) → IsSoundDraft old → AreSides (variables_of old + 1) s →
     (list_any ((sides_eq.eq-value).it s) old.gates ≡ false → IsFull old → ⊥) →
-    new.given ≡ old.given → new.gates ≡ insert_key (sides_eq.eq-value).it old.gates s →
-    ((k : Sides) × (slice_get new.gates place ≡ Some k) × ((sides_eq.eq-value).it s k ≡ true)) → Placed old new s place
-placed old new s place is sides room given keys stored =
-    let at : slice_get new.gates place ≡ Some s = stored.1 ∙ ap (λ k. Some k) (sym (same_sides stored.2)) in
+    new.given ≡ old.given → new.gates ≡ with_gate old.gates s → slice_get new.gates place ≡ Some s →
+    Placed old new s place
+placed old new s place is sides room given keys at =
     let known = list_any ((sides_eq.eq-value).it s) old.gates in
     elim (bool_cases known) [
       | inl there ↦ grind (arith, extends-refl old)
@@ -140,6 +186,13 @@ pub placed-bit : (d : Drafted) (s : Sides) (place : ℕ) → slice_get d.gates p
     MeetsEquations d v →
     bit v (2 * (d.given + 1 + place)) ≡ (bit v s.first && bit v s.second)
 placed-bit d s place at v m = bit-plain v (d.given + 1 + place) ∙ m.each place s at
+
+pub placed-held : (d : Drafted) (s : Sides) (place : ℕ) → slice_get d.gates place ≡ Some s →
+    IsHeld d (2 * (d.given + 1 + place))
+placed-held d s place at =
+    let within = slice_get_within d.gates place s at in
+    let half : 2 * (d.given + 1 + place) / 2 ≡ d.given + 1 + place = omega arith in
+    omega (arith, within, half)
 
 -- a pair of literals that no existing gate has, and that is allowed for a gate, needs a new gate
 pub needs : (d : Drafted) (own : ℕ) (s : Sides) → IsSoundDraft d → AreSides own s → IsNew d s.first s.second →

@@ -7,15 +7,13 @@ use Rattle.std.proofs.lemmas.Bool.{cases_lt, eq-eqb}
 use Rattle.std.proofs.lemmas.List.Folds.{list_any_at, list_any_none}
 use Rattle.std.proofs.lemmas.List.Sums.{position_or_len_is, fails_before_first, passes_at_first}
 use Rattle.std.proofs.lemmas.Option.{slice_get_within, slice_get-get_or, get_or_from_slice_get}
-use Rattle.indexmap.specs.IndexSet.{insert_key}
 use Rattle.ps_components.proofs.Places.{slice_get-push}
-use Rattle.ps_circuit.specs.contracts.builder.SidesPartialEq.TheImpl as sides_eq
 use Rattle.ps_circuit.specs.declared.builder.Sides.{Sides}
 use Rattle.ps_circuit.specs.Building.{Drafted, Extends, variables_of}
 use Rattle.ps_circuit.specs.Literals.{negated}
 use Rattle.ps_circuit.specs.Gates.{Made, has_sides, gate_of, and_of, or_of, chosen_of, mux_of}
 use Rattle.ps_circuit.proofs.GateLemmas.{bool_cases, true_is_not_false, extends-refl, extends-trans, extends-more}
-use Rattle.ps_circuit.proofs.GateLemmas.{same_sides, sides_same, drafted_are, Placed}
+use Rattle.ps_circuit.proofs.GateLemmas.{same_sides, sides_same, drafted_are, Placed, with_gate}
 
 -- making the same gates again, when all of them exist already, adds no gate and returns the same literal
 abbrev pub IsThere : Made → (Drafted → Made) → Drafted → Type 0
@@ -171,13 +169,13 @@ unfolding gate_of
 above-new d s full none = grind (arith, length-append)
 
 gate_draft : (old : Drafted) {new : Drafted} (s : Sides) → new.given ≡ old.given →
-    new.gates ≡ insert_key (sides_eq.eq-value).it old.gates s → (gate_of old s).draft ≡ new
+    new.gates ≡ with_gate old.gates s → (gate_of old s).draft ≡ new
 unfolding gate_of
 gate_draft old {new} s given keys = drafted_are (gate_of old s).draft new (sym given) (sym keys)
 
 -- inserting a gate into the builder's set of gates has the same result as the definition `gate_of`
 pub made-placed : {old new : Drafted} {s : Sides} {place : ℕ} → Placed old new s place → new.given ≡ old.given →
-    new.gates ≡ insert_key (sides_eq.eq-value).it old.gates s →
+    new.gates ≡ with_gate old.gates s →
     gate_of old s ≡ record { draft = new; literal = 2 * (new.given + 1 + place) }
 made-placed {old} {new} {s} {place} p given keys =
     let is : (gate_of old s).draft ≡ new = gate_draft old s given keys in

@@ -13,7 +13,7 @@ use Rattle.ps_circuit.specs.Building.{variables_of}
 use Rattle.ps_circuit.specs.Literals.{negated, variable}
 use Rattle.ps_circuit.specs.Gates.{Made, has_sides, gate_of, and_of, or_of, chosen_of, mux_of}
 use Rattle.ps_circuit.proofs.GateLemmas.{bit-negated, chosen_bits, held-extends, held-negated, meets-extends, or_bits}
-use Rattle.ps_circuit.proofs.GateLemmas.{placed, placed-bit, sides_same}
+use Rattle.ps_circuit.proofs.GateLemmas.{placed, placed-bit}
 use Rattle.ps_circuit.proofs.MadeLemmas.{above-new, and-extends, gate_at, or-extends, place_of}
 
 -- the literals of all variables fit into 32 bits
@@ -72,7 +72,7 @@ gate_makes {d} x y sound sides = record {
       let new : Drafted = (gate_of d s).draft in
       let place = place_of d s in
       let full : list_any (has_sides s) d.gates ≡ false → IsFull d → ⊥ = search (rules, above-new) in
-      let p = placed d new s place sound sides full refl refl (s, gate_at d, sides_same s) in
+      let p = placed d new s place sound sides full refl refl (gate_at d) in
       record {
         sound = p.sound;
         held = search (rules, slice_get_within, d.given);

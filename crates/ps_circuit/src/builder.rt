@@ -2,15 +2,18 @@
 
 ghost use Rattle.std.specs.Prelude.{◌≡◌, ℕ, ◌+◌, ◌*◌, ◌^◌, ◌<◌, ◌≤◌, ◌&&◌, ◌||◌, Bool, not, cond, [], ◌∷◌, length};
 ghost use Rattle.std.specs.Prelude.{slice_get, All, Some, IfOk};
+ghost use Rattle.std.specs.Cmp.Rules.{hashing};
+ghost use Rattle.std.specs.List.{list_any};
+ghost use Rattle.std.proofs.Common.{rules};
 ghost use Rattle.ps_circuit.specs.Building.{Drafted, AreSides, Extends, IsFull, IsHeld, IsNew, IsSoundDraft};
 ghost use Rattle.ps_circuit.specs.Building.{MeetsEquations};
 ghost use Rattle.ps_circuit.specs.Building.{NeedsChoice, NeedsGate, bit, variables_of};
 ghost use Rattle.ps_circuit.specs.Literals.{negated};
-ghost use Rattle.ps_circuit.specs.Gates.{MakesGates, and_of, chosen_of, gate_of, mux_of, or_of};
+ghost use Rattle.ps_circuit.specs.Gates.{MakesGates, and_of, chosen_of, gate_of, has_sides, mux_of, or_of};
 
 use crate::encode_fault::EncodeFault;
 use crate::literal::Literal;
-use indexmap::IndexSet;
+use ps_keys::{Hashed, KeyList, mixed};
 use std::alloc::Global;
 use std::marker::Model;
 
@@ -27,6 +30,23 @@ pub struct Sides {
     pub second: Literal,
 }
 
+impl Hashed for Sides {
+    ghost use Rattle.ps_keys.specs.Hashes.{mixed};
+
+    ghost hash = { λ seed sides. mixed seed sides.first sides.second };
+
+    ghost alike = { Prim.search (hashing, rules) };
+
+    #[inline(always)]
+    fn hash(&self, seed: u64) -> u64 {
+        mixed(
+            seed,
+            u64::from(self.first.number()),
+            u64::from(self.second.number()),
+        )
+    }
+}
+
 /// A circuit builder, which makes and-gates over some given variables. If a gate with the same two literals exists, it
 /// is used again; a new gate takes the next variable.
 ///
@@ -35,15 +55,15 @@ pub struct Sides {
 #[derive(Drop)]
 pub struct Builder {
     given: u32,
-    gates: IndexSet<Sides>,
+    gates: KeyList<Sides>,
 }
 
 impl Model for Builder {
     ghost Value = { Drafted };
 
-    ghost view = { λ b. record { given = b.given; gates = b.gates.keys } };
+    ghost view = { λ b. record { given = b.given; gates = b.gates } };
 
-    ghost invariant = { λ b. IsSoundDraft (record { given = b.given; gates = b.gates.keys }) };
+    ghost invariant = { λ b. IsSoundDraft (record { given = b.given; gates = b.gates }) };
 }
 
 impl Builder {
@@ -55,7 +75,7 @@ impl Builder {
     {
         Builder {
             given,
-            gates: IndexSet::new(alloc),
+            gates: KeyList::new(alloc),
         }
     }
 
@@ -174,10 +194,17 @@ impl Builder {
             (λ v. bit v sides.first && bit v sides.second) (NeedsGate self.new sides.first sides.second) }
     {
         let variables = self.given + self.gates.len() as u32;
-        if variables == MOST_VARIABLES && !self.gates.contains(&sides) {
+        if variables == MOST_VARIABLES && !contains(&self.gates, &sides) {
             return Err(EncodeFault::CircuitTooLarge);
         }
-        let (place, _) = self.gates.insert_full(sides)?;
+        let place = self.gates.place_of(sides)?;
         Ok(Literal::positive(self.given + 1 + place as u32))
     }
+}
+
+/// Whether one of the gates reads the two given literals.
+fn contains(gates: &KeyList<Sides>, sides: &Sides) -> bool
+    ensures { result ≡ list_any (has_sides sides.now) gates.now }
+{
+    gates.find(*sides).is_some()
 }
