@@ -12,8 +12,8 @@
 -- - `bits_wired m latches ws d`: the literals of the bits `ws` of the machine's step, built one after another
 -- - `MakesLiteral, MakesLiterals old new result all`: a call extends the gates `old` of the builder to `new`; if the
 --   call succeeds, `new` has exactly the gates in `all`, and `result` is the literal (or the list of literals) in `all`
-use Rattle.std.specs.Prelude.{◌≡◌, ℕ, ◌+◌, ◌*◌, ◌<◌, Bool, false, Err, IfOk, List, MatchOption, length, map, None, Option}
-use Rattle.std.specs.Prelude.{Result, Some, Vec, slice_get, slice_index_or}
+use Rattle.std.specs.Prelude.{◌≡◌, ℕ, ◌+◌, ◌*◌, ◌<◌, Bool, false, Err, IfOk, List, MatchOption, length, map, None}
+use Rattle.std.specs.Prelude.{Option, Result, Some, Vec, slice_get, slice_index_or}
 use Rattle.std.specs.Global.{Global}
 use Rattle.std.specs.List.{range_with_len}
 use Rattle.std.specs.Option.{unwrap_or}

@@ -13,8 +13,8 @@ loop-bit-preserved c =
     record {
       extends = extends-trans _ _ _ before.extends c.literal_of.ensures.extends;
       made = before.made ∙ wired-step c.args.machine.now c.args.latches c.loop-bit.bit-index c.in_ok-literal.literal
-          c.args.wanted.now _ c.loop-bit.builder c.literal_of.new.builder c.loop-bit.literals.items c.push.new.self.items
-          within (slice_get-get_or c.args.wanted.now c.loop-bit.bit-index _ within) c.in_ok-literal.ensures.made
+          c.args.wanted.now _ c.loop-bit.builder c.literal_of.new.builder c.loop-bit.literals.items
+          c.push.new.self.items within (slice_get-get_or c.args.wanted.now c.loop-bit.bit-index _ within) c.in_ok-literal.ensures.made
           c.in_ok-push.ensures.items;
     }
 

@@ -51,31 +51,40 @@ pub over_latches-requires-2 : goal.over_latches-requires-2
 over_latches-requires-2 t c = grind (arith, lower_fits c.args.latches c.args.code c.if-latches-eq0.false c.requires.fits)
 
 pub returns-then-code-memories-clause-makes : goal.returns-then-code-memories-clause-makes
-returns-then-code-memories-clause-makes t c = as-made
-    (code-beyond c.args.plan.now.machine.now c.args.plan.now.wanted c.args.latches c.args.code c.node.result
+returns-then-code-memories-clause-makes t c =
+    let m = c.args.plan.now.machine.now in
+    let w = c.args.plan.now.wanted in
+    as-made
+    (code-beyond m w c.args.latches c.args.code c.node.result
     c.args.builder.now (omega (arith, c.if-code-memories.true, c.memories.ensures.memories)) c.node.ensures.node)
     (extends-refl _) c.over_inputs.ensures.makes
 
 pub returns-then-latches-eq0-clause-makes : goal.returns-then-latches-eq0-clause-makes
-returns-then-latches-eq0-clause-makes t c = as-made
-    (code-zero c.args.plan.now.machine.now c.args.plan.now.wanted c.args.latches c.args.code c.node-then-latches-eq0.result
-    c.args.builder.now c.if-latches-eq0.true (grind arith)) (extends-refl _) c.over_inputs-then-latches-eq0.ensures.makes
+returns-then-latches-eq0-clause-makes t c =
+    let m = c.args.plan.now.machine.now in
+    let w = c.args.plan.now.wanted in
+    as-made
+    (code-zero m w c.args.latches c.args.code c.node-then-latches-eq0.result
+    c.args.builder.now c.if-latches-eq0.true (grind arith)) (extends-refl _)
+    c.over_inputs-then-latches-eq0.ensures.makes
 
 pub returns-in_err-where_true-clause-makes : goal.returns-in_err-where_true-clause-makes
 returns-in_err-where_true-clause-makes t c =
     let m = c.args.plan.now.machine.now in
-    let lower = code_wanted m c.args.plan.now.wanted (c.args.latches - 1) c.args.code in
-    let whole = code-halves m c.args.plan.now.wanted c.args.latches c.args.code c.args.builder.now c.if-latches-eq0.false
+    let w = c.args.plan.now.wanted in
+    let lower = code_wanted m w (c.args.latches - 1) c.args.code in
+    let whole = code-halves m w c.args.latches c.args.code c.args.builder.now c.if-latches-eq0.false
     c.requires.fits in
     fails c.over_latches.ensures.makes.extends c.in_err-where_true.was c.from_residual.ensures.1 (λ e.
-    choice-above _ _ lower _ whole (code-extends (behaviour m) (bit_wanted (behaviour m) c.args.plan.now.wanted) _ c.args.code)
+    choice-above _ _ lower _ whole (code-extends (behaviour m) (bit_wanted (behaviour m) w) _ c.args.code)
     (c.over_latches.ensures.makes.too_large e))
 
 pub returns-in_err-where_false-clause-makes : goal.returns-in_err-where_false-clause-makes
 returns-in_err-where_false-clause-makes t c =
     let m = c.args.plan.now.machine.now in
-    let lower = code_wanted m c.args.plan.now.wanted (c.args.latches - 1) c.args.code in
-    let whole = code-halves m c.args.plan.now.wanted c.args.latches c.args.code c.args.builder.now c.if-latches-eq0.false
+    let w = c.args.plan.now.wanted in
+    let lower = code_wanted m w (c.args.latches - 1) c.args.code in
+    let whole = code-halves m w c.args.latches c.args.code c.args.builder.now c.if-latches-eq0.false
     c.requires.fits in
     fails (extends-trans _ _ _ c.over_latches.ensures.makes.extends c.over_latches-2.ensures.makes.extends)
     c.in_err-where_false.was c.from_residual-in_err-where_false.ensures.1 (λ e.
@@ -85,9 +94,10 @@ returns-in_err-where_false-clause-makes t c =
 pub returns-clause-makes : goal.returns-clause-makes
 returns-clause-makes t c =
     let m = c.args.plan.now.machine.now in
+    let w = c.args.plan.now.wanted in
     let latch = c.args.latches - 1 in
-    let lower = code_wanted m c.args.plan.now.wanted latch c.args.code in
-    let whole = code-halves m c.args.plan.now.wanted c.args.latches c.args.code c.args.builder.now c.if-latches-eq0.false
+    let lower = code_wanted m w latch c.args.code in
+    let whole = code-halves m w c.args.latches c.args.code c.args.builder.now c.if-latches-eq0.false
     c.requires.fits in
     let variable = c.positive.ensures ∙ ap (λ xs. 2 * (length xs + 1 + latch)) c.inputs.ensures.inputs in
     let chosen = choice-made _ _ lower c.over_latches.new.builder c.over_latches-2.new.builder _
@@ -98,8 +108,11 @@ returns-clause-makes t c =
     (by-choice c.mux.ensures)
 
 pub returns-clause-known_made : goal.returns-clause-known_made
-returns-clause-known_made t c = grind (
-  arith,
-  made-kept c.args.plan.now.machine.now c.args.plan.now.wanted c.over_latches-2.new.builder c.mux.new.self
-      (literal_at c.over_latches-2.new.known) c.mux.ensures.extends c.in_ok-where_false.ensures.known_made,
-)
+returns-clause-known_made t c =
+    let m = c.args.plan.now.machine.now in
+    let w = c.args.plan.now.wanted in
+    grind (
+      arith,
+      made-kept m w c.over_latches-2.new.builder c.mux.new.self
+          (literal_at c.over_latches-2.new.known) c.mux.ensures.extends c.in_ok-where_false.ensures.known_made,
+    )
