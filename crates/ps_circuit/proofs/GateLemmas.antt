@@ -121,7 +121,8 @@ pub some_has : (gates : List Sides) (s : Sides) (place : ℕ) → place < length
     list_any ((sides_eq.eq-value).it s) gates ≡ true
 some_has gates s place within equal = elim (bool_cases (list_any ((sides_eq.eq-value).it s) gates)) [
   | inl there ↦ there
-  | inr none ↦ absurd (absent (record { given = 0; gates = gates }) s none place s (is_at gates s place within equal) refl)
+  | inr none ↦ absurd (absent (record { given = 0; gates = gates }) s none place s
+      (is_at gates s place within equal) refl)
 ]
 
 pub has_gate : (gates : List Sides) (s : Sides) (found : Option ℕ) →
