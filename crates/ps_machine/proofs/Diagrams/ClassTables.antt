@@ -17,12 +17,13 @@ use Rattle.ps_machine.specs.BuiltBoards.{board_of}
 use Rattle.ps_machine.specs.Dividing.{AreClassesOf, AreDivided}
 use Rattle.ps_machine.specs.Inner.Knowing.{AreRemembered, HasAnswered, IsDivided, KnowsMoves}
 use Rattle.ps_machine.specs.Dividing.{IsFit}
-use Rattle.ps_machine.specs.Inner.Moving.{HasClass, IsKnown, Remembers, class_keys}
+use Rattle.ps_machine.specs.Inner.Moving.{AreRests, IsKnown, Remembers, class_keys}
 use Rattle.ps_machine.specs.Numbering.{StandsAt}
 use Rattle.ps_machine.specs.declared.key.Key.{Key}
 use Rattle.ps_machine.specs.declared.key.Key.TheVariants.{First}
 use Rattle.ps_machine.specs.declared.key.Order.{Order}
 use Rattle.ps_machine.proofs.BoardSteps.{class_different, class_leads, class_some, known_first, still_known}
+use Rattle.ps_machine.proofs.BoardSteps.{still_rests}
 use Rattle.ps_machine.proofs.Diagrams.Remembering.{fit_kept}
 
 -- when the table of diagrams grows, stored classes are still the classes of their states, and the successors of the
@@ -67,8 +68,13 @@ module _ {order : Order} {a : AutomatonData} {mask : ℕ} {s t u : Table} {rests
   pub known_before : (key : Key) → IsKnown order a mask t rests key → IsKnown order a mask u now key
   known_before key known = still_known (fit_kept keeps fit) of_state named keeps m key known
 
-  pub remembered : All (λ (k : Class). HasClass q l now (q, k.letter)) l → AreRemembered order a mask u now q c
-  remembered has = record { are = of_state; known = known_first (fit_kept keeps fit) of_state named has }
+  pub remembered : AreRests order a mask t rests → All (λ (k : Class). IsSome (now (q, k.letter))) l →
+      AreRemembered order a mask u now q c
+  remembered all has = record {
+    are = of_state;
+    known = known_first (fit_kept keeps fit) of_state named
+        (still_rests (fit_kept keeps fit) of_state named keeps m all) has;
+  }
 
 -- the successors of a first-player vertex are the vertices of the classes that are stored for its state
 module _ {order : Order} {a : AutomatonData} {mask : ℕ} {t : Table} {rests : ℕ × ℕ → Option ℕ}
