@@ -1,5 +1,6 @@
 //! The command that makes a circuit for an automaton.
 
+ghost use Rattle.std.specs.Prelude.{◌≡◌, false};
 ghost use Rattle.ps_program.specs.Outcomes.{Gives};
 ghost use Rattle.ps_program.specs.Replies.{reply_of};
 ghost use Rattle.ps_program.specs.Solvers.{solvers_of};
@@ -7,10 +8,10 @@ ghost use Rattle.ps_program.specs.Synthesis.{AnswersCertified, AnswersReport, An
 
 use crate::answer::{Answer, Refusal};
 use crate::commands::SynthLine;
-use crate::printing::print;
+use crate::printing::{print, print_briefly};
 use crate::texts::two_texts;
 use ps_machine::Solver;
-use ps_synthesis::synthesise_by;
+use ps_synthesis::{synthesise_briefly_by, synthesise_by};
 use std::alloc::Global;
 
 /// The circuit for the automaton of a text. If a certificate follows this text in the input, the second solver is fed
@@ -60,6 +61,36 @@ fn report<S: Solver>(
 ) -> Result<Answer, Refusal>
     ensures { Gives reply_of (AnswersReport (S.known solver.old) asked text.now) result }
 {
+    if asked.full {
+        full_report(alloc, asked, text, solver)
+    } else {
+        brief_report(alloc, asked, text, solver)
+    }
+}
+
+/// The circuit for the automaton of a text, and the game and its certificate if they are asked for.
+fn full_report<S: Solver>(
+    alloc: Global,
+    asked: SynthLine,
+    text: &[u8],
+    solver: &mut S,
+) -> Result<Answer, Refusal>
+    ensures { Gives reply_of (AnswersReport (S.known solver.old) asked text.now) result }
+{
     let report = synthesise_by(alloc, text, asked.order, asked.compact, solver)?;
     Ok(print(alloc, &report, asked.full)?)
+}
+
+/// The circuit for the automaton of a text; the texts of the game and its certificate are not written.
+fn brief_report<S: Solver>(
+    alloc: Global,
+    asked: SynthLine,
+    text: &[u8],
+    solver: &mut S,
+) -> Result<Answer, Refusal>
+    requires { asked.full ≡ false }
+    ensures { Gives reply_of (AnswersReport (S.known solver.old) asked text.now) result }
+{
+    let brief = synthesise_briefly_by(alloc, text, asked.order, solver)?;
+    Ok(print_briefly(alloc, &brief)?)
 }
