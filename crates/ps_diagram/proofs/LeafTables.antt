@@ -1,9 +1,9 @@
 -- Lists of different leaves, each with a letter: a leaf is found by its index, and one more leaf is added.
-use Rattle.std.proofs.Common.{◌≡◌, ℕ, zero, suc, ◌+◌, ◌-◌, ◌<◌, ◌≤◌, Bool, true, false, List, [], ◌∷◌, ◌++◌, length, map, cond}
-use Rattle.std.proofs.Common.{get_or, Some, None, nat_eq, refl, ap, sym, ◌∙◌, arith, inl, inr}
+use Rattle.std.proofs.Common.{◌≡◌, ℕ, zero, suc, ◌+◌, ◌-◌, ◌<◌, ◌≤◌, Bool, true, false, List, [], ◌∷◌, ◌++◌}
+use Rattle.std.proofs.Common.{length, map, cond, get_or, Some, None, nat_eq, refl, ap, sym, ◌∙◌, arith, inl, inr}
 use Rattle.std.proofs.lemmas.Bool.{cases_Bool, cases_lt, eq-eqb, eqb-true, eqb-false, ne_eqb, lt-ltb, le-ltb, ltb-false}
-use Rattle.std.proofs.lemmas.List.{drop_all, drop-append-le, get_or_default, get_or-drop, get_or-map, length-drop, length-map}
-use Rattle.std.proofs.lemmas.List.{length_push, map-append}
+use Rattle.std.proofs.lemmas.List.{drop_all, drop-append-le, get_or_default, get_or-drop, get_or-map}
+use Rattle.std.proofs.lemmas.List.{length-drop, length-map, length_push, map-append}
 use Rattle.std.proofs.lemmas.List.Sums.{fails_before_first, position_or_len_is}
 use Rattle.std.proofs.lemmas.List.Quantifiers.{all_pairs_push, position-Some}
 use Rattle.std.specs.List.{position_or_len}

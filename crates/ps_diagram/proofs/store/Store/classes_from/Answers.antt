@@ -11,7 +11,8 @@ classes_of_leaves-requires-clause-leaves c = leaves_differ (are_leaves c.in_ok-l
 
 pub classes_of_leaves-requires-clause-nodes : goal.classes_of_leaves-requires-clause-nodes
 classes_of_leaves-requires-clause-nodes c =
-    leaves_held c.args.split (tree_of c.args.other.now c.args.node) (are_leaves c.in_ok-leaves.ensures) c.in_ok-divided.ensures.leaf
+    leaves_held c.args.split (tree_of c.args.other.now c.args.node) (are_leaves c.in_ok-leaves.ensures)
+    c.in_ok-divided.ensures.leaf
 
 pub returns-clause-keeps : goal.returns-clause-keeps
 returns-clause-keeps c = keeps_trans c.rests.ensures.keeps c.classes_of_leaves.ensures.keeps
