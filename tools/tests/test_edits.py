@@ -9,6 +9,7 @@ import glob
 import importlib.machinery
 import importlib.util
 import os
+import shutil
 import subprocess
 import tempfile
 import unittest
@@ -137,6 +138,12 @@ class Table(unittest.TestCase):
         names = "refused, as it must be (only because a proof file names what the edit took away): ./proofs/A.antt"
         told = ["refused, as it must be: note", names, "NOT REFUSED: still proved", "BAD EDIT: no such text"]
         self.assertEqual([self.tool.verdict_of(it) for it in told], ["refused", "refused by a name", "not refused", "bad"])
+
+    def test_a_copy_that_fails_is_one_line(self):
+        for error in (shutil.Error([("a", "b", "[Errno 28] No space left on device"), ("c", "d", "more")]), OSError(28, "No space left on device")):
+            with mock.patch.object(self.tool, "copy_to", side_effect=error), self.assertRaises(SystemExit) as stopped:
+                self.tool.copy_or_stop("room", "more-edits", {})
+            self.assertEqual(stopped.exception.code, "try-edits: the repository can't be copied: [Errno 28] No space left on device")
 
     def test_rows(self):
         with tempfile.TemporaryDirectory() as folder:
