@@ -19,7 +19,8 @@ pub trait Hashed: Eq + Copy {
     ghost alike: { (seed : ℕ) (x y : Self) → IsTrue (Self.eq x y) → hash seed x ≡ hash seed y };
 }
 
-/// A hash of two numbers for a seed: the halves of a product of 128 bits, joined by exclusive or.
+/// A hash of two numbers for a seed: the halves of a product of 128 bits, joined by exclusive or. If `second` is
+/// `MULTIPLIER`, the hash is 0 for every seed, so `second` should be a number that a text cannot choose freely.
 #[inline(always)]
 pub fn mixed(seed: u64, first: u64, second: u64) -> u64
     ensures { result ≡ mixed seed first second }
