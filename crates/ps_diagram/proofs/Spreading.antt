@@ -1,17 +1,52 @@
 -- For each letter over some propositions, what remains of a diagram after this letter has been read (a cofactor).
-use Rattle.std.proofs.Common.{◌≡◌, ℕ, ◌+◌, ◌^◌, ◌<◌, Bool, Ok, true, false, cond, refl, sym, ◌∙◌}
+use Rattle.std.proofs.Common.{◌≡◌, ℕ, ◌+◌, ◌^◌, ◌<◌, ◌/◌, Bool, Ok, true, false, cond, refl, sym, ◌∙◌}
 use Rattle.std.proofs.Common.{arith, inl, inr}
 use Rattle.std.proofs.lemmas.Bool.{cases_lt}
+use Rattle.std.proofs.Math.Nat.{lt-div-mul-add}
+use Rattle.std.proofs.lemmas.Nat.{pow_pos}
 use Rattle.ps_label.specs.Truth.{is_in}
 use Rattle.ps_diagram.specs.Letters.{assignment}
-use Rattle.ps_diagram.specs.Tree.{Tree, final, IsBlind, IsFrom, IsTestOf}
+use Rattle.ps_diagram.specs.Tree.{Tree, empty, final, choice, leaf_at, IsBlind, IsFrom, IsTestOf}
 use Rattle.ps_diagram.specs.Table.{Table, IsNode, Keeps, MakesTree, tree_of}
-use Rattle.ps_diagram.specs.Inner.Rests.{mixed, IsCofactor, IsDivided, IsSpread}
-use Rattle.ps_diagram.proofs.Canon.{from-blind}
+use Rattle.ps_diagram.specs.Inner.Rests.{mixed, IsCofactor, IsDivided, IsSpread, IsUnread}
+use Rattle.ps_diagram.proofs.Canon.{blind-from, from-blind}
 use Rattle.ps_diagram.proofs.Cells.{bool_cases}
-use Rattle.ps_diagram.specs.Split.{IsSides}
+use Rattle.ps_diagram.specs.Split.{root_of, IsSides}
 use Rattle.ps_diagram.proofs.Letters.{lower_bit, no_bit, top_bit}
 use Rattle.ps_diagram.proofs.MadeDiagrams.{by-sides}
+
+-- ## No proposition of the mask
+
+from_own_root : (n : ℕ) (t : Tree) → IsFrom 0 n t → IsFrom (root_of n t) n t
+from_own_root n empty h = tt
+from_own_root n (final k) h = tt
+from_own_root n (choice p low high) h = (omega arith, h.1, h.2, h.3)
+
+-- a number without bits from `level` on is less than 2 ^ level
+pub below_root : (mask : ℕ) {level root : ℕ} → level ≡ root → mask / 2 ^ level ≡ 0 → mask < 2 ^ root
+below_root mask {level} {root} is none =
+    let lt = lt-div-mul-add {a = mask} (pow_pos level) in
+    rw (← is) (grind (arith, rw none at lt))
+
+-- if the first proposition that a tree tests comes after all of the mask, no leaf depends on a proposition of the mask
+pub unread : (n mask : ℕ) (a : Tree) → IsFrom 0 n a → mask < 2 ^ root_of n a → IsUnread mask a
+unread n mask a from small f g = blind-from (root_of n a) n a (from_own_root n a from) (mixed mask f g) g
+    (λ q le. rw (no_bit (root_of n a) mask q small le) refl)
+
+-- a node of the table s that reads no proposition of the mask is its own cofactor in a table that keeps the nodes of s
+pub unread_cofactor : {s t : Table} (mask letter : ℕ) {node : ℕ} → Keeps s t → IsNode s node →
+    IsUnread mask (tree_of s node) → IsCofactor mask letter (tree_of s node) (tree_of t node)
+unread_cofactor {s} mask letter {node} k held h g =
+    rw (k.same node held) (sym (h (assignment letter) g))
+
+pub unread_divided : {s t u : Table} (mask : ℕ) {node place : ℕ} {d : Tree} → Keeps s t → Keeps t u → IsNode s node →
+    IsUnread mask (tree_of s node) → place ≡ node → d ≡ final place → IsDivided u mask (tree_of s node) d
+unread_divided {s} {t} mask {node} k m held h named is f = (
+  node,
+  rw (is, named) refl,
+  m.held node (k.held node held),
+  λ g. rw (m.same node (k.held node held), k.same node held) (sym (h f g)),
+)
 
 -- ## One letter
 

@@ -1,6 +1,6 @@
 //! Divides the letters over some of the propositions into classes.
 
-ghost use Rattle.std.specs.Prelude.{◌≡◌, ◌≢◌, ℕ, ◌+◌, ◌^◌, ◌<◌, Bool, All, AllPairs, IfOk, IsSomeAnd, Some};
+ghost use Rattle.std.specs.Prelude.{◌≡◌, ◌≢◌, ℕ, ◌+◌, ◌^◌, ◌<◌, Bool, All, AllPairs, IfOk, IsSomeAnd, IsTrue, Some};
 ghost use Rattle.std.specs.Prelude.{length, nat_eq};
 ghost use Rattle.ps_diagram.specs.Inner.Kept.{result_for};
 ghost use Rattle.ps_diagram.specs.Tree.{Tree, IsBlind, leaf_at};
@@ -45,14 +45,14 @@ pub struct Classes {
 impl Store {
     /// Divides the letters over the propositions of `split` into classes. Two letters are in one class exactly if, for
     /// all truth values of the other propositions, they lead to the same leaf, or both to none. This call copies the
-    /// store to read the node from it; `classes_from` reads the node from a borrowed store.
+    /// store to read the node from it; `classes_from` and `classes_in_copy` read the node from a borrowed store.
     pub fn classes(&mut self, node: Node, split: u64) -> Result<Classes, AllocError>
         requires held { IsNode self.old node }
         ensures keeps { Keeps self.old self.new }
         ensures classes { IfOk result (λ c. AreClasses self.old self.new node split c.places c.list.items) }
     {
         let lent = self.copy()?;
-        let classes = self.classes_from(&lent, node, split)?;
+        let classes = self.classes_in_copy(&lent, node, split)?;
         Ok(classes)
     }
 
@@ -68,8 +68,41 @@ impl Store {
         ensures keeps { Keeps self.old self.new }
         ensures classes { IfOk result (λ c. AreClasses other.now self.new node split c.places c.list.items) }
     {
+        self.classes_of(other, node, split, false)
+    }
+
+    /// Like `classes_from`, if this store is a copy of the store `other`, perhaps with more nodes. A node of `other`
+    /// that depends on no proposition of `split` is a node of this store, too, so its diagram is not made again.
+    pub fn classes_in_copy(
+        &mut self,
+        other: &Store,
+        node: Node,
+        split: u64,
+    ) -> Result<Classes, AllocError>
+        requires held { IsNode other.now node }
+        requires copy { Keeps other.now self.old }
+        ensures keeps { Keeps self.old self.new }
+        ensures classes { IfOk result (λ c. AreClasses other.now self.new node split c.places c.list.items) }
+    {
+        self.classes_of(other, node, split, true)
+    }
+
+    /// Like `classes_from`. The flag `is_kept` states whether this store has the nodes of the store `other`.
+    fn classes_of(
+        &mut self,
+        other: &Store,
+        node: Node,
+        split: u64,
+        is_kept: bool,
+    ) -> Result<Classes, AllocError>
+        requires held { IsNode other.now node }
+        requires letters { self.old.propositions ≡ other.now.propositions }
+        requires kept { IsTrue is_kept → Keeps other.now self.old }
+        ensures keeps { Keeps self.old self.new }
+        ensures classes { IfOk result (λ c. AreClasses other.now self.new node split c.places c.list.items) }
+    {
         let _ = other.allocator();
-        let divided = self.rests(other, node, split)?;
+        let divided = self.rests(other, node, split, is_kept)?;
         let leaves = self.found_below(divided)?;
         let classes = self.classes_of_leaves(divided, &leaves)?;
         Ok(classes)
@@ -77,17 +110,24 @@ impl Store {
 
     /// A diagram over the propositions of `split`. The leaf at a letter is the number of a node: what remains of the
     /// given node after the letter has been read.
-    fn rests(&mut self, other: &Store, node: Node, split: u64) -> Result<Node, AllocError>
-        requires { IsLent self.old other.now node }
+    fn rests(
+        &mut self,
+        other: &Store,
+        node: Node,
+        split: u64,
+        is_kept: bool,
+    ) -> Result<Node, AllocError>
+        requires lent { IsLent self.old other.now node }
+        requires kept { IsTrue is_kept → Keeps other.now self.old }
         ensures { MakesTree self.old self.new result (IsDivided self.new split (tree_of other.now node)) }
     {
         if split.count_ones() <= FEW {
-            return self.spread(other, node, split, 0, 0);
+            return self.spread(other, node, split, is_kept, 0, 0);
         }
         let alloc = self.allocator();
         let mut known = Memo::new(alloc);
         let mut tests = Memo::new(alloc);
-        self.divided(other, node, split, &mut known, &mut tests)
+        self.divided(other, node, split, is_kept, &mut known, &mut tests)
     }
 
     /// Makes a class of each leaf of a diagram, and the diagram whose leaf at a letter is the index of the letter's
@@ -121,16 +161,21 @@ impl Store {
         other: &Store,
         node: Node,
         split: u64,
+        is_kept: bool,
         known: &mut Memo<Node>,
         tests: &mut Memo<(u32, Node, Node)>,
     ) -> Result<Node, AllocError>
         requires lent { IsLent self.old other.now node }
+        requires kept { IsTrue is_kept → Keeps other.now self.old }
         requires known { Knows (IsDivided self.old split) other.now self.old (result_for nat_eq known.old.table) }
         requires tests { KnowsTests self.old (result_for test_eq tests.old.table) }
         ensures made { MakesTree self.old self.new result (IsDivided self.new split (tree_of other.now node)) }
         ensures known { Knows (IsDivided self.new split) other.now self.new (result_for nat_eq known.new.table) }
         ensures tests { KnowsTests self.new (result_for test_eq tests.new.table) }
     {
+        if other.is_shared(node, split, is_kept) {
+            return self.intern(View::Leaf(node.place as u64));
+        }
         match other.cell(node) {
             View::Nothing => self.place_of_leaf(None),
             View::Leaf(value) => self.place_of_leaf(Some(value)),
@@ -142,8 +187,8 @@ impl Store {
                 if let Some(made) = known.get(node) {
                     return Ok(made);
                 }
-                let low = self.divided(other, low, split, known, tests)?;
-                let high = self.divided(other, high, split, known, tests)?;
+                let low = self.divided(other, low, split, is_kept, known, tests)?;
+                let high = self.divided(other, high, split, is_kept, known, tests)?;
                 let _ = self.allocator();
                 let made = self.divided_test(proposition, low, high, split, tests)?;
                 known.put(node, made)?;

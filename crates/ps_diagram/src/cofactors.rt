@@ -1,11 +1,11 @@
 //! Computes what remains of a diagram after each letter over a few propositions has been read.
 
-ghost use Rattle.std.specs.Prelude.{◌≡◌, ℕ, ◌+◌, ◌^◌, ◌<◌, ◌≤◌, IfOk, nat_eq};
+ghost use Rattle.std.specs.Prelude.{◌≡◌, ℕ, ◌+◌, ◌^◌, ◌<◌, ◌≤◌, IfOk, IsTrue, nat_eq};
 ghost use Rattle.ps_diagram.specs.Inner.Kept.{result_for};
 ghost use Rattle.ps_diagram.specs.Tree.{IsBlind};
-ghost use Rattle.ps_diagram.specs.Table.{MakesTree, tree_of};
+ghost use Rattle.ps_diagram.specs.Table.{IsNode, Keeps, MakesTree, tree_of};
 ghost use Rattle.ps_diagram.specs.Inner.Known.{Knows};
-ghost use Rattle.ps_diagram.specs.Inner.Rests.{IsCofactor, IsLent, IsSpread};
+ghost use Rattle.ps_diagram.specs.Inner.Rests.{IsCofactor, IsLent, IsSpread, IsUnread};
 
 use crate::memo::Memo;
 use crate::store::Store;
@@ -22,10 +22,12 @@ impl Store {
         other: &Store,
         node: Node,
         split: u64,
+        is_kept: bool,
         level: u32,
         letter: u64,
     ) -> Result<Node, AllocError>
         requires lent { IsLent self.old other.now node }
+        requires kept { IsTrue is_kept → Keeps other.now self.old }
         requires within { level ≤ self.old.propositions }
         requires begun { letter < 2 ^ level }
         ensures made { MakesTree self.old self.new result
@@ -34,14 +36,21 @@ impl Store {
     {
         let propositions = self.propositions();
         if level == propositions {
-            return self.spread_leaf(other, node, split, letter);
+            return self.spread_leaf(other, node, split, is_kept, letter);
         }
         if split >> level & 1 == 1 {
-            let low = self.spread(other, node, split, level + 1, letter)?;
-            let high = self.spread(other, node, split, level + 1, letter + (1 << level))?;
+            let low = self.spread(other, node, split, is_kept, level + 1, letter)?;
+            let high = self.spread(
+                other,
+                node,
+                split,
+                is_kept,
+                level + 1,
+                letter + (1 << level),
+            )?;
             return self.test(level, low, high);
         }
-        self.spread(other, node, split, level + 1, letter)
+        self.spread(other, node, split, is_kept, level + 1, letter)
     }
 
     /// A diagram that has the same leaf at every letter: the number of the node that remains of the given node after
@@ -51,16 +60,18 @@ impl Store {
         other: &Store,
         node: Node,
         split: u64,
+        is_kept: bool,
         letter: u64,
     ) -> Result<Node, AllocError>
-        requires { IsLent self.old other.now node }
+        requires lent { IsLent self.old other.now node }
+        requires kept { IsTrue is_kept → Keeps other.now self.old }
         ensures made { MakesTree self.old self.new result
             (IsSpread self.new split self.old.propositions letter (tree_of other.now node)) }
         ensures blind { IfOk result (λ made. (level : ℕ) → IsBlind level (tree_of self.new made)) }
     {
         let _ = other.allocator();
         let mut known = Memo::new(self.allocator());
-        let rest = self.cofactor(other, node, split, letter, &mut known)?;
+        let rest = self.cofactor(other, node, split, is_kept, letter, &mut known)?;
         self.intern(View::Leaf(rest.place as u64))
     }
 
@@ -71,14 +82,19 @@ impl Store {
         other: &Store,
         node: Node,
         split: u64,
+        is_kept: bool,
         letter: u64,
         known: &mut Memo<Node>,
     ) -> Result<Node, AllocError>
         requires lent { IsLent self.old other.now node }
+        requires kept { IsTrue is_kept → Keeps other.now self.old }
         requires known { Knows (IsCofactor split letter) other.now self.old (result_for nat_eq known.old.table) }
         ensures made { MakesTree self.old self.new result (IsCofactor split letter (tree_of other.now node)) }
         ensures known { Knows (IsCofactor split letter) other.now self.new (result_for nat_eq known.new.table) }
     {
+        if other.is_shared(node, split, is_kept) {
+            return Ok(node);
+        }
         match other.cell(node) {
             View::Nothing => self.constant(None),
             View::Leaf(value) => self.constant(Some(value)),
@@ -89,19 +105,28 @@ impl Store {
             } => {
                 if split >> proposition & 1 == 1 {
                     if letter >> proposition & 1 == 1 {
-                        return self.cofactor(other, high, split, letter, known);
+                        return self.cofactor(other, high, split, is_kept, letter, known);
                     }
-                    return self.cofactor(other, low, split, letter, known);
+                    return self.cofactor(other, low, split, is_kept, letter, known);
                 }
                 if let Some(made) = known.get(node) {
                     return Ok(made);
                 }
-                let low = self.cofactor(other, low, split, letter, known)?;
-                let high = self.cofactor(other, high, split, letter, known)?;
+                let low = self.cofactor(other, low, split, is_kept, letter, known)?;
+                let high = self.cofactor(other, high, split, is_kept, letter, known)?;
                 let made = self.test(proposition, low, high)?;
                 known.put(node, made)?;
                 Ok(made)
             }
         }
+    }
+    /// Whether the flag `is_kept` is set, and the first proposition that a node tests comes after all of `split`.
+    pub(crate) fn is_shared(&self, node: Node, split: u64, is_kept: bool) -> bool
+        requires { IsNode self.now node }
+        ensures kept { IsTrue result → IsTrue is_kept }
+        ensures unread { IsTrue result → IsUnread split (tree_of self.now node) }
+    {
+        let level = self.level(node);
+        is_kept && level < 64 && split >> level == 0
     }
 }

@@ -15,6 +15,10 @@ pub record IsLent (t other : Table) (node : ℕ) : Type 0 where
 abbrev pub mixed : ℕ → (ℕ → Bool) → (ℕ → Bool) → ℕ → Bool
 mixed mask f g p = cond (is_in p mask) (f p) (g p)
 
+-- no leaf of the tree depends on a proposition of the mask
+abbrev pub IsUnread : ℕ → Tree → Type 0
+IsUnread mask a = (f g : ℕ → Bool) → leaf_at a (mixed mask f g) ≡ leaf_at a g
+
 -- The second tree has a leaf at every letter, which is the number of a node of the table. Let the second tree lead the
 -- letter f to a node. At each letter g, this node has the leaf that the first tree has at the letter `mixed` of f and
 -- g.

@@ -1,11 +1,11 @@
-use Rattle.std.proofs.Common.{arith, sym, nat_eq, rules}
+use Rattle.std.proofs.Common.{arith, sym, nat_eq, refl, rules}
 use Rattle.ps_diagram.specs.Inner.Kept.{result_for}
 use Rattle.ps_diagram.specs.Inner.Rests.{IsCofactor}
 use Rattle.ps_diagram.proofs.Alone.{bit_false}
 use Rattle.ps_diagram.proofs.Cells.{keeps_refl}
 use Rattle.ps_diagram.proofs.KnownLemmas.{keeps_trans, kept, knows_kept, knows_more}
 use Rattle.ps_diagram.proofs.Sides.{sides_of_test}
-use Rattle.ps_diagram.proofs.Spreading.{cofactor_blind, cofactor_sides}
+use Rattle.ps_diagram.proofs.Spreading.{cofactor_blind, cofactor_sides, unread_cofactor}
 use Rattle.ps_diagram.proofs.MadeDiagrams.{fails, gives}
 use Rattle.ps_diagram.proofs.store.Store.+cofactor.Goals as goal
 
@@ -37,3 +37,9 @@ returns-in_ok-put-in-Test-clause-known t c =
     c.put.ensures.put (knows_kept (IsCofactor c.args.split c.args.letter) other other c.cofactor-in-Test-2.new.self last
     was (keeps_refl other) c.test.ensures.keeps c.cofactor-in-Test-2.ensures.known) c.requires.lent.held
     c.in_ok-made-in-Test.ensures.held (returns-in_ok-put-in-Test-clause-made t c).leaf
+
+pub returns-then-is_shared-clause-made : goal.returns-then-is_shared-clause-made
+returns-then-is_shared-clause-made t c =
+    let keeps = c.requires.kept (c.if-is_shared.ensures.kept refl) in
+    gives (keeps.held _ c.requires.lent.held) (unread_cofactor c.args.split c.args.letter keeps c.requires.lent.held
+    (c.if-is_shared.ensures.unread refl))

@@ -1,4 +1,4 @@
-use Rattle.std.proofs.Common.{sym, ap, nat_eq, rules}
+use Rattle.std.proofs.Common.{sym, ap, nat_eq, refl, rules}
 use Rattle.ps_diagram.specs.Inner.Kept.{result_for}
 use Rattle.ps_diagram.specs.Tree.{leaf_at}
 use Rattle.ps_diagram.specs.Table.{tree_of}
@@ -9,6 +9,7 @@ use Rattle.ps_diagram.proofs.KnownLemmas.{keeps_trans, knows_more}
 use Rattle.ps_diagram.proofs.Dividing.{divided_blind, divided_leads, divided_side}
 use Rattle.ps_diagram.proofs.Dividing.{sides_divided, known_divided_kept, tests_kept}
 use Rattle.ps_diagram.proofs.MadeDiagrams.{fails, gives, by-last}
+use Rattle.ps_diagram.proofs.Spreading.{unread_divided}
 use Rattle.ps_diagram.proofs.store.Store.+divided.Goals as goal
 
 pub returns-in-Some-clause-made : goal.returns-in-Some-clause-made
@@ -47,7 +48,8 @@ returns-in_err-put-in-Test-clause-made t c = fails (search (rules, keeps_trans))
 pub returns-in_err-put-in-Test-clause-known : goal.returns-in_err-put-in-Test-clause-known
 returns-in_err-put-in-Test-clause-known t c =
     rw c.in_err-put-in-Test.ensures.err (known_divided_kept c.args.other.now c.args.split
-    (result_for nat_eq c.divided-in-Test.new.known.table) c.divided_test.ensures.made.keeps c.divided-in-Test.ensures.known)
+    (result_for nat_eq c.divided-in-Test.new.known.table) c.divided_test.ensures.made.keeps
+    c.divided-in-Test.ensures.known)
 
 pub returns-in-Nothing-clause-known : goal.returns-in-Nothing-clause-known
 returns-in-Nothing-clause-known t c = search (rules, known_divided_kept)
@@ -79,5 +81,19 @@ returns-in_ok-put-in-Test-clause-known t c =
     let last = c.divided_test.new.self in
     knows_more (IsDivided last c.args.split) s last (result_for nat_eq c.divided-in-Test.new.known.table)
     (result_for nat_eq c.put.new.self.table) c.put.ensures.put (known_divided_kept s c.args.split
-    (result_for nat_eq c.divided-in-Test.new.known.table) c.divided_test.ensures.made.keeps c.divided-in-Test.ensures.known)
+    (result_for nat_eq c.divided-in-Test.new.known.table) c.divided_test.ensures.made.keeps
+    c.divided-in-Test.ensures.known)
     c.requires.lent.held c.in_ok-made-in-Test.ensures.made.held (returns-in_ok-put-in-Test-clause-made t c).leaf
+
+pub returns-then-is_shared-clause-made : goal.returns-then-is_shared-clause-made
+returns-then-is_shared-clause-made t c =
+    let shared = c.if-is_shared.ensures in
+    by-last (keeps_refl _)
+    (λ made is. unread_divided c.args.split (c.requires.kept (shared.kept refl)) c.intern.ensures.keeps
+    c.requires.lent.held (shared.unread refl) c.node.view_is is) c.intern.ensures
+
+pub returns-then-is_shared-clause-known : goal.returns-then-is_shared-clause-known
+returns-then-is_shared-clause-known t c = search (rules, known_divided_kept)
+
+pub returns-then-is_shared-clause-tests : goal.returns-then-is_shared-clause-tests
+returns-then-is_shared-clause-tests t c = search (rules, tests_kept)

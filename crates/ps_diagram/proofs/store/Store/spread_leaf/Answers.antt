@@ -14,6 +14,7 @@ returns-clause-made c =
     let rest = c.in_ok-rest.ensures.made in
     by-last c.cofactor.ensures.made.keeps (λ made is. spread_here c.intern.new.self c.args.self.now.propositions
     c.args.split c.args.letter (tree_of other c.args.node)
-    (rw c.requires.letters (c.allocator.ensures.sound.ordered c.args.node c.requires.held)) (k.held _ rest.held)
+    (rw c.requires.lent.letters (c.allocator.ensures.sound.ordered c.args.node c.requires.lent.held))
+    (k.held _ rest.held)
     (kept (IsCofactor c.args.split c.args.letter (tree_of other c.args.node)) k rest.held
     rest.leaf) (is ∙ ap final c.rest.view_is)) c.intern.ensures

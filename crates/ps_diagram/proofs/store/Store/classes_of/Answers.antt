@@ -4,7 +4,7 @@ use Rattle.ps_diagram.proofs.Classing.{classes_of}
 use Rattle.ps_diagram.proofs.Gathering.{are_leaves}
 use Rattle.ps_diagram.proofs.KnownLemmas.{keeps_trans}
 use Rattle.ps_diagram.proofs.Numbering.{leaves_differ, leaves_held}
-use Rattle.ps_diagram.proofs.store.Store.classes_from.Goals as goal
+use Rattle.ps_diagram.proofs.store.Store.classes_of.Goals as goal
 
 pub classes_of_leaves-requires-clause-leaves : goal.classes_of_leaves-requires-clause-leaves
 classes_of_leaves-requires-clause-leaves c = leaves_differ (are_leaves c.in_ok-leaves.ensures)
