@@ -11,13 +11,13 @@ use Rattle.ps_machine.proofs.game.divided_game_of.Goals as goal
 
 pub returns-clause-game : goal.returns-clause-game
 returns-clause-game c =
-    let e = c.new-moves.ensures in
+    let e = c.in_ok-moves.ensures in
     let said = c.in_ok-listed.ensures in
     game_is e.order e.automaton c.start.ensures.start said.by_keys said.numbered
 
 pub returns-clause-classes : goal.returns-clause-classes
 returns-clause-classes c =
-    let e = c.new-moves.ensures in
+    let e = c.in_ok-moves.ensures in
     let n = c.listed_game.new.source in
     let keys = c.in_ok-listed.listed.keys in
     let said = c.in_ok-listed.ensures in
