@@ -10,7 +10,7 @@ use Rattle.std.specs.List.{slice_get}
 use Rattle.ps_diagram.specs.declared.view.View.{View}
 use Rattle.ps_diagram.specs.declared.view.View.TheVariants.{Leaf, Nothing}
 use Rattle.ps_diagram.specs.Tree.{Tree, IsFrom, IsReduced}
-use Rattle.ps_keys.proofs.BucketLemmas.{old_or_new}
+use Rattle.ps_keys.proofs.TableLemmas.{old_or_new}
 use Rattle.ps_keys.specs.Keys.{IsPlacedKey}
 use Rattle.ps_diagram.specs.Inner.Parts.{IsPart}
 use Rattle.ps_diagram.specs.Inner.Placed.{AddsCell, ArePlacesOfLeaves}

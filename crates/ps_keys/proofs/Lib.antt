@@ -1,2 +1,2 @@
-pub mod BucketLemmas
 pub mod MapLemmas
+pub mod TableLemmas

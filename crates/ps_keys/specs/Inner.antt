@@ -1,3 +1,4 @@
 -- Definitions that only contracts of private functions use; no clause of a public function refers to them.
 
-pub mod Buckets
+pub mod Slots
+pub mod Tables

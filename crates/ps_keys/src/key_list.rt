@@ -3,8 +3,8 @@
 ghost use Rattle.std.specs.Prelude.{◌≡◌, ◌^◌, ◌<◌, [], IfOk, length};
 ghost use Rattle.ps_keys.specs.Keys.{IsLastEqual, PlacesKey};
 
-use crate::buckets::Buckets;
 use crate::hashed::Hashed;
+use crate::table::{Sought, Table};
 use std::alloc::{AllocError, Global};
 use std::marker::Model;
 
@@ -12,18 +12,18 @@ use std::marker::Model;
 #[derive(Debug, Drop)]
 pub struct KeyList<K: Hashed> {
     list: Vec<K>,
-    buckets: Buckets,
+    table: Table,
 }
 
 impl<K: Hashed> Model for KeyList<K> {
-    ghost use Rattle.std.specs.Prelude.{List, length};
-    ghost use Rattle.ps_keys.specs.Inner.Buckets.{AreInBuckets};
+    ghost use Rattle.std.specs.Prelude.{List};
+    ghost use Rattle.ps_keys.specs.Inner.Tables.{IsTableOf};
 
     ghost Value = { List K };
 
     ghost view = { λ k. k.list.items };
 
-    ghost invariant = { λ k. AreInBuckets K.hash k.list.items (length k.list.items) k.buckets };
+    ghost invariant = { λ k. IsTableOf K.hash K.eq k.list.items k.table };
 }
 
 impl<K: Hashed> KeyList<K> {
@@ -33,7 +33,7 @@ impl<K: Hashed> KeyList<K> {
     {
         KeyList {
             list: Vec::new(alloc),
-            buckets: Buckets::new(alloc),
+            table: Table::new(alloc),
         }
     }
 
@@ -43,8 +43,8 @@ impl<K: Hashed> KeyList<K> {
     {
         let mut list = Vec::new(*self.list.allocator());
         list.extend_from_slice(&self.list)?;
-        let buckets = self.buckets.copy()?;
-        Ok(KeyList { list, buckets })
+        let table = self.table.copy()?;
+        Ok(KeyList { list, table })
     }
 
     /// The keys.
@@ -61,7 +61,7 @@ impl<K: Hashed> KeyList<K> {
         ensures value { result ≡ length self.now }
         ensures few { result < 2 ^ 32 }
     {
-        let _ = &self.buckets;
+        let _ = &self.table;
         self.list.len()
     }
 
@@ -70,23 +70,26 @@ impl<K: Hashed> KeyList<K> {
     pub fn find(&self, key: K) -> Option<usize>
         ensures { IsLastEqual K.eq self.now key result }
     {
-        self.buckets.find(&self.list, key).place
+        match self.table.find(&self.list, key) {
+            Sought::Found(place) => Some(place),
+            Sought::Missing(_) => None,
+        }
     }
 
-    /// The index of a key in the list; a new key is appended. Fails if out of memory, or if the list has 2^32 - 1 keys
+    /// The index of a key in the list; a new key is appended. Fails if out of memory, or if the list has 2^31 keys
     /// already.
     #[inline(always)]
     pub fn place_of(&mut self, key: K) -> Result<usize, AllocError>
         ensures { PlacesKey K.eq self.old self.new key result }
     {
-        let sought = self.buckets.find(&self.list, key);
-        if let Some(place) = sought.place {
-            return Ok(place);
-        }
-        let bucket = self.buckets.make_room(&self.list, key, sought)?;
+        let free = match self.table.find(&self.list, key) {
+            Sought::Found(place) => return Ok(place),
+            Sought::Missing(free) => free,
+        };
+        let free = self.table.make_room(&self.list, key, free)?;
         let place = self.list.len();
         self.list.push(key)?;
-        self.buckets.link(&self.list, place, bucket);
+        self.table.fill(&self.list, place, key, free);
         Ok(place)
     }
 }

@@ -1,8 +1,8 @@
 //! Tables of keys: lists and maps in which a key is found by its hash, for keys that a text can choose.
 //!
-//! The toolchain's hash tables hash a key byte by byte and have a fixed seed, so a text could choose keys that make them
-//! slow. The tables of this crate hash a key by a few multiplications. If too many keys have one hash, the seed is
-//! changed.
+//! The toolchain's hash tables hash a key byte by byte and have a fixed seed, so a text could choose keys that make
+//! them slow. The tables of this crate hash a key by a few multiplications, and find it by open addressing with linear
+//! probing. If the search for a new key gets long, the seed is changed.
 //!
 //! | Call | What it gives |
 //! |---|---|
@@ -15,10 +15,10 @@
 //! | `KeyMap::get(key)`, `put(key, value)` | the value of a key, if it has one; gives a value to a key that has none |
 #![tactic(auto)]
 
-mod buckets;
 mod hashed;
 mod key_list;
 mod key_map;
+mod table;
 
 pub use hashed::{Hashed, Word, mixed};
 pub use key_list::KeyList;
