@@ -17,6 +17,7 @@ ghost use Rattle.ps_automaton.specs.Inner.LetterSets.{AreLetterSets, edge_at, en
 ghost use Rattle.ps_automaton.specs.Inner.Views.{chain_data};
 ghost use Rattle.ps_automaton.specs.declared.targets.Target.{Target};
 
+use crate::cases::{cases_of, products_of};
 use crate::fault::AutomatonFault;
 use crate::guards::Guards;
 use crate::letter_rows::{edges_by_letter, leaves_of};
@@ -27,7 +28,7 @@ use crate::step::Step;
 use crate::step_list::StepList;
 use crate::targets::{Target, target_of};
 use crate::union::{Union, joined};
-use ps_diagram::{Node, Store};
+use ps_diagram::{Node, Product, Store};
 use ps_hoa::{Guard, HoaFile, Row};
 use std::alloc::{AllocError, Global};
 
@@ -162,6 +163,9 @@ fn row_node(
     if is_by_letters(guards.row) {
         return Ok(node_by_letters(pairs, levels, guards)?);
     }
+    if let Some(node) = node_by_cases(pairs, levels, guards)? {
+        return Ok(node);
+    }
     if let Some(sets) = sets
         && let Some(node) = node_by_sets(pairs, levels, guards, sets)?
     {
@@ -191,6 +195,35 @@ fn node_by_letters(pairs: &mut Pairs, levels: &Levels, guards: &Guards) -> Resul
     let places = places_of(pairs.alloc, &mut pairs.steps, levels, &targets)?;
     let node = pairs.store.of_leaves(&places)?;
     Ok(node)
+}
+
+/// The diagram of the steps of a state whose edges have conjunctions of literals as labels; None for other states, or if
+/// `Store::of_cases` returns None.
+fn node_by_cases(
+    pairs: &mut Pairs,
+    levels: &Levels,
+    guards: &Guards,
+) -> Result<Option<Node>, AllocError>
+{
+    let Some(products) = products_of(pairs.alloc, &pairs.store, guards.row)? else {
+        return Ok(None);
+    };
+    node_of_products(pairs, levels, guards, &products)
+}
+
+/// The diagram of the steps of a state, whose edges are taken at the letters at which the products in a list are true,
+/// or None if `Store::of_cases` returns None.
+fn node_of_products(
+    pairs: &mut Pairs,
+    levels: &Levels,
+    guards: &Guards,
+    products: &[Product],
+) -> Result<Option<Node>, AllocError>
+{
+    let targets = targets_of(pairs.alloc, guards)?;
+    let places = places_of(pairs.alloc, &mut pairs.steps, levels, &targets)?;
+    let mut cases = cases_of(pairs.alloc, products, &places, &targets)?;
+    pairs.store.of_cases(&mut cases, 0)
 }
 
 /// The diagram of the steps of a state, made letter by letter, or None if `edges_by_letter` returns None. If the result

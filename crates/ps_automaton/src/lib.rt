@@ -32,6 +32,7 @@
 #![tactic(auto)]
 
 mod automaton;
+mod cases;
 mod chain;
 mod draft;
 mod fault;

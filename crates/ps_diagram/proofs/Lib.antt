@@ -1,6 +1,8 @@
 pub mod Cells
 pub mod Keys
 pub mod Canon
+pub mod CaseLists
+pub mod SplitCases
 pub mod Sides
 pub mod Joining
 pub mod KnownLemmas

@@ -1,18 +1,18 @@
 -- Lemmas about products (conjunctions) of literals: a literal is added to a product, or a product is made into a tree.
-use Rattle.std.proofs.Common.{◌≡◌, ℕ, zero, suc, ◌+◌, ◌-◌, ◌*◌, ◌^◌, ◌%◌, ◌<◌, ◌≤◌, Bool, true, false, cond, None}
+use Rattle.std.proofs.Common.{◌≡◌, ℕ, zero, suc, ◌+◌, ◌-◌, ◌*◌, ◌^◌, ◌%◌, ◌<◌, ◌≤◌, Bool, true, false, cond, Option}
 use Rattle.std.proofs.Common.{refl, sym, ap, ◌∙◌, arith, nat_eq, bit_or, ◌⊎◌, inl, inr}
 use Rattle.std.specs.Prelude.{◌&&◌, ◌||◌}
 use Rattle.std.proofs.lemmas.Nat.{one_shl}
 use Rattle.std.proofs.lemmas.Nat.Bits.{bit_at_or, bit_at-lt, bit_at-pow_same, bit_at-pow_other}
 use Rattle.ps_label.specs.Truth.{is_in}
-use Rattle.ps_diagram.specs.Labels.{leaf_where}
 use Rattle.ps_diagram.specs.Letters.{assignment}
-use Rattle.ps_diagram.specs.Table.{Table, tree_of}
+use Rattle.ps_diagram.specs.Products.{allows, all_allowed, meets}
+use Rattle.ps_diagram.specs.Split.{IsConstant}
 use Rattle.ps_diagram.specs.Tree.{Tree, leaf_at, IsBlind, IsTestOf}
-use Rattle.ps_diagram.specs.Inner.Products.{allows, all_allowed, meets}
+use Rattle.ps_diagram.specs.Inner.Splitting.{IsProduct}
 use Rattle.ps_diagram.specs.declared.products.Product.{Product}
 
-in_or : (p a b : ℕ) → is_in p (bit_or a b) ≡ (is_in p a || is_in p b)
+pub in_or : (p a b : ℕ) → is_in p (bit_or a b) ≡ (is_in p a || is_in p b)
 in_or p a b = grind (arith, bit_at_or a b p, bit_at-lt a p, bit_at-lt b p)
 
 in_power : (p m : ℕ) → is_in p (2 ^ m) ≡ nat_eq p m
@@ -146,11 +146,6 @@ unfolding all_allowed
 meets_none f level zero = refl
 meets_none f level (suc n) = rw (none_allows level (f level)) (meets_none f (level + 1) n)
 
--- The tree has the leaf `value` at letters that meet all literals of the product on propositions that are at least
--- `level` and less than n, and no leaf at other letters.
-pub record IsProduct (value n level : ℕ) (product : Product) (t : Tree) : Type 0 where
-  pub leaf : (f : ℕ → Bool) → leaf_at t f ≡ leaf_where value (all_allowed (allows product) f level (n - level))
-
 same_letters : (may : ℕ → Bool → Bool) (f g : ℕ → Bool) (level count : ℕ) → ((q : ℕ) → level ≤ q → f q ≡ g q) →
     all_allowed may f level count ≡ all_allowed may g level count
 unfolding all_allowed
@@ -158,51 +153,59 @@ same_letters may f g level zero same = refl
 same_letters may f g level (suc count) same =
     rw (same level (omega arith), same_letters may f g (level + 1) count (λ q le. same q (omega arith))) refl
 
-product_blind : {value n level : ℕ} {product : Product} {t : Tree} → IsProduct value n level product t → IsBlind level t
-product_blind {value} {n} {level} {product} h f g same = h.leaf f
-    ∙ ap (leaf_where value) (same_letters (allows product) f g level (n - level) same) ∙ sym (h.leaf g)
+constant_same : (t : Tree) → IsConstant t → (f g : ℕ → Bool) → leaf_at t f ≡ leaf_at t g
+constant_same t c f g = c.1 f ∙ sym (c.1 g)
 
-pub product_begins : {value n level : ℕ} {product : Product} {t : Tree} → level ≡ n →
-    ((f : ℕ → Bool) → leaf_at t f ≡ leaf_where value true) → IsProduct value n level product t
-unfolding all_allowed
-product_begins {value} {n} {level} same h = record {
-  leaf = λ f. let none : n - level ≡ 0 = omega arith in rw none (h f);
-}
+pub constant_blind : (t : Tree) → IsConstant t → (level : ℕ) → IsBlind level t
+constant_blind t c level f g same = constant_same t c f g
 
-side_leaf : (t : Table) (value : ℕ) (b : Bool) (none node side : ℕ) (f : ℕ → Bool) (rest : Bool) → side ≡ cond b none node →
-    leaf_at (tree_of t none) f ≡ None → leaf_at (tree_of t node) f ≡ leaf_where value rest →
-    leaf_at (tree_of t side) f ≡ leaf_where value (cond b false true && rest)
-side_leaf t value true none node side f rest e empty h = rw e empty
-side_leaf t value false none node side f rest e empty h = rw e h
+-- b chooses one of two conditions, and the condition chooses one of two leaves
+tested : (b x y rest : Bool) (one other : Option ℕ) →
+    cond b (cond (x && rest) one other) (cond (y && rest) one other) ≡ cond (cond b x y && rest) one other
+tested true x y rest one other = refl
+tested false x y rest one other = refl
 
-pub side_blind : (t : Table) {value n level : ℕ} {product : Product} (b : Bool) (none node side : ℕ) →
-    side ≡ cond b none node → ((f : ℕ → Bool) → leaf_at (tree_of t none) f ≡ None) →
-    IsProduct value n level product (tree_of t node) → IsBlind level (tree_of t side)
-side_blind t true none node side e empty h = rw e (λ f g same. empty f ∙ sym (empty g))
-side_blind t false none node side e empty h = rw e (product_blind h)
+side_leaf : (hit miss : Tree) (b : Bool) (node side : Tree) (f : ℕ → Bool) (rest : Bool) → side ≡ cond b miss node →
+    leaf_at node f ≡ cond rest (leaf_at hit f) (leaf_at miss f) →
+    leaf_at side f ≡ cond (cond b false true && rest) (leaf_at hit f) (leaf_at miss f)
+side_leaf hit miss true node side f rest e h = rw e refl
+side_leaf hit miss false node side f rest e h = rw e h
 
--- `leaf_where value c` is the leaf `value` if the condition c is true, and otherwise None. If b chooses one of two
--- conditions, the leaf for the chosen condition is the one that b chooses from the leaves for the two
-tested : (value : ℕ) (b x y rest : Bool) → cond b (leaf_where value (x && rest)) (leaf_where value (y && rest)) ≡ leaf_where value (cond b x y && rest)
-tested value true x y rest = refl
-tested value false x y rest = refl
+-- A product is made into a tree: the literals on propositions from `level` on lead to the tree `hit` where they are
+-- true, and elsewhere to the tree `miss`.
+module _ {n : ℕ} {product : Product} {hit miss : Tree} (hit_constant : IsConstant hit) (miss_constant : IsConstant miss)
+  where
+    pub product_blind : {level : ℕ} {t : Tree} → IsProduct n level product hit miss t → IsBlind level t
+    product_blind {level} {t} h f g same = h.leaf f ∙ rw (
+      same_letters (allows product) f g level (n - level) same,
+      constant_same hit hit_constant f g,
+      constant_same miss miss_constant f g,
+    ) (sym (h.leaf g))
 
--- each iteration of the loop, which goes through the propositions from the last to the first, adds the product's
--- literal on one more proposition to the tree
-pub product_next : {value n m i : ℕ} {product : Product} (t : Table) (none node low high : ℕ) {made : Tree} → m ≡ n →
-    0 < i → i ≤ n → ((f : ℕ → Bool) → leaf_at (tree_of t none) f ≡ None) → IsProduct value n i product (tree_of t node) →
-    low ≡ cond (is_in (i - 1) product.positive) none node → high ≡ cond (is_in (i - 1) product.negative) none node →
-    IsTestOf (i - 1) (tree_of t low) (tree_of t high) made → IsProduct value m (i - 1) product made
-unfolding all_allowed
-product_next {value} {n} {m} {i} {product} t none node low high same some le empty h lo hi is = record {
-  leaf = λ f.
-      let next : i - 1 + 1 ≡ i = omega arith in
-      let count : m - (i - 1) ≡ suc (n - i) = omega arith in
-      let rest = all_allowed (allows product) f i (n - i) in
-      let down : leaf_at (tree_of t low) f ≡ leaf_where value (cond (is_in (i - 1) product.positive) false true && rest) =
-      side_leaf t value (is_in (i - 1) product.positive) none node low f rest lo (empty f) (h.leaf f) in
-      let up : leaf_at (tree_of t high) f ≡ leaf_where value (cond (is_in (i - 1) product.negative) false true && rest) =
-      side_leaf t value (is_in (i - 1) product.negative) none node high f rest hi (empty f) (h.leaf f) in
-      rw (count, next, is f, down, up) (tested value (f (i - 1)) (cond (is_in (i - 1) product.negative) false true)
-      (cond (is_in (i - 1) product.positive) false true) rest);
-}
+    pub product_begins : IsProduct n n product hit miss hit
+    unfolding all_allowed
+    product_begins = record { leaf = λ f. let none : n - n ≡ 0 = omega arith in rw none refl }
+
+    pub side_blind : {level : ℕ} (b : Bool) (node side : Tree) → side ≡ cond b miss node →
+        IsProduct n level product hit miss node → IsBlind level side
+    side_blind {level} true node side e h = rw e (constant_blind miss miss_constant level)
+    side_blind false node side e h = rw e (product_blind h)
+
+    -- each iteration of the loop, which goes through the propositions from the last to the first, adds the product's
+    -- literal on one more proposition to the tree
+    pub product_next : {i : ℕ} (node low high made : Tree) → 0 < i → i ≤ n → IsProduct n i product hit miss node →
+        low ≡ cond (is_in (i - 1) product.positive) miss node → high ≡ cond (is_in (i - 1) product.negative) miss node →
+        IsTestOf (i - 1) low high made → IsProduct n (i - 1) product hit miss made
+    unfolding all_allowed
+    product_next {i} node low high made some le h lo hi is = record {
+      leaf = λ f.
+          let next : i - 1 + 1 ≡ i = omega arith in
+          let count : n - (i - 1) ≡ suc (n - i) = omega arith in
+          let rest = all_allowed (allows product) f i (n - i) in
+          let down : leaf_at low f ≡ cond (cond (is_in (i - 1) product.positive) false true && rest) (leaf_at hit f)
+          (leaf_at miss f) = side_leaf hit miss (is_in (i - 1) product.positive) node low f rest lo (h.leaf f) in
+          let up : leaf_at high f ≡ cond (cond (is_in (i - 1) product.negative) false true && rest) (leaf_at hit f)
+          (leaf_at miss f) = side_leaf hit miss (is_in (i - 1) product.negative) node high f rest hi (h.leaf f) in
+          rw (count, next, is f, down, up) (tested (f (i - 1)) (cond (is_in (i - 1) product.negative) false true)
+          (cond (is_in (i - 1) product.positive) false true) rest (leaf_at hit f) (leaf_at miss f));
+    }

@@ -3,8 +3,10 @@
 -- - `fails`: an earlier step of the call failed
 -- - `gives`: the call leaves the table as it is, and returns one of its nodes
 -- - `after`, `by-last`: earlier steps keep all nodes, and the last step makes the node that the call returns
+-- - `if_made`: what is known of the node, if a call that may also return `None` makes one
 -- - `by-sides`: two nodes are made first, and the result is made from them
-use Rattle.std.proofs.Common.{ℕ, IfOk, Ok, Result}
+use Rattle.std.proofs.Common.{ℕ, Err, IfOk, None, Ok, Option, Result, Some}
+use Rattle.std.specs.Option.{IfSome}
 use Rattle.std.specs.Result.{IsErr}
 use Rattle.std.proofs.lemmas.Result.{IfOk-from_err, IfOk-weaker}
 use Rattle.ps_diagram.specs.Table.{Table, IsNode, Keeps, MakesNode}
@@ -32,3 +34,9 @@ pub by-sides : {E F : Type 0} {t u v w : Table} {low high made : ℕ} {L H T P :
     MakesNode {E = E} t u (Ok low) L → MakesNode {E = E} u v (Ok high) H → MakesNode {E = F} v w (Ok made) T →
     P made → MakesNode {E = E} t w (Ok made) P
 by-sides l h test leaf = record { keeps = keeps_three l.keeps h.keeps test.keeps; held = test.held; leaf = leaf }
+
+pub if_made : {E : Type 0} {P Q : ℕ → Type 0} (result : Result (Option ℕ) E) → ((node : ℕ) → P node → Q node) →
+    IfOk result (λ made. IfSome made P) → IfOk result (λ made. IfSome made Q)
+if_made (Ok (Some node)) weaker h = weaker node h
+if_made (Ok None) weaker h = tt
+if_made (Err e) weaker h = tt

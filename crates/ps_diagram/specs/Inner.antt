@@ -9,7 +9,7 @@ pub mod LeafTables
 pub mod Numbered
 pub mod Parts
 pub mod Placed
-pub mod Products
 pub mod Rests
 pub mod Rows
+pub mod Splitting
 pub mod Unions

@@ -4,6 +4,7 @@ pub mod Table
 pub mod Leaves
 pub mod Pairs
 pub mod Labels
+pub mod Products
 pub mod Split
 pub mod Clashes
 pub mod Views

@@ -48,6 +48,7 @@
 #![tactic(auto)]
 
 mod both;
+pub mod cases;
 mod choose;
 mod classes;
 mod cofactors;
@@ -61,13 +62,16 @@ mod maps;
 mod memo;
 mod overlay;
 mod paths;
-mod products;
+pub mod products;
 mod rows;
 mod split;
 pub mod store;
 pub mod view;
 
+pub use cases::Case;
 pub use classes::{Class, Classes};
+
 pub use fault::OverlayError;
+pub use products::Product;
 pub use store::Store;
 pub use view::{Node, View};

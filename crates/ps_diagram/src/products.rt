@@ -1,11 +1,13 @@
 //! The diagrams of products, which are conjunctions of literals.
 
-ghost use Rattle.std.specs.Prelude.{◌≡◌, ◌&&◌, ℕ, ◌<◌, Bool, true, false, List, IfOk, IfSome, cond};
+ghost use Rattle.std.specs.Prelude.{◌≡◌, ◌&&◌, ℕ, ◌<◌, ◌≤◌, Bool, true, false, List, IfOk, IfSome, cond};
 ghost use Rattle.ps_label.specs.Expression.{IsOver, expression, proposition};
 ghost use Rattle.ps_label.specs.Truth.{is_in, truth};
 ghost use Rattle.ps_diagram.specs.Labels.{leaf_where};
-ghost use Rattle.ps_diagram.specs.Table.{IsNode, Keeps, MakesDiagram, leaf_of};
-ghost use Rattle.ps_diagram.specs.Inner.Products.{meets};
+ghost use Rattle.ps_diagram.specs.Products.{meets};
+ghost use Rattle.ps_diagram.specs.Split.{IsConstant};
+ghost use Rattle.ps_diagram.specs.Table.{IsNode, Keeps, MakesDiagram, MakesTree, leaf_of, tree_of};
+ghost use Rattle.ps_diagram.specs.Inner.Splitting.{IsProduct};
 
 use crate::store::Store;
 use crate::view::Node;
@@ -14,7 +16,7 @@ use std::alloc::AllocError;
 
 /// A conjunction of literals, as two sets of propositions; proposition p is bit p of a set.
 #[derive(Clone, Copy)]
-pub(crate) struct Product {
+pub struct Product {
     /// The propositions whose literals in the product are not negated.
     pub positive: u64,
     /// The propositions whose literals in the product are negated.
@@ -22,6 +24,21 @@ pub(crate) struct Product {
 }
 
 impl Product {
+    ghost use Rattle.ps_diagram.specs.Products.{allows};
+
+    /// Whether this product allows the proposition to have the given truth value.
+    pub(crate) fn allows(&self, proposition: u32, value: bool) -> bool
+        requires named { proposition < 64 }
+        ensures { result ≡ allows self.now proposition value }
+    {
+        let refused = if value {
+            self.negative
+        } else {
+            self.positive
+        };
+        refused >> proposition & 1 == 0
+    }
+
     /// This product, extended by the literal that a proposition is true.
     fn with(self, proposition: u32) -> Product
         requires named { proposition < 64 }
@@ -61,15 +78,25 @@ impl Store {
         ensures leaf { IfOk result (λ made. IfSome made (λ node. (known : List Bool) (letter : ℕ) →
             leaf_of self.new node letter ≡ leaf_where value (truth known letter (expression label.now)))) }
     {
-        let none = Product {
-            positive: 0,
-            negative: 0,
-        };
-        let Some(product) = self.with_label(none, label) else {
+        let Some(product) = self.product_of(label) else {
             return Ok(None);
         };
         let node = self.of_product(product, value)?;
         Ok(Some(node))
+    }
+
+    /// The label as a product of literals; `None` unless the label is a conjunction of literals. Aliases are not
+    /// replaced by what they stand for.
+    pub fn product_of(&self, label: &Label) -> Option<Product>
+        requires within { (aliases : ℕ) × IsOver aliases self.now.propositions (expression label.now) }
+        ensures { IfSome result (λ product. (known : List Bool) (letter : ℕ) →
+            meets self.now.propositions product letter ≡ truth known letter (expression label.now)) }
+    {
+        let none = Product {
+            positive: 0,
+            negative: 0,
+        };
+        self.with_label(none, label)
     }
 
     /// The product, extended by the literals of a label; `None` unless the label is a product of literals.
@@ -80,6 +107,7 @@ impl Store {
     {
         let _ = self.propositions();
         match label {
+            Label::Truth(true) => Some(product),
             Label::Atom(proposition) => Some(product.with(*proposition)),
             Label::Neg(operand) => Some(product.without(atom_of(operand)?)),
             Label::Both(operands) => {
@@ -99,10 +127,31 @@ impl Store {
             (λ letter. leaf_where value (meets self.old.propositions product letter)) }
     {
         let none = self.constant(None)?;
-        let mut node = self.constant(Some(value))?;
-        for proposition in (0..self.propositions()).rev() {
-            let low = side(product.positive, proposition, none, node);
-            let high = side(product.negative, proposition, none, node);
+        let leaf = self.constant(Some(value))?;
+        self.path(product, 0, leaf, none)
+    }
+
+    /// The diagram that leads to the constant `hit` if the literals of the product on propositions from `level` on are
+    /// true, and otherwise to the constant `miss`.
+    pub(crate) fn path(
+        &mut self,
+        product: Product,
+        level: u32,
+        hit: Node,
+        miss: Node,
+    ) -> Result<Node, AllocError>
+        requires within { level ≤ self.old.propositions }
+        requires hit { IsNode self.old hit }
+        requires miss { IsNode self.old miss }
+        requires hit_constant { IsConstant (tree_of self.old hit) }
+        requires miss_constant { IsConstant (tree_of self.old miss) }
+        ensures { MakesTree self.old self.new result (IsProduct self.old.propositions level product
+            (tree_of self.old hit) (tree_of self.old miss)) }
+    {
+        let mut node = hit;
+        for proposition in (level..self.propositions()).rev() {
+            let low = side(product.positive, proposition, miss, node);
+            let high = side(product.negative, proposition, miss, node);
             node = self.test(proposition, low, high)?;
         }
         Ok(node)

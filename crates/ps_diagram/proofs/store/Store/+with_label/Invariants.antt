@@ -2,7 +2,7 @@ use Rattle.std.proofs.Common.{◌≡◌, ℕ, Bool, List, drop}
 use Rattle.std.specs.Prelude.{◌&&◌}
 use Rattle.ps_label.specs.Expression.{expression, operands_in, AreOver}
 use Rattle.ps_label.specs.Truth.{expressions, truth, all_true}
-use Rattle.ps_diagram.specs.Inner.Products.{meets}
+use Rattle.ps_diagram.specs.Products.{meets}
 use Rattle.ps_diagram.proofs.store.Store.+with_label.Given as goal
 
 abbrev pub decreases-with_label : goal.decreases-with_label
