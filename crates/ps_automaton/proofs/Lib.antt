@@ -24,3 +24,4 @@ pub mod Existing
 pub mod LetterRows
 pub mod LetterSets
 pub mod FirstEdges
+pub mod FirstCases

@@ -1,5 +1,6 @@
 -- Definitions that only private contracts use; no public clause refers to them.
 
+pub mod Cases
 pub mod Drafts
 pub mod Gathering
 pub mod LetterSets

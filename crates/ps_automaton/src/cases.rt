@@ -1,8 +1,14 @@
 //! The edges of a state whose labels are conjunctions of literals, as the cases of the diagram of the state's steps.
 
+ghost use Rattle.std.specs.Prelude.{◌≡◌, IfOk, IfSome, length};
+ghost use Rattle.ps_hoa.specs.Views.{row_data};
+ghost use Rattle.ps_automaton.specs.Inner.Cases.{AreCases, AreProducts};
+ghost use Rattle.ps_automaton.specs.Inner.Drafts.{IsReady};
+
+use crate::guards::Guards;
 use crate::targets::Target;
 use ps_diagram::{Case, Product, Store};
-use ps_hoa::{Guard, Row};
+use ps_hoa::Guard;
 use std::alloc::{AllocError, Global};
 
 /// The labels of a row's edges as products of literals, or None if some edge has no label of its own, or a label that is
@@ -10,11 +16,14 @@ use std::alloc::{AllocError, Global};
 pub(crate) fn products_of(
     alloc: Global,
     store: &Store,
-    row: &Row,
+    guards: &Guards,
 ) -> Result<Option<Vec<Product>>, AllocError>
+    requires { IsReady store.now guards.now }
+    ensures { IfOk result (λ found. IfSome found (λ products. AreProducts guards.now.file.now (row_data guards.now.row.now)
+        products.items)) }
 {
     let mut products = Vec::new(alloc);
-    for edge in &row.edges {
+    for edge in &guards.row.edges {
         let Guard::Stated(label) = &edge.guard else {
             return Ok(None);
         };
@@ -34,6 +43,9 @@ pub(crate) fn cases_of(
     places: &[u64],
     targets: &[Target],
 ) -> Result<Vec<Case>, AllocError>
+    requires places { length places.now ≡ length products.now }
+    requires targets { length targets.now ≡ length products.now }
+    ensures { IfOk result (λ cases. AreCases (length products.now) products.now places.now targets.now cases.items) }
 {
     let mut cases = Vec::with_capacity(alloc, products.len())?;
     for k in 0..products.len() {

@@ -8,9 +8,10 @@ ghost use Rattle.ps_hoa.specs.Files.{FileData};
 ghost use Rattle.ps_hoa.specs.Sound.{IsSoundFile, IsSoundRow};
 ghost use Rattle.ps_hoa.specs.Edges.{row_of};
 ghost use Rattle.ps_hoa.specs.Views.{row_data};
+ghost use Rattle.ps_automaton.specs.Inner.Cases.{AreProducts};
 ghost use Rattle.ps_automaton.specs.Inner.Drafts.{ArePlaces, AreReady, AreSteps, AreTargets, Extends, Grows};
 ghost use Rattle.ps_automaton.specs.Inner.Drafts.{IsByLetters};
-ghost use Rattle.ps_automaton.specs.Inner.Drafts.{IsDraft, IsDraftFault, IsLabelNode, IsRowFault, IsSource, MakesSteps};
+ghost use Rattle.ps_automaton.specs.Inner.Drafts.{IsDraft, IsDraftFault, IsLabelNode, IsRowFault, IsSource, MakesSteps, MayMakeSteps};
 ghost use Rattle.ps_automaton.specs.Inner.Drafts.{IsStateFault};
 ghost use Rattle.ps_automaton.specs.Inner.Drafts.{IsStepsOf};
 ghost use Rattle.ps_automaton.specs.Inner.LetterSets.{AreLetterSets, edge_at, entry_for};
@@ -204,8 +205,10 @@ fn node_by_cases(
     levels: &Levels,
     guards: &Guards,
 ) -> Result<Option<Node>, AllocError>
+    requires { AreReady pairs.old guards.now }
+    ensures { MayMakeSteps guards.now levels.now pairs.old pairs.new result }
 {
-    let Some(products) = products_of(pairs.alloc, &pairs.store, guards.row)? else {
+    let Some(products) = products_of(pairs.alloc, &pairs.store, guards)? else {
         return Ok(None);
     };
     node_of_products(pairs, levels, guards, &products)
@@ -219,6 +222,9 @@ fn node_of_products(
     guards: &Guards,
     products: &[Product],
 ) -> Result<Option<Node>, AllocError>
+    requires pairs { AreReady pairs.old guards.now }
+    requires products { AreProducts guards.now.file.now (row_data guards.now.row.now) products.now }
+    ensures { MayMakeSteps guards.now levels.now pairs.old pairs.new result }
 {
     let targets = targets_of(pairs.alloc, guards)?;
     let places = places_of(pairs.alloc, &mut pairs.steps, levels, &targets)?;

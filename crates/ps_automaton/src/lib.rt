@@ -24,10 +24,12 @@
 //! | `refusal_is_one` | each file is either admitted, or refused for exactly one fault |
 //! | `greatest_level_decides` | a part of a run meets the acceptance condition exactly if its greatest priority is even |
 //!
-//! If a state's edges have implicit labels, there is one edge for each letter, and `build` joins no edges. If they have
-//! labels, and there are at most 6 propositions, `build` joins the edges letter by letter: a set of letters is then a
-//! bit mask of 64 bits. If there are more propositions, or if two edges clash, `build` joins the edges one after
-//! another, as decision diagrams. So it does not visit every letter if a label uses only a few of many propositions.
+//! If a state's edges have implicit labels, there is one edge for each letter, and `build` joins no edges. If the label of
+//! each edge is a conjunction of literals, `build` makes the diagram of the state's steps at once
+//! (`ps_diagram::Store::of_cases`). For other labels over at most 6 propositions, `build` joins the edges letter by
+//! letter: a set of letters is then a bit mask of 64 bits. If there are more propositions, or if two edges clash, `build`
+//! joins the edges one after another, as decision diagrams. So it does not visit every letter if a label uses only a few
+//! of many propositions.
 //! For an automaton with n states, `accepts` reads the word's repeated part (lap) at most 2 * (n + 1) times.
 #![tactic(auto)]
 

@@ -1,5 +1,5 @@
 -- Lists of cases: the propositions on which they have literals, and the cases that allow a truth value of a proposition.
-use Rattle.std.proofs.Common.{◌≡◌, ℕ, zero, suc, ◌+◌, ◌<◌, Bool, true, false, List, [], ◌∷◌, length, get_or, arith, ◌⊎◌}
+use Rattle.std.proofs.Common.{◌≡◌, ℕ, zero, suc, ◌+◌, ◌<◌, Bool, true, false, List, [], ◌∷◌, length, get_or, arith}
 use Rattle.std.proofs.Common.{inl, inr, bit_or, cond, refl, sym, ap, ◌∙◌}
 use Rattle.std.specs.List.{Contains, filter}
 use Rattle.std.specs.Prelude.{◌||◌}
@@ -9,7 +9,6 @@ use Rattle.ps_label.specs.Truth.{is_in}
 use Rattle.ps_diagram.specs.Products.{allows}
 use Rattle.ps_diagram.specs.declared.cases.Case.{Case}
 use Rattle.ps_diagram.specs.declared.products.Product.{Product}
-use Rattle.ps_diagram.proofs.Cells.{bool_cases}
 use Rattle.ps_diagram.proofs.Literals.{in_or}
 
 -- an entry of a list that no index of the list reads

@@ -193,7 +193,7 @@ pub sides_made : {old u v w : Table} {cases lows highs : List Case} {level p oth
     IsByCases v (p + 1) highs (tree_of u other) high → IsNode w made →
     IsTestOf p (tree_of v low) (tree_of v high) (tree_of w made) → IsByCases w level cases (tree_of old other) made
 sides_made {old} {u} {v} {w} {cases} {lows} {highs} {level} {p} {other} {low} {high} {made} le lt free held first second
-  third low_side high_side of_low of_high made_held test =
+    third low_side high_side of_low of_high made_held test =
     record { held = made_held; later = later; leaf = λ f. leaf f (f p) refl }
   where
     low_tree : tree_of v low ≡ tree_of u low

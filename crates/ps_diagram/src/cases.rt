@@ -16,8 +16,9 @@ use crate::store::Store;
 use crate::view::Node;
 use std::alloc::AllocError;
 
-/// How often `of_cases` may look at each case, on average, before it gives up.
-const VISITS: usize = 72;
+/// How many steps `of_cases` may take for each case, on average, before it gives up. A step looks at one case of a list
+/// that is split, or goes from one proposition to the next for a case that is left alone.
+const STEPS: usize = 256;
 
 /// One case of a diagram: the leaf at letters at which a product of literals is true.
 #[derive(Clone, Copy)]
@@ -35,8 +36,8 @@ impl Store {
     /// if there is no such case. The call reorders the list of cases.
     ///
     /// The result is None if cases that differ in their leaves or marks are true at a common letter. The contract allows
-    /// None for every list: the call gives up if it would look at the cases too often, since many of their products
-    /// leave out the propositions that others test first.
+    /// None for every list: the call gives up after a number of steps that is proportional to the number of cases. It
+    /// needs more steps if many products leave out propositions that other products test first.
     pub fn of_cases(&mut self, cases: &mut [Case], other: u64) -> Result<Option<Node>, AllocError>
         ensures keeps { Keeps self.old self.new }
         ensures same { IsPermutation cases.old cases.new }
@@ -46,18 +47,18 @@ impl Store {
             (leaf_of self.new node letter))) }
     {
         let other = self.constant(Some(other))?;
-        let mut visits = cases.len().saturating_mul(VISITS);
-        self.split_cases(cases, 0, other, &mut visits)
+        let mut steps = cases.len().saturating_mul(STEPS);
+        self.split_cases(cases, 0, other, &mut steps)
     }
 
     /// The diagram by cases, of whose products only the literals on propositions from `level` on count. `other` is the
-    /// diagram of a constant. The number `visits` says how many times the call may still look at a case.
+    /// diagram of a constant. The number `steps` says how many steps the call may still take.
     fn split_cases(
         &mut self,
         cases: &mut [Case],
         level: u32,
         other: Node,
-        visits: &mut usize,
+        steps: &mut usize,
     ) -> Result<Option<Node>, AllocError>
         requires within { level ≤ self.old.propositions }
         requires held { IsNode self.old other }
@@ -66,22 +67,23 @@ impl Store {
         ensures same { IsPermutation cases.old cases.new }
         ensures made { IfOk result (λ made. IfSome made (IsByCases self.new level cases.old (tree_of self.old other))) }
     {
+        let needed = steps_for(cases.len(), self.propositions() - level);
+        if *steps < needed {
+            return Ok(None);
+        }
+        *steps -= needed;
         if cases.len() < 2 {
             return Ok(Some(self.of_few(cases, level, other)?));
         }
-        if *visits < cases.len() {
-            return Ok(None);
-        }
-        *visits -= cases.len();
         let Some(proposition) = self.first_tested(cases, level) else {
             return self.of_untested(cases);
         };
         let lows = partition(cases, proposition, false);
-        let Some(low) = self.split_cases(&mut cases[..lows], proposition + 1, other, visits)? else {
+        let Some(low) = self.split_cases(&mut cases[..lows], proposition + 1, other, steps)? else {
             return Ok(None);
         };
         let highs = partition(cases, proposition, true);
-        let Some(high) = self.split_cases(&mut cases[..highs], proposition + 1, other, visits)?
+        let Some(high) = self.split_cases(&mut cases[..highs], proposition + 1, other, steps)?
         else {
             return Ok(None);
         };
@@ -134,6 +136,15 @@ impl Store {
             }
         }
         None
+    }
+}
+
+/// The number of steps that it takes to split a list of `count` cases, or to make the diagram of a single case over the
+/// last `propositions` propositions.
+fn steps_for(count: usize, propositions: u32) -> usize {
+    match count {
+        1 => propositions as usize,
+        _ => count,
     }
 }
 

@@ -14,6 +14,7 @@
 //! | `of_proposition(proposition)` | 1 where the proposition is true, else none |
 //! | `of_letter(letter)` | 1 at the given letter, else none |
 //! | `of_leaves(leaves)` | the list's entry at the index `letter`, or none past its end |
+//! | `of_cases(cases, other)` | that of the cases whose products are true, or `other` where none is; may make no node |
 //! | `overlay(first, second)` | the first node's, or else the second's; `Clash` exactly if two leaves differ |
 //! | `choose(truth, one, other)` | the leaf of `one` where `truth` has a leaf, else the leaf of `other` |
 //! | `both(first, second, pairs)` | the index in `pairs` of the pair of both leaves; none where either is none |
@@ -41,7 +42,9 @@
 //! node's proposition. If this function is not constant, the node is visited once. If it is constant, only one side is
 //! needed, and the node's result is not kept: the node is visited again if another node leads to it. Most calls visit
 //! only a few nodes, so the first few nodes are not kept in a memo table, and may be visited more often. `of_letter`
-//! makes one node for each proposition. For a product of literals, `of_label` makes at most one node for each literal.
+//! makes one node for each proposition. `of_cases` splits the list of cases at one proposition after another; it takes at
+//! most 256 steps for each case on average, and makes no node if that is not enough. For a product of literals,
+//! `of_label` makes at most one node for each literal.
 //! For any other disjunction, it joins the diagrams of the operands: first those of each half of the list, then the two
 //! results. For any other conjunction, it joins the diagrams of the operands' negations in this way, and negates the
 //! result. `classes` first copies the store.
@@ -70,7 +73,6 @@ pub mod view;
 
 pub use cases::Case;
 pub use classes::{Class, Classes};
-
 pub use fault::OverlayError;
 pub use products::Product;
 pub use store::Store;

@@ -31,11 +31,7 @@ impl Product {
         requires named { proposition < 64 }
         ensures { result ≡ allows self.now proposition value }
     {
-        let refused = if value {
-            self.negative
-        } else {
-            self.positive
-        };
+        let refused = if value { self.negative } else { self.positive };
         refused >> proposition & 1 == 0
     }
 

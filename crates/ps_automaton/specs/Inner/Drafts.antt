@@ -215,6 +215,13 @@ pub record MakesSteps {E : Type 0} (g : Guards) (levels : Levels) (old new : Pai
   pub node : IfOk result (λ node. (q : ℕ) → row_of g.file.now q ≡ Some (row_data g.row.now) → IsStepsOf g.file.now
       (chain_data levels.chain) q new.steps new.store node)
 
+-- as `MakesSteps`, for a call that may also make no diagram
+pub record MayMakeSteps {E : Type 0} (g : Guards) (levels : Levels) (old new : Pairs) (result : Result (Option ℕ) E) :
+    Type 0 where
+  pub grows : OnOk result (Grows g.file.now.states old new)
+  pub node : IfOk result (λ made. IfSome made (λ node. (q : ℕ) → row_of g.file.now q ≡ Some (row_data g.row.now) →
+      IsStepsOf g.file.now (chain_data levels.chain) q new.steps new.store node))
+
 -- the precondition for building the diagrams of all states' steps: the diagrams of the aliases are in the store,
 -- `AreLetterSets` holds for the sets of letters, if there are any, and `AreSteps` for the list of steps
 pub record IsSource (s : Source) (pairs : Pairs) : Type 0 where

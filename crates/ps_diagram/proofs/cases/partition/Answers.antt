@@ -1,4 +1,4 @@
-use Rattle.std.proofs.Common.{arith, ap, ◌∙◌, length, ◌<◌, sym, ◌≡◌, get_or}
+use Rattle.std.proofs.Common.{arith, ◌∙◌, length, ◌<◌, sym, ◌≡◌, get_or}
 use Rattle.std.proofs.lemmas.List.Filters.{FiltersInPlace-all, FiltersInPlace-more_no, FiltersInPlace-more_swap}
 use Rattle.std.proofs.lemmas.List.Sorted.{IsPermutation-trans}
 use Rattle.std.proofs.lemmas.List.{get_or_default}
@@ -16,7 +16,7 @@ loop-place-preserved c =
       | then-allows w ↦ rw (w.cases-is, w.count-is) (record {
         same = IsPermutation-trans _ _ _ l.invariant.same w.swap.ensures.permutation;
         filters = FiltersInPlace-more_swap {x = x} l.invariant.filters within (sym c.allows.ensures ∙ w.if-allows.true) at
-          w.swap.ensures.by_index;
+            w.swap.ensures.by_index;
       })
       | else-allows w ↦ rw (w.cases-is, w.count-is) (record {
         same = l.invariant.same;

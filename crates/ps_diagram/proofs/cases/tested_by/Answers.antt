@@ -1,4 +1,3 @@
-use Rattle.std.proofs.Common.{arith}
 use Rattle.ps_diagram.proofs.CaseLists.{tested_more}
 use Rattle.ps_diagram.proofs.cases.tested_by.Goals as goal
 

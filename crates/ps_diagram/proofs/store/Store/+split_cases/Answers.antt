@@ -1,11 +1,6 @@
-use Rattle.std.proofs.Common.{arith, ◌≡◌, ◌++◌, ℕ, List, take, drop, IsPermutation, Some, None, Ok, Err, IfOk, sym, true, false}
-use Rattle.std.specs.Option.{IfSome}
-use Rattle.std.proofs.lemmas.List.{take-append-drop}
+use Rattle.std.proofs.Common.{arith, true, false}
 use Rattle.std.proofs.lemmas.List.Sorted.{IsPermutation-refl, IsPermutation-trans}
-use Rattle.ps_diagram.specs.Table.{IsNode, tree_of}
-use Rattle.ps_diagram.specs.Inner.Splitting.{AreUntested, IsByCases}
-use Rattle.ps_diagram.specs.declared.cases.Case.{Case}
-use Rattle.ps_diagram.proofs.KnownLemmas.{keeps_three, keeps_trans}
+use Rattle.ps_diagram.proofs.KnownLemmas.{keeps_three}
 use Rattle.ps_diagram.proofs.MadeDiagrams.{if_made}
 use Rattle.ps_diagram.proofs.SplitCases.{side_from, sides_made, moved_front}
 use Rattle.ps_diagram.proofs.store.Store.+split_cases.Goals as goal

@@ -1,4 +1,3 @@
-use Rattle.std.proofs.Common.{◌≤◌}
 use Rattle.ps_diagram.specs.Inner.Splitting.{AreUntested}
 use Rattle.ps_diagram.proofs.store.Store.first_tested.Given as goal
 

@@ -1,4 +1,4 @@
-use Rattle.std.proofs.Common.{arith, ◌∙◌}
+use Rattle.std.proofs.Common.{◌∙◌}
 use Rattle.ps_diagram.proofs.MadeDiagrams.{if_made}
 use Rattle.ps_diagram.proofs.SplitCases.{at_letter}
 use Rattle.ps_diagram.proofs.store.Store.of_cases.Goals as goal

@@ -1,4 +1,3 @@
-use Rattle.std.proofs.Common.{arith}
 use Rattle.ps_diagram.proofs.store.Store.of_product.Goals as goal
 
 pub path-requires-clause-hit_constant : goal.path-requires-clause-hit_constant

@@ -1,8 +1,6 @@
-use Rattle.std.proofs.Common.{arith, ◌≡◌, ◌≤◌, ◌<◌, ◌+◌, ◌-◌, cond, ℕ, Bool, true, false, refl, sym, ◌∙◌}
+use Rattle.std.proofs.Common.{arith, ◌≡◌, ◌≤◌, ◌<◌, ◌+◌, ◌-◌, cond, ℕ, Bool, true, false, refl, sym}
 use Rattle.ps_label.specs.Truth.{is_in}
-use Rattle.ps_diagram.specs.Inner.Splitting.{IsProduct}
 use Rattle.ps_diagram.specs.Table.{Keeps, IsNode, Table, tree_of}
-use Rattle.ps_diagram.specs.Tree.{IsBlind, Tree}
 use Rattle.ps_diagram.proofs.Cells.{keeps_refl}
 use Rattle.ps_diagram.proofs.KnownLemmas.{keeps_trans}
 use Rattle.ps_diagram.proofs.Literals.{product_begins, product_next, side_blind}
@@ -71,9 +69,9 @@ loop-proposition-preserved c =
       held = c.in_ok-node.ensures.held;
       leaf = product_next c.requires.hit_constant c.requires.miss_constant _ _ _ _ some within v.leaf
           (side_tree c.loop-proposition.invariant.keeps _
-    c.args.miss c.loop-proposition.node c.side-low.result c.side-low.ensures c.requires.miss)
+          c.args.miss c.loop-proposition.node c.side-low.result c.side-low.ensures c.requires.miss)
           (side_tree c.loop-proposition.invariant.keeps _
-    c.args.miss c.loop-proposition.node c.side-high.result c.side-high.ensures c.requires.miss)
+          c.args.miss c.loop-proposition.node c.side-high.result c.side-high.ensures c.requires.miss)
           c.in_ok-node.ensures.leaf;
     }
 
