@@ -22,7 +22,7 @@
 //! 65,535 states, 1,048,576 edges, 64 propositions, 64 sets and 4,096 aliases, and `!` and `(` are nested at most 256
 //! deep. These limits on HOA texts are psyn's own. A text that exceeds a limit is rejected with the cause `Limit`,
 //! unless another error in it comes first. Parsing takes time proportional to the length of the text, except that
-//! aliases and states are looked up in trees.
+//! aliases are looked up in a tree.
 #![tactic(auto)]
 
 mod assembly;

@@ -1,8 +1,7 @@
 //! The rows of a body, and a table that locates the row of each state.
 
-ghost use Rattle.std.specs.BTreeMap.{get};
-ghost use Rattle.std.specs.Ordering.{nat_cmp};
-ghost use Rattle.std.specs.Prelude.{◌≡◌, ℕ, ◌+◌, ◌≤◌, OnOk, false, length, map, option_map, option_copied, slice_get};
+ghost use Rattle.std.specs.Prelude.{◌≡◌, ℕ, ◌+◌, ◌<◌, ◌≤◌, None, OnOk, false, length, map, option_map, option_copied};
+ghost use Rattle.std.specs.Prelude.{slice_get, slice_index_or, vec_len};
 ghost use Rattle.ps_hoa.specs.Body.{edge_limit};
 ghost use Rattle.ps_hoa.specs.Edges.{row_among};
 ghost use Rattle.ps_hoa.specs.Inner.RowPlaces.{row_place};
@@ -10,15 +9,17 @@ ghost use Rattle.ps_hoa.specs.Views.{row_data};
 
 use crate::file::Row;
 use std::alloc::{AllocError, Global};
-use std::collections::BTreeMap;
 
 /// The rows of a body so far, a table with the index of each state's row, and the total number of edges.
 #[derive(Debug, Drop)]
 pub(crate) struct Rows {
     rows: Vec<Row>,
-    places: BTreeMap<u32, usize>,
+    /// For each state up to the greatest one that has a row, the index of the state's row. Every state is less than
+    /// 65,535, so the table is small.
+    places: Vec<Option<usize>>,
     edges: usize,
-    ghost places_are: { (state : ℕ) → get nat_cmp places state ≡ row_place state (map row_data rows.items) },
+    ghost places_are: { (state : ℕ) →
+        slice_index_or places.items state None ≡ row_place state (map row_data rows.items) },
     ghost within: { edges ≤ edge_limit },
 }
 
@@ -32,7 +33,7 @@ impl Rows {
     {
         Rows {
             rows: Vec::new(alloc),
-            places: BTreeMap::new(alloc),
+            places: Vec::new(alloc),
             edges: 0,
         }
     }
@@ -49,7 +50,7 @@ impl Rows {
     pub(crate) fn has(&self, state: u32) -> bool
         ensures { result ≡ has_row state (body_data self.now).rows }
     {
-        self.places.contains_key(&state)
+        self.place(state).is_some()
     }
 
     /// The state's row that was added last, if there is one.
@@ -66,7 +67,8 @@ impl Rows {
         ensures { OnOk result (body_data self.new ≡ with_row (body_data self.old) (row_data row)) }
     {
         self.rows.reserve(1)?;
-        self.places.insert(row.state, self.rows.len())?;
+        extend(&mut self.places, row.state)?;
+        self.places[row.state as usize] = Some(self.rows.len());
         self.edges += row.edges.len();
         self.rows.push(row).unwrap();
         Ok(())
@@ -83,9 +85,35 @@ impl Rows {
     pub(crate) fn of_state(&self, state: u32) -> Option<&Row>
         ensures { option_map row_data (option_copied result) ≡ row_among (body_data self.now).rows state }
     {
-        let place = *self.places.get(&state)?;
+        let place = self.place(state)?;
         row_at(&self.rows, place)
     }
+
+    /// The index of a state's row, if the state has a row.
+    fn place(&self, state: u32) -> Option<usize>
+        ensures { result ≡ row_place state (body_data self.now).rows }
+    {
+        let state = state as usize;
+        if state < self.places.len() {
+            self.places[state]
+        } else {
+            None
+        }
+    }
+}
+
+/// Extends a table of indices so that it has an entry for the given state. The new entries are `None`. Fails if out of
+/// memory.
+fn extend(places: &mut Vec<Option<usize>>, state: u32) -> Result<(), AllocError>
+    ensures same { (other : ℕ) →
+        slice_index_or places.new.items other None ≡ slice_index_or places.old.items other None }
+    ensures reaches { OnOk result (state < vec_len places.new) }
+{
+    let state = state as usize;
+    if places.len() <= state {
+        places.resize(state + 1, None)?;
+    }
+    Ok(())
 }
 
 /// The state's row at an index of the list, if there is one.

@@ -2,11 +2,13 @@
 -- - `has_place_row`: a state has an index in the list of rows exactly if it has a row
 -- - `row_at`: the row of a state is the row at the state's index in the list of rows
 -- - `place_push`: appending the row of a state gives this state the next index, and changes the index of no other state
-use Rattle.std.proofs.Common.{◌≡◌, ℕ, false, cond, List, [], ◌∷◌, ◌++◌, length, Option, None, Some, refl, rules}
+-- - `place_set`: the table of indices after such a row is appended
+use Rattle.std.proofs.Common.{◌≡◌, ℕ, ◌<◌, false, cond, List, [], ◌∷◌, ◌++◌, length, Option, None, Some, refl, rules}
+use Rattle.std.proofs.Common.{arith, get_or, set, get_or-set_same, get_or-set_other}
 use Rattle.std.specs.List.{slice_get}
 use Rattle.std.specs.Option.{is_some}
 use Rattle.std.specs.Prelude.{nat_eq}
-use Rattle.std.proofs.lemmas.Bool.{eqb-true, eq-eqb}
+use Rattle.std.proofs.lemmas.Bool.{eqb-true, eq-eqb, cases_eq}
 use Rattle.ps_hoa.specs.Body.{has_row}
 use Rattle.ps_hoa.specs.Edges.{row_among}
 use Rattle.ps_hoa.specs.Files.{RowData}
@@ -36,3 +38,9 @@ pub place_push : (n : ℕ) (rows : List RowData) (row : RowData) → has_row row
     cond (nat_eq n row.state) (Some (length rows)) (row_place n rows) ≡ row_place n (rows ++ row ∷ [])
 place_push n [] row free = refl
 place_push n (r ∷ rows) row free = search (rules, eqb-true, false_true, eq-eqb, place_push n rows row)
+
+pub place_set : (places : List (Option ℕ)) (n : ℕ) (rows : List RowData) (row : RowData) →
+    row.state < length places → get_or places n None ≡ row_place n rows → has_row row.state rows ≡ false →
+    get_or (set places row.state (Some (length rows))) n None ≡ row_place n (rows ++ row ∷ [])
+place_set places n rows row within before free =
+    grind (arith, get_or-set_same, get_or-set_other, cases_eq n row.state, place_push n rows row free)

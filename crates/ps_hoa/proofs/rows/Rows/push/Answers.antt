@@ -3,7 +3,7 @@ use Rattle.std.proofs.Common.{◌≡◌, ◌++◌, ◌∷◌, [], map, arith}
 use Rattle.std.proofs.lemmas.Bool.{cond-true}
 use Rattle.std.proofs.lemmas.List.{map-append, length-map}
 use Rattle.ps_hoa.specs.Views.{row_data}
-use Rattle.ps_hoa.proofs.Reading.RowTable.{place_push}
+use Rattle.ps_hoa.proofs.Reading.RowTable.{place_set}
 use Rattle.ps_hoa.proofs.rows.Rows.push.Goals as goal
 
 pub invariant_of-self-2-clause-places_are : goal.invariant_of-self-2-clause-places_are
@@ -13,7 +13,8 @@ invariant_of-self-2-clause-places_are c = λ state.
     grind (
       arith,
       length-map rows row_data,
-      place_push state (map row_data rows) (row_data c.args.row) c.requires.new,
+      place_set c.extend.new.places.items state (map row_data rows) (row_data c.args.row),
+      c.in_ok-extend.ensures.same state,
       map-append row_data rows (c.args.row ∷ []),
     )
 
