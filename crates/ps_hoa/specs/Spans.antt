@@ -1,10 +1,11 @@
--- The stored tokens, and their offsets in the text.
+-- The tokens, and their offsets in the text.
 use Rattle.std.specs.Prelude.{◌≡◌, ℕ, ◌+◌, ◌≤◌, List, ◌++◌, length, drop, slice_range}
 use Rattle.ps_text.specs.Answers.{Piece}
 use Rattle.ps_hoa.specs.Scan.{IsLexeme}
 use Rattle.ps_hoa.specs.Tokens.{Sign, IsBlankRun, kind_here}
 use Rattle.ps_hoa.specs.declared.tokens.Kind.{Kind}
 use Rattle.ps_hoa.specs.declared.tokens.History.{History}
+use Rattle.ps_hoa.specs.declared.tokens.Lexeme.{Lexeme}
 use Rattle.ps_hoa.specs.declared.tokens.Token.{Token}
 
 -- the kind and the bytes of a token, which are all that the grammar sees of it
@@ -17,11 +18,10 @@ pub record IsSpan (source : List ℕ) (token : Token) : Type 0 where
   pub within : token.stop ≤ length source
   pub text : token.text.now ≡ slice_range source token.start token.stop
 
--- `kind` is the kind of the token by itself; the field `kind` of the token also depends on the earlier tokens
-pub record IsOwnKind (source : List ℕ) (history : History) (kind : Kind) (token : Token) : Type 0 where
-  pub lexeme : IsLexeme source (record { kind = kind; start = token.start; stop = token.stop })
-  pub here : token.kind ≡ kind_here history kind token.text.now
-  pub text : token.text.now ≡ slice_range source token.start token.stop
+-- the text has the token at the given offsets, and `kind` is its kind after the tokens that `history` records
+pub record IsKindHere (source : List ℕ) (history : History) (kind : Kind) (found : Lexeme) : Type 0 where
+  pub lexeme : IsLexeme source found
+  pub here : kind ≡ kind_here history found.kind (slice_range source found.start found.stop)
 
 -- the bytes between two offsets of a text are blanks and comments
 pub record AreBlanks (source : List ℕ) (from at : ℕ) : Type 0 where

@@ -222,6 +222,6 @@ fn pass_name(tokens: &mut Tokens)
     ensures { ReadsPart parts.state_name (stream_of tokens.old) tt (stream_of tokens.new) }
 {
     if tokens.is_at(Kind::Text) {
-        tokens.advance();
+        tokens.skip();
     }
 }

@@ -65,7 +65,7 @@ impl Infix for Conditions {
         let Some(often) = often_of(tokens.peek()) else {
             return constant(tokens);
         };
-        tokens.advance();
+        tokens.skip();
         expect(tokens, Kind::LeftParen)?;
         let set = any_set(tokens)?;
         expect(tokens, Kind::RightParen)?;
@@ -137,7 +137,7 @@ fn any_set(tokens: &mut Tokens) -> Result<Set, HoaFault>
     ensures { ReadsAs set_data conditions.any_set tokens.old result tokens.new }
 {
     if tokens.is_at(Kind::Not) {
-        tokens.advance();
+        tokens.skip();
         return one_set(tokens, true);
     }
     one_set(tokens, false)

@@ -90,7 +90,7 @@ fn row<G: Infix>(
     }
     let mut operands = begun(alloc, first)?;
     'more: while is_at(tokens, connective) {
-        tokens.advance();
+        tokens.skip();
         operands.push(part(alloc, tokens, grammar, room, connective)?)?;
     }
     Ok(grammar.together(connective, operands))
@@ -143,7 +143,7 @@ fn operand<G: Infix>(
     if room == 0 {
         return Err(fault_at(token, HoaCause::Limit));
     }
-    tokens.advance();
+    tokens.skip();
     if is_kind(token, Kind::Not) {
         let negated = operand(alloc, tokens, grammar, room - 1)?;
         return Ok(grammar.negated(alloc, negated)?);

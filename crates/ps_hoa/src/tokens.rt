@@ -10,7 +10,7 @@ ghost use Rattle.ps_hoa.specs.Scan.{IsLexeme, IsNoBlank, IsTokenClass, IsTokenSt
 ghost use Rattle.ps_hoa.specs.Scan.{number_step, quoted_len, SkipsSome, step_len, scan_step, stream_of, text_step};
 ghost use Rattle.ps_hoa.specs.Tokens.{AreTokens, is_known, kind_here, in_context, history_after, Sign, with_occurred};
 ghost use Rattle.ps_hoa.specs.Inner.Runs.{IsRun};
-ghost use Rattle.ps_hoa.specs.Spans.{AreBlanks, IsOwnKind, IsSpan, piece_of};
+ghost use Rattle.ps_hoa.specs.Spans.{AreBlanks, IsKindHere, IsSpan, piece_of};
 
 use crate::items::{ONCE_COUNT, once_named};
 use std::marker::Model;
@@ -455,22 +455,27 @@ pub struct Token<'a> {
 #[derive(Drop)]
 pub struct Tokens<'a> {
     source: &'a [u8],
-    /// The next token.
-    next: Token<'a>,
-    /// The kind of the next token, regardless of the tokens before it.
+    /// The kind of the next token.
     kind: Kind,
+    /// The kind of the next token, regardless of the tokens before it.
+    own_kind: Kind,
+    /// The offset of the first byte of the next token.
+    start: usize,
+    /// The offset after the last byte of the next token.
+    stop: usize,
     history: History,
 }
 
 impl<'a> Model for Tokens<'a> {
     ghost use Rattle.ps_hoa.specs.Scan.{ScanState};
-    ghost use Rattle.ps_hoa.specs.Spans.{IsOwnKind};
+    ghost use Rattle.ps_hoa.specs.Spans.{IsKindHere};
 
     ghost Value = { ScanState };
 
-    ghost view = { λ t. record { source = t.source.now; at = t.next.start; history = t.history } };
+    ghost view = { λ t. record { source = t.source.now; at = t.start; history = t.history } };
 
-    ghost invariant = { λ t. IsOwnKind t.source.now t.history t.kind t.next };
+    ghost invariant = { λ t. IsKindHere t.source.now t.history t.kind
+        (record { kind = t.own_kind; start = t.start; stop = t.stop }) };
 }
 
 impl<'a> Tokens<'a> {
@@ -487,23 +492,32 @@ impl<'a> Tokens<'a> {
         let lexeme = first_lexeme(source, from);
         Tokens {
             source,
-            next: token_of(source, lexeme, history),
-            kind: lexeme.kind,
+            kind: kind_here(source, lexeme, &history),
+            own_kind: lexeme.kind,
+            start: lexeme.start,
+            stop: lexeme.stop,
             history,
         }
     }
 
     /// The next token. At the end of the text, the kind of the token is `Finish`.
+    #[inline(always)]
     pub fn peek(&self) -> Token<'a>
         ensures next { piece_of result ≡ next_of (stream_of self.now) }
         ensures finish { (result.kind ≡ Kind.Finish) ↔ ((stream_of self.now).pieces ≡ []) }
         ensures text { IsSpan self.now.source result }
         ensures start { result.start ≡ self.now.at }
     {
-        self.next
+        Token {
+            kind: self.kind,
+            text: &self.source[self.start..self.stop],
+            start: self.start,
+            stop: self.stop,
+        }
     }
 
     /// Moves past the next token, and returns that token.
+    #[inline(always)]
     pub fn advance(&mut self) -> Token<'a>
         ensures next { piece_of result ≡ next_of (stream_of self.old) }
         ensures rest { stream_of self.new ≡ behind_next (stream_of self.old) }
@@ -513,15 +527,29 @@ impl<'a> Tokens<'a> {
         ensures start { result.start ≡ self.old.at }
         ensures rises { result.stop ≤ self.new.at }
     {
-        let token = self.next;
-        self.history.pass(self.kind, token.text);
-        let lexeme = first_lexeme(self.source, token.stop);
-        self.next = token_of(self.source, lexeme, self.history);
-        self.kind = lexeme.kind;
+        let token = self.peek();
+        self.skip();
         token
     }
 
+    /// Moves past the next token.
+    #[inline(never)]
+    pub(crate) fn skip(&mut self)
+        ensures rest { stream_of self.new ≡ behind_next (stream_of self.old) }
+        ensures source { self.new.source ≡ self.old.source }
+        ensures rises { self.old.at + length (next_of (stream_of self.old)).sign.text ≤ self.new.at }
+    {
+        let text = &self.source[self.start..self.stop];
+        self.history.pass(self.own_kind, text);
+        let lexeme = first_lexeme(self.source, self.stop);
+        self.kind = kind_here(self.source, lexeme, &self.history);
+        self.own_kind = lexeme.kind;
+        self.start = lexeme.start;
+        self.stop = lexeme.stop;
+    }
+
     /// Whether the next token is of the given kind.
+    #[inline(always)]
     pub(crate) fn is_at(&self, kind: Kind) -> bool
         ensures { (result ≡ true) ↔ ((next_of (stream_of self.now)).sign.kind ≡ kind) }
     {
@@ -529,21 +557,14 @@ impl<'a> Tokens<'a> {
     }
 }
 
-/// The token for a lexeme, which is the kind and the span of a token. The kind of the token also depends on the names
-/// that occurred before it, which `history` records.
+/// The kind of a token, which also depends on the names that occurred before it. A lexeme is the kind of the token
+/// regardless of the tokens before it, and its span.
 #[inline(always)]
-fn token_of<'a>(source: &'a [u8], lexeme: Lexeme, history: History) -> Token<'a>
+fn kind_here(source: &[u8], lexeme: Lexeme, history: &History) -> Kind
     requires { IsLexeme source.now lexeme }
-    ensures kept { IsOwnKind source.now history lexeme.kind result }
-    ensures start { result.start ≡ lexeme.start }
+    ensures { IsKindHere source.now history.now result lexeme }
 {
-    let text = &source[lexeme.start..lexeme.stop];
-    Token {
-        kind: history.kind_of(lexeme.kind, text),
-        text,
-        start: lexeme.start,
-        stop: lexeme.stop,
-    }
+    history.kind_of(lexeme.kind, &source[lexeme.start..lexeme.stop])
 }
 
 /// A text has exactly one list of tokens.

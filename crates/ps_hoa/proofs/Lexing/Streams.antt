@@ -1,16 +1,15 @@
 -- Lemmas about the stream of remaining tokens, and about moving past one token.
-use Rattle.std.proofs.Common.{◌≡◌, ℕ, ◌-◌, ◌<◌, ◌≤◌, ◌↔◌, Bool, false, cond, List, [], ◌∷◌, rules, length, take}
-use Rattle.std.proofs.Common.{drop, refl, ap, ◌∙◌, arith, length-drop}
+use Rattle.std.proofs.Common.{◌≡◌, ℕ, ◌+◌, ◌-◌, ◌<◌, ◌≤◌, ◌↔◌, Bool, false, cond, List, [], ◌∷◌, rules, length, take}
+use Rattle.std.proofs.Common.{drop, refl, arith, length-drop}
 use Rattle.std.specs.List.{slice_range}
-use Rattle.std.proofs.lemmas.List.{drop_all, drop-drop}
+use Rattle.std.proofs.lemmas.List.{drop_all, drop-drop, length-take}
 use Rattle.std.proofs.Math.Decide.{dec_lt}
 use Rattle.ps_text.specs.Answers.{Piece, Stream}
 use Rattle.ps_hoa.specs.Tokens.{Sign, in_context, history_after, kind_here}
 use Rattle.ps_hoa.specs.declared.tokens.Kind.{Kind}
 use Rattle.ps_hoa.specs.declared.tokens.Kind.TheVariants.{Behind, Finish}
-use Rattle.ps_hoa.specs.Spans.{IsOwnKind, IsSpan, piece_of}
+use Rattle.ps_hoa.specs.Spans.{IsKindHere}
 use Rattle.ps_hoa.specs.declared.tokens.Lexeme.{Lexeme}
-use Rattle.ps_hoa.specs.declared.tokens.Token.{Token}
 use Rattle.ps_hoa.specs.declared.tokens.History.{History}
 use Rattle.ps_hoa.specs.declared.tokens.Step.TheVariants.{Found}
 use Rattle.ps_hoa.specs.Scan.{lex, scan_step, IsLexeme, ScanState, stream_of, next_of, behind_next, is_finish, fresh}
@@ -124,28 +123,27 @@ module _ (source : List ℕ) (l : Lexeme) (history : History) (h : IsLexeme sour
             grind (arith, pieces_none r done, finish_here r l.kind (l.stop - l.start) done h.token)
       ])
 
--- the tokenizer stores the next token; its abstract state has the offset of this token
-module _ {source : List ℕ} {history : History} {kind : Kind} {token : Token} (k : IsOwnKind source history kind token)
-    {r : ScanState}
-    (at : (let now : ScanState = record { source = source; at = token.start; history = history } in now) ≡ r)
+-- the tokenizer stores the kind and the offsets of the next token; its abstract state has the first of these offsets
+module _ {source : List ℕ} {history : History} {kind : Kind} {found : Lexeme}
+    (k : IsKindHere source history kind found) {r : ScanState} (at : before source found history ≡ r)
   where
-    here : token.kind ≡ kind_here history kind (slice_range source token.start token.stop)
-    here = k.here ∙ ap (kind_here history kind) k.text
+    pub kept_next : (let next : Piece Sign = record {
+      sign = record { kind = kind; text = slice_range source found.start found.stop };
+      start = found.start;
+    } in next) ≡ next_of (stream_of r)
+    kept_next = grind (arith, next_is source found history k.lexeme, k.here)
 
-    pub kept_next : piece_of token ≡ next_of (stream_of r)
-    kept_next = grind (arith, next_is source _ history k.lexeme)
-
-    pub kept_finish : (token.kind ≡ Finish) ↔ ((stream_of r).pieces ≡ [])
-    kept_finish = grind (arith, finish_iff source _ history k.lexeme, here)
-
-    pub kept_span : IsSpan r.source token
-    kept_span = search rules
+    pub kept_finish : (kind ≡ Finish) ↔ ((stream_of r).pieces ≡ [])
+    kept_finish = grind (arith, finish_iff source found history k.lexeme, k.here)
 
     pub kept_rest : {start next : ℕ} {behind : History} → start ≡ next →
-        behind ≡ history_after history kind token.text.now →
-        token.stop ≤ next → lex next (drop next source) ≡ lex token.stop (drop token.stop source) →
+        behind ≡ history_behind source found history →
+        found.stop ≤ next → lex next (drop next source) ≡ lex found.stop (drop found.stop source) →
         stream_of (record { source = source; at = start; history = behind }) ≡ behind_next (stream_of r)
-    kept_rest {next = next} e f on same = grind (arith, rest_is source _ history k.lexeme next on same)
+    kept_rest {next = next} e f on same = grind (arith, rest_is source found history k.lexeme next on same)
+
+    pub kept_length : found.start + length (next_of (stream_of r)).sign.text ≡ found.stop
+    kept_length = grind (arith, next_is source found history k.lexeme, k.lexeme.rises, k.lexeme.within, length-take, length-drop)
 
 -- skipping blanks and comments does not change the list of the remaining tokens
 pub pieces_new : (source : List ℕ) (from at start : ℕ) (history : History) (pieces : List (Piece Sign)) →

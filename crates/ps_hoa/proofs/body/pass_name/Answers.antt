@@ -14,7 +14,7 @@ returns-then-is_at c =
     let k = c.is_at.ensures.0 c.if-is_at.true in
     let v = string_next s k in
     (name_serves s k).reads _ _ (reads_mapped nothing_of (reads_one {X = List ℕ} (λ n. n) signs_string s _ (Ok v.0)
-    (record { some = v.1; good = λ f b. b }) c.advance.ensures.rest))
+    (record { some = v.1; good = λ f b. b }) c.skip.ensures.rest))
 
 pub returns-else-is_at : goal.returns-else-is_at
 returns-else-is_at c = (no_name_serves _ (iff_false c.is_at.ensures c.if-is_at.false)).reads _ _ (reads_give _ _)

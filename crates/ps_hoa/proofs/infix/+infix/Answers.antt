@@ -31,13 +31,13 @@ pub row-returns-in_err-part : goal.row-returns-in_err-part
 row-returns-in_err-part g t c =
     let grammar = g.G.Infix.grammar c.args.grammar.now in
     exit g.G.Infix.meaning _ _ _ (row_fails (operand_row grammar c.requires c.args.room c.args.connective)
-    c.more.invariant (c.is_at-in-more.ensures.0 c.more-test.true) c.advance.ensures.rest
+    c.more.invariant (c.is_at-in-more.ensures.0 c.more-test.true) c.skip.ensures.rest
     (grammar.together c.args.connective)) c.in_err-part.ensures c.from_residual-in_err-part.ensures.1
 
 pub row-more-preserved : goal.row-more-preserved
 row-more-preserved g t c =
     let row = operand_row (g.G.Infix.grammar c.args.grammar.now) c.requires c.args.room c.args.connective in
-    row_more row c.more.invariant (c.is_at-in-more.ensures.0 c.more-test.true) c.advance.ensures.rest
+    row_more row c.more.invariant (c.is_at-in-more.ensures.0 c.more-test.true) c.skip.ensures.rest
     c.in_ok-part.ensures (last_value g.G.Infix.meaning _ _ c.in_ok-push.ensures.items)
 
 pub row-returns : goal.row-returns
@@ -49,7 +49,7 @@ row-returns g t c =
 pub row-more-smaller : goal.row-more-smaller
 row-more-smaller g t c =
     let row = operand_row (g.G.Infix.grammar c.args.grammar.now) c.requires c.args.room c.args.connective in
-    row_shrinks row _ c.advance.ensures.rest c.in_ok-part.ensures
+    row_shrinks row _ c.skip.ensures.rest c.in_ok-part.ensures
 
 pub operand-returns-then-not-holds : goal.operand-returns-then-not-holds
 operand-returns-then-not-holds g t c =
@@ -64,33 +64,33 @@ pub operand-returns-in_err-negated : goal.operand-returns-in_err-negated
 operand-returns-in_err-negated g t c =
     exit g.G.Infix.meaning _ _ _ (not_fails (g.G.Infix.grammar c.args.grammar.now) c.requires c.args.room _
     c.peek-token.ensures.next (sym c.holds.ensures ∙ c.if-not-holds.false)
-    c.if-room-eq0.false c.advance.ensures.rest (c.is_kind.ensures.0 c.if-is_kind.true)) c.in_err-negated.ensures
+    c.if-room-eq0.false c.skip.ensures.rest (c.is_kind.ensures.0 c.if-is_kind.true)) c.in_err-negated.ensures
     c.from_residual.ensures.1
 
 pub operand-returns-then-is_kind : goal.operand-returns-then-is_kind
 operand-returns-then-is_kind g t c =
     not_reads (g.G.Infix.grammar c.args.grammar.now) c.requires c.args.room _
     c.peek-token.ensures.next (sym c.holds.ensures ∙ c.if-not-holds.false)
-    c.if-room-eq0.false c.advance.ensures.rest (c.is_kind.ensures.0 c.if-is_kind.true) c.in_ok-negated.ensures
+    c.if-room-eq0.false c.skip.ensures.rest (c.is_kind.ensures.0 c.if-is_kind.true) c.in_ok-negated.ensures
     c.in_ok-negated-2.ensures
 
 pub operand-returns-in_err-inner : goal.operand-returns-in_err-inner
 operand-returns-in_err-inner g t c =
     exit g.G.Infix.meaning _ _ _ (paren_fails (g.G.Infix.grammar c.args.grammar.now) c.requires c.args.room _
     c.peek-token.ensures.next (sym c.holds.ensures ∙ c.if-not-holds.false)
-    c.if-room-eq0.false c.advance.ensures.rest (iff_false c.is_kind.ensures c.if-is_kind.false)) c.in_err-inner.ensures
+    c.if-room-eq0.false c.skip.ensures.rest (iff_false c.is_kind.ensures c.if-is_kind.false)) c.in_err-inner.ensures
     c.from_residual-in_err-inner.ensures.1
 
 pub operand-returns-in_err-expect : goal.operand-returns-in_err-expect
 operand-returns-in_err-expect g t c =
     exit g.G.Infix.meaning _ _ _ (paren_stays_open (g.G.Infix.grammar c.args.grammar.now) c.requires c.args.room _
     c.peek-token.ensures.next (sym c.holds.ensures ∙ c.if-not-holds.false)
-    c.if-room-eq0.false c.advance.ensures.rest (iff_false c.is_kind.ensures c.if-is_kind.false) c.in_ok-inner.ensures)
+    c.if-room-eq0.false c.skip.ensures.rest (iff_false c.is_kind.ensures c.if-is_kind.false) c.in_ok-inner.ensures)
     (c.in_err-expect.ensures is_right tests_right.is) c.from_residual-in_err-expect.ensures.1
 
 pub operand-returns : goal.operand-returns
 operand-returns g t c =
     paren_reads (g.G.Infix.grammar c.args.grammar.now) c.requires c.args.room _
     c.peek-token.ensures.next (sym c.holds.ensures ∙ c.if-not-holds.false)
-    c.if-room-eq0.false c.advance.ensures.rest (iff_false c.is_kind.ensures c.if-is_kind.false) c.in_ok-inner.ensures
+    c.if-room-eq0.false c.skip.ensures.rest (iff_false c.is_kind.ensures c.if-is_kind.false) c.in_ok-inner.ensures
     (c.in_ok-expect.ensures is_right tests_right.is)

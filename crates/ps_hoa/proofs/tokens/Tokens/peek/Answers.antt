@@ -1,4 +1,4 @@
-use Rattle.ps_hoa.proofs.Lexing.Streams.{kept_next, kept_finish, kept_span}
+use Rattle.ps_hoa.proofs.Lexing.Streams.{kept_next, kept_finish}
 use Rattle.ps_hoa.proofs.tokens.Tokens.peek.Goals as goal
 
 pub returns-clause-next : goal.returns-clause-next
@@ -6,6 +6,3 @@ returns-clause-next c = kept_next c.self.invariant c.self.view_is
 
 pub returns-clause-finish : goal.returns-clause-finish
 returns-clause-finish c = kept_finish c.self.invariant c.self.view_is
-
-pub returns-clause-text : goal.returns-clause-text
-returns-clause-text c = kept_span c.self.invariant c.self.view_is
