@@ -276,6 +276,7 @@ fn alone(tokens: &Tokens) -> Result<(), HoaFault>
 }
 
 /// Parses acceptance sets between braces, if there are any.
+#[inline(always)]
 pub(crate) fn marks(
     alloc: Global,
     tokens: &mut Tokens,
@@ -292,6 +293,7 @@ pub(crate) fn marks(
 }
 
 /// Parses acceptance sets between braces. The number of each set must be less than `count`.
+#[inline(never)]
 fn sets(alloc: Global, tokens: &mut Tokens, count: u32) -> Result<SmallVec<u32, 4>, HoaFault>
     ensures { ReadsAs (λ marks. marks.items) (parts.sets count) tokens.old result tokens.new }
 {

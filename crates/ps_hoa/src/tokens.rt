@@ -86,10 +86,12 @@ fn class_of(byte: u8) -> Class
     ensures value { result ≡ class byte }
     ensures token { IsTokenClass result }
 {
+    if is_digit(byte) {
+        return Class::Digit;
+    }
     match byte {
         9..=13 => Class::Blank,
         b' ' => Class::Blank,
-        b'0'..=b'9' => Class::Digit,
         b'a'..=b'z' => Class::Letter,
         b'A'..=b'Z' => Class::Letter,
         b'_' => Class::Letter,
@@ -325,6 +327,21 @@ fn step_at(bytes: &[u8]) -> Step
     }
 }
 
+/// The blank or the token that begins with the first byte, if the first byte is white space, a digit or a sign.
+#[tactic(auto, unfolding(crate::specs::Scan::scan_step))]
+#[inline(always)]
+fn quick_step(bytes: &[u8]) -> Option<Step>
+    ensures { IfSome result (λ step. step ≡ scan_step bytes.now) }
+{
+    let (first, rest) = bytes.split_first()?;
+    match class_of(*first) {
+        Class::Blank => Some(Step::Skip(1)),
+        Class::Digit => Some(number_step(*first, rest)),
+        Class::Sign(kind) => Some(Step::Found(kind, 1)),
+        _ => None,
+    }
+}
+
 /// The kind and the span of a token, regardless of the tokens before it.
 #[derive(Clone, Copy)]
 struct Lexeme {
@@ -333,9 +350,35 @@ struct Lexeme {
     stop: usize,
 }
 
-/// The first token from an offset on, after blanks and comments.
+/// The first token from an offset on, after blanks and comments. If the token is a number or a sign that only white
+/// space precedes, it is found without a call.
 #[inline(always)]
 fn first_lexeme(source: &[u8], from: usize) -> Lexeme
+    requires { from ≤ length source.now }
+    ensures blanks { AreBlanks source.now from result.start }
+    ensures from { from ≤ result.start }
+    ensures here { IsLexeme source.now result }
+    ensures same { lex result.start (drop result.start source.now) ≡ lex from (drop from source.now) }
+{
+    let mut at = from;
+    'blanks: while let Some(step) = quick_step(&source[at..]) {
+        match step {
+            Step::Skip(count) => at += count,
+            Step::Found(kind, count) => {
+                return Lexeme {
+                    kind,
+                    start: at,
+                    stop: at + count,
+                };
+            }
+        }
+    }
+    any_lexeme(source, at)
+}
+
+/// The first token from an offset on, after any blanks and comments.
+#[inline(never)]
+fn any_lexeme(source: &[u8], from: usize) -> Lexeme
     requires { from ≤ length source.now }
     ensures blanks { AreBlanks source.now from result.start }
     ensures from { from ≤ result.start }
@@ -405,6 +448,17 @@ impl History {
     /// The kind of a token that follows the recorded tokens.
     #[inline(always)]
     fn kind_of(&self, kind: Kind, text: &[u8]) -> Kind
+        ensures { result ≡ kind_here self.now kind text.now }
+    {
+        if self.ended || matches!(kind, Kind::Header) {
+            return self.changed_kind(kind, text);
+        }
+        kind
+    }
+
+    /// The kind of a token that follows the recorded tokens, if these tokens may change its kind.
+    #[inline(never)]
+    fn changed_kind(&self, kind: Kind, text: &[u8]) -> Kind
         ensures { result ≡ kind_here self.now kind text.now }
     {
         match kind {
