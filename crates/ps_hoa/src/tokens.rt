@@ -9,6 +9,7 @@ ghost use Rattle.ps_hoa.specs.Scan.{alias_step, begins_with, behind_next, commen
 ghost use Rattle.ps_hoa.specs.Scan.{IsLexeme, IsNoBlank, IsTokenClass, IsTokenStep, lex, dash_step, name_step, next_of};
 ghost use Rattle.ps_hoa.specs.Scan.{number_step, quoted_len, SkipsSome, step_len, scan_step, stream_of, text_step};
 ghost use Rattle.ps_hoa.specs.Tokens.{AreTokens, is_known, kind_here, in_context, history_after, Sign, with_occurred};
+ghost use Rattle.ps_hoa.specs.Inner.Lexemes.{IsFirstLexeme};
 ghost use Rattle.ps_hoa.specs.Inner.Runs.{IsRun};
 ghost use Rattle.ps_hoa.specs.Spans.{AreBlanks, IsKindHere, IsSpan, piece_of};
 
@@ -350,40 +351,33 @@ struct Lexeme {
     stop: usize,
 }
 
-/// The first token from an offset on, after blanks and comments. If the token is a number or a sign that only white
-/// space precedes, it is found without a call.
+/// The first token from an offset on, if it is a number or a sign and only white space precedes it.
 #[inline(always)]
-fn first_lexeme(source: &[u8], from: usize) -> Lexeme
+fn quick_lexeme(source: &[u8], from: usize) -> Option<Lexeme>
     requires { from ≤ length source.now }
-    ensures blanks { AreBlanks source.now from result.start }
-    ensures from { from ≤ result.start }
-    ensures here { IsLexeme source.now result }
-    ensures same { lex result.start (drop result.start source.now) ≡ lex from (drop from source.now) }
+    ensures { IfSome result (IsFirstLexeme source.now from) }
 {
     let mut at = from;
     'blanks: while let Some(step) = quick_step(&source[at..]) {
         match step {
             Step::Skip(count) => at += count,
             Step::Found(kind, count) => {
-                return Lexeme {
+                return Some(Lexeme {
                     kind,
                     start: at,
                     stop: at + count,
-                };
+                });
             }
         }
     }
-    any_lexeme(source, at)
+    None
 }
 
-/// The first token from an offset on, after any blanks and comments.
+/// The first token from an offset on, after blanks and comments.
 #[inline(never)]
-fn any_lexeme(source: &[u8], from: usize) -> Lexeme
+fn first_lexeme(source: &[u8], from: usize) -> Lexeme
     requires { from ≤ length source.now }
-    ensures blanks { AreBlanks source.now from result.start }
-    ensures from { from ≤ result.start }
-    ensures here { IsLexeme source.now result }
-    ensures same { lex result.start (drop result.start source.now) ≡ lex from (drop from source.now) }
+    ensures { IsFirstLexeme source.now from result }
 {
     let mut at = from;
     'blanks: loop {
@@ -477,6 +471,14 @@ impl History {
         if let Some(once) = once_named(name) {
             self.stood[once] = true;
         }
+    }
+
+    /// Whether a token that occurs does not change the history, and `--END--` has not occurred.
+    #[inline(always)]
+    fn stays(&self, kind: Kind) -> bool
+        ensures { IsTrue result → (text : List ℕ) → history_after self.now kind text ≡ self.now }
+    {
+        !self.ended && !matches!(kind, Kind::Header | Kind::End)
     }
 
     /// Records that a token has occurred.
@@ -589,6 +591,25 @@ impl<'a> Tokens<'a> {
     /// Moves past the next token.
     #[inline(never)]
     pub(crate) fn skip(&mut self)
+        ensures rest { stream_of self.new ≡ behind_next (stream_of self.old) }
+        ensures source { self.new.source ≡ self.old.source }
+        ensures rises { self.old.at + length (next_of (stream_of self.old)).sign.text ≤ self.new.at }
+    {
+        if self.history.stays(self.own_kind)
+            && let Some(lexeme) = quick_lexeme(self.source, self.stop)
+        {
+            self.kind = kind_here(self.source, lexeme, &self.history);
+            self.own_kind = lexeme.kind;
+            self.start = lexeme.start;
+            self.stop = lexeme.stop;
+        } else {
+            self.skip_any();
+        }
+    }
+
+    /// Moves past the next token.
+    #[inline(never)]
+    fn skip_any(&mut self)
         ensures rest { stream_of self.new ≡ behind_next (stream_of self.old) }
         ensures source { self.new.source ≡ self.old.source }
         ensures rises { self.old.at + length (next_of (stream_of self.old)).sign.text ≤ self.new.at }

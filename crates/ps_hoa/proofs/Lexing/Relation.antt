@@ -180,23 +180,6 @@ more_blanks source from at n before is =
       end = total;
     }
 
-joined_runs : {first : List ℕ} (rest : List ℕ) → IsBlankRun first → IsBlankRun rest → IsBlankRun (first ++ rest)
-joined_runs rest no_blank more = more
-joined_runs rest (blank {part} {rest = next} is run all split) more =
-    blank is (joined_runs rest run more) (all ++ rest)
-    (ap (λ (xs : List ℕ). xs ++ rest) split ∙ append_assoc part next rest)
-
-pub joined_blanks : (source : List ℕ) (from at stop : ℕ) → AreBlanks source from at → AreBlanks source at stop →
-    AreBlanks source from stop
-joined_blanks source from at stop before more = record {
-  blanks = before.blanks ++ more.blanks;
-  run = joined_runs more.blanks before.run more.run;
-  split =
-      before.split ∙ ap (λ (xs : List ℕ). before.blanks ++ xs) more.split
-      ∙ sym (append_assoc before.blanks more.blanks (drop stop source));
-  end = rw length-append (omega (arith, before.end, more.end));
-}
-
 -- no blank begins at a token or at the end of the text
 pub no_blank_begins : (bytes : List ℕ) → IsNoBlank (scan_step bytes) → (part more : List ℕ) → bytes ≡ part ++ more →
     IsBlankPart part → ⊥

@@ -1,11 +1,12 @@
-use Rattle.std.proofs.Common.{arith, refl}
+use Rattle.std.proofs.Common.{arith, refl, sym}
 use Rattle.ps_hoa.proofs.Lexing.Streams.{kept_length, kept_rest}
 use Rattle.ps_hoa.proofs.tokens.Tokens.skip.Goals as goal
 
-pub returns-clause-rest : goal.returns-clause-rest
-returns-clause-rest c =
-    kept_rest c.self.invariant c.self.view_is refl c.pass.ensures c.first_lexeme-lexeme.ensures.from
-    c.first_lexeme-lexeme.ensures.same
+pub returns-in-Some-clause-rest : goal.returns-in-Some-clause-rest
+returns-in-Some-clause-rest c =
+    kept_rest c.self.invariant c.self.view_is refl (sym (c.stays.ensures c.if-stays.true _)) c.in-Some.ensures.rises
+    c.in-Some.ensures.same
 
-pub returns-clause-rises : goal.returns-clause-rises
-returns-clause-rises c = grind (arith, kept_length c.self.invariant c.self.view_is)
+pub returns-in-Some-clause-rises : goal.returns-in-Some-clause-rises
+returns-in-Some-clause-rises c =
+    grind (arith, c.in-Some.ensures.rises, kept_length c.self.invariant c.self.view_is)

@@ -1,7 +1,7 @@
 use Rattle.std.proofs.Common.{length, drop, ◌≤◌, ◌≡◌, ◌-◌}
 use Rattle.ps_hoa.specs.Spans.{AreBlanks}
 use Rattle.ps_hoa.specs.Scan.{lex}
-use Rattle.ps_hoa.proofs.tokens.any_lexeme.Given as goal
+use Rattle.ps_hoa.proofs.tokens.quick_lexeme.Given as goal
 
 abbrev pub invariant-blanks : goal.invariant-blanks
 invariant-blanks l = record {
