@@ -1,6 +1,6 @@
 -- A table of decision-diagram nodes (cells) to which one more cell is added.
 use Rattle.std.proofs.Common.{◌≡◌, ℕ, ◌+◌, ◌-◌, ◌^◌, ◌<◌, ◌≤◌, Bool, true, false, List, [], ◌∷◌, ◌++◌, length, get_or}
-use Rattle.std.proofs.Common.{refl}
+use Rattle.std.proofs.Common.{refl, Result, Ok, Err}
 use Rattle.std.proofs.Common.{ap, sym, ◌∙◌, arith, length-append, inl, inr, ◌⊎◌, fold, Some, rules}
 use Rattle.std.proofs.lemmas.List.{get_or_append_left, get_or_push}
 use Rattle.std.proofs.lemmas.List.Sums.{fold_push}
@@ -11,9 +11,8 @@ use Rattle.ps_diagram.specs.declared.view.View.{View}
 use Rattle.ps_diagram.specs.declared.view.View.TheVariants.{Leaf, Nothing}
 use Rattle.ps_diagram.specs.Tree.{Tree, IsFrom, IsReduced}
 use Rattle.ps_keys.proofs.TableLemmas.{old_or_new}
-use Rattle.ps_keys.specs.Keys.{IsPlacedKey}
 use Rattle.ps_diagram.specs.Inner.Parts.{IsPart}
-use Rattle.ps_diagram.specs.Inner.Placed.{AddsCell, ArePlacesOfLeaves}
+use Rattle.ps_diagram.specs.Inner.Placed.{AddsCell, ArePlacesOfLeaves, PlacesCell}
 use Rattle.ps_diagram.specs.Table.{Table, tree_by, trees_of, tree_at, tree_in, tree_of, IsNode, IsCellWithin}
 use Rattle.ps_diagram.specs.Table.{IsSoundTable}
 use Rattle.ps_diagram.specs.Table.{Keeps}
@@ -130,28 +129,6 @@ at_place : {t u : Table} {cell : View} (place : ℕ) → IsSoundTable u → Keep
 unfolding tree_of
 at_place {u} {cell} place s keeps stays e = search (rules, slice_get_within, get_or_from_slice_get)
 
--- looking up a cell gives its index, and appends the cell if it is new
-pub placed_cell : {old new : List View} (cell : View) (eq : View → View → Bool) {place : ℕ} →
-    ((a b : View) → eq a b ≡ true → a ≡ b) → ((a : View) → eq a a ≡ true) → IsPlacedKey eq old new cell place →
-    AddsCell old cell new × (slice_get new place ≡ Some cell)
-placed_cell {old} {new} cell eq {place} sound_eq refl_eq placed = elim placed [
-  | inl known ↦ (
-    inl known.0,
-    rw known.0 (slice_get-get_or old place cell known.1 ∙ ap Some (sound_eq _ _ (known.2 cell))),
-  )
-  | inr more ↦ (
-    inr (
-      more.0,
-      λ k at. true_is_not_false (sym (refl_eq cell)
-          ∙ ap (λ c. eq c cell) (sym (get_or_from_slice_get old k cell cell at))
-          ∙ more.2 k cell (omega arith) (slice_get_within old k cell at)),
-    ),
-    (let longer : place < length (old ++ cell ∷ []) = omega (arith, more.1, length-append old (cell ∷ [])) in
-        rw more.0 (slice_get-get_or (old ++ cell ∷ []) place cell longer
-        ∙ ap Some (get_or_push old cell cell place (sym more.1)))),
-  )
-]
-
 -- adding a cell does not change the index of any other cell
 kept_at : {old new : List View} {cell : View} (place : ℕ) (x : View) → AddsCell old cell new →
     slice_get old place ≡ Some x → slice_get new place ≡ Some x
@@ -169,6 +146,12 @@ kept_at {old} {new} {cell} place x adds at =
 pub leaves_kept : {old new : List View} {cell : View} (places : List ℕ) → AddsCell old cell new →
     ArePlacesOfLeaves old places → ArePlacesOfLeaves new places
 leaves_kept places adds are leaf place at less = kept_at place (Leaf leaf) adds (are leaf place at less)
+
+-- this table stays right when a cell is looked up, also where the look-up fails
+pub leaves_after : {E : Type 0} {old new : List View} {cell : View} (result : Result ℕ E) (places : List ℕ) →
+    PlacesCell old new cell result → ArePlacesOfLeaves old places → ArePlacesOfLeaves new places
+leaves_after (Ok place) places h are = leaves_kept places h.adds are
+leaves_after (Err e) places h are = rw h.err are
 
 -- the table that gives the index of the cell for each small leaf stays right when it is extended by entries that mean
 -- `UNKNOWN`

@@ -1,5 +1,6 @@
 pub mod Cells
 pub mod Keys
+pub mod PackedLemmas
 pub mod Canon
 pub mod CaseLists
 pub mod SplitCases

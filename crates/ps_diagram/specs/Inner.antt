@@ -2,11 +2,11 @@
 
 pub mod Chosen
 pub mod Composed
-pub mod Hashed
 pub mod Kept
 pub mod Known
 pub mod LeafTables
 pub mod Numbered
+pub mod Packed
 pub mod Parts
 pub mod Placed
 pub mod Rests

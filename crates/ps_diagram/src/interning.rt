@@ -1,11 +1,12 @@
 //! The cells of a store, one for each node, and the index (place) of each.
 
 ghost use Rattle.std.specs.Prelude.{◌≡◌, ◌^◌, ◌<◌, [], IfOk, IfSome, Some, length, slice_get, slice_index_or};
+ghost use Rattle.ps_diagram.specs.Inner.Packed.{CanPack};
 ghost use Rattle.ps_diagram.specs.Inner.Placed.{PlacesCell};
 ghost use Rattle.ps_diagram.specs.declared.view.View.TheVariants.{Leaf, Nothing};
 
+use crate::packed::PackedCells;
 use crate::view::View;
-use ps_keys::KeyList;
 use std::alloc::{AllocError, Global};
 use std::marker::Model;
 
@@ -18,7 +19,7 @@ const UNKNOWN: u32 = u32::MAX;
 #[derive(Debug, Drop)]
 pub(crate) struct Cells {
     /// The cells.
-    list: KeyList<View>,
+    list: PackedCells,
     /// For each small leaf, the index of its cell, or `UNKNOWN`.
     leaves: Vec<u32>,
 }
@@ -41,7 +42,7 @@ impl Cells {
         ensures { result ≡ [] }
     {
         Cells {
-            list: KeyList::new(alloc),
+            list: PackedCells::new(alloc),
             leaves: Vec::new(alloc),
         }
     }
@@ -56,11 +57,12 @@ impl Cells {
     }
 
     /// The cell at an index of the list.
+    #[inline(always)]
     pub(crate) fn at(&self, place: u32) -> View
         requires { place < length self.now }
         ensures { result ≡ slice_index_or self.now place Nothing }
     {
-        self.list.as_slice()[place as usize]
+        self.list.at(place)
     }
 
     /// The number of cells.
@@ -74,6 +76,7 @@ impl Cells {
 
     /// The index of a cell in the list. A cell that is not in the list is appended.
     pub(crate) fn place_of(&mut self, cell: View) -> Result<u32, AllocError>
+        requires { CanPack cell }
         ensures { PlacesCell self.old self.new cell result }
     {
         match cell {
@@ -97,11 +100,10 @@ impl Cells {
 
     /// The index of a cell in the list, found by its hash; a new cell is appended.
     fn place_by_hash(&mut self, cell: View) -> Result<u32, AllocError>
+        requires { CanPack cell }
         ensures { PlacesCell self.old self.new cell result }
     {
-        let place = self.list.place_of(cell)?;
-        let _ = self.list.len();
-        Ok(place as u32)
+        self.list.place_of(cell)
     }
 
     /// The index of a leaf's cell, if the table of small leaves has it.

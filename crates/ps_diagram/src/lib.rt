@@ -64,6 +64,7 @@ mod letter;
 mod maps;
 mod memo;
 mod overlay;
+mod packed;
 mod paths;
 pub mod products;
 mod rows;

@@ -50,34 +50,6 @@ pub enum View {
     },
 }
 
-/// A test is hashed by its two nodes, with the proposition in the low bits of the first.
-impl Hashed for View {
-    ghost use Rattle.ps_diagram.specs.Inner.Hashed.{hash_of_view};
-
-    ghost hash = { hash_of_view };
-
-    ghost alike = { Prim.search (hashing, rules) };
-
-    #[inline(always)]
-    fn hash(&self, seed: u64) -> u64 {
-        match self {
-            View::Nothing => 0,
-            View::Leaf(value) => mixed(seed, *value, u64::MAX),
-            View::Test {
-                proposition,
-                low,
-                high,
-            } => mixed(
-                seed,
-                (low.place as u64)
-                    .wrapping_mul(64)
-                    .wrapping_add(*proposition as u64),
-                high.place as u64,
-            ),
-        }
-    }
-}
-
 impl Word for Node {
     ghost word = { λ node. node };
 
