@@ -1,14 +1,13 @@
 //! The edges of a state whose labels are conjunctions of literals, as the cases of the diagram of the state's steps.
 
 ghost use Rattle.std.specs.Prelude.{◌≡◌, IfOk, IfSome, length};
+ghost use Rattle.ps_hoa.specs.Sound.{IsSoundFile, IsSoundRow};
 ghost use Rattle.ps_hoa.specs.Views.{row_data};
 ghost use Rattle.ps_automaton.specs.Inner.Cases.{AreCases, AreProducts};
-ghost use Rattle.ps_automaton.specs.Inner.Drafts.{IsReady};
 
-use crate::guards::Guards;
 use crate::targets::Target;
 use ps_diagram::{Case, Product, Store};
-use ps_hoa::Guard;
+use ps_hoa::{Guard, HoaFile, Row};
 use std::alloc::{AllocError, Global};
 
 /// The labels of a row's edges as products of literals, or None if some edge has no label of its own, or a label that is
@@ -16,14 +15,18 @@ use std::alloc::{AllocError, Global};
 pub(crate) fn products_of(
     alloc: Global,
     store: &Store,
-    guards: &Guards,
+    file: &HoaFile,
+    row: &Row,
 ) -> Result<Option<Vec<Product>>, AllocError>
-    requires { IsReady store.now guards.now }
-    ensures { IfOk result (λ found. IfSome found (λ products. AreProducts guards.now.file.now (row_data guards.now.row.now)
+    requires sound { IsSoundFile file.now }
+    requires row { IsSoundRow file.now (row_data row.now) }
+    requires letters { store.now.propositions ≡ length file.now.names }
+    ensures { IfOk result (λ found. IfSome found (λ products. AreProducts file.now (row_data row.now)
         products.items)) }
 {
+    let _ = file;
     let mut products = Vec::new(alloc);
-    for edge in &guards.row.edges {
+    for edge in &row.edges {
         let Guard::Stated(label) = &edge.guard else {
             return Ok(None);
         };

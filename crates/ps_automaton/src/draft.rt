@@ -9,9 +9,10 @@ ghost use Rattle.ps_hoa.specs.Sound.{IsSoundFile, IsSoundRow};
 ghost use Rattle.ps_hoa.specs.Edges.{row_of};
 ghost use Rattle.ps_hoa.specs.Views.{row_data};
 ghost use Rattle.ps_automaton.specs.Inner.Cases.{AreProducts};
-ghost use Rattle.ps_automaton.specs.Inner.Drafts.{ArePlaces, AreReady, AreSteps, AreTargets, Extends, Grows};
+ghost use Rattle.ps_automaton.specs.Inner.Drafts.{ArePlaces, AreSteps, AreTargets, Extends, Grows};
 ghost use Rattle.ps_automaton.specs.Inner.Drafts.{IsByLetters};
-ghost use Rattle.ps_automaton.specs.Inner.Drafts.{IsDraft, IsDraftFault, IsLabelNode, IsRowFault, IsSource, MakesSteps, MayMakeSteps};
+ghost use Rattle.ps_automaton.specs.Inner.Drafts.{IsDraft, IsDraftFault, IsLabelNode, IsRowFault, IsRowReady};
+ghost use Rattle.ps_automaton.specs.Inner.Drafts.{IsSource, MakesSteps, MayMakeSteps};
 ghost use Rattle.ps_automaton.specs.Inner.Drafts.{IsStateFault};
 ghost use Rattle.ps_automaton.specs.Inner.Drafts.{IsStepsOf};
 ghost use Rattle.ps_automaton.specs.Inner.LetterSets.{AreLetterSets, edge_at, entry_for};
@@ -124,14 +125,7 @@ fn state_node(pairs: &mut Pairs, source: &Source, state: u32) -> Result<Node, Au
     let Some(row) = source.file.row(state) else {
         return Ok(pairs.store.leaf(0)?);
     };
-    let label = label_node(&mut pairs.store, source, row)?;
-    let guards = Guards {
-        file: source.file,
-        row,
-        aliases: source.aliases,
-        label,
-    };
-    row_node(pairs, source.levels, &guards, source.sets)
+    row_node(pairs, source, row)
 }
 
 /// The diagram of a row's label, if the row has a label.
@@ -150,29 +144,21 @@ fn label_node(store: &mut Store, source: &Source, row: &Row) -> Result<Option<No
 }
 
 /// The diagram of the steps of the state to which a row belongs.
-fn row_node(
-    pairs: &mut Pairs,
-    levels: &Levels,
-    guards: &Guards,
-    sets: &Option<LetterSets>,
-) -> Result<Node, AutomatonFault>
-    requires pairs { AreReady pairs.old guards.now }
-    requires sets { IfSome sets.now (AreLetterSets guards.now.file.now) }
-    ensures steps { MakesSteps guards.now levels.now pairs.old pairs.new result }
-    ensures refused { IfErr result (IsRowFault guards.now.file.now (row_data guards.now.row.now)) }
+fn row_node(pairs: &mut Pairs, source: &Source, row: &Row) -> Result<Node, AutomatonFault>
+    requires { IsRowReady source.now (row_data row.now) pairs.old }
+    ensures steps { MakesSteps source.now (row_data row.now) pairs.old pairs.new result }
+    ensures refused { IfErr result (IsRowFault source.now.file.now (row_data row.now)) }
 {
-    if is_by_letters(guards.row) {
-        return Ok(node_by_letters(pairs, levels, guards)?);
+    if is_by_letters(row) {
+        return Ok(node_by_letters(pairs, source, row)?);
     }
-    if let Some(node) = node_by_cases(pairs, levels, guards)? {
+    if let Some(node) = node_by_cases(pairs, source, row)? {
         return Ok(node);
     }
-    if let Some(sets) = sets
-        && let Some(node) = node_by_sets(pairs, levels, guards, sets)?
-    {
+    if let Some(node) = node_by_sets(pairs, source, row)? {
         return Ok(node);
     }
-    node_by_labels(pairs, levels, guards)
+    node_by_labels(pairs, source, row)
 }
 
 /// Whether each edge in a state's row is taken at a single letter, whose number is the index of the edge.
@@ -187,72 +173,61 @@ fn is_by_letters(row: &Row) -> bool
 }
 
 /// The diagram of the steps of a state, if each edge of the state is taken at exactly one letter.
-fn node_by_letters(pairs: &mut Pairs, levels: &Levels, guards: &Guards) -> Result<Node, AllocError>
-    requires pairs { AreReady pairs.old guards.now }
-    requires by_letters { IsByLetters guards.now.file.now (row_data guards.now.row.now) }
-    ensures { MakesSteps guards.now levels.now pairs.old pairs.new result }
+fn node_by_letters(pairs: &mut Pairs, source: &Source, row: &Row) -> Result<Node, AllocError>
+    requires ready { IsRowReady source.now (row_data row.now) pairs.old }
+    requires by_letters { IsByLetters source.now.file.now (row_data row.now) }
+    ensures { MakesSteps source.now (row_data row.now) pairs.old pairs.new result }
 {
-    let targets = targets_of(pairs.alloc, guards)?;
-    let places = places_of(pairs.alloc, &mut pairs.steps, levels, &targets)?;
+    let targets = targets_of(pairs.alloc, row)?;
+    let places = places_of(pairs.alloc, &mut pairs.steps, source.levels, &targets)?;
     let node = pairs.store.of_leaves(&places)?;
     Ok(node)
 }
 
 /// The diagram of the steps of a state whose edges have conjunctions of literals as labels; None for other states, or if
 /// `Store::of_cases` returns None.
-fn node_by_cases(
-    pairs: &mut Pairs,
-    levels: &Levels,
-    guards: &Guards,
-) -> Result<Option<Node>, AllocError>
-    requires { AreReady pairs.old guards.now }
-    ensures { MayMakeSteps guards.now levels.now pairs.old pairs.new result }
+fn node_by_cases(pairs: &mut Pairs, source: &Source, row: &Row) -> Result<Option<Node>, AllocError>
+    requires { IsRowReady source.now (row_data row.now) pairs.old }
+    ensures { MayMakeSteps source.now (row_data row.now) pairs.old pairs.new result }
 {
-    let Some(products) = products_of(pairs.alloc, &pairs.store, guards)? else {
+    let Some(products) = products_of(pairs.alloc, &pairs.store, source.file, row)? else {
         return Ok(None);
     };
-    node_of_products(pairs, levels, guards, &products)
+    node_of_products(pairs, source, row, &products)
 }
 
 /// The diagram of the steps of a state, whose edges are taken at the letters at which the products in a list are true,
 /// or None if `Store::of_cases` returns None.
 fn node_of_products(
     pairs: &mut Pairs,
-    levels: &Levels,
-    guards: &Guards,
+    source: &Source,
+    row: &Row,
     products: &[Product],
 ) -> Result<Option<Node>, AllocError>
-    requires pairs { AreReady pairs.old guards.now }
-    requires products { AreProducts guards.now.file.now (row_data guards.now.row.now) products.now }
-    ensures { MayMakeSteps guards.now levels.now pairs.old pairs.new result }
+    requires ready { IsRowReady source.now (row_data row.now) pairs.old }
+    requires products { AreProducts source.now.file.now (row_data row.now) products.now }
+    ensures { MayMakeSteps source.now (row_data row.now) pairs.old pairs.new result }
 {
-    let targets = targets_of(pairs.alloc, guards)?;
-    let places = places_of(pairs.alloc, &mut pairs.steps, levels, &targets)?;
+    let targets = targets_of(pairs.alloc, row)?;
+    let places = places_of(pairs.alloc, &mut pairs.steps, source.levels, &targets)?;
     let mut cases = cases_of(pairs.alloc, products, &places, &targets)?;
     pairs.store.of_cases(&mut cases, 0)
 }
 
-/// The diagram of the steps of a state, made letter by letter, or None if `edges_by_letter` returns None. If the result
-/// is None, `pairs` is unchanged.
-fn node_by_sets(
-    pairs: &mut Pairs,
-    levels: &Levels,
-    guards: &Guards,
-    sets: &LetterSets,
-) -> Result<Option<Node>, AllocError>
-    requires pairs { AreReady pairs.old guards.now }
-    requires sets { AreLetterSets guards.now.file.now sets.now }
-    ensures grows { OnOk result (Grows guards.now.file.now.states pairs.old pairs.new) }
-    ensures none { IfOk result (λ made. IfNone made (pairs.new ≡ pairs.old)) }
-    ensures node { IfOk result (λ made. IfSome made (λ node. (q : ℕ) →
-        row_of guards.now.file.now q ≡ Some (row_data guards.now.row.now)
-        → IsStepsOf guards.now.file.now (chain_data levels.now.chain) q pairs.new.steps pairs.new.store node)) }
+/// The diagram of the steps of a state, made letter by letter, or None without sets of letters, or if `edges_by_letter`
+/// returns None.
+fn node_by_sets(pairs: &mut Pairs, source: &Source, row: &Row) -> Result<Option<Node>, AllocError>
+    requires { IsRowReady source.now (row_data row.now) pairs.old }
+    ensures { MayMakeSteps source.now (row_data row.now) pairs.old pairs.new result }
 {
-    let targets = targets_of(pairs.alloc, guards)?;
-    let Some(edges) = edges_by_letter(pairs.alloc, sets, guards.file, guards.row, &targets)? else {
+    let Some(sets) = source.sets else {
         return Ok(None);
     };
-    let node = node_of_edges(pairs, levels, &targets, &edges)?;
+    let targets = targets_of(pairs.alloc, row)?;
+    let Some(edges) = edges_by_letter(pairs.alloc, sets, source.file, row, &targets)? else {
+        return Ok(None);
+    };
+    let node = node_of_edges(pairs, source.levels, &targets, &edges)?;
     Ok(Some(node))
 }
 
@@ -284,30 +259,32 @@ fn node_of_edges(
 }
 
 /// The targets of the edges in a state's row, in the order of the edges.
-fn targets_of(alloc: Global, guards: &Guards) -> Result<Vec<Target>, AllocError>
-    requires file { IsSoundFile guards.now.file.now }
-    requires row { IsSoundRow guards.now.file.now (row_data guards.now.row.now) }
-    ensures { IfOk result (λ targets. AreTargets (row_data guards.now.row.now) targets.items) }
+fn targets_of(alloc: Global, row: &Row) -> Result<Vec<Target>, AllocError>
+    requires { (file : FileData) × IsSoundFile file × IsSoundRow file (row_data row.now) }
+    ensures { IfOk result (λ targets. AreTargets (row_data row.now) targets.items) }
 {
-    let mut targets = Vec::with_capacity(alloc, guards.row.edges.len())?;
-    for edge in &guards.row.edges {
-        targets.push(target_of(guards.row, edge))?;
+    let mut targets = Vec::with_capacity(alloc, row.edges.len())?;
+    for edge in &row.edges {
+        targets.push(target_of(row, edge))?;
     }
     Ok(targets)
 }
 
-/// The diagram of the steps of a state whose edges have labels.
-fn node_by_labels(
-    pairs: &mut Pairs,
-    levels: &Levels,
-    guards: &Guards,
-) -> Result<Node, AutomatonFault>
-    requires { AreReady pairs.old guards.now }
-    ensures steps { MakesSteps guards.now levels.now pairs.old pairs.new result }
-    ensures refused { IfErr result (IsRowFault guards.now.file.now (row_data guards.now.row.now)) }
+/// The diagram of the steps of a state, made by joining the diagrams of the labels of its edges.
+fn node_by_labels(pairs: &mut Pairs, source: &Source, row: &Row) -> Result<Node, AutomatonFault>
+    requires { IsRowReady source.now (row_data row.now) pairs.old }
+    ensures steps { MakesSteps source.now (row_data row.now) pairs.old pairs.new result }
+    ensures refused { IfErr result (IsRowFault source.now.file.now (row_data row.now)) }
 {
-    let union = joined(pairs.alloc, &mut pairs.store, guards)?;
-    Ok(node_of_union(pairs, levels, &union)?)
+    let label = label_node(&mut pairs.store, source, row)?;
+    let guards = Guards {
+        file: source.file,
+        row,
+        aliases: source.aliases,
+        label,
+    };
+    let union = joined(pairs.alloc, &mut pairs.store, &guards)?;
+    Ok(node_of_union(pairs, source.levels, &union)?)
 }
 
 /// The diagram of a state's steps, made from the joined diagram of the state's edges. The leaves of the joined diagram

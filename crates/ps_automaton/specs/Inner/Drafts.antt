@@ -25,7 +25,6 @@ use Rattle.ps_automaton.specs.declared.fault.AutomatonFault.{AutomatonFault}
 use Rattle.ps_automaton.specs.declared.fault.AutomatonFault.TheVariants.{ComplementedSet, NonParity, Nondeterministic}
 use Rattle.ps_automaton.specs.declared.fault.AutomatonFault.TheVariants.{OutOfMemory}
 use Rattle.ps_automaton.specs.declared.guards.Guards.{Guards}
-use Rattle.ps_automaton.specs.declared.levels.Levels.{Levels}
 use Rattle.ps_automaton.specs.declared.pairs.Pairs.{Pairs}
 use Rattle.ps_automaton.specs.declared.pairs.Source.{Source}
 use Rattle.ps_automaton.specs.declared.step.Step.{Step}
@@ -202,26 +201,6 @@ pub record Grows (states : ℕ) (old new : Pairs) : Type 0 where
   pub extends : Extends old.steps new.steps
   pub steps : AreSteps states new.steps
 
--- the precondition for building the diagram of the steps of a row's state: `IsReady` holds for the row, and `AreSteps`
--- for the list of steps
-pub record AreReady (pairs : Pairs) (g : Guards) : Type 0 where
-  pub ready : IsReady pairs.store g
-  pub steps : AreSteps g.file.now.states pairs.steps
-
--- if the result is no error, it is the diagram of the steps of the row's state, and the diagram store and the list of
--- steps have only grown
-pub record MakesSteps {E : Type 0} (g : Guards) (levels : Levels) (old new : Pairs) (result : Result ℕ E) : Type 0 where
-  pub grows : OnOk result (Grows g.file.now.states old new)
-  pub node : IfOk result (λ node. (q : ℕ) → row_of g.file.now q ≡ Some (row_data g.row.now) → IsStepsOf g.file.now
-      (chain_data levels.chain) q new.steps new.store node)
-
--- as `MakesSteps`, for a call that may also make no diagram
-pub record MayMakeSteps {E : Type 0} (g : Guards) (levels : Levels) (old new : Pairs) (result : Result (Option ℕ) E) :
-    Type 0 where
-  pub grows : OnOk result (Grows g.file.now.states old new)
-  pub node : IfOk result (λ made. IfSome made (λ node. (q : ℕ) → row_of g.file.now q ≡ Some (row_data g.row.now) →
-      IsStepsOf g.file.now (chain_data levels.chain) q new.steps new.store node))
-
 -- the precondition for building the diagrams of all states' steps: the diagrams of the aliases are in the store,
 -- `AreLetterSets` holds for the sets of letters, if there are any, and `AreSteps` for the list of steps
 pub record IsSource (s : Source) (pairs : Pairs) : Type 0 where
@@ -229,6 +208,26 @@ pub record IsSource (s : Source) (pairs : Pairs) : Type 0 where
   pub aliases : AreNodesOf pairs.store s.file.now.aliases s.aliases.now
   pub sets : IfSome s.sets.now (AreLetterSets s.file.now)
   pub steps : AreSteps s.file.now.states pairs.steps
+
+-- the precondition for building the diagram of the steps of a row's state
+pub record IsRowReady (s : Source) (row : RowData) (pairs : Pairs) : Type 0 where
+  pub source : IsSource s pairs
+  pub sound : IsSoundFile s.file.now
+  pub sound_row : IsSoundRow s.file.now row
+
+-- if the result is no error, it is the diagram of the steps of the row's state, and the diagram store and the list of
+-- steps have only grown
+pub record MakesSteps {E : Type 0} (s : Source) (row : RowData) (old new : Pairs) (result : Result ℕ E) : Type 0 where
+  pub grows : OnOk result (Grows s.file.now.states old new)
+  pub node : IfOk result (λ node. (q : ℕ) → row_of s.file.now q ≡ Some row → IsStepsOf s.file.now
+      (chain_data s.levels.now.chain) q new.steps new.store node)
+
+-- as `MakesSteps`, for a call that may also make no diagram
+pub record MayMakeSteps {E : Type 0} (s : Source) (row : RowData) (old new : Pairs) (result : Result (Option ℕ) E) :
+    Type 0 where
+  pub grows : OnOk result (Grows s.file.now.states old new)
+  pub node : IfOk result (λ made. IfSome made (λ node. (q : ℕ) → row_of s.file.now q ≡ Some row → IsStepsOf s.file.now
+      (chain_data s.levels.now.chain) q new.steps new.store node))
 
 pub record IsDraft (file : FileData) (chain : Chain) (steps : List Step) (t : Table) (nodes : List ℕ) : Type 0 where
   pub letters : t.propositions ≡ length file.names

@@ -13,16 +13,16 @@ pub product_of-requires : goal.product_of-requires
 product_of-requires c =
     let x = c.edge-item in
     let l = c.loop-edge in
-    let at = edge_at c.args.guards.now.row.now.edges.items l.edge-index omega arith
+    let at = edge_at c.args.row.now.edges.items l.edge-index omega arith
     (x.is ∙ ap (λ (es : List Edge). get_or es l.edge-index x.result) c.deref-edge-items.ensures.value) in
     let fit = fits c.requires.sound c.requires.row l.edge-index at in
-    record { within = (length c.args.guards.now.file.now.aliases, rw c.requires.letters (rw c.in-Stated.is at fit)) }
+    record { within = (length c.args.file.now.aliases, rw c.requires.letters (rw c.in-Stated.is at fit)) }
 
 pub loop-edge-preserved : goal.loop-edge-preserved
 loop-edge-preserved c =
     let x = c.edge-item in
     let l = c.loop-edge in
-    let at = edge_at c.args.guards.now.row.now.edges.items l.edge-index omega arith
+    let at = edge_at c.args.row.now.edges.items l.edge-index omega arith
     (x.is ∙ ap (λ (es : List Edge). get_or es l.edge-index x.result) c.deref-edge-items.ensures.value) in
     let guard : (edge_data x.result).guard ≡ stated (expression c.in-Stated.label) = rw c.in-Stated.is refl in
     let product = stated_product (edge_data x.result) (expression c.in-Stated.label) c.in-Some.product guard
@@ -36,8 +36,8 @@ pub returns : goal.returns
 returns c =
     let l = c.loop-edge in
     let v = l.invariant in
-    let row = row_data c.args.guards.now.row.now in
-    let all_edges : length c.args.guards.now.row.now.edges.items ≡ length row.edges = grind (arith, length-map) in
+    let row = row_data c.args.row.now in
+    let all_edges : length c.args.row.now.edges.items ≡ length row.edges = grind (arith, length-map) in
     record {
       one_each = omega (arith, v.so_far, all_edges, ap length c.deref-edge-items.ensures.value);
       each = λ k edge product there at. v.each k edge product

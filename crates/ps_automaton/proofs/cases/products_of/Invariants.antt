@@ -7,5 +7,5 @@ use Rattle.ps_automaton.proofs.cases.products_of.Given as goal
 abbrev pub invariant-loop-edge : goal.invariant-loop-edge
 invariant-loop-edge l = record {
   so_far : length l.products.items ≡ l.edge-index;
-  each : HaveProducts l.guards.file.now (row_data l.guards.row.now) l.edge-index l.products.items;
+  each : HaveProducts l.file (row_data l.row) l.edge-index l.products.items;
 }

@@ -25,10 +25,10 @@ whenever (Err e) p = tt
 
 pub returns : goal.returns
 returns c =
-    let ready = c.requires.pairs.ready in
-    let file = c.args.guards.now.file.now in
-    let row = row_data c.args.guards.now.row.now in
-    let chain = chain_data c.args.levels.now.chain in
+    let ready = c.requires.ready in
+    let file = c.args.source.now.file.now in
+    let row = row_data c.args.row.now in
+    let chain = chain_data c.args.source.now.levels.now.chain in
     let targets = c.in_ok-targets.targets.items in
     let places = c.in_ok-places.places.items in
     let products = c.args.products.now in
@@ -36,8 +36,8 @@ returns c =
     let steps = c.places_of.new.steps in
     let all_steps : AreSteps file.states steps =
     c.in_ok-places.ensures.within file.states (λ k target e.
-    let h = states_within ready.row c.in_ok-targets.ensures k target (rw c.deref.ensures.value at e) in
-    omega (arith, h)) c.requires.pairs.steps in
+    let h = states_within ready.sound_row c.in_ok-targets.ensures k target (rw c.deref.ensures.value at e) in
+    omega (arith, h)) ready.source.steps in
     let are_places : ArePlaces chain targets steps places = rw c.deref.ensures.value at c.in_ok-places.ensures.places in
     let are_cases : AreCases (length products) products places targets cases =
     rw (c.deref-2.ensures.value, c.deref-3.ensures.value) at c.in_ok-cases.ensures in
@@ -49,10 +49,10 @@ returns c =
           let by : (letter : ℕ) → IsLeafByCases (λ case. meets (length file.names) case.product letter) cases (Some 0)
           (leaf_of c.of_cases.new.self node letter) =
           λ letter. subst (λ n. IsLeafByCases (λ case. meets n case.product letter) cases (Some 0)
-          (leaf_of c.of_cases.new.self node letter)) ready.letters (rw c.deref_mut.ensures.value at (leaf letter)) in
-          steps_of_row ready.sound ready.row c.args.levels.now.few
-          (joined_by_cases ready.row c.in_ok-targets.ensures are_places c.requires.products are_cases by) all_steps
+          (leaf_of c.of_cases.new.self node letter)) ready.source.letters (rw c.deref_mut.ensures.value at (leaf letter)) in
+          steps_of_row ready.sound ready.sound_row c.args.source.now.levels.now.few
+          (joined_by_cases ready.sound_row c.in_ok-targets.ensures are_places c.requires.products are_cases by) all_steps
           are_places q of_state c.of_cases.new.self held
-          (leaf_by_cases ready.row c.in_ok-targets.ensures are_places c.requires.products are_cases by))
+          (leaf_by_cases ready.sound_row c.in_ok-targets.ensures are_places c.requires.products are_cases by))
           c.of_cases.ensures.held c.of_cases.ensures.leaf;
     }

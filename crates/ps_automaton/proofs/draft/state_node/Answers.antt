@@ -1,26 +1,16 @@
 use Rattle.std.proofs.Common.{arith, sym}
-use Rattle.std.proofs.lemmas.Result.{on_ok_weaker, IfErr-weaker}
+use Rattle.std.proofs.lemmas.Result.{IfErr-weaker}
 use Rattle.ps_hoa.proofs.Soundness.SoundLaws.{row_of_state}
 use Rattle.ps_hoa.specs.Views.{row_data}
-use Rattle.ps_automaton.proofs.Meeting.{keeps_both}
-use Rattle.ps_automaton.proofs.Ready.{kept_nodes}
 use Rattle.ps_automaton.proofs.StateSteps.{fault_of_state}
 use Rattle.ps_automaton.proofs.draft.state_node.Goals as goal
-
-pub label_node-requires-clause-row : goal.label_node-requires-clause-row
-label_node-requires-clause-row c = (row_of_state c.args.source.now.file.now c.row.ensures.well_formed c.args.state
-    (row_data c.in-Some.row.now) (sym c.in-Some.ensures.value)).0
 
 pub row_node-requires : goal.row_node-requires
 row_node-requires c = grind (
   arith,
   row_of_state c.args.source.now.file.now c.row.ensures.well_formed
       c.args.state (row_data c.in-Some.row.now) (sym c.in-Some.ensures.value),
-  kept_nodes c.in_ok-label.ensures.keeps c.requires.aliases,
 )
-
-pub returns-clause-grows : goal.returns-clause-grows
-returns-clause-grows c = grind (arith, on_ok_weaker, keeps_both)
 
 pub returns-clause-refused : goal.returns-clause-refused
 returns-clause-refused c =

@@ -10,15 +10,15 @@ pub target_of-requires-clause-edge : goal.target_of-requires-clause-edge
 target_of-requires-clause-edge c =
     let x = c.edge-item in
     let l = c.loop-edge in
-    edge_marks_few c.requires.file c.requires.row l.edge-index
-    (edge_at c.args.guards.now.row.now.edges.items l.edge-index omega arith
+    edge_marks_few c.requires.1 c.requires.2 l.edge-index
+    (edge_at c.args.row.now.edges.items l.edge-index omega arith
     (x.is ∙ ap (λ (es : List Edge). get_or es l.edge-index x.result) c.deref-edge-items.ensures.value))
 
 pub loop-edge-preserved : goal.loop-edge-preserved
 loop-edge-preserved c =
     let x = c.edge-item in
     let l = c.loop-edge in
-    let at = edge_at c.args.guards.now.row.now.edges.items l.edge-index omega arith
+    let at = edge_at c.args.row.now.edges.items l.edge-index omega arith
     (x.is ∙ ap (λ (es : List Edge). get_or es l.edge-index x.result) c.deref-edge-items.ensures.value) in
     grind (
       arith,

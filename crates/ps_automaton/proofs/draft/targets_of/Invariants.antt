@@ -7,5 +7,5 @@ use Rattle.ps_automaton.proofs.draft.targets_of.Given as goal
 abbrev pub invariant-loop-edge : goal.invariant-loop-edge
 invariant-loop-edge l = record {
   so_far : length l.targets.items ≡ l.edge-index;
-  each : HaveTargets (row_data l.guards.row.now) l.edge-index l.targets.items;
+  each : HaveTargets (row_data l.row) l.edge-index l.targets.items;
 }
