@@ -93,8 +93,7 @@ fn row(alloc: Global, tokens: &mut Tokens, header: &Header, rows: &Rows) -> Resu
     Ok(row)
 }
 
-/// An empty list of edges, which has space for as many edges as the previous state has, unless memory runs out. The
-/// space that stays unused is at most that of all edges of the text.
+/// An empty list of edges, which has space for as many edges as the previous state has, unless memory runs out.
 fn no_edges(alloc: Global, previous: Option<&Row>) -> Vec<Edge>
     ensures { result.items ≡ [] }
 {

@@ -61,8 +61,8 @@ pub(crate) fn labelling_of(row: &Row) -> Labelling
     }
 }
 
-/// Parses the edges of a state, up to the first token that does not begin an edge. The argument `before` is the number
-/// of edges of the earlier states.
+/// Parses the edges of a state, up to the first token that does not begin an edge, and gives up the space that the list
+/// of edges does not use. The argument `before` is the number of edges of the earlier states.
 pub(crate) fn edges(
     alloc: Global,
     tokens: &mut Tokens,
@@ -76,6 +76,7 @@ pub(crate) fn edges(
     'more: while is_at_edge(tokens) {
         edge(alloc, tokens, header, before, row)?;
     }
+    row.edges.shrink_to_fit();
     Ok(())
 }
 

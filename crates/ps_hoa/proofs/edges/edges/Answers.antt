@@ -1,10 +1,11 @@
-use Rattle.std.proofs.Common.{arith, sym, ◌∙◌}
+use Rattle.std.proofs.Common.{◌≡◌, List, ap, arith, map, sym, ◌∙◌}
 use Rattle.ps_hoa.specs.Inner.Ahead.{begins_edge}
 use Rattle.ps_hoa.specs.Header.{header_data}
-use Rattle.ps_hoa.specs.Views.{row_data}
+use Rattle.ps_hoa.specs.Views.{edge_data, row_data}
+use Rattle.ps_hoa.specs.declared.file.Edge.{Edge}
 use Rattle.ps_hoa.proofs.Grammar.OperandLaws.{false_true}
 use Rattle.ps_hoa.proofs.Reading.BodyReading.{edge_begins}
-use Rattle.ps_hoa.proofs.Reading.HoaExits.{exit, loop_more, loop_fails, loop_ends, loop_shrinks}
+use Rattle.ps_hoa.proofs.Reading.HoaExits.{exit, loop_more, loop_fails, loop_ends, loop_shrinks, value_is}
 use Rattle.ps_hoa.proofs.Reading.ExpectReading.{avoids_kind}
 use Rattle.ps_hoa.proofs.Reading.StateReading.{edge_loop}
 use Rattle.ps_hoa.proofs.edges.edges.Goals as goal
@@ -26,5 +27,10 @@ returns-in_err-edge c = let h = header_data c.args.header.now in
     c.in_err-edge.ensures c.from_residual.ensures.1
 
 pub returns : goal.returns
-returns c = loop_ends (edge_loop (header_data c.args.header.now) c.args.before) c.more.invariant
-    (avoids_kind begins_edge _ (λ k. false_true (sym c.more-test.false ∙ c.is_at_edge.ensures ∙ k)))
+returns c =
+    let same : row_data c.more.row ≡ row_data (record c.more.row { edges = c.shrink_to_fit.new.self }) =
+    ap (λ (es : List Edge). record (row_data c.more.row) { edges = map edge_data es })
+    (sym c.shrink_to_fit.ensures.items)
+    in
+    value_is same (loop_ends (edge_loop (header_data c.args.header.now) c.args.before) c.more.invariant
+    (avoids_kind begins_edge _ (λ k. false_true (sym c.more-test.false ∙ c.is_at_edge.ensures ∙ k))))
