@@ -24,6 +24,7 @@ use crate::refusal::{fault_at, refused};
 use crate::rows::Rows;
 use crate::signs::{expect, is_name};
 use crate::tokens::{Kind, Token, Tokens};
+use crate::usual::Usual;
 use ps_label::Label;
 use std::alloc::Global;
 
@@ -190,7 +191,7 @@ fn state_label(
         return Ok(None);
     }
     expect(tokens, Kind::LeftBracket)?;
-    let label = label_in_brackets(alloc, tokens, header)?;
+    let label = label_in_brackets(alloc, tokens, header, Usual::new())?;
     Ok(Some(label))
 }
 

@@ -13,6 +13,7 @@ use crate::infix::{self, Connective, Infix};
 use crate::refusal::{fault_at, refused};
 use crate::signs::{expect, int_of};
 use crate::tokens::{Kind, Token, Tokens, is_same};
+use crate::usual::Usual;
 use std::alloc::{AllocError, Global};
 
 /// An acceptance condition (HOA v1, acceptance). A condition is a Boolean combination of statements that a run visits a
@@ -79,6 +80,10 @@ impl Infix for Conditions {
     // Never called: in a condition, `!` may only come before the number of a set, not before an operand.
     fn negated(&self, _alloc: Global, operand: Cond) -> Result<Cond, AllocError> {
         Ok(operand)
+    }
+
+    fn usual(&self, connective: Connective) -> usize {
+        Usual::new().count(connective)
     }
 
     fn together(&self, connective: Connective, operands: Vec<Cond>) -> Cond

@@ -52,6 +52,9 @@ pub(crate) trait Infix {
         ensures { IfOk result
             (λ v. IfSome (grammar self.now).negated (λ negated. meaning v ≡ negated (meaning operand))) };
 
+    /// The number of operands to make space for, in a row with the given connective.
+    fn usual(&self, connective: Connective) -> usize;
+
     /// The joint value of operands with the same connective between them.
     fn together(&self, connective: Connective, operands: Vec<Self::Value>) -> Self::Value
         ensures { meaning result ≡ (grammar self.now).together connective (map meaning operands.items) };
@@ -88,22 +91,37 @@ fn row<G: Infix>(
     if !is_at(tokens, connective) {
         return Ok(first);
     }
-    let mut operands = begun(alloc, first)?;
+    let mut operands = begun(alloc, first, grammar.usual(connective))?;
     'more: while is_at(tokens, connective) {
         tokens.skip();
         operands.push(part(alloc, tokens, grammar, room, connective)?)?;
     }
+    let operands = fitted(alloc, operands)?;
     Ok(grammar.together(connective, operands))
 }
 
-/// A list with the first operand, and with space for three more operands.
+/// A list with the first operand, and with space for the given number of operands.
 #[inline(always)]
-fn begun<V: Drop>(alloc: Global, first: V) -> Result<Vec<V>, AllocError>
+fn begun<V: Drop>(alloc: Global, first: V, count: usize) -> Result<Vec<V>, AllocError>
     ensures { IfOk result (λ operands. operands.items ≡ first ∷ []) }
 {
-    let mut operands = Vec::with_capacity(alloc, 4)?;
+    let mut operands = Vec::with_capacity(alloc, count)?;
     operands.push(first)?;
     Ok(operands)
+}
+
+/// A list of the same operands in memory of just their size. If the operands are moved, the memory in which they were
+/// gathered is free for the operands of the next row.
+#[inline(always)]
+fn fitted<V: Drop>(alloc: Global, mut operands: Vec<V>) -> Result<Vec<V>, AllocError>
+    ensures { IfOk result (λ fitted. fitted.items ≡ operands.items) }
+{
+    if operands.len() == operands.capacity() {
+        return Ok(operands);
+    }
+    let mut fitted = Vec::with_capacity(alloc, operands.len())?;
+    fitted.append(&mut operands)?;
+    Ok(fitted)
 }
 
 /// Parses what may be on either side of a connective: an operand for `&`, a row of operands with `&` for `|`.

@@ -49,6 +49,11 @@ impl Infix for Scope<'_, '_> {
         Ok(Label::Neg(Box::new(alloc, operand)?))
     }
 
+    #[inline(always)]
+    fn usual(&self, connective: Connective) -> usize {
+        self.usual.count(connective)
+    }
+
     fn together(&self, connective: Connective, operands: Vec<Label>) -> Label
         ensures { expression result ≡ labels.together connective (expressions operands.items) }
     {

@@ -49,6 +49,7 @@ mod rows;
 mod signs;
 mod skipped;
 pub mod tokens;
+mod usual;
 
 pub use condition::Cond;
 pub use fault::{HoaCause, HoaFault};

@@ -43,7 +43,8 @@ row-more-preserved g t c =
 pub row-returns : goal.row-returns
 row-returns g t c =
     let grammar = g.G.Infix.grammar c.args.grammar.now in
-    value_is (sym c.together.ensures) (row_done (operand_row grammar c.requires c.args.room c.args.connective)
+    let same = ap (grammar.together c.args.connective) (ap (map g.G.Infix.meaning) (sym c.in_ok-operands-2.ensures)) in
+    value_is (same ∙ sym c.together.ensures) (row_done (operand_row grammar c.requires c.args.room c.args.connective)
     c.more.invariant (grammar.together c.args.connective) (iff_false c.is_at-in-more.ensures c.more-test.false))
 
 pub row-more-smaller : goal.row-more-smaller
