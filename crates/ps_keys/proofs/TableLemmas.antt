@@ -112,7 +112,7 @@ pub copied : {K : Type 0} (hash : ℕ → K → ℕ) (old new : List K) (t u : T
     HasKeys hash new (length new) u
 copied hash old new t u same slots reach seed h = record {
   few = rw slots h.few;
-  half = rw (same, slots) h.half;
+  room = rw (same, slots) h.room;
   short = rw (slots, reach) h.short;
   each = rw (same, slots, reach, seed) h.each;
 }
@@ -123,7 +123,7 @@ module _ {K : Type 0} (list : List K) (key : K) where
       HasKeys hash (list ++ key ∷ []) n t
   pushed hash n t all h = rw all (record {
     few = h.few;
-    half = h.half;
+    room = h.room;
     short = h.short;
     each = λ j d less. rw (get_or_append_left list (key ∷ []) d j less) (h.each j d less);
   })

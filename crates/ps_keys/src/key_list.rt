@@ -76,8 +76,8 @@ impl<K: Hashed> KeyList<K> {
         }
     }
 
-    /// The index of a key in the list; a new key is appended. Fails if out of memory, or if the list has 2^31 keys
-    /// already.
+    /// The index of a key in the list; a new key is appended. Fails if out of memory, or if the list has 5 * 2^29
+    /// keys already.
     #[inline(always)]
     pub fn place_of(&mut self, key: K) -> Result<usize, AllocError>
         ensures { PlacesKey K.eq self.old self.new key result }

@@ -4,7 +4,7 @@ ghost use Rattle.std.specs.Prelude.{◌≡◌, ℕ, ◌+◌, ◌*◌, ◌^◌, �
 ghost use Rattle.std.specs.Prelude.{length, slice_index_or};
 ghost use Rattle.std.specs.Bool.{OnTrue};
 ghost use Rattle.ps_keys.specs.Inner.Slots.{tag_of, nth_slot, Ends};
-ghost use Rattle.ps_keys.specs.Inner.Tables.{HasKeys, IsFree, IsSought};
+ghost use Rattle.ps_keys.specs.Inner.Tables.{HasKeys, HasRoom, IsFree, IsSought};
 
 use crate::hashed::{Hashed, MULTIPLIER};
 use std::alloc::{AllocError, Global};
@@ -17,7 +17,7 @@ const MOST: usize = 1 << 32;
 
 /// If a search for a new key passes more slots than this, the table gets a new seed and twice as many slots, unless it
 /// has at least `SPARSE` times as many slots as keys.
-const LONG: usize = 128;
+const LONG: usize = 256;
 
 /// See `LONG`.
 const SPARSE: usize = 32;
@@ -43,9 +43,9 @@ pub(crate) struct Free {
 }
 
 /// A table of the keys of a list, by open addressing with linear probing. The number of slots is a power of two, and at
-/// most half of the slots are used. The low bits of a key's hash give its home, the slot at which a search for the key
-/// begins. From there, the search goes from each slot to the next, and from the last slot to the first, until it finds
-/// the key or an empty slot, or has passed as many slots as it must for any key.
+/// most five eighths of the slots are used. The low bits of a key's hash give its home, the slot at which a search for
+/// the key begins. From there, the search goes from each slot to the next, and from the last slot to the first, until
+/// it finds the key or an empty slot, or has passed as many slots as it must for any key.
 ///
 /// A slot holds 0 if it is empty. Otherwise it holds the index of a key, counted from 1, and in the bits above it the
 /// key's tag, which is a part of the hash. So a search seldom reads a key that it does not seek.
@@ -134,7 +134,7 @@ impl Table {
     #[inline(always)]
     pub(crate) fn fill<K: Hashed>(&mut self, list: &[K], place: usize, key: K, free: Free)
         requires keys { HasKeys K.hash list.now place self.old }
-        requires half { 2 * (place + 1) ≤ length self.old.slots.items }
+        requires room { HasRoom (place + 1) (length self.old.slots.items) }
         requires key { (d : K) → slice_index_or list.now place d ≡ key }
         requires free { IsFree K.hash self.old key free }
         ensures keys { HasKeys K.hash list.now (place + 1) self.new }
@@ -158,7 +158,7 @@ impl Table {
         requires keys { HasKeys K.hash list.now (length list.now) self.old }
         requires free { IfSome free (IsFree K.hash self.old key) }
         ensures keys { HasKeys K.hash list.now (length list.now) self.new }
-        ensures half { OnOk result (2 * (length list.now + 1) ≤ length self.new.slots.items) }
+        ensures room { OnOk result (HasRoom (length list.now + 1) (length self.new.slots.items)) }
         ensures free { IfOk result (IsFree K.hash self.new key) }
     {
         match free {
@@ -167,24 +167,24 @@ impl Table {
         }
     }
 
-    /// Whether the table can take a new key, behind `passed` slots, in addition to `count` keys: at most half of its
-    /// slots are then used, and no search is too long (see `LONG`).
+    /// Whether the table can take a new key, behind `passed` slots, in addition to `count` keys: at most five eighths
+    /// of its slots are then used, and no search is too long (see `LONG`).
     #[inline(always)]
     fn takes(&self, count: usize, passed: usize) -> bool
-        ensures { OnTrue result (2 * (count + 1) ≤ length self.now.slots.items) }
+        ensures { OnTrue result (HasRoom (count + 1) (length self.now.slots.items)) }
     {
         let size = self.slots.len();
-        count < size / 2 && (passed <= LONG || count <= size / SPARSE)
+        count < size / 8 * 5 && (passed <= LONG || count <= size / SPARSE)
     }
 
     /// Finds an empty slot for a key that the list lacks. If the table cannot take the key there, the number of slots
-    /// is doubled. An empty slot is then found, since at most half of the slots are used; the error where none is found
-    /// is not proved impossible.
+    /// is doubled. An empty slot is then found, since at most five eighths of the slots are used; the error where none
+    /// is found is not proved impossible.
     #[inline(never)]
     fn seek_room<K: Hashed>(&mut self, list: &[K], key: K) -> Result<Free, AllocError>
         requires { HasKeys K.hash list.now (length list.now) self.old }
         ensures keys { HasKeys K.hash list.now (length list.now) self.new }
-        ensures half { OnOk result (2 * (length list.now + 1) ≤ length self.new.slots.items) }
+        ensures room { OnOk result (HasRoom (length list.now + 1) (length self.new.slots.items)) }
         ensures free { IfOk result (IsFree K.hash self.new key) }
     {
         if let Some(free) = self.free_slot(key.hash(self.seed))
@@ -200,7 +200,7 @@ impl Table {
     fn grow<K: Hashed>(&mut self, list: &[K]) -> Result<(), AllocError>
         requires { HasKeys K.hash list.now (length list.now) self.old }
         ensures keys { HasKeys K.hash list.now (length list.now) self.new }
-        ensures half { OnOk result (2 * (length list.now + 1) ≤ length self.new.slots.items) }
+        ensures room { OnOk result (HasRoom (length list.now + 1) (length self.new.slots.items)) }
     {
         let size = self.slots.len().saturating_mul(2).max(FEWEST);
         if size > MOST {

@@ -7,11 +7,15 @@ use Rattle.ps_keys.specs.declared.table.Table.{Table}
 use Rattle.ps_keys.specs.Inner.Slots.{Reaches, Ends}
 use Rattle.ps_keys.specs.Keys.{LacksFrom}
 
+-- so many slots are enough for n keys: at most five eighths of the slots are then used
+abbrev pub HasRoom : (n size : ℕ) → Type 0
+HasRoom n size = 8 * n ≤ 5 * size
+
 -- The table has the first n keys of the list: a search for the hash of each of them comes to its entry, and passes
--- fewer slots than the table's reach. At most half of the slots are used.
+-- fewer slots than the table's reach.
 pub record HasKeys {K : Type 0} (hash : ℕ → K → ℕ) (list : List K) (n : ℕ) (t : Table) : Type 0 where
   pub few : length t.slots.items ≤ 2 ^ 32
-  pub half : 2 * n ≤ length t.slots.items
+  pub room : HasRoom n (length t.slots.items)
   pub short : t.reach ≤ length t.slots.items
   pub each : (j : ℕ) (d : K) → j < n →
       (passed : ℕ) × (passed < t.reach) × Reaches t.slots.items (hash t.seed (slice_index_or list j d)) j passed

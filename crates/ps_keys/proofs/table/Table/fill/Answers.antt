@@ -26,7 +26,7 @@ returns-clause-keys g c =
     let same = length-set slots free.slot (entry_of slots (f c.args.key) place) in
     rw entry (record {
       few = rw same h.few;
-      half = rw same c.requires.half;
+      room = rw same c.requires.room;
       short = rw same (omega (arith, h.short, ends.within));
       each = rw c.max-self.ensures (filled f c.args.list.now c.args.key place free.passed free.slot old.reach slots
           (slot_within slots (f c.args.key) free.passed free.slot ends) ends c.requires.key h.each);
