@@ -13,10 +13,10 @@ use Rattle.ps_diagram.specs.Products.{IsLeafByCases, meets}
 use Rattle.ps_diagram.specs.declared.cases.Case.{Case}
 use Rattle.ps_diagram.specs.declared.products.Product.{Product}
 use Rattle.ps_hoa.specs.Edges.{IsTaken}
-use Rattle.ps_hoa.specs.Files.{EdgeData, FileData, RowData, of_state, stated}
+use Rattle.ps_hoa.specs.Files.{EdgeData, FileData, RowData, of_state}
 use Rattle.ps_hoa.specs.Sound.{IsSoundRow}
 use Rattle.ps_automaton.specs.Chains.{Chain}
-use Rattle.ps_automaton.specs.Inner.Cases.{AreCases, AreProducts, IsProductOf}
+use Rattle.ps_automaton.specs.Inner.Cases.{AreCases, AreProducts, IsEdgeLabel, IsProductOf}
 use Rattle.ps_automaton.specs.Inner.Drafts.{AreJoined, ArePlaces, AreTargets, IsTargetAt, TakenEdge, step_of_target}
 use Rattle.ps_automaton.specs.Inner.LetterSets.{entry_for}
 use Rattle.ps_automaton.specs.declared.step.Step.{Step}
@@ -44,17 +44,17 @@ products_more {file} {row} products {more} {count} {edge} {product} size is at_e
           rw (same, last.0) is_product
     ]
 
--- the product of an edge's own label
-pub stated_product : {file : FileData} {row : RowData} {n : ℕ} (edge : EdgeData) (e : Expression) (product : Product) →
-    edge.guard ≡ stated e → n ≡ length file.names →
+-- the product of an edge's label
+pub product_of_label : {file : FileData} {row : RowData} {n : ℕ} {edge : EdgeData} {e : Expression} (product : Product) →
+    IsEdgeLabel file row edge e → n ≡ length file.names →
     ((known : List Bool) (letter : ℕ) → meets n product letter ≡ truth known letter e) →
     IsProductOf file row edge product
 unfolding label_truth
-stated_product {file} {row} {n} edge e product is letters same = record {
+product_of_label {file} {row} {n} {edge} {e} product label letters same = record {
   taken = λ letter.
       let truth_of : meets (length file.names) product letter ≡ label_truth file.aliases letter e =
       rw (← letters) (same (alias_truths file.aliases letter) letter) in
-      rw (is, truth_of) (λ h. h, λ h. h);
+      rw truth_of (label.taken letter);
 }
 
 pub cases_more : {products : List Product} {places : List ℕ} {targets : List Target} {count : ℕ}

@@ -11,7 +11,6 @@ use Rattle.std.proofs.lemmas.List.{get_or_default}
 use Rattle.std.proofs.lemmas.Option.{slice_get-get_or, slice_get-map}
 use Rattle.std.proofs.Math.Nat.{mod-eq_of_lt}
 use Rattle.ps_text.proofs.Simple.{same_some}
-use Rattle.ps_label.specs.Truth.{is_in}
 use Rattle.ps_hoa.specs.Edges.{IsTaken}
 use Rattle.ps_hoa.specs.Files.{EdgeData, RowData, FileData}
 use Rattle.ps_hoa.specs.Sound.{IsSoundRow}
@@ -44,15 +43,15 @@ is_not : {b : Bool} → b ≡ false → IsTrue b → ⊥
 is_not is h = grind arith
 
 -- after one more edge, the indices in the list are still less than the number of targets
-pub firsts_more : (targets : List Target) (place : ℕ) → place < length targets → (set : ℕ)
+pub firsts_more : (targets : List Target) (place : ℕ) → place < length targets → (holds : ℕ → Bool)
     (old new : List (Option ℕ)) → length new ≡ length old →
     ((letter : ℕ) → letter < length old →
-    IsAdded targets place (is_in letter set) (edge_at old letter) (edge_at new letter)) →
+    IsAdded targets place (holds letter) (edge_at old letter) (edge_at new letter)) →
     AreFirsts (length targets) old → AreFirsts (length targets) new
-firsts_more targets place low set old new size added were k d within =
+firsts_more targets place low holds old new size added were k d within =
     let within_old : k < length old = omega (arith, within, size) in
     rw (get_or_default new k d None within)
-    (go (is_in k set) (edge_at old k) (edge_at new k) (added k within_old) (were k None within_old))
+    (go (holds k) (edge_at old k) (edge_at new k) (added k within_old) (were k None within_old))
   where
     go : (b : Bool) (o n : Option ℕ) → IsAdded targets place b o n → IfSome o (λ first. first < length targets) →
         IfSome n (λ first. first < length targets)
@@ -72,14 +71,14 @@ module _ {file : FileData} {row : RowData} (row_sound : IsSoundRow file row) {ta
   }
 
   -- one more edge
-  module _ {place : ℕ} (set : ℕ) {edge : EdgeData} (at : slice_get row.edges place ≡ Some edge)
+  module _ {place : ℕ} (holds : ℕ → Bool) {edge : EdgeData} (at : slice_get row.edges place ≡ Some edge)
       (taken : (letter : ℕ) → letter < 2 ^ length file.names →
-      (IsTrue (is_in letter set) ↔ IsTaken file row edge letter)) (old new : List (Option ℕ))
+      (IsTrue (holds letter) ↔ IsTaken file row edge letter)) (old new : List (Option ℕ))
       (added : (letter : ℕ) → letter < 2 ^ length file.names →
-      IsAdded targets place (is_in letter set) (edge_at old letter) (edge_at new letter))
+      IsAdded targets place (holds letter) (edge_at old letter) (edge_at new letter))
       (joined : AreJoined file row place targets (edge_at old)) where
     there_of : (letter : ℕ) → letter < 2 ^ length file.names → (e : TakenEdge file row (place + 1) letter) →
-        (b : Bool) → is_in letter set ≡ b → (o : Option ℕ) → edge_at old letter ≡ o →
+        (b : Bool) → holds letter ≡ b → (o : Option ℕ) → edge_at old letter ≡ o →
         IsAdded targets place b o (edge_at new letter) → IsSomeAnd (edge_at new letter) (IsTargetAt row e.edge targets)
     there_of letter small e b in_set o was is = elim (cases_lt e.place place) [
       | inl low ↦ (
@@ -97,7 +96,7 @@ module _ {file : FileData} {row : RowData} (row_sound : IsSoundRow file row) {ta
         earlier true None is h = absurd h
         earlier true (Some first) is h = rw is.0 h
 
-        this : (b : Bool) (o : Option ℕ) → IsAdded targets place b o (edge_at new letter) → is_in letter set ≡ b →
+        this : (b : Bool) (o : Option ℕ) → IsAdded targets place b o (edge_at new letter) → holds letter ≡ b →
             IsTaken file row edge letter → e.edge ≡ edge →
             IsSomeAnd (edge_at new letter) (IsTargetAt row e.edge targets)
         this false o is in_set h same = absurd (is_not in_set ((taken letter small).1 h))
@@ -107,7 +106,7 @@ module _ {file : FileData} {row : RowData} (row_sound : IsSoundRow file row) {ta
             rw (is.0, same) (t.0, is.1 ∙ t.1, t.2)
 
     from_of : (letter : ℕ) → letter < 2 ^ length file.names → (p : ℕ) → edge_at new letter ≡ Some p →
-        (b : Bool) → is_in letter set ≡ b → (o : Option ℕ) → edge_at old letter ≡ o →
+        (b : Bool) → holds letter ≡ b → (o : Option ℕ) → edge_at old letter ≡ o →
         IsAdded targets place b o (edge_at new letter) → TakenEdge file row (place + 1) letter
     from_of letter small p there false in_set o was is = wider (joined.from letter p small (was ∙ sym is ∙ there))
     from_of letter small p there true in_set None was is = record {
@@ -122,9 +121,9 @@ module _ {file : FileData} {row : RowData} (row_sound : IsSoundRow file row) {ta
     pub joined_more : AreJoined file row (place + 1) targets (edge_at new)
     joined_more = record {
       there = λ letter small e.
-          there_of letter small e (is_in letter set) refl (edge_at old letter) refl (added letter small);
+          there_of letter small e (holds letter) refl (edge_at old letter) refl (added letter small);
       from = λ letter p small there.
-          from_of letter small p there (is_in letter set) refl (edge_at old letter) refl (added letter small);
+          from_of letter small p there (holds letter) refl (edge_at old letter) refl (added letter small);
       within = joined.within;
     }
 

@@ -5,13 +5,14 @@ ghost use Rattle.ps_hoa.specs.Sound.{IsSoundFile, IsSoundRow};
 ghost use Rattle.ps_hoa.specs.Views.{row_data};
 ghost use Rattle.ps_automaton.specs.Inner.Cases.{AreCases, AreProducts};
 
+use crate::edge_labels::label_of;
 use crate::targets::Target;
 use ps_diagram::{Case, Product, Store};
-use ps_hoa::{Guard, HoaFile, Row};
+use ps_hoa::{HoaFile, Row};
 use std::alloc::{AllocError, Global};
 
-/// The labels of a row's edges as products of literals, or None if some edge has no label of its own, or a label that is
-/// no conjunction of literals. Fails if out of memory.
+/// The labels of a row's edges as products of literals, or None if some edge has no label, or a label that is no
+/// conjunction of literals. Fails if out of memory.
 pub(crate) fn products_of(
     alloc: Global,
     store: &Store,
@@ -27,7 +28,7 @@ pub(crate) fn products_of(
     let _ = file;
     let mut products = Vec::new(alloc);
     for edge in &row.edges {
-        let Guard::Stated(label) = &edge.guard else {
+        let Some(label) = label_of(row, edge) else {
             return Ok(None);
         };
         let Some(product) = store.product_of(label) else {

@@ -20,6 +20,7 @@ ghost use Rattle.ps_automaton.specs.Inner.Views.{chain_data};
 ghost use Rattle.ps_automaton.specs.declared.targets.Target.{Target};
 
 use crate::cases::{cases_of, products_of};
+use crate::edge_labels::size_of_labels;
 use crate::fault::AutomatonFault;
 use crate::guards::Guards;
 use crate::letter_rows::{edges_by_letter, leaves_of};
@@ -214,8 +215,8 @@ fn node_of_products(
     pairs.store.of_cases(&mut cases, 0)
 }
 
-/// The diagram of the steps of a state, made letter by letter, or None without sets of letters, or if `edges_by_letter`
-/// returns None.
+/// The diagram of the steps of a state, made letter by letter; None without sets of letters, if the labels are too short
+/// for this to be worth it, or if `edges_by_letter` returns None.
 fn node_by_sets(pairs: &mut Pairs, source: &Source, row: &Row) -> Result<Option<Node>, AllocError>
     requires { IsRowReady source.now (row_data row.now) pairs.old }
     ensures { MayMakeSteps source.now (row_data row.now) pairs.old pairs.new result }
@@ -223,12 +224,21 @@ fn node_by_sets(pairs: &mut Pairs, source: &Source, row: &Row) -> Result<Option<
     let Some(sets) = source.sets else {
         return Ok(None);
     };
+    if !is_worth_letters(row, source.file.names().len()) {
+        return Ok(None);
+    }
     let targets = targets_of(pairs.alloc, row)?;
     let Some(edges) = edges_by_letter(pairs.alloc, sets, source.file, row, &targets)? else {
         return Ok(None);
     };
     let node = node_of_edges(pairs, source.levels, &targets, &edges)?;
     Ok(Some(node))
+}
+
+/// Whether joining a row's edges letter by letter takes less time than joining the diagrams of their labels: there are
+/// at most 64 letters, or the labels have at least one literal or operator for each 8 letters.
+fn is_worth_letters(row: &Row, propositions: usize) -> bool {
+    propositions <= 6 || propositions < 64 && size_of_labels(row) >= 1 << (propositions - 3)
 }
 
 /// The diagram whose leaf at a letter is the index of the step to the target of the edge that the list `edges` has for

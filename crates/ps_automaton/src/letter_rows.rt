@@ -1,12 +1,12 @@
 //! For each letter, the first edge of a row that is taken at the letter.
 
-ghost use Rattle.std.specs.Prelude.{◌≡◌, ℕ, ◌^◌, ◌<◌, ◌≤◌, All, IfOk, IfSome, IsTrue, None, length, map};
+ghost use Rattle.std.specs.Prelude.{◌≡◌, ℕ, ◌*◌, ◌^◌, ◌<◌, ◌≤◌, All, IfOk, IfSome, IsTrue, None, length, map};
 ghost use Rattle.ps_hoa.specs.Sound.{IsSoundFile, IsSoundRow};
 ghost use Rattle.ps_hoa.specs.Views.{row_data};
-ghost use Rattle.ps_label.specs.Truth.{is_in};
 ghost use Rattle.ps_automaton.specs.Inner.Drafts.{AreJoined, AreTargets};
-ghost use Rattle.ps_automaton.specs.Inner.LetterSets.{AreLetterSets, IsAdded, edge_at, entry_for};
+ghost use Rattle.ps_automaton.specs.Inner.LetterSets.{AreLetterSets, IsAdded, edge_at, entry_for, in_words};
 
+use crate::edge_labels::label_of;
 use crate::letter_sets::LetterSets;
 use crate::numbers::is_in;
 use crate::targets::Target;
@@ -37,8 +37,11 @@ pub(crate) fn edges_by_letter(
 {
     let mut edges = no_edges(alloc, 1 << file.names().len())?;
     for place in 0..row.edges.len() {
-        let set = sets.of_edge(file, row, &row.edges[place]);
-        if !add(&mut edges, set, place, targets) {
+        let Some(label) = label_of(row, &row.edges[place]) else {
+            return Ok(None);
+        };
+        let set = sets.of_label(alloc, file, label)?;
+        if !add(&mut edges, &set, place, targets) {
             return Ok(None);
         }
     }
@@ -59,16 +62,16 @@ fn no_edges(alloc: Global, letters: usize) -> Result<Vec<Option<usize>>, AllocEr
 
 /// Adds the edge with the index `place` at the letters of a set. Returns false if one of these letters already has an
 /// edge with another target, and true otherwise.
-fn add(edges: &mut [Option<usize>], set: u64, place: usize, targets: &[Target]) -> bool
-    requires few { length edges.old ≤ 64 }
+fn add(edges: &mut [Option<usize>], set: &[u64], place: usize, targets: &[Target]) -> bool
+    requires few { length edges.old ≤ 64 * length set.now }
     requires within { place < length targets.now }
     requires firsts { All (λ edge. IfSome edge (λ first. first < length targets.now)) edges.old }
     ensures letters { length edges.new ≡ length edges.old }
     ensures added { IsTrue result → (letter : ℕ) → letter < length edges.old →
-        IsAdded targets.now place (is_in letter set) (edge_at edges.old letter) (edge_at edges.new letter) }
+        IsAdded targets.now place (in_words letter set.now) (edge_at edges.old letter) (edge_at edges.new letter) }
 {
     for letter in 0..edges.len() {
-        if !is_in(letter, set) {
+        if !is_in(letter % 64, set[letter / 64]) {
             continue;
         }
         match edges[letter] {

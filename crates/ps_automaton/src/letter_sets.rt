@@ -1,35 +1,39 @@
-//! The letters at which labels are true, as sets of letters. If there are at most 6 propositions, there are at most 64
-//! letters, and a set of letters is a bit mask: bit k is 1 if the letter k is in the set.
+//! The letters at which labels are true, as sets of letters. A set of letters is a list of bit masks, of 64 letters each:
+//! bit k of the mask with the index w is 1 if the letter 64 * w + k is in the set.
 
-ghost use Rattle.std.specs.Prelude.{◌≡◌, ◌↔◌, ℕ, ◌^◌, ◌<◌, ◌≤◌, IfOk, IfSome, IsTrue, length};
+ghost use Rattle.std.specs.Prelude.{◌≡◌, ℕ, ◌+◌, ◌*◌, ◌^◌, ◌<◌, ◌≤◌, IfOk, IfSome, length};
 ghost use Rattle.ps_label.specs.Expression.{AreOverFrom, IsOver, expression};
 ghost use Rattle.ps_label.specs.Truth.{expressions, is_in, truth};
-ghost use Rattle.ps_hoa.specs.Edges.{IsTaken};
-ghost use Rattle.ps_hoa.specs.Files.{FileData};
-ghost use Rattle.ps_hoa.specs.Sound.{IsSoundRow};
-ghost use Rattle.ps_hoa.specs.Views.{edge_data, row_data};
-ghost use Rattle.ps_automaton.specs.Inner.Drafts.{IsFit};
-ghost use Rattle.ps_automaton.specs.Inner.LetterSets.{AreAliasSets, AreLetterSets, ArePropositionSets, membership};
+ghost use Rattle.ps_hoa.specs.Sound.{IsLabelOf};
+ghost use Rattle.ps_automaton.specs.Inner.LetterSets.{AreAliasSets, AreLetterSets, ArePropositionSets, AreWordSets};
+ghost use Rattle.ps_automaton.specs.Inner.LetterSets.{IsSetOf, membership};
 
 use crate::numbers::is_in;
-use ps_hoa::{Edge, Guard, HoaFile, Row};
+use ps_hoa::HoaFile;
 use ps_label::{Label, Labels};
 use std::alloc::{AllocError, Global};
 
-/// The greatest number of propositions whose letters fit in a mask of 64 bits.
-const MOST: usize = 6;
+/// The greatest number of propositions for which sets of letters are used.
+const MOST: usize = 10;
+
+/// For each proposition and each alias of a file, the mask of those of 64 letters at which it is true.
+#[derive(Drop)]
+pub(crate) struct WordSets {
+    /// For each proposition, the mask of the letters at which it is true.
+    pub propositions: Vec<u64>,
+    /// For each alias, the mask of the letters at which it is true.
+    pub aliases: Vec<u64>,
+}
 
 /// For each proposition and each alias of a file, the set of letters at which it is true.
 #[derive(Drop)]
 pub(crate) struct LetterSets {
-    /// For each proposition, the set of letters at which it is true.
-    pub propositions: Vec<u64>,
-    /// For each alias, the set of letters at which it is true.
-    pub aliases: Vec<u64>,
+    /// The masks of the first 64 letters, of the next 64 letters, and so on.
+    pub words: Vec<WordSets>,
 }
 
 impl LetterSets {
-    /// The sets of a file's propositions and aliases, or None if the file has more than 6 propositions. The contract
+    /// The sets of a file's propositions and aliases, or None if the file has more than 10 propositions. The contract
     /// allows None for every file: without sets of letters the edges are joined as diagrams, which is slower, but also
     /// correct. Fails if out of memory.
     pub(crate) fn of(alloc: Global, file: &HoaFile) -> Result<Option<LetterSets>, AllocError>
@@ -39,72 +43,103 @@ impl LetterSets {
         if count > MOST {
             return Ok(None);
         }
-        let propositions = sets_of_propositions(alloc, count)?;
-        let aliases = sets_of_aliases(alloc, &propositions, file.aliases())?;
-        Ok(Some(LetterSets {
-            propositions,
-            aliases,
-        }))
+        let mut words = Vec::new(alloc);
+        for word in 0..words_for(count) {
+            words.push(WordSets::of(alloc, file, 64 * word)?)?;
+        }
+        Ok(Some(LetterSets { words }))
     }
 
-    /// The letters at which an edge of a row is taken.
-    pub(crate) fn of_edge(&self, file: &HoaFile, row: &Row, edge: &Edge) -> u64
+    /// The set of letters at which a label is true. Fails if out of memory.
+    pub(crate) fn of_label(
+        &self,
+        alloc: Global,
+        file: &HoaFile,
+        label: &Label,
+    ) -> Result<Vec<u64>, AllocError>
         requires sets { AreLetterSets file.now self.now }
-        requires row { IsSoundRow file.now (row_data row.now) }
-        requires fit { IsFit file.now (edge_data edge.now).guard }
-        ensures { (letter : ℕ) → letter < 2 ^ length file.now.names →
-            (IsTrue (is_in letter result) ↔ IsTaken file.now (row_data row.now) (edge_data edge.now) letter) }
+        requires within { IsLabelOf file.now (expression label.now) }
+        ensures { IfOk result (λ set. IsSetOf file.now (expression label.now) set.items) }
     {
         let _ = file;
-        match &edge.guard {
-            Guard::Stated(label) => set_of(&self.propositions, &self.aliases, label),
-            Guard::OfState => match &row.label {
-                Some(label) => set_of(&self.propositions, &self.aliases, label),
-                None => 0,
-            },
-            Guard::Letter(letter) => 1 << *letter,
+        let mut set = Vec::with_capacity(alloc, self.words.len())?;
+        for word in &self.words {
+            set.push(set_of(&word.propositions, &word.aliases, label))?;
         }
+        Ok(set)
     }
 }
 
-/// For each of the first `count` propositions, the set of letters at which the proposition is true. Fails if out of
-/// memory.
-fn sets_of_propositions(alloc: Global, count: usize) -> Result<Vec<u64>, AllocError>
-    requires few { count ≤ 6 }
+impl WordSets {
+    /// The masks of 64 letters, of which `first` is the first. Fails if out of memory.
+    fn of(alloc: Global, file: &HoaFile, first: u64) -> Result<WordSets, AllocError>
+        requires letters { first < 2 ^ 32 }
+        requires few { length file.now.names ≤ 10 }
+        ensures { IfOk result (AreWordSets file.now first) }
+    {
+        let propositions = sets_of_propositions(alloc, file.names().len(), first)?;
+        let aliases = sets_of_aliases(alloc, &propositions, file.aliases())?;
+        Ok(WordSets {
+            propositions,
+            aliases,
+        })
+    }
+}
+
+/// The number of masks of 64 letters for all letters over the given number of propositions.
+fn words_for(propositions: usize) -> u64
+    requires few { propositions ≤ 10 }
+    ensures enough { 2 ^ propositions ≤ 64 * result }
+    ensures few { result ≤ 16 }
+{
+    if propositions <= 6 {
+        1
+    } else {
+        1 << (propositions - 6)
+    }
+}
+
+/// For each of the first `count` propositions, the mask of the letters at which the proposition is true, among 64
+/// letters, of which `first` is the first. Fails if out of memory.
+fn sets_of_propositions(alloc: Global, count: usize, first: u64) -> Result<Vec<u64>, AllocError>
+    requires letters { first < 2 ^ 32 }
+    requires few { count ≤ 10 }
     ensures one_each { IfOk result (λ sets. length sets.items ≡ count) }
-    ensures sets { IfOk result (λ sets. ArePropositionSets sets.items) }
+    ensures sets { IfOk result (λ sets. ArePropositionSets first sets.items) }
 {
     let mut sets = Vec::new(alloc);
     for proposition in 0..count {
-        sets.push(set_of_proposition(proposition))?;
+        sets.push(set_of_proposition(proposition, first))?;
     }
     Ok(sets)
 }
 
-/// The letters below 64 at which a proposition is true.
-fn set_of_proposition(proposition: usize) -> u64
+/// The mask of the letters at which a proposition is true, among 64 letters, of which `first` is the first.
+fn set_of_proposition(proposition: usize, first: u64) -> u64
+    requires letters { first < 2 ^ 32 }
     requires few { proposition < 64 }
-    ensures { (letter : ℕ) → letter < 64 → is_in letter result ≡ is_in proposition letter }
+    ensures { (letter : ℕ) → letter < 64 → is_in letter result ≡ is_in proposition (first + letter) }
 {
     let mut set: u64 = 0;
     for letter in 0..64u64 {
-        if is_in(proposition, letter) {
+        if is_in(proposition, first + letter) {
             set |= 1 << letter;
         }
     }
     set
 }
 
-/// For each alias, the set of letters at which the alias is true. Fails if out of memory.
+/// For each alias, the mask of the letters at which the alias is true, given the masks of the propositions. Fails if out
+/// of memory.
 fn sets_of_aliases(
     alloc: Global,
     propositions: &[u64],
     labels: &Labels,
 ) -> Result<Vec<u64>, AllocError>
-    requires propositions { ArePropositionSets propositions.now }
     requires within { AreOverFrom 0 (length propositions.now) (expressions labels.now) }
     ensures one_each { IfOk result (λ sets. length sets.items ≡ length (expressions labels.now)) }
-    ensures sets { IfOk result (λ sets. AreAliasSets (expressions labels.now) sets.items) }
+    ensures sets { IfOk result (λ sets. (first : ℕ) → ArePropositionSets first propositions.now →
+        AreAliasSets first (expressions labels.now) sets.items) }
 {
     let mut sets = Vec::new(alloc);
     for alias in labels.as_slice() {
@@ -114,12 +149,11 @@ fn sets_of_aliases(
     Ok(sets)
 }
 
-/// The letters at which a label is true, given the sets of the propositions and of the aliases.
+/// The mask of the letters at which a label is true, given the masks of the propositions and of the aliases.
 fn set_of(propositions: &[u64], aliases: &[u64], label: &Label) -> u64
-    requires propositions { ArePropositionSets propositions.now }
-    requires within { IsOver (length aliases.now) (length propositions.now) (expression label.now) }
-    ensures { (letter : ℕ) → letter < 64 →
-        is_in letter result ≡ truth (membership letter aliases.now) letter (expression label.now) }
+    requires { IsOver (length aliases.now) (length propositions.now) (expression label.now) }
+    ensures { (first letter : ℕ) → ArePropositionSets first propositions.now → letter < 64 →
+        is_in letter result ≡ truth (membership letter aliases.now) (first + letter) (expression label.now) }
 {
     match label {
         Label::Truth(value) => { if *value { u64::MAX } else { 0 } }

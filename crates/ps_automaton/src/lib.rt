@@ -26,10 +26,10 @@
 //!
 //! If a state's edges have implicit labels, there is one edge for each letter, and `build` joins no edges. If the label of
 //! each edge is a conjunction of literals, `build` makes the diagram of the state's steps at once
-//! (`ps_diagram::Store::of_cases`). For other labels over at most 6 propositions, `build` joins the edges letter by
-//! letter: a set of letters is then a bit mask of 64 bits. If there are more propositions, or if two edges clash, `build`
-//! joins the edges one after another, as decision diagrams. So it does not visit every letter if a label uses only a few
-//! of many propositions.
+//! (`ps_diagram::Store::of_cases`). Other labels are joined letter by letter if there are at most 6 propositions, or if
+//! there are at most 10 and the labels are long, compared to the number of letters: a set of letters is then a list of
+//! bit masks, of 64 letters each. Otherwise, or if two edges clash, `build` joins the edges one after another, as decision
+//! diagrams. So it does not visit every letter if a label uses only a few of many propositions.
 //! For an automaton with n states, `accepts` reads the word's repeated part (lap) at most 2 * (n + 1) times.
 #![tactic(auto)]
 
@@ -37,6 +37,7 @@ mod automaton;
 mod cases;
 mod chain;
 mod draft;
+mod edge_labels;
 mod fault;
 mod guards;
 mod laws;

@@ -6,7 +6,15 @@ use Rattle.ps_diagram.specs.declared.cases.Case.{Case}
 use Rattle.ps_diagram.specs.declared.products.Product.{Product}
 use Rattle.ps_hoa.specs.Edges.{IsTaken}
 use Rattle.ps_hoa.specs.Files.{EdgeData, FileData, RowData}
+use Rattle.ps_hoa.specs.Sound.{IsLabelOf}
+use Rattle.ps_label.specs.Expression.{Expression}
+use Rattle.ps_label.specs.Truth.{label_truth}
 use Rattle.ps_automaton.specs.declared.targets.Target.{Target}
+
+-- the expression is the label of the edge, by the edge's own label or by that of its state
+pub record IsEdgeLabel (file : FileData) (row : RowData) (edge : EdgeData) (e : Expression) : Type 0 where
+  pub within : IsLabelOf file e
+  pub taken : (letter : ℕ) → (IsTrue (label_truth file.aliases letter e) ↔ IsTaken file row edge letter)
 
 -- the edge is taken at exactly the letters at which the product is true
 pub record IsProductOf (file : FileData) (row : RowData) (edge : EdgeData) (product : Product) : Type 0 where

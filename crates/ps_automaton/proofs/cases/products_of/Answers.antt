@@ -1,12 +1,10 @@
-use Rattle.std.proofs.Common.{◌≡◌, List, length, get_or, ap, ◌∙◌, arith, refl}
+use Rattle.std.proofs.Common.{◌≡◌, List, length, get_or, ap, ◌∙◌, arith}
 use Rattle.std.proofs.lemmas.List.{length-map}
 use Rattle.std.proofs.lemmas.Option.{slice_get_within}
-use Rattle.ps_label.specs.Expression.{expression}
-use Rattle.ps_hoa.specs.Files.{stated}
-use Rattle.ps_hoa.specs.Views.{edge_data, row_data}
+use Rattle.ps_hoa.specs.Views.{row_data}
 use Rattle.ps_hoa.specs.declared.file.Edge.{Edge}
 use Rattle.ps_automaton.proofs.Fitting.{edge_at, fits}
-use Rattle.ps_automaton.proofs.FirstCases.{products_more, stated_product}
+use Rattle.ps_automaton.proofs.FirstCases.{products_more, product_of_label}
 use Rattle.ps_automaton.proofs.cases.products_of.Goals as goal
 
 pub product_of-requires : goal.product_of-requires
@@ -15,8 +13,8 @@ product_of-requires c =
     let l = c.loop-edge in
     let at = edge_at c.args.row.now.edges.items l.edge-index omega arith
     (x.is ∙ ap (λ (es : List Edge). get_or es l.edge-index x.result) c.deref-edge-items.ensures.value) in
-    let fit = fits c.requires.sound c.requires.row l.edge-index at in
-    record { within = (length c.args.file.now.aliases, rw c.requires.letters (rw c.in-Stated.is at fit)) }
+    let label = c.in-Some.ensures c.args.file.now c.requires.row (fits c.requires.sound c.requires.row l.edge-index at) in
+    record { within = (length c.args.file.now.aliases, rw c.requires.letters label.within) }
 
 pub loop-edge-preserved : goal.loop-edge-preserved
 loop-edge-preserved c =
@@ -24,9 +22,8 @@ loop-edge-preserved c =
     let l = c.loop-edge in
     let at = edge_at c.args.row.now.edges.items l.edge-index omega arith
     (x.is ∙ ap (λ (es : List Edge). get_or es l.edge-index x.result) c.deref-edge-items.ensures.value) in
-    let guard : (edge_data x.result).guard ≡ stated (expression c.in-Stated.label) = rw c.in-Stated.is refl in
-    let product = stated_product (edge_data x.result) (expression c.in-Stated.label) c.in-Some.product guard
-    c.requires.letters c.in-Some.ensures in
+    let label = c.in-Some.ensures c.args.file.now c.requires.row (fits c.requires.sound c.requires.row l.edge-index at) in
+    let product = product_of_label c.in-Some-product_of.product label c.requires.letters c.in-Some-product_of.ensures in
     record {
       so_far = omega (arith, c.in_ok-push.ensures.len, l.invariant.so_far);
       each = products_more l.products.items l.invariant.so_far c.in_ok-push.ensures.items at product l.invariant.each;

@@ -1,4 +1,4 @@
-use Rattle.std.proofs.Common.{rules, ◌∙◌}
+use Rattle.std.proofs.Common.{rules, ◌+◌, ◌∙◌}
 use Rattle.ps_label.proofs.OperandLists.{expression-Both, expression-Either}
 use Rattle.ps_automaton.proofs.Bits.{in_not}
 use Rattle.ps_automaton.specs.Inner.LetterSets.{membership}
@@ -15,9 +15,9 @@ loop-operand-preserved t c =
     let from = from_drop items k _ c.loop-operand-test.true c.operand-item.is in
     let within = rw from at c.loop-operand.invariant.within in
     record {
-      decides = λ letter small. all_with (membership letter c.args.aliases.now) letter c.loop-operand.set
-          c.set_of-set.result items k from (c.set_of-set.ensures letter small)
-          ∙ c.loop-operand.invariant.decides letter small;
+      decides = λ first letter sets small. all_with (membership letter c.args.aliases.now) letter (first + letter)
+          c.loop-operand.set c.set_of-set.result items k from (c.set_of-set.ensures first letter sets small)
+          ∙ c.loop-operand.invariant.decides first letter sets small;
       within = within.1;
     }
 
@@ -31,9 +31,10 @@ loop-operand-2-preserved t c =
     let from = from_drop items k _ c.loop-operand-2-test.true c.operand-item-in-loop-operand-2.is in
     let within = rw from at c.loop-operand-2.invariant.within in
     record {
-      decides = λ letter small. any_with (membership letter c.args.aliases.now) letter c.loop-operand-2.set
-          c.set_of-set-in-loop-operand-2.result items k from (c.set_of-set-in-loop-operand-2.ensures letter small)
-          ∙ c.loop-operand-2.invariant.decides letter small;
+      decides = λ first letter sets small. any_with (membership letter c.args.aliases.now) letter (first + letter)
+          c.loop-operand-2.set c.set_of-set-in-loop-operand-2.result items k from
+          (c.set_of-set-in-loop-operand-2.ensures first letter sets small)
+          ∙ c.loop-operand-2.invariant.decides first letter sets small;
       within = within.1;
     }
 

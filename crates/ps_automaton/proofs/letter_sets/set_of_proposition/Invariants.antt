@@ -2,4 +2,4 @@ use Rattle.ps_automaton.proofs.LetterSets.{AreVisited}
 use Rattle.ps_automaton.proofs.letter_sets.set_of_proposition.Given as goal
 
 abbrev pub invariant-loop-letter : goal.invariant-loop-letter
-invariant-loop-letter l = AreVisited l.proposition l.letter l.set
+invariant-loop-letter l = AreVisited l.proposition l.first l.letter l.set

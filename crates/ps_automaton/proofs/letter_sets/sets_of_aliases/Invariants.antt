@@ -1,7 +1,7 @@
-use Rattle.std.proofs.Common.{◌≡◌, ◌<◌, ℕ, length, drop}
+use Rattle.std.proofs.Common.{◌≡◌, ◌+◌, ◌<◌, ℕ, length, drop}
 use Rattle.ps_label.specs.Expression.{AreOverFrom}
 use Rattle.ps_label.specs.Truth.{alias_truths, expressions, truths_behind}
-use Rattle.ps_automaton.specs.Inner.LetterSets.{membership}
+use Rattle.ps_automaton.specs.Inner.LetterSets.{ArePropositionSets, membership}
 use Rattle.ps_automaton.proofs.letter_sets.sets_of_aliases.Given as goal
 
 -- for each alias visited so far, `sets` has the set of letters at which the alias is true; evaluating the remaining
@@ -9,7 +9,8 @@ use Rattle.ps_automaton.proofs.letter_sets.sets_of_aliases.Given as goal
 abbrev pub invariant-loop-alias : goal.invariant-loop-alias
 invariant-loop-alias l = record {
   one_each : length l.sets.items ≡ l.alias-index;
-  known : (letter : ℕ) → letter < 64 → truths_behind (membership letter l.sets.items) letter
-      (expressions (drop l.alias-index l.alias-items)) ≡ alias_truths (expressions l.labels) letter;
+  known : (first letter : ℕ) → ArePropositionSets first l.propositions → letter < 64 → truths_behind
+      (membership letter l.sets.items) (first + letter) (expressions (drop l.alias-index l.alias-items)) ≡
+      alias_truths (expressions l.labels) (first + letter);
   ordered : AreOverFrom l.alias-index (length l.propositions) (expressions (drop l.alias-index l.alias-items));
 }

@@ -8,6 +8,6 @@ loop-proposition-preserved c =
     let one_each = c.loop-proposition.invariant.one_each in
     record {
       one_each = omega (arith, c.in_ok-push.ensures.len, one_each);
-      sets = rw c.in_ok-push.ensures.items (proposition_with sets c.set_of_proposition.result
+      sets = rw c.in_ok-push.ensures.items (proposition_with c.args.first sets c.set_of_proposition.result
           c.loop-proposition.invariant.sets (rw one_each c.set_of_proposition.ensures));
     }

@@ -5,5 +5,5 @@ use Rattle.ps_automaton.proofs.letter_sets.sets_of_propositions.Given as goal
 abbrev pub invariant-loop-proposition : goal.invariant-loop-proposition
 invariant-loop-proposition l = record {
   one_each : length l.sets.items ≡ l.proposition;
-  sets : ArePropositionSets l.sets.items;
+  sets : ArePropositionSets l.first l.sets.items;
 }
