@@ -1,5 +1,5 @@
--- If the cases of a diagram are the edges of a state, the leaf at a letter is the index of the step to the target of the
--- edge that is taken there.
+-- If the cases of a diagram are the edges of a state, the leaf at a letter is the index of the step to the target of
+-- the edge that is taken there.
 use Rattle.std.proofs.Common.{◌≡◌, ℕ, zero, suc, ◌+◌, ◌<◌, ◌⊎◌, inl, inr, Bool, true, false, List, [], ◌∷◌, length}
 use Rattle.std.proofs.Common.{◌++◌, length-append, get_or, Option, Some, None, refl, sym, ap, ◌∙◌, arith}
 use Rattle.std.specs.List.{Contains, slice_get}
@@ -35,7 +35,8 @@ pub products_more : {file : FileData} {row : RowData} (products : List Product) 
     {edge : EdgeData} {product : Product} → length products ≡ count → more ≡ products ++ product ∷ [] →
     slice_get row.edges count ≡ Some edge → IsProductOf file row edge product → HaveProducts file row count products →
     HaveProducts file row (count + 1) more
-products_more {file} {row} products {more} {count} {edge} {product} size is at_edge is_product have k e x within there there_too =
+products_more {file} {row} products {more} {count} {edge} {product} size is at_edge is_product have k e x within there
+    there_too =
     elim (at_last products product k (rw is at there_too)) [
       | inl old ↦ have k e x (let low = slice_get_within products k x old in omega (arith, low, size)) there old
       | inr last ↦
@@ -45,7 +46,8 @@ products_more {file} {row} products {more} {count} {edge} {product} size is at_e
     ]
 
 -- the product of an edge's label
-pub product_of_label : {file : FileData} {row : RowData} {n : ℕ} {edge : EdgeData} {e : Expression} (product : Product) →
+pub product_of_label : {file : FileData} {row : RowData} {n : ℕ} {edge : EdgeData} {e : Expression} (product : Product)
+    →
     IsEdgeLabel file row edge e → n ≡ length file.names →
     ((known : List Bool) (letter : ℕ) → meets n product letter ≡ truth known letter e) →
     IsProductOf file row edge product
@@ -70,7 +72,8 @@ cases_more {products} {places} {targets} {count} cases {more} case a is product 
       by_place k x at (λ c. c.mark ≡ target.sets) (λ e. a.mark k x target e there) (λ e. mark target (rw e at there));
 }
   where
-    by_place : (k : ℕ) (x : Case) → slice_get more k ≡ Some x → (P : Case → Type 0) → (slice_get cases k ≡ Some x → P x) →
+    by_place : (k : ℕ) (x : Case) → slice_get more k ≡ Some x → (P : Case → Type 0) →
+        (slice_get cases k ≡ Some x → P x) →
         (k ≡ count → P case) → P x
     by_place k x at P before last = elim (at_last cases case k (rw is at at)) [
       | inl old ↦ before old
@@ -169,7 +172,8 @@ module _ {file : FileData} {row : RowData} (row_sound : IsSoundRow file row) {ta
       let step_s = are_places.each j one.leaf s.0 s.1 (are_cases.leaf j one at_j) in
       let step_t = are_places.each k other.leaf t.0 t.1 (are_cases.leaf k other at_k) in
       let step : step_of_target chain s.0 ≡ step_of_target chain t.0 = same_some _ _ (sym step_s ∙ rw leaf step_t) in
-      let sets : s.0.sets ≡ t.0.sets = sym (are_cases.mark j one s.0 at_j s.1) ∙ mark ∙ are_cases.mark k other t.0 at_k t.1 in
+      let sets : s.0.sets ≡ t.0.sets = sym (are_cases.mark j one s.0 at_j s.1) ∙ mark
+      ∙ are_cases.mark k other t.0 at_k t.1 in
       let state : s.0.state ≡ t.0.state = ap (λ (x : Step). x.state) step in
       let same : s.0 ≡ t.0 = λ i. record { state = state i; sets = sets i } in
       s.1 ∙ ap Some same ∙ sym t.1
@@ -177,7 +181,8 @@ module _ {file : FileData} {row : RowData} (row_sound : IsSoundRow file row) {ta
   -- the case of an edge holds at exactly the letters at which the edge is taken
   taken_of : (k : ℕ) (edge : EdgeData) (case : Case) → slice_get row.edges k ≡ Some edge →
       slice_get cases k ≡ Some case → (letter : ℕ) → IsTrue (holds_at letter case) ↔ IsTaken file row edge letter
-  taken_of k edge case at there letter = (are_products.each k edge case.product at (are_cases.product k case there)).taken letter
+  taken_of k edge case at there letter =
+      (are_products.each k edge case.product at (are_cases.product k case there)).taken letter
 
   module _ {leaf_at : ℕ → Option ℕ}
       (by : (letter : ℕ) → IsLeafByCases (holds_at letter) cases (Some 0) (leaf_at letter)) where
@@ -186,7 +191,8 @@ module _ {file : FileData} {row : RowData} (row_sound : IsSoundRow file row) {ta
         IsSomeAnd (index_of (holds_at letter) cases s) (IsTargetAt row e.edge targets)
     there_of letter e (inl (k, case, at, h)) =
         let mine = case_of e.place e.edge e.at_place in
-        let holds : holds_at letter mine.0 ≡ true = (taken_of e.place e.edge mine.0 e.at_place mine.1 letter).1 e.taken in
+        let holds : holds_at letter mine.0 ≡ true =
+        (taken_of e.place e.edge mine.0 e.at_place mine.1 letter).1 e.taken in
         let one = contained cases k case at in
         let more = contained cases e.place mine.0 mine.1 in
         let b = by letter in

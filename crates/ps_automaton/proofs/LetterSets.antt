@@ -121,7 +121,8 @@ pub mask_is : {file : FileData} {first : ℕ} {sets : WordSets} → AreWordSets 
     is_in letter mask ≡ label_truth file.aliases (first + letter) e
 unfolding label_truth
 mask_is {file} {first} {sets} a mask e is letter small =
-    is first letter a.propositions small ∙ ap (λ (known : List Bool). truth known (first + letter) e) (a.aliases letter small)
+    is first letter a.propositions small
+    ∙ ap (λ (known : List Bool). truth known (first + letter) e) (a.aliases letter small)
 
 pub truths_more : (file : FileData) (e : Expression) (set : List ℕ) {more : List ℕ} {count : ℕ} (mask : ℕ) →
     length set ≡ count → more ≡ set ++ mask ∷ [] →

@@ -185,8 +185,8 @@ fn node_by_letters(pairs: &mut Pairs, source: &Source, row: &Row) -> Result<Node
     Ok(node)
 }
 
-/// The diagram of the steps of a state whose edges have conjunctions of literals as labels; None for other states, or if
-/// `Store::of_cases` returns None.
+/// The diagram of the steps of a state whose edges have conjunctions of literals as labels; None for other states, or
+/// if `Store::of_cases` returns None.
 fn node_by_cases(pairs: &mut Pairs, source: &Source, row: &Row) -> Result<Option<Node>, AllocError>
     requires { IsRowReady source.now (row_data row.now) pairs.old }
     ensures { MayMakeSteps source.now (row_data row.now) pairs.old pairs.new result }
@@ -215,8 +215,8 @@ fn node_of_products(
     pairs.store.of_cases(&mut cases, 0)
 }
 
-/// The diagram of the steps of a state, made letter by letter; None without sets of letters, if the labels are too short
-/// for this to be worth it, or if `edges_by_letter` returns None.
+/// The diagram of the steps of a state, made letter by letter; None without sets of letters, if the labels are too
+/// short for this to be worth it, or if `edges_by_letter` returns None.
 fn node_by_sets(pairs: &mut Pairs, source: &Source, row: &Row) -> Result<Option<Node>, AllocError>
     requires { IsRowReady source.now (row_data row.now) pairs.old }
     ensures { MayMakeSteps source.now (row_data row.now) pairs.old pairs.new result }

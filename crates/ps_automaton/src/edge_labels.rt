@@ -11,7 +11,8 @@ ghost use Rattle.ps_automaton.specs.Inner.Drafts.{IsFit};
 use ps_hoa::{Edge, Guard, Row};
 use ps_label::Label;
 
-/// The label of an edge of a row: its own label or the label of the state; None if the edge is taken at a single letter.
+/// The label of an edge of a row: its own label or the label of the state; None if the edge is taken at a single
+/// letter.
 pub(crate) fn label_of<'a>(row: &'a Row, edge: &'a Edge) -> Option<&'a Label>
     ensures { IfSome result (λ label. (file : FileData) → IsSoundRow file (row_data row.now) →
         IsFit file (edge_data edge.now).guard →

@@ -1,5 +1,5 @@
-//! The letters at which labels are true, as sets of letters. A set of letters is a list of bit masks, of 64 letters each:
-//! bit k of the mask with the index w is 1 if the letter 64 * w + k is in the set.
+//! The letters at which labels are true, as sets of letters. A set of letters is a list of bit masks, of 64 letters
+//! each: bit k of the mask with the index w is 1 if the letter 64 * w + k is in the set.
 
 ghost use Rattle.std.specs.Prelude.{◌≡◌, ℕ, ◌+◌, ◌*◌, ◌^◌, ◌<◌, ◌≤◌, IfOk, IfSome, length};
 ghost use Rattle.ps_label.specs.Expression.{AreOverFrom, IsOver, expression};
@@ -129,8 +129,8 @@ fn set_of_proposition(proposition: usize, first: u64) -> u64
     set
 }
 
-/// For each alias, the mask of the letters at which the alias is true, given the masks of the propositions. Fails if out
-/// of memory.
+/// For each alias, the mask of the letters at which the alias is true, given the masks of the propositions. Fails if
+/// out of memory.
 fn sets_of_aliases(
     alloc: Global,
     propositions: &[u64],

@@ -24,13 +24,13 @@
 //! | `refusal_is_one` | each file is either admitted, or refused for exactly one fault |
 //! | `greatest_level_decides` | a part of a run meets the acceptance condition exactly if its greatest priority is even |
 //!
-//! If a state's edges have implicit labels, there is one edge for each letter, and `build` joins no edges. If the label of
-//! each edge is a conjunction of literals, `build` makes the diagram of the state's steps at once
+//! If a state's edges have implicit labels, there is one edge for each letter, and `build` joins no edges. If the label
+//! of each edge is a conjunction of literals, `build` makes the diagram of the state's steps at once
 //! (`ps_diagram::Store::of_cases`). Other labels are joined letter by letter if there are at most 6 propositions, or if
 //! there are at most 10 and the labels are long, compared to the number of letters: a set of letters is then a list of
-//! bit masks, of 64 letters each. Otherwise, or if two edges clash, `build` joins the edges one after another, as decision
-//! diagrams. So it does not visit every letter if a label uses only a few of many propositions.
-//! For an automaton with n states, `accepts` reads the word's repeated part (lap) at most 2 * (n + 1) times.
+//! bit masks, of 64 letters each. Otherwise, or if two edges clash, `build` joins the edges one after another, as
+//! decision diagrams. So it does not visit every letter if a label uses only a few of many propositions. For an
+//! automaton with n states, `accepts` reads the word's repeated part (lap) at most 2 * (n + 1) times.
 #![tactic(auto)]
 
 mod automaton;

@@ -1,4 +1,5 @@
--- Lists of cases: the propositions on which they have literals, and the cases that allow a truth value of a proposition.
+-- Lists of cases: the propositions on which they have literals, and the cases that allow a truth value of a
+-- proposition.
 use Rattle.std.proofs.Common.{◌≡◌, ℕ, zero, suc, ◌+◌, ◌<◌, Bool, true, false, List, [], ◌∷◌, length, get_or, arith}
 use Rattle.std.proofs.Common.{inl, inr, bit_or, cond, refl, sym, ap, ◌∙◌}
 use Rattle.std.specs.List.{Contains, filter}
@@ -40,7 +41,8 @@ tested_more cases count tested e within were k d low p isnt b =
     elim (cases_lt k count) [
       | inl before ↦ were k d before p apart.0 b
       | inr at ↦
-          let both = none_of (is_in p x.positive) (is_in p x.negative) (sym (in_or p x.positive x.negative) ∙ apart.1) in
+          let both =
+          none_of (is_in p x.positive) (is_in p x.negative) (sym (in_or p x.positive x.negative) ∙ apart.1) in
           let is : k ≡ count = omega arith in
           rw (is, get_or_default cases count d e within) (free x p both.0 both.1 b)
     ]

@@ -5,7 +5,8 @@ use Rattle.std.specs.List.{Contains, filter, slice_get}
 use Rattle.std.specs.Prelude.{◌&&◌}
 use Rattle.std.proofs.lemmas.List.{get_or_default, take-append-drop}
 use Rattle.std.proofs.lemmas.Option.{slice_get_within, slice_get-get_or}
-use Rattle.std.proofs.lemmas.List.Sorted.{Contains-permutation, IsPermutation-append_left, IsPermutation-sym, IsPermutation-trans}
+use Rattle.std.proofs.lemmas.List.Sorted.{Contains-permutation, IsPermutation-append_left, IsPermutation-sym}
+use Rattle.std.proofs.lemmas.List.Sorted.{IsPermutation-trans}
 use Rattle.ps_diagram.specs.Letters.{assignment}
 use Rattle.ps_diagram.specs.Products.{IsLeafByCases, all_allowed, allows, meets}
 use Rattle.ps_diagram.specs.Split.{IsConstant}
@@ -59,7 +60,8 @@ all_free may f n level free =
 -- ## One leaf
 
 -- the tree that has the only leaf of all cases, none of which has a literal
-pub untested_made : {t : Table} {level node : ℕ} {cases : List Case} {other : Tree} (first : Case) → Contains cases first →
+pub untested_made : {t : Table} {level node : ℕ} {cases : List Case} {other : Tree} (first : Case) →
+    Contains cases first →
     AreUntested level t.propositions cases → IsNode t node →
     ((f : ℕ → Bool) → leaf_at (tree_of t node) f ≡ Some first.leaf) →
     ((case : Case) → Contains cases case → (case.leaf ≡ first.leaf) × (case.mark ≡ first.mark)) →
@@ -149,7 +151,8 @@ side_from p b cases moved side same is = record {
       let r = from_filter (λ case. allows case.product p b) moved case (rw is at c) in
       (Contains-permutation moved cases case (IsPermutation-sym cases moved same) r.0, r.1);
   there = λ case c allowed.
-      rw is (in_filter (λ case. allows case.product p b) moved case (Contains-permutation cases moved case same c) allowed);
+      rw is (in_filter (λ case. allows case.product p b) moved case (Contains-permutation cases moved case same c)
+      allowed);
 }
 
 both_true : (a b : Bool) → a ≡ true → b ≡ true → (a && b) ≡ true
@@ -239,3 +242,10 @@ pub moved_front : (k : ℕ) {cases moved : List Case} {front : List Case} → Is
     IsPermutation (take k moved) front → IsPermutation cases (front ++ drop k moved)
 moved_front k {cases} {moved} {front} first second = IsPermutation-trans cases moved (front ++ drop k moved) first
     (rw take-append-drop at (IsPermutation-append_left (drop k moved) (take k moved) front second))
+
+-- the list is reordered, then its first cases, then the whole list, and then its first cases again
+pub moved_twice : (lows highs : ℕ) {cases moved front again last : List Case} → IsPermutation cases moved →
+    IsPermutation (take lows moved) front → IsPermutation (front ++ drop lows moved) again →
+    IsPermutation (take highs again) last → IsPermutation cases (last ++ drop highs again)
+moved_twice lows highs {cases} {moved} {front} {again} first second third fourth = moved_front highs
+    (IsPermutation-trans cases (front ++ drop lows moved) again (moved_front lows first second) third) fourth

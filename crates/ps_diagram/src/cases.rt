@@ -35,9 +35,9 @@ impl Store {
     /// The diagram that has, at each letter, the leaf of the cases whose products are true there, or the leaf `other`
     /// if there is no such case. The call reorders the list of cases.
     ///
-    /// The result is None if cases that differ in their leaves or marks are true at a common letter. The contract allows
-    /// None for every list: the call gives up after a number of steps that is proportional to the number of cases. It
-    /// needs more steps if many products leave out propositions that other products test first.
+    /// The result is None if cases that differ in their leaves or marks are true at a common letter. The contract
+    /// allows None for every list: the call gives up after a number of steps that is proportional to the number of
+    /// cases. It needs more steps if many products leave out propositions that other products test first.
     pub fn of_cases(&mut self, cases: &mut [Case], other: u64) -> Result<Option<Node>, AllocError>
         ensures keeps { Keeps self.old self.new }
         ensures same { IsPermutation cases.old cases.new }
@@ -111,7 +111,8 @@ impl Store {
     fn of_untested(&mut self, cases: &[Case]) -> Result<Option<Node>, AllocError>
         requires some { 0 < length cases.now }
         ensures keeps { Keeps self.old self.new }
-        ensures made { IfOk result (λ made. IfSome made (λ node. (level : ℕ) (other : Tree) → AreUntested level self.old.propositions cases.now → IsByCases self.new level cases.now other node)) }
+        ensures made { IfOk result (λ made. IfSome made (λ node. (level : ℕ) (other : Tree) →
+            AreUntested level self.old.propositions cases.now → IsByCases self.new level cases.now other node)) }
     {
         let first = cases[0];
         for case in cases {
@@ -150,7 +151,8 @@ fn steps_for(count: usize, propositions: u32) -> usize {
 
 /// The propositions on which the cases have literals.
 fn tested_by(cases: &[Case]) -> u64
-    ensures { (case : Case) → Contains cases.now case → (p : ℕ) → p < 64 → is_in p result ≡ false → (b : Bool) → allows case.product p b ≡ true }
+    ensures { (case : Case) → Contains cases.now case → (p : ℕ) → p < 64 → is_in p result ≡ false → (b : Bool) →
+        allows case.product p b ≡ true }
 {
     let mut tested = 0;
     for case in cases {

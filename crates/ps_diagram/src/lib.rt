@@ -42,12 +42,11 @@
 //! node's proposition. If this function is not constant, the node is visited once. If it is constant, only one side is
 //! needed, and the node's result is not kept: the node is visited again if another node leads to it. Most calls visit
 //! only a few nodes, so the first few nodes are not kept in a memo table, and may be visited more often. `of_letter`
-//! makes one node for each proposition. `of_cases` splits the list of cases at one proposition after another; it takes at
-//! most 256 steps for each case on average, and makes no node if that is not enough. For a product of literals,
-//! `of_label` makes at most one node for each literal.
-//! For any other disjunction, it joins the diagrams of the operands: first those of each half of the list, then the two
-//! results. For any other conjunction, it joins the diagrams of the operands' negations in this way, and negates the
-//! result. `classes` first copies the store.
+//! makes one node for each proposition. `of_cases` splits the list of cases at one proposition after another; it takes
+//! at most 256 steps for each case on average, and makes no node if that is not enough. For a product of literals,
+//! `of_label` makes at most one node for each literal. For any other disjunction, it joins the diagrams of the
+//! operands: first those of each half of the list, then the two results. For any other conjunction, it joins the
+//! diagrams of the operands' negations in this way, and negates the result. `classes` first copies the store.
 #![tactic(auto)]
 
 mod both;

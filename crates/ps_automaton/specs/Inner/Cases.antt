@@ -1,5 +1,5 @@
--- The edges of a state whose labels are conjunctions of literals, as the cases of the diagram of the state's steps. (For
--- private functions.)
+-- The edges of a state whose labels are conjunctions of literals, as the cases of the diagram of the state's steps.
+-- (For private functions.)
 use Rattle.std.specs.Prelude.{◌≡◌, ◌↔◌, ℕ, IsTrue, List, length, Some, slice_get}
 use Rattle.ps_diagram.specs.Products.{meets}
 use Rattle.ps_diagram.specs.declared.cases.Case.{Case}
@@ -26,9 +26,10 @@ pub record AreProducts (file : FileData) (row : RowData) (products : List Produc
   pub each : (k : ℕ) (edge : EdgeData) (product : Product) → slice_get row.edges k ≡ Some edge →
       slice_get products k ≡ Some product → IsProductOf file row edge product
 
--- each of the first `count` cases has the product, the leaf, and the acceptance sets as its mark, that the lists have at
--- its index
-pub record AreCases (count : ℕ) (products : List Product) (places : List ℕ) (targets : List Target) (cases : List Case) :
+-- each of the first `count` cases has the product, the leaf, and the acceptance sets as its mark, that the lists have
+-- at its index
+pub record AreCases (count : ℕ) (products : List Product) (places : List ℕ) (targets : List Target) (cases : List Case)
+    :
     Type 0 where
   pub one_each : length cases ≡ count
   pub product : (k : ℕ) (case : Case) → slice_get cases k ≡ Some case → slice_get products k ≡ Some case.product

@@ -1,5 +1,5 @@
--- Sets of letters, as lists of bit masks of 64 letters each: the letter 64 * w + k is in the set if bit k of the mask with
--- the index w is 1. (For private functions.)
+-- Sets of letters, as lists of bit masks of 64 letters each: the letter 64 * w + k is in the set if bit k of the mask
+-- with the index w is 1. (For private functions.)
 use Rattle.std.specs.Prelude.{◌≡◌, ℕ, ◌+◌, ◌*◌, ◌/◌, ◌%◌, ◌^◌, ◌<◌, ◌≤◌, Bool, true, false, List, length, map, Option}
 use Rattle.std.specs.Prelude.{Some, None, option_map, slice_get, slice_index, slice_index_or, unwrap_or}
 use Rattle.ps_label.specs.Expression.{Expression}
@@ -23,7 +23,8 @@ abbrev pub AreAliasSets : ℕ → List Expression → List ℕ → Type 0
 AreAliasSets first aliases sets =
     (letter : ℕ) → letter < 64 → membership letter sets ≡ alias_truths aliases (first + letter)
 
--- for each proposition and each alias of the file, the mask of those of the 64 letters from `first` on at which it is true
+-- for each proposition and each alias of the file, the mask of those of the 64 letters from `first` on at which it is
+-- true
 pub record AreWordSets (file : FileData) (first : ℕ) (sets : WordSets) : Type 0 where
   pub one_each : length sets.propositions.items ≡ length file.names
   pub one_for_each : length sets.aliases.items ≡ length file.aliases

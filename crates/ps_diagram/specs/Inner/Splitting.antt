@@ -10,8 +10,8 @@ use Rattle.ps_diagram.specs.declared.products.Product.{Product}
 abbrev pub holds_from : (n level : ℕ) → (ℕ → Bool) → Case → Bool
 holds_from n level f case = all_allowed (allows case.product) f level (n - level)
 
--- the node depends only on propositions from `level` on; its leaves are those of the cases, of which only the literals on
--- these propositions count, and elsewhere those of the tree `other`
+-- the node depends only on propositions from `level` on; its leaves are those of the cases, of which only the literals
+-- on these propositions count, and elsewhere those of the tree `other`
 pub record IsByCases (t : Table) (level : ℕ) (cases : List Case) (other : Tree) (node : ℕ) : Type 0 where
   pub held : IsNode t node
   pub later : IsBlind level (tree_of t node)

@@ -13,7 +13,8 @@ product_of-requires c =
     let l = c.loop-edge in
     let at = edge_at c.args.row.now.edges.items l.edge-index omega arith
     (x.is ∙ ap (λ (es : List Edge). get_or es l.edge-index x.result) c.deref-edge-items.ensures.value) in
-    let label = c.in-Some.ensures c.args.file.now c.requires.row (fits c.requires.sound c.requires.row l.edge-index at) in
+    let label =
+    c.in-Some.ensures c.args.file.now c.requires.row (fits c.requires.sound c.requires.row l.edge-index at) in
     record { within = (length c.args.file.now.aliases, rw c.requires.letters label.within) }
 
 pub loop-edge-preserved : goal.loop-edge-preserved
@@ -22,7 +23,8 @@ loop-edge-preserved c =
     let l = c.loop-edge in
     let at = edge_at c.args.row.now.edges.items l.edge-index omega arith
     (x.is ∙ ap (λ (es : List Edge). get_or es l.edge-index x.result) c.deref-edge-items.ensures.value) in
-    let label = c.in-Some.ensures c.args.file.now c.requires.row (fits c.requires.sound c.requires.row l.edge-index at) in
+    let label =
+    c.in-Some.ensures c.args.file.now c.requires.row (fits c.requires.sound c.requires.row l.edge-index at) in
     let product = product_of_label c.in-Some-product_of.product label c.requires.letters c.in-Some-product_of.ensures in
     record {
       so_far = omega (arith, c.in_ok-push.ensures.len, l.invariant.so_far);

@@ -24,6 +24,7 @@ returns-clause-steps c =
     (λ k target e. let h = union.joined.within k target e in omega (arith, h)) c.requires.source.steps in
     record {
       grows = grind (arith, keeps_both c.in_ok-union.ensures.keeps made.keeps, steps);
-      node = λ q of_state. steps_of_row c.requires.sound c.requires.sound_row c.args.source.now.levels.now.few union.joined
+      node =
+          λ q of_state. steps_of_row c.requires.sound c.requires.sound_row c.args.source.now.levels.now.few union.joined
           steps made.leaf.1 q of_state c.node_of_union.new.pairs.store made.held made.leaf.2;
     }

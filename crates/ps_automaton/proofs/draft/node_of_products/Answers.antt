@@ -41,7 +41,8 @@ returns c =
     let are_places : ArePlaces chain targets steps places = rw c.deref.ensures.value at c.in_ok-places.ensures.places in
     let are_cases : AreCases (length products) products places targets cases =
     rw (c.deref-2.ensures.value, c.deref-3.ensures.value) at c.in_ok-cases.ensures in
-    let grown : Grows file.states c.args.pairs.now (record { alloc = c.args.pairs.now.alloc; store = c.of_cases.new.self; steps = steps }) =
+    let grown : Grows file.states c.args.pairs.now
+    (record { alloc = c.args.pairs.now.alloc; store = c.of_cases.new.self; steps = steps }) =
     record { keeps = c.of_cases.ensures.keeps; extends = c.in_ok-places.ensures.extends; steps = all_steps } in
     record {
       grows = whenever c.of_cases.result grown;
@@ -49,9 +50,11 @@ returns c =
           let by : (letter : ℕ) → IsLeafByCases (λ case. meets (length file.names) case.product letter) cases (Some 0)
           (leaf_of c.of_cases.new.self node letter) =
           λ letter. subst (λ n. IsLeafByCases (λ case. meets n case.product letter) cases (Some 0)
-          (leaf_of c.of_cases.new.self node letter)) ready.source.letters (rw c.deref_mut.ensures.value at (leaf letter)) in
+          (leaf_of c.of_cases.new.self node letter)) ready.source.letters
+          (rw c.deref_mut.ensures.value at (leaf letter)) in
           steps_of_row ready.sound ready.sound_row c.args.source.now.levels.now.few
-          (joined_by_cases ready.sound_row c.in_ok-targets.ensures are_places c.requires.products are_cases by) all_steps
+          (joined_by_cases ready.sound_row c.in_ok-targets.ensures are_places c.requires.products are_cases by)
+          all_steps
           are_places q of_state c.of_cases.new.self held
           (leaf_by_cases ready.sound_row c.in_ok-targets.ensures are_places c.requires.products are_cases by))
           c.of_cases.ensures.held c.of_cases.ensures.leaf;

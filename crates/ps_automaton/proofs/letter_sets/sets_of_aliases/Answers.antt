@@ -37,5 +37,6 @@ returns-clause-one_each c = grind (arith, length-map)
 pub returns-clause-sets : goal.returns-clause-sets
 returns-clause-sets c = λ first are_sets letter small.
     let none = drop_all c.loop-alias.alias-index c.as_slice-alias-items.result.now c.loop-alias-test.false in
-    ap (λ (ls : List Label). truths_behind (membership letter c.loop-alias.sets.items) (first + letter) (expressions ls))
+    ap (λ (ls : List Label). truths_behind (membership letter c.loop-alias.sets.items) (first + letter)
+    (expressions ls))
     (sym none) ∙ c.loop-alias.invariant.known first letter are_sets small

@@ -15,12 +15,14 @@ loop-place-preserved c =
     elim c.if-allows.branch [
       | then-allows w ↦ rw (w.cases-is, w.count-is) (record {
         same = IsPermutation-trans _ _ _ l.invariant.same w.swap.ensures.permutation;
-        filters = FiltersInPlace-more_swap {x = x} l.invariant.filters within (sym c.allows.ensures ∙ w.if-allows.true) at
+        filters =
+            FiltersInPlace-more_swap {x = x} l.invariant.filters within (sym c.allows.ensures ∙ w.if-allows.true) at
             w.swap.ensures.by_index;
       })
       | else-allows w ↦ rw (w.cases-is, w.count-is) (record {
         same = l.invariant.same;
-        filters = FiltersInPlace-more_no {x = x} l.invariant.filters within (sym c.allows.ensures ∙ w.if-allows.false) at;
+        filters =
+            FiltersInPlace-more_no {x = x} l.invariant.filters within (sym c.allows.ensures ∙ w.if-allows.false) at;
       })
     ]
 

@@ -2,7 +2,7 @@ use Rattle.std.proofs.Common.{arith, true, false}
 use Rattle.std.proofs.lemmas.List.Sorted.{IsPermutation-refl, IsPermutation-trans}
 use Rattle.ps_diagram.proofs.KnownLemmas.{keeps_three}
 use Rattle.ps_diagram.proofs.MadeDiagrams.{if_made}
-use Rattle.ps_diagram.proofs.SplitCases.{side_from, sides_made, moved_front}
+use Rattle.ps_diagram.proofs.SplitCases.{moved_front, moved_twice, side_from, sides_made}
 use Rattle.ps_diagram.proofs.store.Store.+split_cases.Goals as goal
 
 pub returns-in_default-clause-made : goal.returns-in_default-clause-made
@@ -17,10 +17,12 @@ pub overflow_add-proposition : goal.overflow_add-proposition
 overflow_add-proposition t c = omega (arith, c.in-Some.ensures.few)
 
 pub returns-in_err-low-clause-same : goal.returns-in_err-low-clause-same
-returns-in_err-low-clause-same t c = moved_front c.partition-lows.result c.partition-lows.ensures.same c.in_err-low.ensures.same
+returns-in_err-low-clause-same t c =
+    moved_front c.partition-lows.result c.partition-lows.ensures.same c.in_err-low.ensures.same
 
 pub returns-in_default-2-clause-same : goal.returns-in_default-2-clause-same
-returns-in_default-2-clause-same t c = moved_front c.partition-lows.result c.partition-lows.ensures.same c.in_ok-low.ensures.same
+returns-in_default-2-clause-same t c =
+    moved_front c.partition-lows.result c.partition-lows.ensures.same c.in_ok-low.ensures.same
 
 pub partition-highs-requires : goal.partition-highs-requires
 partition-highs-requires t c = record { named = c.in-Some.ensures.few }
@@ -29,24 +31,24 @@ pub overflow_add-proposition-2 : goal.overflow_add-proposition-2
 overflow_add-proposition-2 t c = omega (arith, c.in-Some.ensures.few)
 
 pub returns-in_err-high-clause-same : goal.returns-in_err-high-clause-same
-returns-in_err-high-clause-same t c = moved_front c.partition-highs.result (IsPermutation-trans _ _ _
-    (moved_front c.partition-lows.result c.partition-lows.ensures.same c.in_ok-low.ensures.same) c.partition-highs.ensures.same) c.in_err-high.ensures.same
+returns-in_err-high-clause-same t c = moved_twice c.partition-lows.result c.partition-highs.result
+    c.partition-lows.ensures.same c.in_ok-low.ensures.same c.partition-highs.ensures.same c.in_err-high.ensures.same
 
 pub returns-in_default-3-clause-same : goal.returns-in_default-3-clause-same
-returns-in_default-3-clause-same t c = moved_front c.partition-highs.result (IsPermutation-trans _ _ _
-    (moved_front c.partition-lows.result c.partition-lows.ensures.same c.in_ok-low.ensures.same) c.partition-highs.ensures.same) c.in_ok-high.ensures.same
+returns-in_default-3-clause-same t c = moved_twice c.partition-lows.result c.partition-highs.result
+    c.partition-lows.ensures.same c.in_ok-low.ensures.same c.partition-highs.ensures.same c.in_ok-high.ensures.same
 
 pub returns-in_err-test-clause-keeps : goal.returns-in_err-test-clause-keeps
 returns-in_err-test-clause-keeps t c =
     keeps_three c.split_cases.ensures.keeps c.split_cases-2.ensures.keeps c.test.ensures.keeps
 
 pub returns-in_err-test-clause-same : goal.returns-in_err-test-clause-same
-returns-in_err-test-clause-same t c = moved_front c.partition-highs.result (IsPermutation-trans _ _ _
-    (moved_front c.partition-lows.result c.partition-lows.ensures.same c.in_ok-low.ensures.same) c.partition-highs.ensures.same) c.in_ok-high.ensures.same
+returns-in_err-test-clause-same t c = moved_twice c.partition-lows.result c.partition-highs.result
+    c.partition-lows.ensures.same c.in_ok-low.ensures.same c.partition-highs.ensures.same c.in_ok-high.ensures.same
 
 pub returns-clause-same : goal.returns-clause-same
-returns-clause-same t c = moved_front c.partition-highs.result (IsPermutation-trans _ _ _
-    (moved_front c.partition-lows.result c.partition-lows.ensures.same c.in_ok-low.ensures.same) c.partition-highs.ensures.same) c.in_ok-high.ensures.same
+returns-clause-same t c = moved_twice c.partition-lows.result c.partition-highs.result
+    c.partition-lows.ensures.same c.in_ok-low.ensures.same c.partition-highs.ensures.same c.in_ok-high.ensures.same
 
 pub returns-clause-made : goal.returns-clause-made
 returns-clause-made t c =

@@ -44,16 +44,20 @@ test-requires-clause-low_later c =
     let next : c.loop-proposition.proposition - 1 + 1 ≡ c.loop-proposition.proposition = omega arith in
     rw next (side_blind c.requires.hit_constant c.requires.miss_constant
     (is_in (c.loop-proposition.proposition - 1) c.args.product.positive) (tree_of c.loop-proposition.self
-    c.loop-proposition.node) (tree_of c.loop-proposition.self c.side-low.result) (side_tree c.loop-proposition.invariant.keeps _
-    c.args.miss c.loop-proposition.node c.side-low.result c.side-low.ensures c.requires.miss) c.loop-proposition.invariant.leaf)
+    c.loop-proposition.node) (tree_of c.loop-proposition.self c.side-low.result)
+    (side_tree c.loop-proposition.invariant.keeps _
+    c.args.miss c.loop-proposition.node c.side-low.result c.side-low.ensures c.requires.miss)
+    c.loop-proposition.invariant.leaf)
 
 pub test-requires-clause-high_later : goal.test-requires-clause-high_later
 test-requires-clause-high_later c =
     let next : c.loop-proposition.proposition - 1 + 1 ≡ c.loop-proposition.proposition = omega arith in
     rw next (side_blind c.requires.hit_constant c.requires.miss_constant
     (is_in (c.loop-proposition.proposition - 1) c.args.product.negative) (tree_of c.loop-proposition.self
-    c.loop-proposition.node) (tree_of c.loop-proposition.self c.side-high.result) (side_tree c.loop-proposition.invariant.keeps _
-    c.args.miss c.loop-proposition.node c.side-high.result c.side-high.ensures c.requires.miss) c.loop-proposition.invariant.leaf)
+    c.loop-proposition.node) (tree_of c.loop-proposition.self c.side-high.result)
+    (side_tree c.loop-proposition.invariant.keeps _
+    c.args.miss c.loop-proposition.node c.side-high.result c.side-high.ensures c.requires.miss)
+    c.loop-proposition.invariant.leaf)
 
 pub loop-proposition-preserved : goal.loop-proposition-preserved
 loop-proposition-preserved c =
