@@ -143,7 +143,8 @@ module _ {source : List ℕ} {history : History} {kind : Kind} {found : Lexeme}
     kept_rest {next = next} e f on same = grind (arith, rest_is source found history k.lexeme next on same)
 
     pub kept_length : found.start + length (next_of (stream_of r)).sign.text ≡ found.stop
-    kept_length = grind (arith, next_is source found history k.lexeme, k.lexeme.rises, k.lexeme.within, length-take, length-drop)
+    kept_length =
+        grind (arith, next_is source found history k.lexeme, k.lexeme.rises, k.lexeme.within, length-take, length-drop)
 
 -- skipping blanks and comments does not change the list of the remaining tokens
 pub pieces_new : (source : List ℕ) (from at start : ℕ) (history : History) (pieces : List (Piece Sign)) →
