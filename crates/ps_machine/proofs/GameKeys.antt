@@ -6,6 +6,10 @@ pub mod KeyNames
 pub mod Standing
 pub mod Visiting
 pub mod Exploring
+pub mod Getting
+pub mod Tables
+pub mod Spans
+pub mod Vertices
 pub mod Starting
 pub mod GameThere
 pub mod GameSound

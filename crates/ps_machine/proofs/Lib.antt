@@ -7,6 +7,7 @@ mod DecidedMoves
 mod FileBoards
 mod LeastLetters
 mod LetterLists
+mod LetterRows
 pub mod Movers
 pub mod GameKeys
 pub mod Diagrams

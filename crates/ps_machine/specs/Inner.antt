@@ -4,6 +4,7 @@ pub mod Assembling
 pub mod ByLetters
 pub mod Certificates
 pub mod Drawing
+pub mod Exploring
 pub mod Knowing
 pub mod Moving
 pub mod Naming

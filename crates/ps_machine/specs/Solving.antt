@@ -9,7 +9,7 @@
 -- - `Replays game fed r`: the answer is the result of parsing the text that was fed
 -- - `own_solver`: the data (`SolverData`) of psyn's own solver
 -- - `replay_of text`: the data (`SolverData`) of a solver that was fed `text`, and only parses it
-use Rattle.std.specs.Prelude.{◌≡◌, ℕ, ◌<◌, true, false, List, length, Option, None, Some, Result, Ok, Err}
+use Rattle.std.specs.Prelude.{ℕ, ◌<◌, true, false, List, length, Option, None, Some, Result, Ok, Err}
 use Rattle.std.specs.List.{All}
 use Rattle.ps_game.specs.Games.{NamedGameData, vertex_count}
 use Rattle.ps_certificate.specs.Certificates.{CertificateData, winner_of, Fits, IsValid}

@@ -33,7 +33,7 @@ use Rattle.ps_machine.proofs.Movers.{small_mover}
 use Rattle.ps_machine.specs.declared.machine.Row.{Row}
 use Rattle.ps_machine.specs.contracts.key.KeyPartialEq.TheImpl as key_eq
 use Rattle.ps_machine.proofs.GameKeys.KeyTests.{key_same}
-use Rattle.ps_machine.proofs.Diagrams.Remembering.{some_and}
+use Rattle.ps_machine.proofs.BoardSteps.{some_of}
 use Rattle.ps_machine.proofs.Lassos.Rounds.{Setting, one_place, within_game, map_contains}
 use Rattle.ps_machine.proofs.GameKeys.Standing.{same_some, slice_get-left, zip_at, zip_vertex}
 
@@ -150,7 +150,7 @@ module _ {board : Board} {mover : ℕ} {keys : List Key} {game : ParityGame} {ce
       let within = within_game s v at in
       let won = used_won s.valid.closed used in
       let there =
-      some_and (choice_of certificate v) (HasEdge game v) ((s.valid.closed.moves v within).own (own ∙ sym won)) in
+      some_of (choice_of certificate v) (HasEdge game v) ((s.valid.closed.moves v within).own (own ∙ sym won)) in
       grind (arith, used_more)
 
   -- if a vertex stands for the key k, its successors stand, in order, for the keys to which k leads

@@ -6,27 +6,13 @@ use Rattle.std.specs.List.{All}
 use Rattle.std.specs.Global.{Global}
 use Rattle.std.proofs.lemmas.List.{map_push, map_more}
 use Rattle.std.proofs.lemmas.List.Elements.{All-same, All-push}
-use Rattle.ps_automaton.specs.Automata.{AutomatonData}
-use Rattle.ps_game.specs.Games.{ParityGame, HasNoQuote}
+use Rattle.ps_game.specs.Games.{HasNoQuote}
 use Rattle.ps_game.specs.Names.{name_bytes}
-use Rattle.ps_machine.specs.Boards.{Board, LeadsTo, IsGameOf}
-use Rattle.ps_machine.specs.BuiltBoards.{board_of}
+use Rattle.ps_machine.specs.Boards.{Board}
 use Rattle.ps_machine.specs.KeyNames.{key_name, key_names}
-use Rattle.ps_machine.specs.Keys.{mover_of}
 use Rattle.ps_machine.specs.Inner.Naming.{IsPlain}
-use Rattle.ps_machine.specs.Numbering.{IsGameByKeys, IsNumbered}
 use Rattle.ps_machine.specs.declared.key.Key.{Key}
-use Rattle.ps_machine.specs.declared.key.Key.TheVariants.{First}
-use Rattle.ps_machine.specs.declared.key.Order.{Order}
 use Rattle.ps_machine.proofs.GameKeys.KeyNames.{no_quote}
-
-pub game_is : {order o : Order} {a b : AutomatonData} {q : ℕ} {keys : List Key} {game : ParityGame} → o ≡ order →
-    b ≡ a → q ≡ a.start → IsGameByKeys (LeadsTo (board_of o b)) (mover_of order) (First q 0) keys game →
-    IsNumbered game → IsGameOf (board_of order a) (mover_of order) keys game
-game_is {order} {a} {b} {q} {keys} {game} same is start by_keys numbered = record {
-  by_keys = rw start at (rw is at (rw same at by_keys));
-  numbered = numbered;
-}
 
 pub names_more : (board : Board) (keys : List Key) (i : ℕ) (d : Key) (old new : List (Option (Vec ℕ Global)))
     (v : Vec ℕ Global) → i < length keys → new ≡ old ++ Some v ∷ [] → v.items ≡ key_name board (get_or keys i d) →

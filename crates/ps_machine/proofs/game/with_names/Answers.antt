@@ -17,7 +17,7 @@ new-requires c =
     let count = vertex_count listed.game in
     let all = c.requires.by_keys.count in
     let ids : length c.in_ok-ids.ids.items ≡ count = rw c.in_ok-ids.ensures.ids (length-range_with_len 0 count) in
-    let names : length c.in_ok-ids.names.items ≡ length listed.keys = search (rules, length-map) in
+    let names : length c.in_ok-ids.names.items ≡ length listed.keys.items = search (rules, length-map) in
     record {
       id_each = omega (arith, c.in_ok-ids.ids.ok, ids);
       name_each = omega (arith, c.in_ok-ids.names.ok, names, all);
@@ -29,10 +29,10 @@ pub returns : goal.returns
 returns c =
     let board = board_of c.args.order c.args.automaton.now in
     let listed = c.args.listed in
-    let all : vertex_count listed.game ≡ length listed.keys = sym c.requires.by_keys.count in
-    let is_game : IsGameOf board (mover_of c.args.order) listed.keys c.new.result.game = rw c.new.ensures.game
+    let all : vertex_count listed.game ≡ length listed.keys.items = sym c.requires.by_keys.count in
+    let is_game : IsGameOf board (mover_of c.args.order) listed.keys.items c.new.result.game = rw c.new.ensures.game
     c.requires in
-    let are_named : AreNamed board listed.keys c.new.result = search rules in
+    let are_named : AreNamed board listed.keys.items c.new.result = search rules in
     record {
       game = is_game;
       named = are_named;
