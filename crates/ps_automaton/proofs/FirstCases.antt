@@ -62,14 +62,14 @@ product_of_label {file} {row} {n} {edge} {e} product label letters same = record
 pub cases_more : {products : List Product} {places : List ℕ} {targets : List Target} {count : ℕ}
     (cases : List Case) {more : List Case} (case : Case) → AreCases count products places targets cases →
     more ≡ cases ++ case ∷ [] → slice_get products count ≡ Some case.product → slice_get places count ≡ Some case.leaf →
-    ((target : Target) → slice_get targets count ≡ Some target → case.mark ≡ target.sets) →
+    ((target : Target) → slice_get targets count ≡ Some target → case.kind ≡ target.sets) →
     AreCases (count + 1) products places targets more
-cases_more {products} {places} {targets} {count} cases {more} case a is product leaf mark = record {
+cases_more {products} {places} {targets} {count} cases {more} case a is product leaf kind = record {
   one_each = omega (arith, ap length is, length-append cases (case ∷ []), a.one_each);
   product = λ k x at. by_place k x at (λ c. slice_get products k ≡ Some c.product) (a.product k x) (λ e. rw e product);
   leaf = λ k x at. by_place k x at (λ c. slice_get places k ≡ Some c.leaf) (a.leaf k x) (λ e. rw e leaf);
-  mark = λ k x target at there.
-      by_place k x at (λ c. c.mark ≡ target.sets) (λ e. a.mark k x target e there) (λ e. mark target (rw e at there));
+  kind = λ k x target at there.
+      by_place k x at (λ c. c.kind ≡ target.sets) (λ e. a.kind k x target e there) (λ e. kind target (rw e at there));
 }
   where
     by_place : (k : ℕ) (x : Case) → slice_get more k ≡ Some x → (P : Case → Type 0) →
@@ -123,7 +123,7 @@ module _ {file : FileData} {row : RowData} (row_sound : IsSoundRow file row) {ta
     (are_products : AreProducts file row products) {cases : List Case}
     (are_cases : AreCases (length products) products places targets cases) where
   no_case : Case
-  no_case = record { product = record { positive = 0; negative = 0 }; leaf = 0; mark = 0 }
+  no_case = record { product = record { positive = 0; negative = 0 }; leaf = 0; kind = 0 }
 
   no_target : Target
   no_target = record { state = 0; sets = 0 }
@@ -163,17 +163,17 @@ module _ {file : FileData} {row : RowData} (row_sound : IsSoundRow file row) {ta
       let each = are_targets.one_each in
       (get_or targets k no_target, slice_get-get_or targets k no_target (omega (arith, within, few, size, each)))
 
-  -- cases with the same leaf and the same mark have the same target
+  -- cases with the same leaf and the same kind have the same target
   same_target : (j k : ℕ) (one other : Case) → slice_get cases j ≡ Some one → slice_get cases k ≡ Some other →
-      one.leaf ≡ other.leaf → one.mark ≡ other.mark → slice_get targets j ≡ slice_get targets k
-  same_target j k one other at_j at_k leaf mark =
+      one.leaf ≡ other.leaf → one.kind ≡ other.kind → slice_get targets j ≡ slice_get targets k
+  same_target j k one other at_j at_k leaf kind =
       let s = target_of j one at_j in
       let t = target_of k other at_k in
       let step_s = are_places.each j one.leaf s.0 s.1 (are_cases.leaf j one at_j) in
       let step_t = are_places.each k other.leaf t.0 t.1 (are_cases.leaf k other at_k) in
       let step : step_of_target chain s.0 ≡ step_of_target chain t.0 = same_some _ _ (sym step_s ∙ rw leaf step_t) in
-      let sets : s.0.sets ≡ t.0.sets = sym (are_cases.mark j one s.0 at_j s.1) ∙ mark
-      ∙ are_cases.mark k other t.0 at_k t.1 in
+      let sets : s.0.sets ≡ t.0.sets = sym (are_cases.kind j one s.0 at_j s.1) ∙ kind
+      ∙ are_cases.kind k other t.0 at_k t.1 in
       let state : s.0.state ≡ t.0.state = ap (λ (x : Step). x.state) step in
       let same : s.0 ≡ t.0 = λ i. record { state = state i; sets = sets i } in
       s.1 ∙ ap Some same ∙ sym t.1
@@ -197,7 +197,7 @@ module _ {file : FileData} {row : RowData} (row_sound : IsSoundRow file row) {ta
         let more = contained cases e.place mine.0 mine.1 in
         let b = by letter in
         let leaf : case.leaf ≡ mine.0.leaf = same_some _ _ (sym (b.each case one h) ∙ b.each mine.0 more holds) in
-        let same = same_target k e.place case mine.0 at mine.1 leaf (b.mark case mine.0 one more h holds) in
+        let same = same_target k e.place case mine.0 at mine.1 leaf (b.kind case mine.0 one more h holds) in
         let t = are_targets.each e.place e.edge e.at_place in
         (t.0, same ∙ t.1, t.2)
     there_of letter e (inr lacking) =

@@ -39,7 +39,7 @@ pub(crate) fn products_of(
     Ok(Some(products))
 }
 
-/// A case for each product: the leaf is the entry of the list `places`, and the mark the target's acceptance sets.
+/// A case for each product: the leaf is the entry of the list `places`, and the kind the target's acceptance sets.
 /// Fails if out of memory.
 pub(crate) fn cases_of(
     alloc: Global,
@@ -56,7 +56,7 @@ pub(crate) fn cases_of(
         cases.push(Case {
             product: products[k],
             leaf: places[k],
-            mark: targets[k].sets,
+            kind: targets[k].sets,
         })?;
     }
     Ok(cases)

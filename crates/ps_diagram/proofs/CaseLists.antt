@@ -14,7 +14,7 @@ use Rattle.ps_diagram.proofs.Literals.{in_or}
 
 -- an entry of a list that no index of the list reads
 abbrev pub no_case : Case
-no_case = record { product = record { positive = 0; negative = 0 }; leaf = 0; mark = 0 }
+no_case = record { product = record { positive = 0; negative = 0 }; leaf = 0; kind = 0 }
 
 -- each of the first `count` cases allows both truth values of a proposition that is not in the set `tested`
 abbrev pub AreTestedBy : List Case → (count tested : ℕ) → Type 0

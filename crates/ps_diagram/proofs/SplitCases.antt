@@ -64,7 +64,7 @@ pub untested_made : {t : Table} {level node : ℕ} {cases : List Case} {other : 
     Contains cases first →
     AreUntested level t.propositions cases → IsNode t node →
     ((f : ℕ → Bool) → leaf_at (tree_of t node) f ≡ Some first.leaf) →
-    ((case : Case) → Contains cases case → (case.leaf ≡ first.leaf) × (case.mark ≡ first.mark)) →
+    ((case : Case) → Contains cases case → (case.leaf ≡ first.leaf) × (case.kind ≡ first.kind)) →
     IsByCases t level cases other node
 untested_made {t} {level} {node} {cases} {other} first there free held leaf alike = record {
   held = held;
@@ -72,7 +72,7 @@ untested_made {t} {level} {node} {cases} {other} first there free held leaf alik
   leaf = λ f. record {
     each = λ case in_cases holds. leaf f ∙ ap Some (sym (alike case in_cases).0);
     none = λ no. absurd (no first there (all_free (allows first.product) f t.propositions level (free first there)));
-    mark = λ one more in_one in_more holds holds_too. (alike one in_one).1 ∙ sym (alike more in_more).1;
+    kind = λ one more in_one in_more holds holds_too. (alike one in_one).1 ∙ sym (alike more in_more).1;
   };
 }
 
@@ -85,7 +85,7 @@ none_made {t} {level} {other} {cases} few held constant = record {
   leaf = λ f. record {
     each = λ case (k, low, is) holds. absurd (omega arith);
     none = λ no. refl;
-    mark = λ one more (k, low, is) in_more holds holds_too. absurd (omega arith);
+    kind = λ one more (k, low, is) in_more holds holds_too. absurd (omega arith);
   };
 }
 
@@ -111,8 +111,8 @@ one_made {t} {u} {v} {level} {other} {node} {cases} hit case few at other_held c
             none = λ never.
                 is ∙ by_bool (holds_from v.propositions level f case) case.leaf (leaf_at (tree_of t other) f)
                 (never case there);
-            mark = λ one more in_one in_more holds holds_too.
-                ap (λ (c : Case). c.mark) (only one in_one ∙ sym (only more in_more));
+            kind = λ one more in_one in_more holds holds_too.
+                ap (λ (c : Case). c.kind) (only one in_one ∙ sym (only more in_more));
           };
     }
   where
@@ -165,7 +165,7 @@ at_side : {n level p : ℕ} (b : Bool) {cases side : List Case} {miss leaf : Opt
 at_side {n} {level} {p} b {cases} {side} {miss} {leaf} f le lt free is of_side by = record {
   each = λ case c h. let s = split case c h in by.each case s.0 s.1;
   none = λ no. by.none (λ case c h. let r = of_side.from case c in no case r.0 (join case r.0 r.1 h));
-  mark = λ one more c d h k. let s = split one c h in let t = split more d k in by.mark one more s.0 t.0 s.1 t.1;
+  kind = λ one more c d h k. let s = split one c h in let t = split more d k in by.kind one more s.0 t.0 s.1 t.1;
 }
   where
     first : (case : Case) → Contains cases case →

@@ -22,9 +22,9 @@ all_allowed may f level (suc count) = may level (f level) && all_allowed may f (
 abbrev pub meets : ℕ → Product → ℕ → Bool
 meets n product letter = all_allowed (allows product) (assignment letter) 0 n
 
--- The leaf is that of each case that holds, or `other` if no case holds. Cases that hold together have the same mark.
+-- The leaf is that of each case that holds, or `other` if no case holds. Cases that hold together have the same kind.
 pub record IsLeafByCases (holds : Case → Bool) (cases : List Case) (other leaf : Option ℕ) : Type 0 where
   pub each : (case : Case) → Contains cases case → holds case ≡ true → leaf ≡ Some case.leaf
   pub none : ((case : Case) → Contains cases case → holds case ≡ true → ⊥) → leaf ≡ other
-  pub mark : (one more : Case) → Contains cases one → Contains cases more → holds one ≡ true → holds more ≡ true →
-      one.mark ≡ more.mark
+  pub kind : (one more : Case) → Contains cases one → Contains cases more → holds one ≡ true → holds more ≡ true →
+      one.kind ≡ more.kind

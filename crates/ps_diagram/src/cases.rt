@@ -28,14 +28,14 @@ pub struct Case {
     /// The leaf.
     pub leaf: u64,
     /// A second number, which tells cases with the same leaf apart.
-    pub mark: u64,
+    pub kind: u64,
 }
 
 impl Store {
     /// The diagram that has, at each letter, the leaf of the cases whose products are true there, or the leaf `other`
     /// if there is no such case. The call reorders the list of cases.
     ///
-    /// The result is None if cases that differ in their leaves or marks are true at a common letter. The contract
+    /// The result is None if cases that differ in their leaves or kinds are true at a common letter. The contract
     /// allows None for every list: the call gives up after a number of steps that is proportional to the number of
     /// cases. It needs more steps if many products leave out propositions that other products test first.
     pub fn of_cases(&mut self, cases: &mut [Case], other: u64) -> Result<Option<Node>, AllocError>
@@ -106,7 +106,7 @@ impl Store {
         self.path(case.product, level, leaf, other)
     }
 
-    /// The common leaf of the cases, or None if two cases differ in their leaves or marks. No case has a literal on a
+    /// The common leaf of the cases, or None if two cases differ in their leaves or kinds. No case has a literal on a
     /// proposition from `level` on.
     fn of_untested(&mut self, cases: &[Case]) -> Result<Option<Node>, AllocError>
         requires some { 0 < length cases.now }
@@ -116,7 +116,7 @@ impl Store {
     {
         let first = cases[0];
         for case in cases {
-            if case.leaf != first.leaf || case.mark != first.mark {
+            if case.leaf != first.leaf || case.kind != first.kind {
                 return Ok(None);
             }
         }

@@ -26,7 +26,7 @@ pub record AreProducts (file : FileData) (row : RowData) (products : List Produc
   pub each : (k : ℕ) (edge : EdgeData) (product : Product) → slice_get row.edges k ≡ Some edge →
       slice_get products k ≡ Some product → IsProductOf file row edge product
 
--- each of the first `count` cases has the product, the leaf, and the acceptance sets as its mark, that the lists have
+-- each of the first `count` cases has the product, the leaf, and the acceptance sets as its kind, that the lists have
 -- at its index
 pub record AreCases (count : ℕ) (products : List Product) (places : List ℕ) (targets : List Target) (cases : List Case)
     :
@@ -34,5 +34,5 @@ pub record AreCases (count : ℕ) (products : List Product) (places : List ℕ) 
   pub one_each : length cases ≡ count
   pub product : (k : ℕ) (case : Case) → slice_get cases k ≡ Some case → slice_get products k ≡ Some case.product
   pub leaf : (k : ℕ) (case : Case) → slice_get cases k ≡ Some case → slice_get places k ≡ Some case.leaf
-  pub mark : (k : ℕ) (case : Case) (target : Target) → slice_get cases k ≡ Some case →
-      slice_get targets k ≡ Some target → case.mark ≡ target.sets
+  pub kind : (k : ℕ) (case : Case) (target : Target) → slice_get cases k ≡ Some case →
+      slice_get targets k ≡ Some target → case.kind ≡ target.sets

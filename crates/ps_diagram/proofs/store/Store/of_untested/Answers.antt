@@ -14,5 +14,5 @@ returns-clause-made c = λ level other free.
     (λ case there q le lt. free case there q le (omega (arith, made.keeps.propositions))) made.held made.leaf
     (λ case (k, low, is). (
       sym (ap (λ (x : Case). x.leaf) is) ∙ v.leaf k case (omega arith),
-      sym (ap (λ (x : Case). x.mark) is) ∙ v.mark k case (omega arith),
+      sym (ap (λ (x : Case). x.kind) is) ∙ v.kind k case (omega arith),
     ))

@@ -5,5 +5,5 @@ use Rattle.ps_diagram.proofs.store.Store.of_untested.Given as goal
 abbrev pub invariant-loop-case : goal.invariant-loop-case
 invariant-loop-case l = record {
   leaf : (k : ℕ) (d : Case) → k < l.case-index → (get_or l.cases k d).leaf ≡ l.first.leaf;
-  mark : (k : ℕ) (d : Case) → k < l.case-index → (get_or l.cases k d).mark ≡ l.first.mark;
+  kind : (k : ℕ) (d : Case) → k < l.case-index → (get_or l.cases k d).kind ≡ l.first.kind;
 }
