@@ -7,7 +7,7 @@ pub mod Standing
 pub mod Visiting
 pub mod Exploring
 pub mod Getting
-pub mod Tables
+pub mod StepNumbers
 pub mod Spans
 pub mod Vertices
 pub mod Starting

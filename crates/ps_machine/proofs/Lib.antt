@@ -7,7 +7,7 @@ mod DecidedMoves
 mod FileBoards
 mod LeastLetters
 mod LetterLists
-mod LetterRows
+mod LeafRows
 pub mod Movers
 pub mod GameKeys
 pub mod Diagrams
