@@ -23,6 +23,7 @@ import signal
 import subprocess
 import sys
 import termios
+import threading
 import time
 import tomllib
 
@@ -50,6 +51,9 @@ PROGRAMS = {
     "half": "#!/bin/sh\nprintf 'REALIZABLE\\naag 0 0 0 0 0\\n%%%%\\n'\nexit 10\n",
     "text": "no program\n",
 }
+# Held while a program is written or a process is started. A process that is started meanwhile would have the program's
+# file open for a moment, and a file that is open for writing can't be executed ("Text file busy").
+WRITING_OR_STARTING = threading.Lock()
 
 
 def read(path):
@@ -80,7 +84,7 @@ def furnish(room):
     tools = {os.path.join("bin", name): started(tool) for name, tool in (("psyn", "psyn"), ("install-psyn", "install"))}
     os.mkdir(os.path.join(room, "bin"))
     for name, text in {**PROGRAMS, **tools}.items():
-        with open(os.path.join(room, name), "w", encoding="utf-8") as file:
+        with WRITING_OR_STARTING, open(os.path.join(room, name), "w", encoding="utf-8") as file:
             file.write(text)
         os.chmod(os.path.join(room, name), 0o644 if name == "text" else 0o755)
 
@@ -126,7 +130,7 @@ class Run:
         if cut == "closed pipe":
             nobody, output = os.pipe()
             os.close(nobody)
-        with subprocess.Popen(self.words, stdout=output, stderr=subprocess.PIPE, start_new_session=True, **self.more) as child:
+        with process(self.words, stdout=output, stderr=subprocess.PIPE, start_new_session=True, **self.more) as child:
             if cut in SIGNALS:
                 self.wait_until_at_work(child)
                 child.send_signal(SIGNALS[cut])
@@ -141,7 +145,7 @@ class Run:
         ways[3] &= ~termios.ECHO
         termios.tcsetattr(theirs, termios.TCSANOW, ways)
         more = {**self.more, "stdin": theirs}
-        with subprocess.Popen(["setsid", "-c", "-w", *self.words], stdout=theirs, stderr=theirs, **more) as child:
+        with process(["setsid", "-c", "-w", *self.words], stdout=theirs, stderr=theirs, **more) as child:
             os.close(theirs)
             self.wait_until_at_work(child)
             os.write(ours, b"\x03")
@@ -157,6 +161,12 @@ class Run:
             written += part
         os.close(ours)
         return "", written.decode().replace("\r\n", "\n"), shell_status(child.returncode)
+
+
+def process(words, **more):
+    """A process that is started while no program is written."""
+    with WRITING_OR_STARTING:
+        return subprocess.Popen(words, **more)
 
 
 def ended(child):
