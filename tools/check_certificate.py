@@ -74,6 +74,7 @@ def flaws_of(game, entries):
 
 def main(paths):
     try:
+        insist(len(paths) == 2, "two files are wanted: GAME CERTIFICATE")
         texts = [open(path, encoding="latin-1", newline="").read() for path in paths]
         game = game_of(texts[0])
         flaw = next(flaws_of(game, entries_of(texts[1], game)), "valid")

@@ -81,3 +81,10 @@ def higher(found):
 
 if __name__ == "__main__":
     unittest.main()
+
+
+class CommandLine(unittest.TestCase):
+    def test_without_two_files_the_reason_is_one_line(self):
+        ran = subprocess.run([sys.executable, CHECKER], stderr=subprocess.PIPE, text=True, check=False)
+        self.assertEqual(ran.returncode, 2)
+        self.assertEqual(ran.stderr, "check_certificate.py: two files are wanted: GAME CERTIFICATE\n")
