@@ -2,7 +2,7 @@
 -- of sets, one proposition or alias after another.
 use Rattle.std.proofs.Common.{◌≡◌, ℕ, ◌+◌, ◌*◌, ◌^◌, ◌/◌, ◌%◌, ◌<◌, ◌≤◌, inl, inr, Bool, true, false, cond}
 use Rattle.std.proofs.Common.{arith, bit_and, bit_or, refl, List, ◌∷◌, drop, ap, length, get_or, add-one, drop-cons}
-use Rattle.std.proofs.Common.{◌++◌, [], ◌∙◌, length-append, sym}
+use Rattle.std.proofs.Common.{◌++◌, [], ◌∙◌, length-append, map, sym}
 use Rattle.std.proofs.lemmas.List.{get_or_append_left, get_or_push, map-append}
 use Rattle.std.specs.Prelude.{◌||◌, ◌&&◌}
 use Rattle.std.proofs.lemmas.Bool.{cases_lt}
@@ -51,24 +51,24 @@ in_none k = grind (arith, bit_at-zero k)
 pub in_all : (k : ℕ) → k < 64 → is_in k 18446744073709551615 ≡ true
 in_all k small = let one = bit_at_ones 64 k small in grind (arith, one)
 
-pub from_drop : (items : List Label) (k : ℕ) {item : Label} (d : Label) → k < length items → item ≡ get_or items k d →
+pub from_drop : {X : Type 0} (items : List X) (k : ℕ) {item : X} (d : X) → k < length items → item ≡ get_or items k d →
     drop k items ≡ item ∷ drop (k + 1) items
 from_drop items k {item} d within is = rw (is, add-one) (drop-cons items k d within)
 
-module _ (known : List Bool) (bit letter set operand_set : ℕ) (items : List Label) (k : ℕ) {item : Label}
-    (from : drop k items ≡ item ∷ drop (k + 1) items)
-    (same : is_in bit operand_set ≡ truth known letter (expression item)) where
-  from_item : operands_in (expressions (drop k items)) ≡
-      more (expression item) (operands_in (expressions (drop (k + 1) items)))
-  from_item = ap (λ (ls : List Label). operands_in (expressions ls)) from
+-- operands, given as labels or as the numbers of literals, of which `of` gives the expressions
+module _ {X : Type 0} (of : X → Expression) (known : List Bool) (bit letter set operand_set : ℕ) (items : List X)
+    (k : ℕ) {item : X} (from : drop k items ≡ item ∷ drop (k + 1) items)
+    (same : is_in bit operand_set ≡ truth known letter (of item)) where
+  from_item : operands_in (map of (drop k items)) ≡ more (of item) (operands_in (map of (drop (k + 1) items)))
+  from_item = ap (λ (ls : List X). operands_in (map of ls)) from
 
   -- a conjunction keeps its truth value if its next operand is dropped, and the set is intersected with the letters at
   -- which this operand is true
   pub all_with : cond (is_in bit (bit_and set operand_set))
-      (all_true known letter (operands_in (expressions (drop (k + 1) items)))) false ≡ cond (is_in bit set)
-      (all_true known letter (operands_in (expressions (drop k items)))) false
+      (all_true known letter (operands_in (map of (drop (k + 1) items)))) false ≡ cond (is_in bit set)
+      (all_true known letter (operands_in (map of (drop k items)))) false
   all_with = rw (from_item, in_and bit set operand_set, same)
-      (both (is_in bit set) (truth known letter (expression item)) _)
+      (both (is_in bit set) (truth known letter (of item)) _)
     where
       both : (a b c : Bool) → cond (a && b) c false ≡ cond a (cond b c false) false
       both true b c = refl
@@ -77,10 +77,10 @@ module _ (known : List Bool) (bit letter set operand_set : ℕ) (items : List La
   -- a disjunction keeps its truth value if its next operand is dropped, and the set is united with the letters at
   -- which this operand is true
   pub any_with : cond (is_in bit (bit_or set operand_set)) true
-      (any_true known letter (operands_in (expressions (drop (k + 1) items)))) ≡ cond (is_in bit set) true
-      (any_true known letter (operands_in (expressions (drop k items))))
+      (any_true known letter (operands_in (map of (drop (k + 1) items)))) ≡ cond (is_in bit set) true
+      (any_true known letter (operands_in (map of (drop k items))))
   any_with = rw (from_item, in_or bit set operand_set, same)
-      (either (is_in bit set) (truth known letter (expression item)) _)
+      (either (is_in bit set) (truth known letter (of item)) _)
     where
       either : (a b c : Bool) → cond (a || b) true c ≡ cond a true (cond b true c)
       either true b c = refl

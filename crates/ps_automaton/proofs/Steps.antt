@@ -1,6 +1,7 @@
 -- Steps are appended to a list, each step only once.
 use Rattle.std.proofs.Common.{◌≡◌, ℕ, ◌≤◌, inl, inr, List, [], ◌∷◌, ◌++◌, length, Some, arith}
 use Rattle.std.specs.List.{slice_get}
+use Rattle.std.proofs.lemmas.Option.{slice_get_within}
 use Rattle.ps_text.proofs.Simple.{same_some}
 use Rattle.ps_automaton.specs.Chains.{Chain}
 use Rattle.ps_automaton.specs.Inner.Drafts.{AreSteps, Extends, step_of_target}
@@ -43,3 +44,12 @@ named_more chain targets steps new places p {x} extends stored is at size pushed
       | inl e ↦ extends place (step_of_target chain target) (each k place target at_k e)
       | inr e ↦ grind (arith, same_some)
     ]
+
+-- a target behind those that were named changes nothing
+pub named_wider : (chain : Chain) (targets : List Target) (last : Target) (steps : List Step) (places : List ℕ) →
+    length places ≡ length targets → AreNamed chain targets steps places →
+    AreNamed chain (targets ++ last ∷ []) steps places
+named_wider chain targets last steps places same each k place target at_k at_place = elim (at_last targets last k at_k) [
+  | inl e ↦ each k place target e at_place
+  | inr e ↦ absurd (omega (arith, e.1, same, slice_get_within places k place at_place))
+]

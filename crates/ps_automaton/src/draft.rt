@@ -4,7 +4,7 @@ ghost use Rattle.std.specs.Prelude.{◌≡◌, ℕ, ◌+◌, ◌^◌, ◌<◌, �
 ghost use Rattle.std.specs.Prelude.{◌%◌, All, IfNone, option_map, slice_get, slice_index, unwrap_or};
 ghost use Rattle.ps_diagram.specs.Labels.{AreNodesOf};
 ghost use Rattle.ps_diagram.specs.Table.{IsNode, Keeps, leaf_of};
-ghost use Rattle.ps_hoa.specs.Files.{FileData};
+ghost use Rattle.ps_hoa.specs.Files.{EdgeData, FileData};
 ghost use Rattle.ps_hoa.specs.Sound.{IsSoundFile, IsSoundRow};
 ghost use Rattle.ps_hoa.specs.Edges.{row_of};
 ghost use Rattle.ps_hoa.specs.Views.{row_data};
@@ -179,8 +179,7 @@ fn node_by_letters(pairs: &mut Pairs, source: &Source, row: &Row) -> Result<Node
     requires by_letters { IsByLetters source.now.file.now (row_data row.now) }
     ensures { MakesSteps source.now (row_data row.now) pairs.old pairs.new result }
 {
-    let targets = targets_of(pairs.alloc, row)?;
-    let places = places_of(pairs.alloc, &mut pairs.steps, source.levels, &targets)?;
+    let places = places_of_edges(pairs.alloc, &mut pairs.steps, source.levels, row)?;
     let node = pairs.store.of_leaves(&places)?;
     Ok(node)
 }
@@ -336,6 +335,31 @@ fn places_of(
     let mut places = Vec::with_capacity(alloc, targets.len())?;
     for target in targets {
         let place = steps.place_of(levels.step_to(*target))?;
+        places.push(place as u64)?;
+    }
+    Ok(places)
+}
+
+/// The indices of the steps of the edges in a state's row, in the order of the edges. No list of targets is made, since
+/// a state may have many edges.
+fn places_of_edges(
+    alloc: Global,
+    steps: &mut StepList,
+    levels: &Levels,
+    row: &Row,
+) -> Result<Vec<u64>, AllocError>
+    requires { (file : FileData) × IsSoundFile file × IsSoundRow file (row_data row.now) }
+    ensures extends { OnOk result (Extends steps.old steps.new) }
+    ensures within { OnOk result ((states : ℕ) → ((k : ℕ) (edge : EdgeData) →
+        slice_get (row_data row.now).edges k ≡ Some edge → edge.target ≤ states)
+        → AreSteps states steps.old → AreSteps states steps.new) }
+    ensures places { IfOk result (λ places. (targets : List Target) × AreTargets (row_data row.now) targets
+        × ArePlaces (chain_data levels.now.chain) targets steps.new places.items) }
+{
+    let mut places = Vec::with_capacity(alloc, row.edges.len())?;
+    for edge in &row.edges {
+        let target = target_of(row, edge);
+        let place = steps.place_of(levels.step_to(target))?;
         places.push(place as u64)?;
     }
     Ok(places)

@@ -9,7 +9,7 @@ ghost use Rattle.ps_automaton.specs.Inner.Cases.{IsEdgeLabel};
 ghost use Rattle.ps_automaton.specs.Inner.Drafts.{IsFit};
 
 use ps_hoa::{Edge, Guard, Row};
-use ps_label::Label;
+use ps_label::{Label, Literal};
 
 /// The label of an edge of a row: its own label or the label of the state; None if the edge is taken at a single
 /// letter.
@@ -40,6 +40,8 @@ pub(crate) fn size_of_labels(row: &Row) -> usize {
 fn size_of(label: &Label) -> usize {
     match label {
         Label::Truth(_) | Label::Atom(_) | Label::Named(_) => 1,
+        Label::Negated(_) => 2,
+        Label::Literals(literals) => size_of_literals(literals.as_slice()),
         Label::Neg(operand) => size_of(operand).saturating_add(1),
         Label::Both(operands) | Label::Either(operands) => {
             let mut size: usize = 1;
@@ -49,4 +51,13 @@ fn size_of(label: &Label) -> usize {
             size
         }
     }
+}
+
+/// The number of literals and operators in a conjunction of literals.
+fn size_of_literals(literals: &[Literal]) -> usize {
+    let mut size: usize = 1;
+    for literal in literals {
+        size = size.saturating_add(if literal.is_negated() { 2 } else { 1 });
+    }
+    size
 }

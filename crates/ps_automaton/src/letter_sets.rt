@@ -1,16 +1,17 @@
 //! The letters at which labels are true, as sets of letters. A set of letters is a list of bit masks, of 64 letters
 //! each: bit k of the mask with the index w is 1 if the letter 64 * w + k is in the set.
 
-ghost use Rattle.std.specs.Prelude.{◌≡◌, ℕ, ◌+◌, ◌*◌, ◌^◌, ◌<◌, ◌≤◌, IfOk, IfSome, length};
-ghost use Rattle.ps_label.specs.Expression.{AreOverFrom, IsOver, expression};
-ghost use Rattle.ps_label.specs.Truth.{expressions, is_in, truth};
+ghost use Rattle.std.specs.Prelude.{◌≡◌, ℕ, ◌+◌, ◌*◌, ◌^◌, ◌<◌, ◌≤◌, Bool, IfOk, IfSome, List, length};
+ghost use Rattle.ps_label.specs.Expression.{AreOver, AreOverFrom, IsOver, expression, literal_expression};
+ghost use Rattle.ps_label.specs.Expression.{literal_expressions, operands_in};
+ghost use Rattle.ps_label.specs.Truth.{all_true, expressions, is_in, truth};
 ghost use Rattle.ps_hoa.specs.Sound.{IsLabelOf};
 ghost use Rattle.ps_automaton.specs.Inner.LetterSets.{AreAliasSets, AreLetterSets, ArePropositionSets, AreWordSets};
 ghost use Rattle.ps_automaton.specs.Inner.LetterSets.{IsSetOf, membership};
 
 use crate::numbers::is_in;
 use ps_hoa::HoaFile;
-use ps_label::{Label, Labels};
+use ps_label::{Label, Labels, Literal};
 use std::alloc::{AllocError, Global};
 
 /// The greatest number of propositions for which sets of letters are used.
@@ -158,7 +159,9 @@ fn set_of(propositions: &[u64], aliases: &[u64], label: &Label) -> u64
     match label {
         Label::Truth(value) => { if *value { u64::MAX } else { 0 } }
         Label::Atom(proposition) => propositions[*proposition as usize],
+        Label::Negated(proposition) => !propositions[*proposition as usize],
         Label::Named(alias) => aliases[*alias],
+        Label::Literals(literals) => set_of_literals(propositions, literals.as_slice()),
         Label::Neg(operand) => !set_of(propositions, aliases, operand),
         Label::Both(operands) => {
             let mut set = u64::MAX;
@@ -175,4 +178,28 @@ fn set_of(propositions: &[u64], aliases: &[u64], label: &Label) -> u64
             set
         }
     }
+}
+
+/// The mask of the letters at which all literals are true, given the masks of the propositions.
+fn set_of_literals(propositions: &[u64], literals: &[Literal]) -> u64
+    requires { (aliases : ℕ) ×
+        AreOver aliases (length propositions.now) (operands_in (literal_expressions literals.now)) }
+    ensures { (first letter : ℕ) → ArePropositionSets first propositions.now → letter < 64 → (known : List Bool) →
+        is_in letter result ≡ all_true known (first + letter) (operands_in (literal_expressions literals.now)) }
+{
+    let mut set = u64::MAX;
+    for literal in literals {
+        set &= set_of_literal(propositions, *literal);
+    }
+    set
+}
+
+/// The mask of the letters at which a literal is true, given the masks of the propositions.
+fn set_of_literal(propositions: &[u64], literal: Literal) -> u64
+    requires { (aliases : ℕ) × IsOver aliases (length propositions.now) (literal_expression literal) }
+    ensures { (first letter : ℕ) → ArePropositionSets first propositions.now → letter < 64 → (known : List Bool) →
+        is_in letter result ≡ truth known (first + letter) (literal_expression literal) }
+{
+    let set = propositions[literal.proposition() as usize];
+    if literal.is_negated() { !set } else { set }
 }

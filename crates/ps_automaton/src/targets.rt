@@ -20,8 +20,8 @@ pub(crate) struct Target {
 
 /// The target of an edge in a state's row.
 pub(crate) fn target_of(row: &Row, edge: &Edge) -> Target
-    requires row { All (λ set. set < 64) row.now.marks.items }
-    requires edge { All (λ set. set < 64) edge.now.marks.items }
+    requires row { All (λ set. set < 64) (row_data row.now).marks }
+    requires edge { All (λ set. set < 64) (edge_data edge.now).marks }
     ensures { IsTargetOf (row_data row.now) (edge_data edge.now) result }
 {
     Target {

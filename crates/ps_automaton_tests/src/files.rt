@@ -33,7 +33,7 @@ const PARTS_OF_UNUSUAL: [&str; 11] = [
     "[97, 34]",
     "[98]",
     "[1, 0]",
-    "[Atom(0), Both([Named(0), Neg(Atom(1))])]",
+    "[Atom(0), Both([Named(0), Negated(1)])]",
     "sets: 2, condition: Fin(1, true)",
     "Row { state: 2, label: None, marks: [1, 0],",
     "Edge { guard: Letter(0), target: 3, marks: [] }",
@@ -52,10 +52,10 @@ const NESTED: &str =
 /// Strings that the debug output of the parsed text `NESTED` must contain.
 const PARTS_OF_NESTED: [&str; 6] = [
     "Stated(Either([Named(1), Truth(true)]))",
-    "Stated(Both([Named(0), Neg(Atom(0))]))",
-    "Stated(Either([Both([Atom(0), Atom(1)]), Truth(false)]))",
+    "Stated(Both([Named(0), Negated(0)]))",
+    "Stated(Either([Literals([0, 1]), Truth(false)]))",
     "Stated(Either([Atom(0), Atom(1), Either([Atom(0), Atom(1)])]))",
-    "Stated(Both([Neg(Both([Atom(0), Atom(1)])), Atom(1)]))",
+    "Stated(Both([Neg(Literals([0, 1])), Atom(1)]))",
     "Any([All([Inf(0, false), Fin(1, true)]), Any([Never, Fin(2, false)])])",
 ];
 

@@ -1,10 +1,11 @@
 -- The invariant of the loop that parses the pairs `priority:count` in a line of a compact certificate.
-use Rattle.std.proofs.Common.{◌≡◌, ℕ, zero, suc, ◌<◌, true, cond, eqb, List, [], ◌∷◌, length, get_or, Option, Some}
-use Rattle.std.proofs.Common.{None, Ok, refl, sym, ap₂, subst, arith, rules}
+use Rattle.std.proofs.Common.{◌≡◌, ℕ, zero, suc, ◌+◌, ◌-◌, ◌<◌, ◌≤◌, true, cond, eqb, List, [], ◌∷◌, ◌++◌, length}
+use Rattle.std.proofs.Common.{get_or, Option, Some, None, Ok, refl, sym, ap, ap₂, ◌∙◌, subst, inl, inr, arith, rules}
 use Rattle.std.specs.Prelude.{map, set, slice_index, replicate}
 use Rattle.std.specs.List.{All}
 use Rattle.std.specs.List.Sorted.{IsStrictlyIncreasing}
-use Rattle.std.proofs.lemmas.Bool.{eq-eqb, ne_eqb}
+use Rattle.std.proofs.lemmas.Bool.{cases_lt, cases_order, eq-eqb, ltb-true, ne_eqb}
+use Rattle.std.proofs.lemmas.List.{length-append, length-replicate}
 use Rattle.std.proofs.lemmas.List.Elements.{All-head, All-tail}
 use Rattle.std.proofs.lemmas.List.Kept.{AllPairs-from_increasing}
 use Rattle.std.proofs.lemmas.Simd.{splat_is_map}
@@ -19,6 +20,7 @@ use Rattle.ps_text.proofs.Branches.{reads_shrinks, many_ends, many_fails, carrie
 use Rattle.ps_certificate.specs.declared.fault.CertCause.{CertCause}
 use Rattle.ps_certificate.specs.Pairs.{Pairs, no_pairs, with_pair}
 use Rattle.ps_text.specs.Bytes.{Seen, byte}
+use Rattle.ps_certificate.specs.Inner.Reading.{rises as above}
 use Rattle.ps_certificate.specs.Texts.{causes, pair, counts_in}
 use Rattle.ps_certificate.proofs.TextLaws.{digit_no_space, behind_space, laws_pair, chain_pair, chain_pairs}
 use Rattle.ps_certificate.proofs.OneReading.{Rises, rises}
@@ -46,21 +48,37 @@ set_is_put f m (q ∷ ps) (suc k) r lt = grind (arith, set_is_put f m ps k r.1 (
 
 -- ## The loop
 
+-- the counts, extended by zeros to one count for each of the priorities
+abbrev pub padded : List ℕ → List ℕ → List ℕ
+padded ps counts = counts ++ replicate (length ps - length counts) 0
+
+-- the list of counts that is made by appending zeros up to index k and then a count is the list with this count at k
+fill_set : (counts : List ℕ) (j n m : ℕ) → ((counts ++ replicate j 0) ++ m ∷ []) ++ replicate n 0
+    ≡ set (counts ++ replicate (j + n + 1) 0) (length counts + j) m
+fill_set [] zero n m = grind (arith, replicate)
+fill_set [] (suc j) n m = grind (arith, replicate, fill_set [] j n m)
+fill_set (c ∷ counts) j n m = grind (arith, fill_set counts j n m)
+
 -- the loop's invariant: the list `counts` has the counts of the pairs `priority:count` that were read so far, and 0 for
--- every other priority
+-- every other priority up to the last one that was read
 pub record PairsSoFar (ps : List ℕ) (start : Stream Seen) (now : Stream Seen) (last : Option ℕ)
     (counts : List ℕ) : Type 0 where
   pub pairs : Pairs
   pub last_is : pairs.last ≡ last
-  pub counts_are : counts ≡ map pairs.count ps
+  pub within : length counts ≤ length ps
+  pub last_at : (k : ℕ) → length counts ≡ k + 1 → last ≡ Some (slice_index ps k)
+  pub counts_are : padded ps counts ≡ map pairs.count ps
   pub carries : Carries causes (many (pair ps) no_pairs) start (many (pair ps) pairs) now
 
-pub no_pairs_yet : {ps : List ℕ} {start : Stream Seen} {n : ℕ} → n ≡ length ps
-    → PairsSoFar ps start start None (replicate n 0)
-no_pairs_yet {ps} {start} {n} e = record {
+pub no_pairs_yet : {ps : List ℕ} {start : Stream Seen} → PairsSoFar ps start start None []
+no_pairs_yet {ps} {start} = record {
   pairs = no_pairs;
   last_is = refl;
-  counts_are = splat_is_map ps n 0 (sym e);
+  within = omega arith;
+  last_at = λ k h. absurd (omega (arith, h));
+  counts_are =
+      let zeros : replicate {A = ℕ} (length ps) 0 ≡ map (λ (p : ℕ). 0) ps = splat_is_map ps (length ps) 0 refl in
+      grind (arith, zeros);
   carries = carries_start causes (many (pair ps) no_pairs) start;
 }
 
@@ -78,14 +96,44 @@ pair_shrinks ps last now next p m read = let pairs : Pairs = record { last = las
 
 module _ (ps : List ℕ) (start : Stream Seen) (now : Stream Seen) (last : Option ℕ) (counts : List ℕ)
     (so_far : PairsSoFar ps start now last counts) where
-  pub pair_more : IsStrictlyIncreasing ps → {next : Stream Seen} (k m : ℕ) → k < length ps → ReadsPair ps last now
-      (slice_index ps k) m next → PairsSoFar ps start next (Some (slice_index ps k)) (set counts k m)
-  pair_more rising k m lt read = record {
+  -- the counts that were read so far are those of smaller priorities
+  pub pair_behind : IsStrictlyIncreasing ps → (k : ℕ) → k < length ps → above last (slice_index ps k) ≡ true →
+      length counts ≤ k
+  pair_behind rising k lt up = elim (cases_lt k (length counts)) [
+    | inl less ↦
+        let j = length counts - 1 in
+        let before : last ≡ Some (slice_index ps j) = so_far.last_at j (omega (arith, less)) in
+        let here : slice_index ps j < slice_index ps k =
+        ltb-true (slice_index ps j) (slice_index ps k) (ap (λ l. above l (slice_index ps k)) (sym before) ∙ up) in
+        absurd (omega (arith, here, falls j (omega (arith, so_far.within, less)) (omega (arith, less))))
+    | inr late ↦ late
+  ]
+    where
+      falls : (j : ℕ) → j < length ps → k ≤ j → slice_index ps k ≤ slice_index ps j
+      falls j within late = elim (cases_order k j) [
+        | inl same ↦ omega (arith, ap (slice_index ps) same)
+        | inr (inl less) ↦ omega (arith, AllPairs-from_increasing ps rising k j 0 less within)
+        | inr (inr more) ↦ absurd (omega (arith, more, late))
+      ]
+
+  pub pair_more : IsStrictlyIncreasing ps → {next : Stream Seen} (k m : ℕ) → k < length ps →
+      length counts ≤ k → {longer : List ℕ} → longer ≡ (counts ++ replicate (k - length counts) 0) ++ m ∷ [] →
+      ReadsPair ps last now (slice_index ps k) m next → PairsSoFar ps start next (Some (slice_index ps k)) longer
+  pair_more rising k m lt far {longer} is read = record {
     pairs = with_pair so_far.pairs (slice_index ps k) m;
     last_is = refl;
-    counts_are = search (rules, set_is_put, rises, AllPairs-from_increasing);
+    within = omega (arith, long, lt);
+    last_at = λ i h. ap (λ j. Some (slice_index ps j)) (omega (arith, long, h));
+    counts_are = stored ∙ ap (λ xs. set xs k m) so_far.counts_are ∙ set_is_put so_far.pairs.count m ps k
+        (rises ps (AllPairs-from_increasing ps rising)) lt;
     carries = carries_many (pair ps) (laws_pair ps) digit_no_space causes so_far.carries (search rules);
   }
+    where
+      long : length longer ≡ k + 1
+      long = grind (arith, length-append, length-replicate)
+
+      stored : padded ps longer ≡ set (padded ps counts) k m
+      stored = grind (arith, long, fill_set counts (k - length counts) (length ps - (k + 1)) m)
 
   pub pair_fails : next_byte now ≡ Some 32 → (o : Option (Found CertCause)) → ((pairs : Pairs) →
       pairs.last ≡ last → Stops causes (pair ps pairs) now o) → Stops causes (counts_in true ps) start o
@@ -104,6 +152,6 @@ module _ (ps : List ℕ) (start : Stream Seen) (now : Stream Seen) (last : Optio
       (stops_mapped causes (λ _. map so_far.pairs.count ps) (byte 10) now o m)
 
   pub pairs_done : (next_byte now ≡ Some 32 → ⊥) → (new : Stream Seen) → Reads {F = CertCause} (byte 10) now tt new
-      → Reads (counts_in true ps) start counts new
-  pairs_done h new m = subst (λ cs. Reads (counts_in true ps) start cs new) (sym so_far.counts_are)
+      → {all : List ℕ} → all ≡ padded ps counts → Reads (counts_in true ps) start all new
+  pairs_done h new m is = subst (λ cs. Reads (counts_in true ps) start cs new) (sym (is ∙ so_far.counts_are))
       (reads_then (chain_pairs ps).joint (pairs_read h) (reads_mapped (λ _. map so_far.pairs.count ps) m))

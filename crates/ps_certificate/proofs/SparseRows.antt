@@ -4,3 +4,4 @@
 pub mod Sparse
 pub mod Lines
 pub mod RowCopies
+pub mod LongerRows

@@ -9,6 +9,7 @@ ghost use Rattle.ps_certificate.specs.Inner.Reading.{Tells, TellsNumber, is_end}
 ghost use Rattle.ps_certificate.specs.Texts as parts;
 ghost use Rattle.ps_certificate.specs.Texts.{IsMissing};
 
+use crate::counts::Counts;
 use crate::fault::{CertCause, CertFault};
 use ps_game::Player;
 use ps_ids::Ids;
@@ -143,9 +144,9 @@ pub(crate) fn choice(cursor: &mut Cursor, ids: &Ids) -> Result<Option<usize>, Ce
 pub(crate) fn all_counts(
     cursor: &mut Cursor,
     count: usize,
-    counts: &mut Vec<u64>,
+    counts: &mut Counts,
 ) -> Result<(), CertFault>
-    ensures { Tells (λ _. counts.new.items) (parts.counts count) cursor.old result cursor.new }
+    ensures { Tells (λ _. counts.new) (parts.counts count) cursor.old result cursor.new }
 {
     counts.clear();
     for _ in 0..count {

@@ -40,6 +40,7 @@
 mod certificate;
 mod checking;
 mod closing;
+mod counts;
 mod entries;
 mod fault;
 mod fields;

@@ -6,6 +6,7 @@ ghost use Rattle.ps_certificate.specs.Inner.Reading.{Tells, TellsPriority, rises
 ghost use Rattle.ps_certificate.specs.Texts as parts;
 ghost use Rattle.ps_certificate.specs.Texts.{IsZero};
 
+use crate::counts::Counts;
 use crate::fault::{CertCause, CertFault};
 use crate::fields::{all_counts, ends, number};
 use crate::rising::Rising;
@@ -17,9 +18,9 @@ pub(crate) fn counts_for(
     cursor: &mut Cursor,
     priorities: Rising<'_>,
     compact: bool,
-    counts: &mut Vec<u64>,
+    counts: &mut Counts,
 ) -> Result<(), CertFault>
-    ensures { Tells (λ _. counts.new.items) (parts.counts_in compact priorities.entry.list.now) cursor.old result
+    ensures { Tells (λ _. counts.new) (parts.counts_in compact priorities.entry.list.now) cursor.old result
         cursor.new }
 {
     if compact {
@@ -31,23 +32,20 @@ pub(crate) fn counts_for(
 
 /// Parses pairs of a priority and its count, each after a space, and the end of the line. A count that the compact text
 /// leaves out is 0.
-fn pairs(
-    cursor: &mut Cursor,
-    priorities: Rising<'_>,
-    counts: &mut Vec<u64>,
-) -> Result<(), CertFault>
-    ensures { Tells (λ _. counts.new.items) (parts.counts_in true priorities.entry.list.now) cursor.old result
+fn pairs(cursor: &mut Cursor, priorities: Rising<'_>, counts: &mut Counts) -> Result<(), CertFault>
+    ensures { Tells (λ _. counts.new) (parts.counts_in true priorities.entry.list.now) cursor.old result
         cursor.new }
 {
     counts.clear();
-    counts.resize(priorities.list.len(), 0)?;
     let mut last = None;
     'more: while cursor.comes(b' ') {
         let (place, count) = pair(cursor, priorities, last)?;
-        counts[place] = count;
+        counts.extend(place);
+        counts.push(count)?;
         last = Some(priorities.list[place]);
     }
     cursor.byte(b'\n', CertCause::Syntax)?;
+    counts.extend(priorities.list.len());
     Ok(())
 }
 
@@ -63,6 +61,7 @@ fn pair(
         (parts.pair priorities.entry.list.now pairs)
         cursor.old result cursor.new }
     ensures within { IfOk result (λ pair. pair.0 < length priorities.entry.list.now) }
+    ensures above { IfOk result (λ pair. rises last (slice_index priorities.entry.list.now pair.0) ≡ true) }
 {
     cursor.byte(b' ', CertCause::Syntax)?;
     let place = priority(cursor, priorities, last)?;
@@ -80,6 +79,7 @@ fn priority(
     ensures read { (pairs : Pairs) → pairs.last ≡ last → TellsPriority priorities.entry.list.now pairs cursor.old
         result cursor.new }
     ensures within { IfOk result (λ place. place < length priorities.entry.list.now) }
+    ensures above { IfOk result (λ place. rises last (slice_index priorities.entry.list.now place) ≡ true) }
 {
     let refused = cursor.refusal(CertCause::Syntax);
     let other_game = cursor.refusal(CertCause::OtherGame);

@@ -1,6 +1,7 @@
 //! Ascending lists of numbers.
 
 ghost use Rattle.std.specs.Prelude.{◌≡◌, ℕ, ◌+◌, ◌<◌, ◌≤◌, ◌↔◌, IsTrue, IfNone, IfSome, length, slice_index};
+ghost use Rattle.std.specs.Bool.{OnTrue};
 ghost use Rattle.std.specs.List.{Contains};
 ghost use Rattle.std.specs.List.Sorted.{IsStrictlyIncreasing};
 ghost use Rattle.ps_certificate.specs.Inner.Prefixes.{IsAt};
@@ -33,6 +34,10 @@ impl<'a> Rising<'a> {
         ensures none { IfNone result (¬ Contains self.entry.list.now number) }
         ensures some { IfSome result (IsAt self.entry.list.now number) }
     {
+        let likely = self.likely_place(number);
+        if likely < self.list.len() && self.list[likely] == number {
+            return Some(likely);
+        }
         match self.list.binary_search(&number) {
             Ok(place) => Some(place),
             Err(_) => None,
@@ -46,9 +51,48 @@ impl<'a> Rising<'a> {
         ensures behind { (k : ℕ) → result ≤ k → k < length self.entry.list.now →
             number ≤ slice_index self.entry.list.now k }
     {
+        let likely = self.likely_place(number);
+        if likely <= self.list.len()
+            && self.are_less_before(number, likely)
+            && self.are_not_less_from(number, likely)
+        {
+            return likely;
+        }
         match self.list.binary_search(&number) {
             Ok(place) => place,
             Err(place) => place,
         }
+    }
+
+    /// The index of the first number that is at least `number`, if the list counts up by two. Most lists of priorities
+    /// of one parity do.
+    fn likely_place(self, number: u64) -> usize {
+        match self.list {
+            [first, ..] => number.saturating_sub(*first).div_ceil(2) as usize,
+            [] => 0,
+        }
+    }
+
+    /// Whether the numbers before the index `place` are less than `number`.
+    fn are_less_before(self, number: u64, place: usize) -> bool
+        requires { place ≤ length self.list.now }
+        ensures { OnTrue result ((k : ℕ) → k < place → slice_index self.entry.list.now k < number) }
+    {
+        if place == 0 {
+            return true;
+        }
+        self.list[place - 1] < number
+    }
+
+    /// Whether the numbers from the index `place` on are at least `number`.
+    fn are_not_less_from(self, number: u64, place: usize) -> bool
+        requires { place ≤ length self.list.now }
+        ensures { OnTrue result ((k : ℕ) → place ≤ k → k < length self.entry.list.now →
+            number ≤ slice_index self.entry.list.now k) }
+    {
+        if place == self.list.len() {
+            return true;
+        }
+        number <= self.list[place]
     }
 }

@@ -12,7 +12,8 @@ ghost use Rattle.ps_certificate.specs.Texts.{ReadsCertificate, IsCertificateAnsw
 ghost use Rattle.ps_certificate.specs.declared.fault.CertCause.{CertCause};
 
 use crate::certificate::Certificate;
-use crate::entries::{Entries, Entry};
+use crate::counts::Counts;
+use crate::entries::Entries;
 use crate::fault::{CertCause, CertFault};
 use crate::fields::{choice, exactly, priorities, version, winner};
 use crate::pairs::counts_for;
@@ -91,9 +92,9 @@ fn entry(
     known: &Known,
     compact: bool,
     id: u64,
-    counts: &mut Vec<u64>,
+    counts: &mut Counts,
 ) -> Result<Won, CertFault>
-    ensures { Tells (λ won. record { winner = won.winner; choice = won.choice; counts = counts.new.items })
+    ensures { Tells (λ won. record { winner = won.winner; choice = won.choice; counts = counts.new })
         (parts.entry compact known.now.odd.items known.now.even.items known.now.ids id) cursor.old result cursor.new }
 {
     exactly(cursor, id)?;
@@ -119,14 +120,10 @@ fn entries(
 {
     let vertices = game.game().count();
     let mut entries = Entries::with_capacity(alloc, vertices)?;
-    let mut counts = Vec::new(alloc);
+    let mut counts = Counts::new(alloc);
     for vertex in 0..vertices {
         let won = entry(cursor, known, compact, game.id(vertex), &mut counts)?;
-        entries.push(&Entry {
-            winner: won.winner.number(),
-            choice: won.choice,
-            counts: &counts,
-        })?;
+        entries.push_row(won.winner, won.choice, &counts.row())?;
     }
     Ok(entries)
 }

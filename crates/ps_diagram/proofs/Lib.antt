@@ -23,6 +23,7 @@ pub mod Numbering
 pub mod Classing
 pub mod Halving
 pub mod Unions
+pub mod Uniting
 pub mod Distinct
 pub mod Choosing
 pub mod Composing

@@ -1,12 +1,13 @@
 -- Lemmas about products (conjunctions) of literals: a literal is added to a product, or a product is made into a tree.
 use Rattle.std.proofs.Common.{◌≡◌, ℕ, zero, suc, ◌+◌, ◌-◌, ◌*◌, ◌^◌, ◌%◌, ◌<◌, ◌≤◌, Bool, true, false, cond, Option}
-use Rattle.std.proofs.Common.{refl, sym, ◌∙◌, arith, nat_eq, bit_or, ◌⊎◌, inl, inr}
+use Rattle.std.proofs.Common.{refl, sym, ◌∙◌, ◌/◌, ◌∷◌, [], List, arith, nat_eq, bit_or, ◌⊎◌, inl, inr}
 use Rattle.std.specs.Prelude.{◌&&◌, ◌||◌}
 use Rattle.std.proofs.lemmas.Nat.{one_shl}
 use Rattle.std.proofs.lemmas.Nat.Bits.{bit_at_or, bit_at-lt, bit_at-pow_same, bit_at-pow_other}
+use Rattle.ps_label.specs.Expression.{literal_expressions, operands_in, signed}
 use Rattle.ps_label.specs.Truth.{is_in}
 use Rattle.ps_diagram.specs.Letters.{assignment}
-use Rattle.ps_diagram.specs.Products.{allows, all_allowed, meets}
+use Rattle.ps_diagram.specs.Products.{allows, all_allowed, are_products, is_product, meets}
 use Rattle.ps_diagram.specs.Split.{IsConstant}
 use Rattle.ps_diagram.specs.Tree.{Tree, leaf_at, IsBlind, IsTestOf}
 use Rattle.ps_diagram.specs.Inner.Splitting.{IsProduct}
@@ -139,6 +140,15 @@ meets_negative product p n letter small lt =
 none_allows : (q : ℕ) (b : Bool) → allows (record { positive = 0; negative = 0 }) q b ≡ true
 none_allows q true = grind arith
 none_allows q false = grind arith
+
+signed_is_product : (negated : Bool) (p : ℕ) → is_product (signed negated p) ≡ true
+signed_is_product true p = refl
+signed_is_product false p = refl
+
+pub literals_are_products : (codes : List ℕ) → are_products (operands_in (literal_expressions codes)) ≡ true
+literals_are_products [] = refl
+literals_are_products (code ∷ codes) =
+    rw (signed_is_product (nat_eq (code % 2) 1) (code / 2)) (literals_are_products codes)
 
 pub meets_none : (f : ℕ → Bool) (level n : ℕ) →
     all_allowed (allows (record { positive = 0; negative = 0 })) f level n ≡ true

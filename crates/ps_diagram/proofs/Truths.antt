@@ -1,32 +1,19 @@
 -- Lemmas about diagrams of truth values, which have the leaf 1 for true and no leaf for false: such diagrams are made,
 -- and stay the same when the table grows.
 use Rattle.std.proofs.Common.{◌≡◌, ℕ, ◌+◌, ◌<◌, Bool, true, false, cond, List, [], ◌∷◌, ◌++◌, length, get_or, Option}
-use Rattle.std.proofs.Common.{Some, refl, ap, sym, ◌∙◌, arith, drop, drop-cons, add-one, length-append, rules}
+use Rattle.std.proofs.Common.{refl, ap, arith, drop, drop-cons, add-one, length-append, rules}
 use Rattle.std.specs.Prelude.{option_map}
 use Rattle.std.proofs.lemmas.List.{get_or-map, length-map}
 use Rattle.ps_label.specs.declared.label.Label.{Label}
 use Rattle.ps_label.specs.Expression.{constant, AreOrdered, expression}
 use Rattle.ps_label.specs.Truth.{alias_truths, expressions, truth}
 use Rattle.ps_label.proofs.Tables.{table}
-use Rattle.ps_diagram.specs.declared.fault.OverlayError.TheVariants.{Clash}
-use Rattle.ps_diagram.specs.Clashes.{TellsClash}
 use Rattle.ps_diagram.specs.Leaves.{either_leaf, opposite}
-use Rattle.ps_diagram.specs.Labels.{leaf_where, one_where, IsOneOrNone, HaveTruths}
+use Rattle.ps_diagram.specs.Labels.{leaf_where, one_where, HaveTruths}
 use Rattle.ps_diagram.specs.Letters.{assignment}
 use Rattle.ps_diagram.specs.Tree.{leaf_at}
 use Rattle.ps_diagram.specs.Table.{Table, IsNode, Keeps, leaf_of}
 use Rattle.ps_diagram.proofs.Cells.{push_each}
-
-is_one : (b : Bool) {x : ℕ} → one_where b ≡ Some x → x ≡ 1
-is_one b h = search rules
-
-one_leaf : {leaf : Option ℕ} {x : ℕ} → IsOneOrNone leaf → leaf ≡ Some x → x ≡ 1
-one_leaf {x} h e = is_one h.0 (sym h.1 ∙ e)
-
--- two diagrams of truth values never have different leaves at one letter, since each leaf is 1
-pub no_clash : (t : Table) (a b x y : ℕ) → ((letter : ℕ) → IsOneOrNone (leaf_of t a letter)) →
-    ((letter : ℕ) → IsOneOrNone (leaf_of t b letter)) → TellsClash t a b (Clash x y) → ⊥
-no_clash t a b x y ha hb c = c.4 (one_leaf (ha c.0) c.2 ∙ sym (one_leaf (hb c.0) c.3))
 
 pub truths_kept : {t u : Table} {nodes : List ℕ} {known : ℕ → List Bool} → Keeps t u → HaveTruths t nodes known →
     HaveTruths u nodes known

@@ -4,11 +4,9 @@ ghost use Rattle.std.specs.Prelude.{◌≡◌, ℕ, ◌<◌, All, Bool, List, If
 ghost use Rattle.ps_label.specs.Expression.{AreOverFrom, Expression, IsOver, expression};
 ghost use Rattle.ps_label.specs.Truth.{expressions, is_in, label_truth, truth};
 ghost use Rattle.ps_diagram.specs.Table.{IsNode, Keeps, MakesDiagram, MakesNode, leaf_of};
-ghost use Rattle.ps_diagram.specs.Labels.{AreNodesOf, HaveTruths, IsOneOrNone, leaf_where, one_where};
-ghost use Rattle.ps_diagram.specs.Leaves.{either_leaf};
+ghost use Rattle.ps_diagram.specs.Labels.{AreNodesOf, HaveTruths, leaf_where, one_where};
 ghost use Rattle.ps_diagram.specs.Inner.Unions.{IsTruth, first_leaf, leaves_of};
 
-use crate::fault::OverlayError;
 use crate::store::Store;
 use crate::view::Node;
 use ps_label::{Label, Labels};
@@ -91,7 +89,12 @@ impl Store {
         match label {
             Label::Truth(value) => self.of_truth(*value),
             Label::Atom(proposition) => self.of_proposition(*proposition),
+            Label::Negated(proposition) => {
+                let node = self.of_proposition(*proposition)?;
+                self.negated(node)
+            }
             Label::Named(alias) => Ok(aliases[*alias]),
+            Label::Literals(literals) => self.of_conjunction(literals.as_slice()),
             Label::Neg(operand) => {
                 let node = self.truth_by(aliases, operand)?;
                 self.negated(node)
@@ -150,21 +153,5 @@ impl Store {
         let none = self.constant(None)?;
         let one = self.constant(Some(1))?;
         self.test(proposition, none, one)
-    }
-
-    /// The diagram that has the leaf 1 at letters at which at least one of the two nodes has the leaf 1.
-    fn either(&mut self, first: Node, second: Node) -> Result<Node, AllocError>
-        requires first { IsNode self.old first }
-        requires second { IsNode self.old second }
-        requires first_truth { (letter : ℕ) → IsOneOrNone (leaf_of self.old first letter) }
-        requires second_truth { (letter : ℕ) → IsOneOrNone (leaf_of self.old second letter) }
-        ensures { MakesDiagram self.old self.new result
-            (λ letter. either_leaf (leaf_of self.old first letter) (leaf_of self.old second letter)) }
-    {
-        match self.overlay(first, second) {
-            Ok(node) => Ok(node),
-            Err(OverlayError::OutOfMemory) => Err(AllocError),
-            Err(OverlayError::Clash { .. }) => unreachable!(),
-        }
     }
 }

@@ -41,12 +41,13 @@
 //! triple once. `composed_from` chooses between the results for a node's two sides by the function that replaces the
 //! node's proposition. If this function is not constant, the node is visited once. If it is constant, only one side is
 //! needed, and the node's result is not kept: the node is visited again if another node leads to it. Most calls visit
-//! only a few nodes, so the first few nodes are not kept in a memo table, and may be visited more often. `of_letter`
-//! makes one node for each proposition. `of_cases` splits the list of cases at one proposition after another; it takes
-//! at most 256 steps for each case on average, and makes no node if that is not enough. For a product of literals,
-//! `of_label` makes at most one node for each literal. For any other disjunction, it joins the diagrams of the
-//! operands: first those of each half of the list, then the two results. For any other conjunction, it joins the
-//! diagrams of the operands' negations in this way, and negates the result. `classes` first copies the store.
+//! only a few nodes, so the first few nodes are not kept in a memo table, and may be visited more often. `leaves` does
+//! not keep nodes that test one of the last three propositions. `of_letter` makes one node for each proposition.
+//! `of_cases` splits the list of cases at one proposition after another; it takes at most 256 steps for each case on
+//! average, and makes no node if that is not enough. For a product of literals, `of_label` makes at most one node for
+//! each literal. For any other disjunction, it joins the diagrams of the operands: first those of each half of the
+//! list, then the two results. For any other conjunction, it joins the diagrams of the operands' negations in this way,
+//! and negates the result. `classes` first copies the store.
 #![tactic(auto)]
 
 mod both;
@@ -55,6 +56,7 @@ mod choose;
 mod classes;
 mod cofactors;
 mod composed;
+mod disjunction;
 mod fault;
 mod interning;
 mod labels;

@@ -13,6 +13,10 @@ use crate::store::Store;
 use crate::view::{Node, View};
 use std::alloc::{AllocError, Global};
 
+/// The number of last propositions whose tests are not put into the set of visited nodes. A test of one of these has at
+/// most eight leaves, so visiting it again takes about as long as finding it in the set.
+const LAST: u32 = 3;
+
 impl Store {
     /// The different leaves of a node, each with the least letter that leads to it, in the order of the letters.
     pub fn leaves(&self, node: Node) -> Result<Vec<(u64, u64)>, AllocError>
@@ -77,12 +81,15 @@ impl Store {
                 low,
                 high,
             } => {
-                if seen.get(node).is_some() {
+                let is_kept = proposition + LAST < self.propositions();
+                if is_kept && seen.get(node).is_some() {
                     return Ok(());
                 }
                 self.gather(low, letter, seen, found)?;
                 self.gather(high, letter + (1 << proposition), seen, found)?;
-                seen.put(node, node)?;
+                if is_kept {
+                    seen.put(node, node)?;
+                }
                 Ok(())
             }
         }

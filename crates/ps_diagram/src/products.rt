@@ -1,17 +1,19 @@
 //! The diagrams of products, which are conjunctions of literals.
 
-ghost use Rattle.std.specs.Prelude.{◌≡◌, ◌&&◌, ℕ, ◌<◌, ◌≤◌, Bool, true, false, List, IfOk, IfSome, cond};
-ghost use Rattle.ps_label.specs.Expression.{IsOver, expression, proposition};
-ghost use Rattle.ps_label.specs.Truth.{is_in, truth};
-ghost use Rattle.ps_diagram.specs.Labels.{leaf_where};
-ghost use Rattle.ps_diagram.specs.Products.{meets};
+ghost use Rattle.std.specs.Prelude.{◌≡◌, ◌&&◌, ℕ, ◌<◌, ◌≤◌, Bool, true, false, List, IfNone, IfOk, IfSome, cond};
+ghost use Rattle.std.specs.Prelude.{is_some};
+ghost use Rattle.ps_label.specs.Expression.{AreOver, IsOver, expression, literal_expression, literal_expressions};
+ghost use Rattle.ps_label.specs.Expression.{operands_in, proposition};
+ghost use Rattle.ps_label.specs.Truth.{all_true, is_in, truth};
+ghost use Rattle.ps_diagram.specs.Labels.{leaf_where, one_where};
+ghost use Rattle.ps_diagram.specs.Products.{is_product, is_proposition, meets};
 ghost use Rattle.ps_diagram.specs.Split.{IsConstant};
-ghost use Rattle.ps_diagram.specs.Table.{IsNode, Keeps, MakesDiagram, MakesTree, leaf_of, tree_of};
+ghost use Rattle.ps_diagram.specs.Table.{IsNode, Keeps, MakesDiagram, MakesNode, MakesTree, leaf_of, tree_of};
 ghost use Rattle.ps_diagram.specs.Inner.Splitting.{IsProduct};
 
 use crate::store::Store;
 use crate::view::Node;
-use ps_label::Label;
+use ps_label::{Label, Literal};
 use std::alloc::AllocError;
 
 /// A conjunction of literals, as two sets of propositions; proposition p is bit p of a set.
@@ -25,6 +27,16 @@ pub struct Product {
 
 impl Product {
     ghost use Rattle.ps_diagram.specs.Products.{allows};
+
+    /// The product without literals, which is true at every letter.
+    fn empty() -> Product
+        ensures { (n letter : ℕ) → meets n result letter ≡ true }
+    {
+        Product {
+            positive: 0,
+            negative: 0,
+        }
+    }
 
     /// Whether this product allows the proposition to have the given truth value.
     pub(crate) fn allows(&self, proposition: u32, value: bool) -> bool
@@ -58,6 +70,31 @@ impl Product {
             negative: self.negative | 1 << proposition,
         }
     }
+
+    /// This product, extended by a literal.
+    fn with_literal(self, literal: Literal) -> Product
+        ensures { (aliases n letter : ℕ) (known : List Bool) → IsOver aliases n (literal_expression literal) →
+            meets n result letter ≡ (meets n self letter && truth known letter (literal_expression literal)) }
+    {
+        if literal.is_negated() {
+            self.without(literal.proposition())
+        } else {
+            self.with(literal.proposition())
+        }
+    }
+
+    /// This product, extended by literals.
+    fn with_all(self, literals: &[Literal]) -> Product
+        ensures { (aliases n : ℕ) → AreOver aliases n (operands_in (literal_expressions literals.now)) →
+            (known : List Bool) (letter : ℕ) → meets n result letter ≡
+            (meets n self letter && all_true known letter (operands_in (literal_expressions literals.now))) }
+    {
+        let mut more = self;
+        for literal in literals {
+            more = more.with_literal(*literal);
+        }
+        more
+    }
 }
 
 impl Store {
@@ -85,26 +122,27 @@ impl Store {
     /// replaced by what they stand for.
     pub fn product_of(&self, label: &Label) -> Option<Product>
         requires within { (aliases : ℕ) × IsOver aliases self.now.propositions (expression label.now) }
-        ensures { IfSome result (λ product. (known : List Bool) (letter : ℕ) →
+        ensures value { IfSome result (λ product. (known : List Bool) (letter : ℕ) →
             meets self.now.propositions product letter ≡ truth known letter (expression label.now)) }
+        ensures some { is_some result ≡ is_product (expression label.now) }
     {
-        let none = Product {
-            positive: 0,
-            negative: 0,
-        };
-        self.with_label(none, label)
+        self.with_label(Product::empty(), label)
     }
 
     /// The product, extended by the literals of a label; `None` unless the label is a product of literals.
     fn with_label(&self, product: Product, label: &Label) -> Option<Product>
         requires within { (aliases : ℕ) × IsOver aliases self.now.propositions (expression label.now) }
-        ensures { IfSome result (λ more. (known : List Bool) (letter : ℕ) → meets self.now.propositions more letter ≡
+        ensures value { IfSome result (λ more. (known : List Bool) (letter : ℕ) →
+            meets self.now.propositions more letter ≡
             (meets self.now.propositions product letter && truth known letter (expression label.now))) }
+        ensures some { is_some result ≡ is_product (expression label.now) }
     {
         let _ = self.propositions();
         match label {
             Label::Truth(true) => Some(product),
             Label::Atom(proposition) => Some(product.with(*proposition)),
+            Label::Negated(proposition) => Some(product.without(*proposition)),
+            Label::Literals(literals) => Some(product.with_all(literals.as_slice())),
             Label::Neg(operand) => Some(product.without(atom_of(operand)?)),
             Label::Both(operands) => {
                 let mut more = product;
@@ -115,6 +153,17 @@ impl Store {
             }
             _ => None,
         }
+    }
+
+    /// The diagram that has the leaf 1 at letters at which all literals are true.
+    pub(crate) fn of_conjunction(&mut self, literals: &[Literal]) -> Result<Node, AllocError>
+        requires within { (aliases : ℕ) ×
+            AreOver aliases self.old.propositions (operands_in (literal_expressions literals.now)) }
+        ensures { MakesNode self.old self.new result (λ node. (known : List Bool) (letter : ℕ) →
+            leaf_of self.new node letter ≡
+            one_where (all_true known letter (operands_in (literal_expressions literals.now)))) }
+    {
+        self.of_product(Product::empty().with_all(literals), 1)
     }
 
     /// The diagram that has the leaf `value` at letters at which the product is true.
@@ -168,7 +217,8 @@ fn side(some: u64, proposition: u32, first: Node, second: Node) -> Node
 
 /// The proposition, if the label is a single proposition.
 fn atom_of(label: &Label) -> Option<u32>
-    ensures { IfSome result (λ p. expression label.now ≡ proposition p) }
+    ensures some { IfSome result (λ p. expression label.now ≡ proposition p) }
+    ensures none { IfNone result (is_proposition (expression label.now) ≡ false) }
 {
     match label {
         Label::Atom(proposition) => Some(*proposition),

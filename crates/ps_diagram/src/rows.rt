@@ -1,13 +1,24 @@
 //! Makes the diagram of a list of leaves by rows of nodes: one row for the last proposition, then a row half as long
-//! for the proposition before it, and so on.
+//! for the proposition before it, and so on. A long list is first divided into parts, one for each letter over the first
+//! few propositions, so that the cells of each part's diagram lie together.
 
-ghost use Rattle.std.specs.Prelude.{◌≡◌, ℕ, ◌+◌, ◌%◌, ◌^◌, ◌<◌, ◌≤◌, List, IfOk, length, slice_get, slice_index_or};
-ghost use Rattle.ps_diagram.specs.Inner.Rows.{AreLeafNodes, IsRow, LeadsOn};
-ghost use Rattle.ps_diagram.specs.Table.{Keeps, MakesDiagram};
+ghost use Rattle.std.specs.Prelude.{◌≡◌, ℕ, ◌+◌, ◌-◌, ◌*◌, ◌%◌, ◌^◌, ◌<◌, ◌≤◌, IfOk, OnOk, length, slice_get};
+ghost use Rattle.std.specs.Prelude.{slice_index_or};
+ghost use Rattle.ps_diagram.specs.Inner.Rows.{AreLeafNodes, IsJoined, IsRow, LeadsOn};
+ghost use Rattle.ps_diagram.specs.Table.{Keeps, MakesDiagram, MakesNode};
 
 use crate::store::Store;
 use crate::view::Node;
-use std::alloc::AllocError;
+use std::alloc::{AllocError, Global};
+
+/// A list with more entries than this is divided into parts.
+const MANY: usize = 4096;
+
+/// How many propositions the letters of the parts have.
+const DEPTH: u32 = 4;
+
+/// The number of parts: one for each letter over `DEPTH` propositions.
+const PARTS: usize = 16;
 
 impl Store {
     /// The diagram whose leaf at a letter is the list's entry at the index `letter` (letters are numbers). Letters past
@@ -17,11 +28,8 @@ impl Store {
             (λ letter. slice_get leaves.now (letter % 2 ^ self.old.propositions)) }
     {
         let none = self.constant(None)?;
-        let mut nodes = self.leaf_nodes(leaves)?;
-        for proposition in (0..self.propositions()).rev() {
-            nodes = self.halved(proposition, &nodes, none)?;
-        }
-        Ok(node_or(&nodes, 0, none))
+        let nodes = self.leaf_nodes(leaves)?;
+        self.joined(nodes, 0, none)
     }
 
     /// For each leaf, the node that has this leaf at every letter.
@@ -29,38 +37,106 @@ impl Store {
         ensures keeps { Keeps self.old self.new }
         ensures nodes { IfOk result (λ nodes. AreLeafNodes self.new leaves.now (length leaves.now) nodes.items) }
     {
-        let mut nodes = Vec::new(self.allocator());
+        let mut nodes = Vec::with_capacity(self.allocator(), leaves.len())?;
         for leaf in leaves {
             nodes.push(self.constant(Some(*leaf))?)?;
         }
         Ok(nodes)
     }
 
-    /// The row of nodes that depend on propositions from `proposition` on, made from the row of nodes that depend only
-    /// on later ones.
-    fn halved(
-        &mut self,
-        proposition: u32,
-        nodes: &[Node],
-        none: Node,
-    ) -> Result<Vec<Node>, AllocError>
-        requires named { proposition < self.old.propositions }
-        requires row { IsRow self.old (proposition + 1) none nodes.now }
+    /// The diagram that leads to the entry of a list to which the propositions from `first` on lead.
+    #[cycle(joined)]
+    fn joined(&mut self, nodes: Vec<Node>, first: u32, none: Node) -> Result<Node, AllocError>
+        requires within { first ≤ self.old.propositions }
+        requires row { IsRow self.old self.old.propositions none nodes.items }
+        ensures { MakesNode self.old self.new result
+            (IsJoined self.old self.new first (self.old.propositions - first) none nodes.items) }
+    {
+        let depth = self.propositions() - first;
+        if nodes.len() <= MANY || depth < DEPTH {
+            return self.halved(nodes, first, depth, none);
+        }
+        let made = self.parts(&nodes, first, none)?;
+        self.halved(made, first, DEPTH, none)
+    }
+
+    /// The diagrams of the parts of a list: one diagram for each letter over the `DEPTH` propositions from `first` on.
+    #[cycle(joined)]
+    fn parts(&mut self, nodes: &[Node], first: u32, none: Node) -> Result<Vec<Node>, AllocError>
+        requires within { first + 4 ≤ self.old.propositions }
+        requires row { IsRow self.old self.old.propositions none nodes.now }
         ensures keeps { Keeps self.old self.new }
-        ensures row { IfOk result (λ made. IsRow self.new proposition none made.items) }
-        ensures leads { IfOk result
-            (λ made. (leaves : List ℕ) → LeadsOn self.old leaves (proposition + 1) none nodes.now →
-            LeadsOn self.new leaves proposition none made.items) }
+        ensures row { IfOk result (λ made. IsRow self.new (first + 4) none made.items) }
+        ensures leads { IfOk result (λ made. LeadsOn self.old self.new first none
+            (self.old.propositions - first) nodes.now 4 made.items) }
     {
         let mut made = Vec::new(self.allocator());
-        let half = power(proposition);
-        for place in 0..nodes.len().min(half) {
-            let low = node_or(nodes, place, none);
-            let high = node_or(nodes, half + place, none);
-            made.push(self.test(proposition, low, high)?)?;
+        'rest: for rest in 0..PARTS {
+            let part = part_of(self.allocator(), nodes, rest, none)?;
+            made.push(self.joined(part, first + DEPTH, none)?)?;
         }
         Ok(made)
     }
+
+    /// The diagram that leads to the node of a row to which the `depth` propositions from `first` on lead.
+    fn halved(
+        &mut self,
+        nodes: Vec<Node>,
+        first: u32,
+        depth: u32,
+        none: Node,
+    ) -> Result<Node, AllocError>
+        requires within { first + depth ≤ self.old.propositions }
+        requires row { IsRow self.old (first + depth) none nodes.items }
+        ensures { MakesNode self.old self.new result (IsJoined self.old self.new first depth none nodes.items) }
+    {
+        let mut nodes = nodes;
+        for height in (0..depth).rev() {
+            self.halve(&mut nodes, first, height, none)?;
+        }
+        Ok(node_or(&nodes, 0, none))
+    }
+
+    /// Makes the row of nodes that test the proposition `first + height` from the row of nodes that depend only on later
+    /// propositions.
+    fn halve(
+        &mut self,
+        nodes: &mut Vec<Node>,
+        first: u32,
+        height: u32,
+        none: Node,
+    ) -> Result<(), AllocError>
+        requires named { first + height < self.old.propositions }
+        requires row { IsRow self.old (first + height + 1) none nodes.old.items }
+        ensures keeps { Keeps self.old self.new }
+        ensures row { OnOk result (IsRow self.new (first + height) none nodes.new.items) }
+        ensures leads { OnOk result (LeadsOn self.old self.new first none (height + 1) nodes.old.items height
+            nodes.new.items) }
+    {
+        let _ = self.propositions();
+        let half = power(height);
+        let count = nodes.len().min(half);
+        for place in 0..count {
+            let high = node_or(nodes, half + place, none);
+            nodes[place] = self.test(first + height, nodes[place], high)?;
+        }
+        nodes.truncate(count);
+        Ok(())
+    }
+}
+
+/// The part of a list that has the entries whose indices have the remainder `rest` when they are divided by `PARTS`.
+fn part_of(alloc: Global, nodes: &[Node], rest: usize, none: Node) -> Result<Vec<Node>, AllocError>
+    requires { rest < 16 }
+    ensures { IfOk result (λ part. (i : ℕ) →
+        slice_index_or part.items i none ≡ slice_index_or nodes.now (rest + 16 * i) none) }
+{
+    let count = nodes.len().div_ceil(PARTS);
+    let mut part = Vec::with_capacity(alloc, count)?;
+    for place in 0..count {
+        part.push(node_or(nodes, rest + PARTS * place, none))?;
+    }
+    Ok(part)
 }
 
 /// The node at an index of a row, or `other` if the row is too short.

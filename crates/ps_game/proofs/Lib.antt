@@ -4,6 +4,7 @@ pub mod Finished
 pub mod FlatArrays
 pub mod VertexArrays
 pub mod NamesKept
+pub mod NameParts
 pub mod Groups
 pub mod LoopPriorities
 pub mod Memory

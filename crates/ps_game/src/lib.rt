@@ -15,6 +15,8 @@
 //! | `Vertices::know_successors`, `resolve` | whether all successors are known ids; replaces each id by its index |
 //! | `Vertices::into_game` | the game with these vertices, in which a repeated successor counts once |
 //! | `NamedGame::new`, `with_first_names`, `game`, `id`, `name` | a game with ids and optional names; the first names |
+//! | `NamedGame::with_names` | a game with ids and a name for each vertex |
+//! | `Names::with_capacity`, `push`, `get` | a list of names in one buffer; adds a name; the name with an index |
 //! | `FlatGame::of` | the same game with numbers of 4 or 8 bytes, in four arrays; also an `Arena` |
 //! | `fits_narrow` | whether 4 bytes hold the numbers of vertices and edges; 8 bytes always do |
 //! | `Player::of_number`, `of_priority` | the player with a number, 0 or 1; the player who wins a priority |
@@ -47,6 +49,7 @@ mod flat;
 mod games;
 mod laws;
 mod named;
+mod names;
 mod numbers;
 mod player;
 mod ranking;
@@ -68,6 +71,7 @@ pub use laws::{
     no_memory_wins_outside, only_own_moves_matter,
 };
 pub use named::NamedGame;
+pub use names::Names;
 pub use numbers::Numbers;
 pub use player::Player;
 pub use ranking::priorities_of;

@@ -1,12 +1,13 @@
 //! Games whose vertices have ids and names, as game texts and certificates need them.
 
-ghost use Rattle.std.specs.Prelude.{◌≡◌, ◌≢◌, ◌<◌, ◌≤◌, length, map, vec_len, slice_index, slice_index_or, None};
+ghost use Rattle.std.specs.Prelude.{◌≡◌, ◌≢◌, ◌<◌, ◌≤◌, length, map, vec_len, slice_index, slice_index_or, None, Some};
 ghost use Rattle.std.specs.List.{All, AllPairs};
 ghost use Rattle.std.specs.Option.{option_copied};
 ghost use Rattle.ps_game.specs.Games.{NamedGameData, IsNamedGame, HasNoQuote, vertex_count};
 ghost use Rattle.ps_game.specs.Names.{name_bytes, with_none};
 
 use crate::games::Game;
+use crate::names::Names;
 use std::marker::Model;
 
 /// A game with an id and an optional name for each vertex. A name does not contain `"`. The list of names is stored
@@ -15,23 +16,36 @@ use std::marker::Model;
 pub struct NamedGame {
     game: Game,
     ids: Vec<u64>,
-    names: Vec<Option<Vec<u8>>>,
+    names: GivenNames,
+}
+
+/// The names of a game's first vertices.
+#[derive(Drop)]
+pub(crate) enum GivenNames {
+    /// For each of these vertices, its name or none.
+    Optional(Vec<Option<Vec<u8>>>),
+    /// A name for each of these vertices.
+    All(Names),
 }
 
 impl Model for NamedGame {
+    ghost use Rattle.std.specs.Prelude.{length};
+    ghost use Rattle.ps_game.specs.Games.{IsNamedGame, NamedGameData};
+    ghost use Rattle.ps_game.specs.GivenNames.{given};
+    ghost use Rattle.ps_game.specs.Names.{with_none};
+
     ghost Value = { NamedGameData };
 
     ghost view = { λ n. record {
       game = n.game;
       ids = n.ids.items;
-      names = with_none (length n.ids.items)
-          (map name_bytes n.names.items);
+      names = with_none (length n.ids.items) (given n.names);
     } };
 
     ghost invariant = { λ n. IsNamedGame (record {
       game = n.game;
       ids = n.ids.items;
-      names = with_none (length n.ids.items) (map name_bytes n.names.items);
+      names = with_none (length n.ids.items) (given n.names);
     }) };
 }
 
@@ -59,7 +73,28 @@ impl NamedGame {
         ensures ids { result.ids ≡ ids.items }
         ensures names { result.names ≡ with_none (vertex_count game) (map name_bytes names.items) }
     {
-        NamedGame { game, ids, names }
+        NamedGame {
+            game,
+            ids,
+            names: GivenNames::Optional(names),
+        }
+    }
+
+    /// Gives ids and names to the vertices of a game, in the order of the vertices.
+    pub fn with_names(game: Game, ids: Vec<u64>, names: Names) -> Self
+        requires id_each { vec_len ids ≡ vertex_count game }
+        requires name_each { length names ≡ vertex_count game }
+        requires ids_differ { AllPairs (λ x y. x ≢ y) ids.items }
+        requires names_plain { All HasNoQuote (map Some names) }
+        ensures game { result.game ≡ game }
+        ensures ids { result.ids ≡ ids.items }
+        ensures names { result.names ≡ map Some names }
+    {
+        NamedGame {
+            game,
+            ids,
+            names: GivenNames::All(names),
+        }
     }
 
     /// The game without its ids and names.
@@ -83,9 +118,12 @@ impl NamedGame {
         requires { vertex < vertex_count self.now.game }
         ensures { option_copied result ≡ slice_index_or self.now.names vertex None }
     {
-        match self.names.get(vertex) {
-            Some(Some(name)) => Some(name.as_slice()),
-            _ => None,
+        match &self.names {
+            GivenNames::All(names) => names.get(vertex),
+            GivenNames::Optional(names) => match names.get(vertex) {
+                Some(Some(name)) => Some(name.as_slice()),
+                _ => None,
+            },
         }
     }
 }

@@ -3,6 +3,7 @@
 pub mod Ahead
 pub mod Flaws
 pub mod Items
+pub mod LabelRows
 pub mod Lexemes
 pub mod Reads
 pub mod RowPlaces

@@ -15,6 +15,7 @@ pub mod Body
 pub mod Texts
 pub mod Values
 pub mod Nesting
+pub mod Marks
 pub mod Memory
 pub mod Views
 pub mod FileViews

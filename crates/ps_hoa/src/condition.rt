@@ -1,6 +1,6 @@
 //! Acceptance conditions and their parser.
 
-ghost use Rattle.std.specs.Prelude.{◌≡◌, map};
+ghost use Rattle.std.specs.Prelude.{◌≡◌, IfOk, map};
 ghost use Rattle.ps_text.specs.Parts.{NoBad, one};
 ghost use Rattle.ps_hoa.specs.Conditions as conditions;
 ghost use Rattle.ps_hoa.specs.Operands.{nesting_limit};
@@ -13,8 +13,10 @@ use crate::infix::{self, Connective, Infix};
 use crate::refusal::{fault_at, refused};
 use crate::signs::{expect, int_of};
 use crate::tokens::{Kind, Token, Tokens, is_same};
-use crate::usual::Usual;
 use std::alloc::{AllocError, Global};
+
+/// The number of operands for which space is made before they are parsed.
+const SPACE: usize = 4;
 
 /// An acceptance condition (HOA v1, acceptance). A condition is a Boolean combination of statements that a run visits a
 /// set of edges infinitely often, or only finitely often.
@@ -56,9 +58,13 @@ impl Infix for Conditions {
 
     type Value = Cond;
 
+    type Operands = Vec<Cond>;
+
     ghost Meaning = { Condition };
 
     ghost meaning = { condition_of };
+
+    ghost meanings = { λ operands. map condition_of operands.items };
 
     ghost grammar = { λ _. conditions.grammar };
 
@@ -82,16 +88,33 @@ impl Infix for Conditions {
         Ok(operand)
     }
 
-    fn usual(&self, connective: Connective) -> usize {
-        Usual::new().count(connective)
+    fn begun(
+        &self,
+        alloc: Global,
+        _connective: Connective,
+        first: Cond,
+    ) -> Result<Vec<Cond>, AllocError> {
+        infix::begun(alloc, first, SPACE)
     }
 
-    fn together(&self, connective: Connective, operands: Vec<Cond>) -> Cond
-        ensures { condition_of result ≡ conditions.together connective (map condition_of operands.items) }
+    fn add(&self, _alloc: Global, operands: &mut Vec<Cond>, next: Cond) -> Result<(), AllocError> {
+        operands.push(next)?;
+        Ok(())
+    }
+
+    fn together(
+        &self,
+        alloc: Global,
+        connective: Connective,
+        operands: Vec<Cond>,
+    ) -> Result<Cond, AllocError>
+        ensures { IfOk result
+            (λ v. condition_of v ≡ conditions.together connective (map condition_of operands.items)) }
     {
+        let operands = infix::fitted(alloc, operands)?;
         match connective {
-            Connective::And => Cond::All(operands),
-            Connective::Or => Cond::Any(operands),
+            Connective::And => Ok(Cond::All(operands)),
+            Connective::Or => Ok(Cond::Any(operands)),
         }
     }
 }

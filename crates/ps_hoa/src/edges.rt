@@ -5,9 +5,9 @@ ghost use Rattle.ps_label.specs.Expression.{expression};
 ghost use Rattle.ps_hoa.specs.Body as parts;
 ghost use Rattle.ps_hoa.specs.Body.{BadIn, IsBadBracket, IsBadPlainTarget, IsBadSet, IsBadState, edge_limit};
 ghost use Rattle.ps_hoa.specs.Body.{is_bracket, MayHaveLabel, MayHaveNoLabel};
-ghost use Rattle.ps_hoa.specs.Files.{once};
 ghost use Rattle.ps_hoa.specs.Header.{int_in, header_data};
 ghost use Rattle.ps_hoa.specs.Inner.Reads.{ReadsAs, Takes};
+ghost use Rattle.ps_hoa.specs.Marks.{mark_list};
 ghost use Rattle.ps_hoa.specs.Spans.{piece_of};
 ghost use Rattle.ps_hoa.specs.Scan.{next_of, stream_of};
 ghost use Rattle.ps_hoa.specs.Inner.Ahead.{begins_edge, StandsAlone};
@@ -18,13 +18,13 @@ use crate::fault::{HoaCause, HoaFault};
 use crate::file::{Edge, Guard, Row};
 use crate::header::Header;
 use crate::label::label;
+use crate::marks::Marks;
 use crate::refusal::{fault_at, refused};
 use crate::signs::{expect, int_of};
 use crate::tokens::{Kind, Token, Tokens};
 use crate::usual::Usual;
 use ps_label::Label;
-use smallvec::SmallVec;
-use std::alloc::{AllocFailed, Global};
+use std::alloc::Global;
 
 /// The largest number of edges that a text may have.
 pub(crate) const EDGE_LIMIT: usize = 1_048_576;
@@ -291,25 +291,21 @@ fn alone(tokens: &Tokens) -> Result<(), HoaFault>
 
 /// Parses acceptance sets between braces, if there are any.
 #[inline(always)]
-pub(crate) fn marks(
-    alloc: Global,
-    tokens: &mut Tokens,
-    header: &Header,
-) -> Result<SmallVec<u32, 4>, HoaFault>
-    ensures { ReadsAs (λ marks. marks.items) (parts.marks (header_data header.now)) tokens.old result tokens.new }
+pub(crate) fn marks(alloc: Global, tokens: &mut Tokens, header: &Header) -> Result<Marks, HoaFault>
+    ensures { ReadsAs mark_list (parts.marks (header_data header.now)) tokens.old result tokens.new }
 {
     if tokens.is_at(Kind::LeftBrace) {
         let count = header.sets();
         sets(alloc, tokens, count)
     } else {
-        Ok(SmallVec::new(alloc))
+        Ok(Marks::None)
     }
 }
 
 /// Parses acceptance sets between braces. The number of each set must be less than `count`.
 #[inline(never)]
-fn sets(alloc: Global, tokens: &mut Tokens, count: u32) -> Result<SmallVec<u32, 4>, HoaFault>
-    ensures { ReadsAs (λ marks. marks.items) (parts.sets count) tokens.old result tokens.new }
+fn sets(alloc: Global, tokens: &mut Tokens, count: u32) -> Result<Marks, HoaFault>
+    ensures { ReadsAs mark_list (parts.sets count) tokens.old result tokens.new }
 {
     expect(tokens, Kind::LeftBrace)?;
     let marks = set_numbers(alloc, tokens, count)?;
@@ -319,14 +315,14 @@ fn sets(alloc: Global, tokens: &mut Tokens, count: u32) -> Result<SmallVec<u32, 
 
 /// Parses the numbers of acceptance sets, up to the first token that is not a number. Each number must be less than
 /// `count`.
-fn set_numbers(alloc: Global, tokens: &mut Tokens, count: u32) -> Result<SmallVec<u32, 4>, HoaFault>
-    ensures { ReadsAs (λ marks. marks.items) (many (parts.set_number count) []) tokens.old result tokens.new }
+fn set_numbers(alloc: Global, tokens: &mut Tokens, count: u32) -> Result<Marks, HoaFault>
+    ensures { ReadsAs mark_list (many (parts.set_number count) []) tokens.old result tokens.new }
 {
-    let mut marks = SmallVec::new(alloc);
+    let mut marks = Marks::None;
     'more: while tokens.is_at(Kind::Int) {
         let token = tokens.advance();
         let set = set_of(token, count)?;
-        add_once(&mut marks, set)?;
+        marks = marks.with(alloc, set)?;
     }
     Ok(marks)
 }
@@ -343,14 +339,4 @@ fn set_of(token: Token, count: u32) -> Result<u32, HoaFault>
         Some(number) if number >= count => Err(fault_at(token, HoaCause::Range)),
         Some(number) => Ok(number),
     }
-}
-
-/// Adds a number, unless the list has it already.
-fn add_once(numbers: &mut SmallVec<u32, 4>, number: u32) -> Result<(), AllocFailed<u32>>
-    ensures { OnOk result (numbers.new.items ≡ once numbers.old.items number) }
-{
-    if !numbers.as_slice().contains(&number) {
-        numbers.push(number)?;
-    }
-    Ok(())
 }

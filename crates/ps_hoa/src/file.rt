@@ -10,10 +10,10 @@ ghost use Rattle.ps_hoa.specs.Views.{row_data};
 
 use crate::condition::Cond;
 use crate::indices::Indices;
+use crate::marks::Marks;
 use crate::propositions::Propositions;
 use crate::rows::Rows;
 use ps_label::{Label, Labels};
-use smallvec::SmallVec;
 use std::marker::Model;
 
 /// The letters at which an edge is taken (HOA v1, body: labels of edges and of states, implicit labels).
@@ -36,7 +36,7 @@ pub struct Edge {
     /// The state to which the edge leads.
     pub target: u32,
     /// The acceptance sets of the edge, each once, in the order in which the text first names them.
-    pub marks: SmallVec<u32, 4>,
+    pub marks: Marks,
 }
 
 /// What the text states about a state (HOA v1, `State:` in the body).
@@ -47,7 +47,7 @@ pub struct Row {
     /// The label of all edges of the state, if the state has a label.
     pub label: Option<Label>,
     /// The acceptance sets of the state, each once, in the order in which the text first names them.
-    pub marks: SmallVec<u32, 4>,
+    pub marks: Marks,
     /// The edges of the state, in the order of the text.
     pub edges: Vec<Edge>,
 }

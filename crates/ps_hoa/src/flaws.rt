@@ -1,7 +1,7 @@
 //! The checks of a whole header, made at `--BODY--`.
 
 ghost use Rattle.std.specs.Prelude.{◌≡◌, ◌↔◌, true, MatchOption, option_map};
-ghost use Rattle.ps_label.specs.Expression.{expression};
+ghost use Rattle.ps_label.specs.Expression.{expression, literal_expressions, operands_in};
 ghost use Rattle.ps_label.specs.Truth.{expressions};
 ghost use Rattle.ps_hoa.specs.Header as parts;
 ghost use Rattle.ps_hoa.specs.Inner.Flaws.{IsLeastFlaw, IsSoundHeader};
@@ -12,7 +12,7 @@ use crate::condition::Cond;
 use crate::fault::HoaCause;
 use crate::header::{Acceptance, Header};
 use crate::indices::Indices;
-use ps_label::Label;
+use ps_label::{Label, Literal};
 
 /// The largest number of states. If the header has no `States:`, every state must be less than this number.
 const STATE_LIMIT: u32 = 65_535;
@@ -95,7 +95,8 @@ fn speaks_beyond(count: usize, label: &Label) -> bool
 {
     match label {
         Label::Truth(_) | Label::Named(_) => false,
-        Label::Atom(proposition) => count <= *proposition as usize,
+        Label::Atom(proposition) | Label::Negated(proposition) => count <= *proposition as usize,
+        Label::Literals(literals) => a_literal_beyond(count, literals.as_slice()),
         Label::Neg(operand) => speaks_beyond(count, operand),
         Label::Both(operands) | Label::Either(operands) => {
             for operand in operands {
@@ -106,6 +107,18 @@ fn speaks_beyond(count: usize, label: &Label) -> bool
             false
         }
     }
+}
+
+/// Whether a literal is of a proposition that does not exist.
+fn a_literal_beyond(count: usize, literals: &[Literal]) -> bool
+    ensures { (result ≡ true) ↔ parts.SomeSpeaksBeyond count (operands_in (literal_expressions literals.now)) }
+{
+    for literal in literals {
+        if count <= literal.proposition() as usize {
+            return true;
+        }
+    }
+    false
 }
 
 /// Whether the acceptance condition names a set that does not exist.

@@ -1,6 +1,6 @@
 //! The parser of operands with connectives between them, for labels and for acceptance conditions.
 
-ghost use Rattle.std.specs.Prelude.{◌≡◌, ◌↔◌, [], ◌∷◌, IfOk, IfSome, map, true};
+ghost use Rattle.std.specs.Prelude.{◌≡◌, ◌↔◌, [], ◌∷◌, ◌++◌, IfOk, IfSome, List, true};
 ghost use Rattle.ps_hoa.specs.Operands.{InfixGrammar, between, holds as holds_at, nesting_limit, operand as operand_of};
 ghost use Rattle.ps_hoa.specs.Operands.{kind_of, rows};
 ghost use Rattle.ps_hoa.specs.Scan.{next_of, stream_of};
@@ -30,11 +30,17 @@ pub(crate) trait Infix {
     /// The type of the values that the parser returns.
     type Value: Drop;
 
+    /// The type of a row of operands that is being parsed.
+    type Operands: Drop;
+
     /// The type of the meanings of parsed values.
     ghost Meaning: { Type 0 };
 
     /// The meaning of a parsed value.
     ghost meaning: { Self.Value → Self.Meaning };
+
+    /// The meanings of the operands of a row, in order.
+    ghost meanings: { Self.Operands → List Self.Meaning };
 
     /// The part of the grammar that differs between labels and conditions.
     ghost grammar: { Self → InfixGrammar Self.Meaning };
@@ -52,12 +58,33 @@ pub(crate) trait Infix {
         ensures { IfOk result
             (λ v. IfSome (grammar self.now).negated (λ negated. meaning v ≡ negated (meaning operand))) };
 
-    /// The number of operands to make space for, in a row with the given connective.
-    fn usual(&self, connective: Connective) -> usize;
+    /// A row with the given connective and the first operand.
+    fn begun(
+        &self,
+        alloc: Global,
+        connective: Connective,
+        first: Self::Value,
+    ) -> Result<Self::Operands, AllocError>
+        ensures { IfOk result (λ operands. meanings operands ≡ meaning first ∷ []) };
+
+    /// Adds an operand to a row.
+    fn add(
+        &self,
+        alloc: Global,
+        operands: &mut Self::Operands,
+        next: Self::Value,
+    ) -> Result<(), AllocError>
+        ensures { IfOk result (λ _. meanings operands.new ≡ meanings operands.old ++ meaning next ∷ []) };
 
     /// The joint value of operands with the same connective between them.
-    fn together(&self, connective: Connective, operands: Vec<Self::Value>) -> Self::Value
-        ensures { meaning result ≡ (grammar self.now).together connective (map meaning operands.items) };
+    fn together(
+        &self,
+        alloc: Global,
+        connective: Connective,
+        operands: Self::Operands,
+    ) -> Result<Self::Value, AllocError>
+        ensures { IfOk result
+            (λ v. meaning v ≡ (grammar self.now).together connective (meanings operands)) };
 }
 
 /// Parses operands with connectives between them.
@@ -91,18 +118,18 @@ fn row<G: Infix>(
     if !is_at(tokens, connective) {
         return Ok(first);
     }
-    let mut operands = begun(alloc, first, grammar.usual(connective))?;
+    let mut operands = grammar.begun(alloc, connective, first)?;
     'more: while is_at(tokens, connective) {
         tokens.skip();
-        operands.push(part(alloc, tokens, grammar, room, connective)?)?;
+        let next = part(alloc, tokens, grammar, room, connective)?;
+        grammar.add(alloc, &mut operands, next)?;
     }
-    let operands = fitted(alloc, operands)?;
-    Ok(grammar.together(connective, operands))
+    Ok(grammar.together(alloc, connective, operands)?)
 }
 
 /// A list with the first operand, and with space for the given number of operands.
 #[inline(always)]
-fn begun<V: Drop>(alloc: Global, first: V, count: usize) -> Result<Vec<V>, AllocError>
+pub(crate) fn begun<V: Drop>(alloc: Global, first: V, count: usize) -> Result<Vec<V>, AllocError>
     ensures { IfOk result (λ operands. operands.items ≡ first ∷ []) }
 {
     let mut operands = Vec::with_capacity(alloc, count)?;
@@ -113,7 +140,7 @@ fn begun<V: Drop>(alloc: Global, first: V, count: usize) -> Result<Vec<V>, Alloc
 /// A list of the same operands in memory of just their size. If the operands are moved, the memory in which they were
 /// gathered is free for the operands of the next row.
 #[inline(always)]
-fn fitted<V: Drop>(alloc: Global, mut operands: Vec<V>) -> Result<Vec<V>, AllocError>
+pub(crate) fn fitted<V: Drop>(alloc: Global, mut operands: Vec<V>) -> Result<Vec<V>, AllocError>
     ensures { IfOk result (λ fitted. fitted.items ≡ operands.items) }
 {
     if operands.len() == operands.capacity() {

@@ -2,7 +2,6 @@
 
 ghost use Rattle.std.specs.Prelude.{◌≡◌, ◌↔◌, true};
 ghost use Rattle.ps_label.specs.Expression.{expression};
-ghost use Rattle.ps_label.specs.Truth.{expressions};
 ghost use Rattle.ps_hoa.specs.Labels as labels;
 ghost use Rattle.ps_hoa.specs.Operands.{nesting_limit};
 ghost use Rattle.ps_hoa.specs.Inner.Reads.{ReadsAs, Takes};
@@ -11,6 +10,7 @@ ghost use Rattle.ps_hoa.specs.Spans.{piece_of};
 use crate::fault::{HoaCause, HoaFault};
 use crate::infix::{self, Connective, Infix};
 use crate::names::Scope;
+use crate::operands::Operands;
 use crate::refusal::{fault_at, refused};
 use crate::signs::int_of;
 use crate::tokens::{Kind, Token, Tokens, is_same};
@@ -26,12 +26,17 @@ pub(crate) fn label(alloc: Global, tokens: &mut Tokens, scope: &Scope) -> Result
 
 impl Infix for Scope<'_, '_> {
     ghost use Rattle.ps_label.specs.Expression.{Expression};
+    ghost use Rattle.ps_hoa.specs.Inner.LabelRows.{operand_expressions};
 
     type Value = Label;
+
+    type Operands = Operands;
 
     ghost Meaning = { Expression };
 
     ghost meaning = { expression };
+
+    ghost meanings = { operand_expressions };
 
     ghost grammar = { labels.grammar };
 
@@ -45,22 +50,37 @@ impl Infix for Scope<'_, '_> {
         matches!(kind, Kind::Not | Kind::LeftParen)
     }
 
+    #[inline(always)]
     fn negated(&self, alloc: Global, operand: Label) -> Result<Label, AllocError> {
-        Ok(Label::Neg(Box::new(alloc, operand)?))
+        match operand {
+            Label::Atom(proposition) => Ok(Label::Negated(proposition)),
+            operand => Ok(Label::Neg(Box::new(alloc, operand)?)),
+        }
     }
 
     #[inline(always)]
-    fn usual(&self, connective: Connective) -> usize {
-        self.usual.count(connective)
+    fn begun(
+        &self,
+        alloc: Global,
+        connective: Connective,
+        first: Label,
+    ) -> Result<Operands, AllocError> {
+        Operands::new(alloc, connective, first, self.usual.count(connective))
     }
 
-    fn together(&self, connective: Connective, operands: Vec<Label>) -> Label
-        ensures { expression result ≡ labels.together connective (expressions operands.items) }
-    {
-        match connective {
-            Connective::And => Label::Both(operands),
-            Connective::Or => Label::Either(operands),
-        }
+    #[inline(always)]
+    fn add(&self, alloc: Global, operands: &mut Operands, next: Label) -> Result<(), AllocError> {
+        operands.push(alloc, next, self.usual.count(Connective::And))
+    }
+
+    #[inline(always)]
+    fn together(
+        &self,
+        alloc: Global,
+        connective: Connective,
+        operands: Operands,
+    ) -> Result<Label, AllocError> {
+        operands.together(alloc, connective)
     }
 }
 

@@ -6,6 +6,7 @@
 //! | `HoaFile::states`, `start`, `names`, `controllable`, `aliases`, `sets`, `condition` | what the header states |
 //! | `HoaFile::rows`, `row(state)` | what the body states of a state: label, sets, and edges in text order |
 //! | `Row`, `Edge`, `Guard`, `Cond` | a state, an edge, the letters at which it is taken, an acceptance condition |
+//! | `Marks::as_slice` | the acceptance sets of an edge or a state |
 //! | `Tokens::new`, `peek`, `advance` | the tokens of a text (HOA v1, tokens), without blanks and comments |
 //! | `HoaCause::number`, `name` | the number and the name of a cause in psyn's list of faults |
 //!
@@ -39,9 +40,11 @@ mod infix;
 mod items;
 mod label;
 mod laws;
+mod marks;
 mod names;
 mod new_names;
 mod opening;
+mod operands;
 mod propositions;
 mod reader;
 mod refusal;
@@ -55,5 +58,6 @@ pub use condition::Cond;
 pub use fault::{HoaCause, HoaFault};
 pub use file::{Edge, Guard, HoaFile, Row};
 pub use laws::{one_answer, some_answer, sound_files, sound_labels, sound_parts};
+pub use marks::Marks;
 pub use reader::read;
 pub use tokens::{Kind, Token, Tokens};

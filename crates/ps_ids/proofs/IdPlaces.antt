@@ -3,7 +3,7 @@ use Rattle.std.proofs.Common.{◌≡◌, ◌≢◌, ℕ, ◌+◌, ◌<◌, ◌�
 use Rattle.std.proofs.Common.{Option, None, Some, refl, sym, ap, subst, inl, inr, ⊎_elim, ◌∙◌, arith, rules}
 use Rattle.std.proofs.Common.{length-append}
 use Rattle.std.proofs.lemmas.Bool.{cases_Bool, cases_lt, ltb-true, ltb-false, eqb-true, eq-eqb}
-use Rattle.std.proofs.lemmas.List.{get_or_append_left}
+use Rattle.std.proofs.lemmas.List.{get_or_append_left, get_or_past, nil_from_length}
 use Rattle.std.proofs.lemmas.List.Elements.{Contains-get_or}
 use Rattle.std.proofs.lemmas.List.Folds.{list_any-from_Any, list_any_none}
 use Rattle.std.proofs.lemmas.List.Quantifiers.{all_pairs_push, position-Some}
@@ -13,6 +13,8 @@ use Rattle.std.proofs.Math.Seq.{get_or-append_seam}
 use Rattle.std.specs.List.{Contains, list_any, position, position_or_len}
 use Rattle.std.specs.List.{slice_index}
 use Rattle.std.specs.Option.{is_some}
+use Rattle.std.specs.BTreeMap.{BTreeMap, get}
+use Rattle.std.specs.Ordering.{nat_cmp}
 use Rattle.ps_ids.specs.Ids.{AreDistinct, IsRecordedAt, IsIdTable, KeepsPlace, own_place}
 
 abbrev is_id : ℕ → ℕ → Bool
@@ -78,6 +80,35 @@ position_by_table first ids near far id is not_near not_own = go (far id) refl
     go : (o : Option ℕ) → far id ≡ o → far id ≡ position (is_id id) ids
     go None e = e ∙ sym (position_nowhere ids id (nowhere e))
     go (Some place) e = let at = is.sound id place e in e ∙ sym (position_here ids id place is.distinct at.0 at.1)
+
+-- a tree without entries records no index
+pub nothing_far : (far : BTreeMap ℕ ℕ) → length far.entries ≡ 0 → (q : ℕ) → get nat_cmp far q ≡ None
+nothing_far far none q = rw (nil_from_length far.entries none) refl
+
+-- if neither the table nor the tree records an index, the index of an id greater than `first` is its distance from
+-- `first`
+module _ (first : ℕ) (ids near : List ℕ) (far : ℕ → Option ℕ) (id : ℕ) (is : IsIdTable first ids near far)
+    (no_near : length near ≡ 0) (no_far : (q : ℕ) → far q ≡ None) (greater : first < id) where
+  nothing : (k : ℕ) → slice_index near k ≡ 0
+  nothing k = get_or_past near k 0 (omega (arith, no_near))
+
+  pub position_within : own_place first id < length ids → position (is_id id) ids ≡ Some (own_place first id)
+  position_within l = position_here ids id (own_place first id) is.distinct l (own_is (is.whole (own_place first id) l))
+    where
+      own_is : IsRecordedAt first near far (slice_index ids (own_place first id)) (own_place first id) →
+          slice_index ids (own_place first id) ≡ id
+      own_is (inl same) = omega (arith, same, greater)
+      own_is (inr (inl (late, at))) = absurd (omega (
+        arith,
+        at,
+        nothing (own_place first (slice_index ids (own_place first id))),
+      ))
+      own_is (inr (inr at)) =
+          absurd (some_none (own_place first id) (sym at ∙ no_far (slice_index ids (own_place first id))))
+
+  pub position_past : length ids ≤ own_place first id → position (is_id id) ids ≡ None
+  position_past l = sym (position_by_table first ids near far id is (λ above. nothing (own_place first id))
+      (λ at. omega (arith, at.0, l))) ∙ no_far id
 
 pub some_position : (p : ℕ → Bool) (ids : List ℕ) → is_some (position p ids) ≡ list_any p ids
 some_position p ids = go (position p ids) refl

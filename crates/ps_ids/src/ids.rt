@@ -1,7 +1,7 @@
 //! Distinct ids, and the index of each id.
 
 ghost use Rattle.std.specs.Prelude.{◌≡◌, ◌==◌, ◌+◌, ◌<◌, ◌≤◌, ◌^◌, ◌++◌, ◌∷◌, ◌↔◌, ℕ, List, [], OnOk, OnErr, IfSome};
-ghost use Rattle.std.specs.Prelude.{IsTrue};
+ghost use Rattle.std.specs.Prelude.{IsTrue, IfNone};
 ghost use Rattle.std.specs.Prelude.{Contains, MatchOption};
 ghost use Rattle.std.specs.Prelude.{is_some, length, position, slice_index, if◌then◌else◌};
 ghost use Rattle.std.specs.Ordering.{nat_cmp};
@@ -82,6 +82,10 @@ impl Ids {
         ensures member { is_some result ≡ list_any (λ other. id == other) self.now }
         ensures within { IfSome result (λ place. place < length self.now) }
     {
+        // If no index is recorded, the index of an id greater than `first` is its distance from `first`.
+        if id > self.first && self.near.is_empty() && self.far.is_empty() {
+            return place_below(own_place(self.first, id), self.list.len());
+        }
         if let Some(near) = near_place(&self.near, self.first, id) {
             return Some(near);
         }
@@ -118,6 +122,14 @@ fn stands_at(list: &[u64], id: u64, place: usize) -> bool
     ensures { IsTrue result ↔ ((place < length list.now) × (slice_index list.now place ≡ id)) }
 {
     place < list.len() && list[place] == id
+}
+
+/// The given index, if it is less than `count`.
+fn place_below(place: usize, count: usize) -> Option<usize>
+    ensures some { IfSome result (λ below. (below ≡ place) × (place < count)) }
+    ensures none { IfNone result (count ≤ place) }
+{
+    if place < count { Some(place) } else { None }
 }
 
 /// The index that the table records for an id, if it records one.

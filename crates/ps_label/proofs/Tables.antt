@@ -1,9 +1,9 @@
 -- At each letter, only one table gives each alias the truth of its own expression: the table that the definition
 -- `truths_behind` computes.
 use Rattle.std.proofs.Common.{◌≡◌, ℕ, suc, zero, append-nil, ◌+◌, ◌<◌, ◌≤◌, Bool, true, false, cond, List, []}
-use Rattle.std.proofs.Common.{◌∷◌, ◌++◌, length, get_or, refl, ap, sym, ◌∙◌, arith, append_assoc, take, drop, set}
+use Rattle.std.proofs.Common.{◌∷◌, ◌++◌, length, get_or, refl, ap, sym, ◌∙◌, arith, append_assoc, take, drop}
 use Rattle.std.proofs.Common.{length-append, zero-add}
-use Rattle.std.proofs.lemmas.List.{get_or-append-add, take_more_set, take_all, drop_all}
+use Rattle.std.proofs.lemmas.List.{get_or-append-add, take_all, drop_all}
 use Rattle.std.proofs.lemmas.Grind.{common_steps}
 use Rattle.ps_label.specs.Expression.{Expression, Operands, constant, proposition, alias, not_of, all_of, any_of, last}
 use Rattle.ps_label.specs.Expression.{more, IsOver, AreOver, AreOverFrom, AreOrdered}

@@ -1,6 +1,7 @@
 -- A label as a Boolean expression, independent of the layout of the label in memory.
-use Rattle.std.specs.Prelude.{ℕ, ◌+◌, ◌<◌, Bool, List, [], ◌∷◌}
-use Rattle.ps_label.specs.declared.label.Label.{Label, Truth, Atom, Named, Neg', Both', Either', Row_of-Label}
+use Rattle.std.specs.Prelude.{ℕ, ◌+◌, ◌/◌, ◌%◌, ◌<◌, Bool, true, false, List, [], ◌∷◌, map, nat_eq}
+use Rattle.ps_label.specs.declared.label.Label.{Label, Truth, Atom, Negated, Named, Literals, Neg', Both', Either'}
+use Rattle.ps_label.specs.declared.label.Label.{Row_of-Label}
 use Rattle.ps_label.specs.declared.label.Label.{end_of-Label, more_of-Label}
 
 mutual
@@ -16,12 +17,30 @@ mutual
     last : Operands
     more : Expression → Operands → Operands
 
+-- a list of expressions as the operands of a conjunction or disjunction
+abbrev pub operands_in : List Expression → Operands
+operands_in [] = last
+operands_in (e ∷ es) = more e (operands_in es)
+
+-- the expression of a literal; a literal is given by its number, twice the proposition, plus 1 if it is negated
+abbrev pub signed : (negated : Bool) → ℕ → Expression
+signed true p = not_of (proposition p)
+signed false p = proposition p
+
+abbrev pub literal_expression : ℕ → Expression
+literal_expression code = signed (nat_eq (code % 2) 1) (code / 2)
+
+abbrev pub literal_expressions : List ℕ → List Expression
+literal_expressions codes = map literal_expression codes
+
 -- the expression of a label
 abbrev mutual
   pub expression : Label → Expression
   expression (Truth b) = constant b
   expression (Atom p) = proposition p
+  expression (Negated p) = not_of (proposition p)
   expression (Named k) = alias k
+  expression (Literals codes) = all_of (operands_in (literal_expressions codes))
   expression (Neg' at l) = not_of (expression l)
   expression (Both' shape row) = all_of (operands row)
   expression (Either' shape row) = any_of (operands row)
@@ -29,11 +48,6 @@ abbrev mutual
   pub operands : {m : _} → Row_of-Label m → Operands
   operands end_of-Label = last
   operands (more_of-Label l row) = more (expression l) (operands row)
-
--- a list of expressions as the operands of a conjunction or disjunction
-abbrev pub operands_in : List Expression → Operands
-operands_in [] = last
-operands_in (e ∷ es) = more e (operands_in es)
 
 abbrev pub list_of : Operands → List Expression
 list_of last = []

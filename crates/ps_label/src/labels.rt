@@ -1,10 +1,12 @@
 //! The aliases of a text, and the truth of a label at a letter.
 
 ghost use Rattle.std.specs.Prelude.{◌≡◌, ℕ, ◌+◌, ◌^◌, ◌<◌, ◌++◌, ◌∷◌, [], List, Bool, IfOk, OnErr, OnOk, length};
-ghost use Rattle.ps_label.specs.Expression.{Expression, expression, IsOver, AreOrdered};
-ghost use Rattle.ps_label.specs.Truth.{AreTruths, alias_truths, expressions, label_truth, truth};
+ghost use Rattle.ps_label.specs.Expression.{Expression, expression, IsOver, AreOrdered, operands_in};
+ghost use Rattle.ps_label.specs.Expression.{literal_expression, literal_expressions};
+ghost use Rattle.ps_label.specs.Truth.{AreTruths, alias_truths, all_true, expressions, label_truth, truth};
 
 use crate::label::Label;
+use crate::literal::Literal;
 use std::alloc::{AllocError, Global};
 use std::marker::Model;
 
@@ -95,7 +97,9 @@ fn truth_by(label: &Label, letter: u64, known: &[bool]) -> bool
     match label {
         Label::Truth(value) => *value,
         Label::Atom(proposition) => letter >> *proposition & 1 == 1,
+        Label::Negated(proposition) => letter >> *proposition & 1 == 0,
         Label::Named(alias) => known[*alias],
+        Label::Literals(literals) => are_true(literals.as_slice(), letter),
         Label::Neg(operand) => !truth_by(operand, letter, known),
         Label::Both(operands) => {
             for operand in operands {
@@ -114,4 +118,24 @@ fn truth_by(label: &Label, letter: u64, known: &[bool]) -> bool
             false
         }
     }
+}
+
+/// Whether all literals are true at a letter.
+fn are_true(literals: &[Literal], letter: u64) -> bool
+    ensures { (known : List Bool) →
+        result ≡ all_true known letter (operands_in (literal_expressions literals.now)) }
+{
+    for literal in literals {
+        if !is_true(*literal, letter) {
+            return false;
+        }
+    }
+    true
+}
+
+/// Whether a literal is true at a letter.
+fn is_true(literal: Literal, letter: u64) -> bool
+    ensures { (known : List Bool) → result ≡ truth known letter (literal_expression literal) }
+{
+    (letter >> literal.proposition() & 1 == 1) != literal.is_negated()
 }

@@ -8,3 +8,6 @@ pub mod DrawingLemmas
 pub mod ClassRests
 pub mod FirstDrawing
 pub mod SecondDrawing
+pub mod FoundLetters
+pub mod TriedLetters
+pub mod TriedDrawing

@@ -10,4 +10,5 @@ pub mod Moving
 pub mod Naming
 pub mod Placing
 pub mod Planning
+pub mod Trying
 pub mod Visits

@@ -3,9 +3,19 @@
 ghost use Rattle.std.specs.Prelude.{◌≡◌, ◌<◌, ℕ, IfOk, IsSome, None, Some, nat_eq};
 ghost use Rattle.indexmap.specs.IndexMap.{get};
 
+use crate::few_letters::FewLetters;
 use indexmap::IndexMap;
 use ps_diagram::{Classes, Store};
 use std::alloc::{AllocError, Global};
+
+/// What is known of the classes of the first player's letters.
+#[derive(Drop)]
+pub enum Division {
+    /// The letters of both players, each of whom has few. The classes are found by trying each letter.
+    ByLetters(FewLetters),
+    /// The classes of letters for the states.
+    ByClasses(Divided),
+}
 
 /// For each state whose classes were computed, the classes of the first player's letters. Letters of one class lead
 /// from this state to the same steps.

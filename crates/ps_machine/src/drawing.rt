@@ -33,8 +33,6 @@ pub(crate) struct Plan<'a> {
     pub automaton: &'a Automaton,
     /// The key of each vertex of the automaton's game, which states what the vertex stands for.
     pub keys: &'a IndexSet<Key>,
-    /// The classes of letters for each state that occurs in the keys.
-    pub divided: &'a Divided,
     /// The certificate of the game: the winner of each vertex, and the winners' moves.
     pub certificate: &'a Certificate,
     /// Whether the winner of vertex 0 moves first.
@@ -73,7 +71,7 @@ impl Plan<'_> {
 
     /// The letter that a player who moves first outputs at the vertex of a memory state: the least letter of the class
     /// to which the player's move leads.
-    fn letter_at(&self, vertex: usize) -> u64
+    pub fn letter_at(&self, vertex: usize) -> u64
         requires plan { IsPlanned self.now }
         requires kept { Contains self.now.memories.now.kept.items vertex }
         requires turn { self.now.moves_first ≡ true }
@@ -94,16 +92,17 @@ impl Drawing {
         &mut self,
         alloc: Global,
         plan: &Plan<'_>,
+        divided: &Divided,
         vertex: usize,
     ) -> Result<Node, AllocError>
-        requires { CanDraw plan.now self.old vertex }
+        requires { CanDraw plan.now divided.now self.old vertex }
         ensures { Draws plan.now self.old self.new vertex result }
     {
         match plan.keys.as_slice()[vertex] {
             Key::First { state, .. } => if plan.moves_first {
-                self.first_node(plan, vertex, state)
+                self.first_node(plan, divided, vertex, state)
             } else {
-                self.second_node(alloc, plan, vertex, state)
+                self.second_node(alloc, plan, divided, vertex, state)
             },
             Key::Second { .. } => unreachable!(),
         }
@@ -112,16 +111,21 @@ impl Drawing {
     /// Makes the diagram of a memory state for a player who moves first. The player's move leads to a class of letters.
     /// The result is the diagram of the steps that can follow this class, with the index of a row of the machine's
     /// table in place of each step.
-    fn first_node(&mut self, plan: &Plan<'_>, vertex: usize, state: u32) -> Result<Node, AllocError>
-        requires { CanDrawAt true plan.now self.old vertex state }
+    fn first_node(
+        &mut self,
+        plan: &Plan<'_>,
+        divided: &Divided,
+        vertex: usize,
+        state: u32,
+    ) -> Result<Node, AllocError>
+        requires { CanDrawAt true plan.now divided.now self.old vertex state }
         ensures { Draws plan.now self.old self.new vertex result }
     {
         let letter = plan.letter_at(vertex);
-        let rest = rest_of(&plan.divided.of(state).list, letter);
-        let leaves = plan.divided.store.leaves(rest)?;
+        let rest = rest_of(&divided.of(state).list, letter);
+        let leaves = divided.store.leaves(rest)?;
         self.place_rows(plan, letter, &leaves)?;
-        self.store
-            .relabel_from(&plan.divided.store, rest, &self.places)
+        self.store.relabel_from(&divided.store, rest, &self.places)
     }
 
     /// Each of the given leaves of the automaton's diagrams needs a row: the output `letter`, and the memory state

@@ -4,7 +4,7 @@ ghost use Rattle.std.specs.Prelude.{◌≡◌, ◌≤◌, ℕ, List, IfOk, OnOk,
 ghost use Rattle.ps_automaton.specs.Automata.{IsBuiltFrom};
 ghost use Rattle.ps_automaton.specs.Chains.{Chain};
 ghost use Rattle.ps_certificate.specs.Certificates.{Fits, IsValid};
-ghost use Rattle.ps_game.specs.Games.{ParityGame};
+ghost use Rattle.ps_game.specs.Games.{ParityGame, vertex_count};
 ghost use Rattle.ps_hoa.specs.Files.{FileData};
 ghost use Rattle.ps_hoa.specs.Memory.{bytes_of};
 ghost use Rattle.ps_hoa.specs.Sound.{AreNames};
@@ -12,18 +12,22 @@ ghost use Rattle.ps_machine.specs.Inner.Assembling.{HasRoles};
 ghost use Rattle.ps_machine.specs.Behaviours.{LassosWon};
 ghost use Rattle.ps_machine.specs.Boards.{IsGameOf};
 ghost use Rattle.ps_machine.specs.BuiltBoards.{board_of};
-ghost use Rattle.ps_machine.specs.Dividing.{HasClasses};
+ghost use Rattle.ps_machine.specs.Dividing.{AreFewLetters, HasClasses};
 ghost use Rattle.ps_machine.specs.Inner.Certificates.{IsValidFor};
 ghost use Rattle.ps_machine.specs.Inner.Drawing.{AreMemories, AreUsed};
 ghost use Rattle.ps_machine.specs.Extracting.{HasPropositions, IsMachineOf};
 ghost use Rattle.ps_machine.specs.Keys.{mover_of};
 ghost use Rattle.ps_machine.specs.Machines.{behaviour};
-ghost use Rattle.ps_machine.specs.Inner.Planning.{AreDrawnBy, AreRowsBy, IsReadyPlan, board_by};
+ghost use Rattle.ps_machine.specs.Inner.Planning.{AreDrawnBy, AreKnownBy, AreRowsBy, IsPlanned, IsReadyPlan, board_by};
+ghost use Rattle.ps_machine.specs.Inner.Trying.{IsReadyToTry};
 ghost use Rattle.ps_machine.specs.declared.key.Key.{Key};
 
+use crate::divided::{Divided, Division};
 use crate::drawing::{Drawing, Plan};
+use crate::few_letters::FewLetters;
 use crate::game::AutomatonGame;
 use crate::key::{Key, Order};
+use crate::letter_plan::LetterPlan;
 use crate::machine::{Diagrams, Machine, Propositions};
 use crate::memories::{Memories, remembered};
 use crate::moves::is_first;
@@ -99,12 +103,11 @@ pub fn machine_of_certificate(
         order,
         automaton,
         keys: &game.keys,
-        divided: &game.divided,
         certificate,
         moves_first,
         memories: &memories,
     };
-    machine_by(alloc, &plan)
+    machine_by(alloc, &plan, &game.divided)
 }
 
 /// The memory states of the winner of vertex 0, for the vertices that can be reached by the certificate's moves.
@@ -115,7 +118,8 @@ fn memories_of(
     certificate: &Certificate,
     moves_first: bool,
 ) -> Result<Memories, AllocError>
-    requires { IsValidFor game.now certificate.now }
+    requires valid { IsValidFor game.now certificate.now }
+    requires keys { length keys.now ≡ vertex_count game.now }
     ensures { IfOk result (λ memories. (used : List ℕ) × AreUsed game.now certificate.now used ×
         AreMemories moves_first keys.now used memories.kept.items memories.anchors.keys) }
 {
@@ -124,8 +128,9 @@ fn memories_of(
 }
 
 /// Builds the machine from the data of a `Plan`.
-fn machine_by(alloc: Global, plan: &Plan<'_>) -> Result<Machine, AllocError>
-    requires { IsReadyPlan plan.now }
+fn machine_by(alloc: Global, plan: &Plan<'_>, division: &Division) -> Result<Machine, AllocError>
+    requires plan { IsPlanned plan.now }
+    requires division { AreKnownBy plan.now division.now }
     ensures machine { IfOk result (λ m. (game : ParityGame)
         → IsGameOf (board_by plan.now) (mover_of plan.now.order) plan.now.keys.now.keys game
         → IsMachineOf (board_by plan.now) (mover_of plan.now.order) plan.now.keys.now.keys game plan.now.certificate.now
@@ -135,7 +140,7 @@ fn machine_by(alloc: Global, plan: &Plan<'_>) -> Result<Machine, AllocError>
     ensures won { IfOk result (λ m. (file : FileData) (chain : Chain) → IsBuiltFrom file chain plan.now.automaton.now →
         LassosWon file (behaviour m)) }
 {
-    let diagrams = draw(alloc, plan)?;
+    let diagrams = draw(alloc, plan, division)?;
     let propositions = roles(alloc, plan.automaton, plan.order, plan.moves_first)?;
     let player = Player::of_number(plan.certificate.winner(0));
     Ok(Machine::new(player, plan.moves_first, propositions, diagrams))
@@ -143,18 +148,84 @@ fn machine_by(alloc: Global, plan: &Plan<'_>) -> Result<Machine, AllocError>
 
 /// Makes the diagrams of all memory states, and the rows (output letter and next memory state) to which these diagrams
 /// lead.
-fn draw(alloc: Global, plan: &Plan<'_>) -> Result<Diagrams, AllocError>
-    requires { IsReadyPlan plan.now }
+fn draw(alloc: Global, plan: &Plan<'_>, division: &Division) -> Result<Diagrams, AllocError>
+    requires plan { IsPlanned plan.now }
+    requires division { AreKnownBy plan.now division.now }
+    ensures letters { IfOk result (λ made. made.store.propositions ≡ length plan.now.automaton.now.names) }
+    ensures drawn { IfOk result (λ made. AreDrawnBy plan.now made.store made.rows.keys made.nodes.items
+        (length plan.now.memories.now.kept.items)) }
+{
+    match division {
+        Division::ByLetters(letters) => draw_by_letters(alloc, plan, letters),
+        Division::ByClasses(divided) => draw_by_classes(alloc, plan, divided),
+    }
+}
+
+/// Like `draw`, but the diagrams are made letter by letter.
+fn draw_by_letters(
+    alloc: Global,
+    plan: &Plan<'_>,
+    letters: &FewLetters,
+) -> Result<Diagrams, AllocError>
+    requires plan { IsPlanned plan.now }
+    requires letters { AreFewLetters (board_by plan.now) letters.now }
+    ensures letters { IfOk result (λ made. made.store.propositions ≡ length plan.now.automaton.now.names) }
+    ensures drawn { IfOk result (λ made. AreDrawnBy plan.now made.store made.rows.keys made.nodes.items
+        (length plan.now.memories.now.kept.items)) }
+{
+    let _ = plan.automaton.states();
+    let letters = LetterPlan::new(alloc, plan, letters)?;
+    let mut drawing = Drawing {
+        store: Store::new(alloc, letters.store.propositions()),
+        rows: IndexSet::new(alloc),
+        places: Vec::new(alloc),
+    };
+    let nodes = nodes_by_letters(alloc, plan, &letters, &mut drawing)?;
+    Ok(Diagrams {
+        store: drawing.store,
+        nodes,
+        rows: drawing.rows,
+    })
+}
+
+/// Makes the diagrams of all memory states, letter by letter.
+fn nodes_by_letters(
+    alloc: Global,
+    plan: &Plan<'_>,
+    letters: &LetterPlan<'_>,
+    drawing: &mut Drawing,
+) -> Result<Vec<Node>, AllocError>
+    requires ready { IsReadyToTry plan.now letters.now }
+    requires letters { letters.now.store.propositions ≡ drawing.old.store.propositions }
+    requires rows { AreRowsBy plan.now drawing.old.rows.keys }
+    ensures letters { OnOk result (drawing.new.store.propositions ≡ drawing.old.store.propositions) }
+    ensures drawn { IfOk result (λ nodes. AreDrawnBy plan.now drawing.new.store drawing.new.rows.keys nodes.items
+        (length plan.now.memories.now.kept.items)) }
+{
+    let mut nodes = Vec::with_capacity(alloc, plan.memories.kept.len())?;
+    for vertex in &plan.memories.kept {
+        nodes.push(drawing.node_by_letters(alloc, plan, letters, *vertex)?)?;
+    }
+    Ok(nodes)
+}
+
+/// Like `draw`, but the diagrams are made from the classes of letters.
+fn draw_by_classes(
+    alloc: Global,
+    plan: &Plan<'_>,
+    divided: &Divided,
+) -> Result<Diagrams, AllocError>
+    requires { IsReadyPlan plan.now divided.now }
     ensures letters { IfOk result (λ made. made.store.propositions ≡ length plan.now.automaton.now.names) }
     ensures drawn { IfOk result (λ made. AreDrawnBy plan.now made.store made.rows.keys made.nodes.items
         (length plan.now.memories.now.kept.items)) }
 {
     let mut drawing = Drawing {
-        store: Store::new(alloc, plan.divided.store.propositions()),
+        store: Store::new(alloc, divided.store.propositions()),
         rows: IndexSet::new(alloc),
         places: Vec::new(alloc),
     };
-    let nodes = nodes_of(alloc, plan, &mut drawing)?;
+    let nodes = nodes_of(alloc, plan, divided, &mut drawing)?;
     Ok(Diagrams {
         store: drawing.store,
         nodes,
@@ -163,9 +234,14 @@ fn draw(alloc: Global, plan: &Plan<'_>) -> Result<Diagrams, AllocError>
 }
 
 /// Makes the diagrams of all memory states.
-fn nodes_of(alloc: Global, plan: &Plan<'_>, drawing: &mut Drawing) -> Result<Vec<Node>, AllocError>
-    requires ready { IsReadyPlan plan.now }
-    requires letters { plan.now.divided.now.store.propositions ≡ drawing.old.store.propositions }
+fn nodes_of(
+    alloc: Global,
+    plan: &Plan<'_>,
+    divided: &Divided,
+    drawing: &mut Drawing,
+) -> Result<Vec<Node>, AllocError>
+    requires ready { IsReadyPlan plan.now divided.now }
+    requires letters { divided.now.store.propositions ≡ drawing.old.store.propositions }
     requires rows { AreRowsBy plan.now drawing.old.rows.keys }
     ensures letters { OnOk result (drawing.new.store.propositions ≡ drawing.old.store.propositions) }
     ensures drawn { IfOk result (λ nodes. AreDrawnBy plan.now drawing.new.store drawing.new.rows.keys nodes.items
@@ -173,7 +249,7 @@ fn nodes_of(alloc: Global, plan: &Plan<'_>, drawing: &mut Drawing) -> Result<Vec
 {
     let mut nodes = Vec::with_capacity(alloc, plan.memories.kept.len())?;
     for vertex in &plan.memories.kept {
-        nodes.push(drawing.node(alloc, plan, *vertex)?)?;
+        nodes.push(drawing.node(alloc, plan, divided, *vertex)?)?;
     }
     Ok(nodes)
 }

@@ -4,7 +4,7 @@
 //! for a state and the priority by which the state was entered. A vertex at which the second player moves stands for a
 //! state and a class of the first player's letters. Letters of one class lead to the same steps. Classes of letters are
 //! computed from the automaton's decision diagrams, and one vertex stands for all letters of its class. If no player
-//! has more than four letters, `game_of` compares the letters one by one, and computes no classes.
+//! has more than four letters, the letters are compared one by one, and no diagrams of classes are made.
 //!
 //! | Call | What it gives |
 //! |---|---|
@@ -36,10 +36,13 @@ mod drawing;
 mod exploring;
 mod extracting;
 mod fault;
+mod few_letters;
 mod game;
 mod key;
 mod laws;
 mod letter_classes;
+mod letter_drawing;
+mod letter_plan;
 mod letters;
 mod machine;
 mod memories;
@@ -52,9 +55,10 @@ mod solver;
 mod used;
 
 pub use built_in::BuiltIn;
-pub use divided::Divided;
+pub use divided::{Divided, Division};
 pub use extracting::{extract, machine_of_certificate};
 pub use fault::SolveFault;
+pub use few_letters::FewLetters;
 pub use game::{AutomatonGame, game_of};
 pub use key::{Key, Order};
 pub use laws::{

@@ -1,9 +1,10 @@
 //! The memory states of a certificate's machine.
 
-ghost use Rattle.std.specs.Prelude.{◌≡◌, IfOk, OnOk};
+ghost use Rattle.std.specs.Prelude.{◌≡◌, IfOk, OnOk, length};
 ghost use Rattle.ps_machine.specs.Inner.Drawing.{AreMemories, KeepsAt, anchor_of};
 
 use crate::key::Key;
+use crate::used::Found;
 use indexmap::IndexSet;
 use std::alloc::{AllocError, Global};
 
@@ -23,10 +24,11 @@ pub(crate) struct Memories {
 pub(crate) fn remembered(
     alloc: Global,
     keys: &[Key],
-    used: &IndexSet<usize>,
+    used: &Found,
     moves_first: bool,
 ) -> Result<Memories, AllocError>
-    ensures { IfOk result (λ memories. AreMemories moves_first keys.now used.now.keys memories.kept.items
+    requires { length used.now.flags.items ≡ length keys.now }
+    ensures { IfOk result (λ memories. AreMemories moves_first keys.now used.now.list.items memories.kept.items
         memories.anchors.keys) }
 {
     let mut memories = Memories {
@@ -37,7 +39,7 @@ pub(crate) fn remembered(
         let Key::First { state, .. } = *key else {
             continue;
         };
-        if used.contains(&vertex) {
+        if used.contains(vertex) {
             memories.keep(vertex, anchor(moves_first, vertex, state))?;
         }
     }

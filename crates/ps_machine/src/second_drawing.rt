@@ -8,6 +8,7 @@ ghost use Rattle.ps_machine.specs.Inner.Drawing.{IsReply};
 ghost use Rattle.ps_machine.specs.Inner.Planning.{AddsRows, AreRowsBy, CanDrawAt, CanEnterBy, CanReply};
 ghost use Rattle.ps_machine.specs.Inner.Planning.{Draws, IsAnswerBy, IsRestBy, NamesAnswerBy, board_by};
 
+use crate::divided::Divided;
 use crate::drawing::{Drawing, Plan};
 use crate::key::Key;
 use crate::machine::Row;
@@ -17,7 +18,7 @@ use std::alloc::{AllocError, Global};
 
 impl Plan<'_> {
     /// The step of the automaton that the winner, who moves second, chooses after the least letter of a class.
-    fn reply(&self, state: u32, letter: u64) -> Step
+    pub fn reply(&self, state: u32, letter: u64) -> Step
         requires { CanReply self.now state letter }
         ensures reply { IsReply (board_by self.now) self.now.keys.now.keys self.now.certificate.now state letter
             result.state result.priority }
@@ -36,12 +37,12 @@ impl Plan<'_> {
 
     /// The row of the machine's table for a class of the first player's letters: the letter that is output, and the
     /// next memory state.
-    fn row_of_class(&self, state: u32, class: Class) -> Result<Row, AllocError>
+    fn row_of_class(&self, divided: &Divided, state: u32, class: Class) -> Result<Row, AllocError>
         requires ready { CanReply self.now state class.letter }
-        requires rest { IsRestBy self.now state class.letter class.rest }
+        requires rest { IsRestBy self.now divided.now state class.letter class.rest }
         ensures { IfOk result (IsAnswerBy self.now state class.letter) }
     {
-        let leaves = self.divided.store.leaves(class.rest)?;
+        let leaves = divided.store.leaves(class.rest)?;
         let step = self.reply(state, class.letter);
         Ok(Row {
             memory: self.memory_behind(step.state, step.priority),
@@ -58,16 +59,17 @@ impl Drawing {
         &mut self,
         alloc: Global,
         plan: &Plan<'_>,
+        divided: &Divided,
         vertex: usize,
         state: u32,
     ) -> Result<Node, AllocError>
-        requires { CanDrawAt false plan.now self.old vertex state }
+        requires { CanDrawAt false plan.now divided.now self.old vertex state }
         ensures { Draws plan.now self.old self.new vertex result }
     {
-        let classes = plan.divided.of(state);
-        let values = self.rows_of_classes(alloc, plan, state, &classes.list)?;
+        let classes = divided.of(state);
+        let values = self.rows_of_classes(alloc, plan, divided, state, &classes.list)?;
         self.store
-            .relabel_from(&plan.divided.store, classes.places, &values)
+            .relabel_from(&divided.store, classes.places, &values)
     }
 
     /// For each class of the first player's letters, the index of the row that the machine's table has for that class.
@@ -75,13 +77,14 @@ impl Drawing {
         &mut self,
         alloc: Global,
         plan: &Plan<'_>,
+        divided: &Divided,
         state: u32,
         classes: &[Class],
     ) -> Result<Vec<u64>, AllocError>
         requires turn { plan.now.moves_first ≡ false }
         requires entered { (p : ℕ) × CanEnterBy plan.now state p }
         requires classes { All (λ class. IsClassLetter (board_by plan.now) state class.letter) classes.now }
-        requires rests { All (λ class. IsRestBy plan.now state class.letter class.rest) classes.now }
+        requires rests { All (λ class. IsRestBy plan.now divided.now state class.letter class.rest) classes.now }
         requires rows { AreRowsBy plan.now self.old.rows.keys }
         ensures added { AddsRows plan.now self.old self.new }
         ensures values { IfOk result
@@ -90,7 +93,7 @@ impl Drawing {
     {
         let mut values = Vec::with_capacity(alloc, classes.len())?;
         for class in classes {
-            let row = plan.row_of_class(state, *class)?;
+            let row = plan.row_of_class(divided, state, *class)?;
             let (place, _) = self.rows.insert_full(row)?;
             values.push(place as u64)?;
         }

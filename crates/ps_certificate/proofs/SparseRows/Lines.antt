@@ -14,7 +14,8 @@ use Rattle.ps_certificate.specs.declared.entries.Line.{Line}
 use Rattle.ps_certificate.specs.declared.row.PlacedCount.{PlacedCount}
 
 -- the items between two indices of a list do not change when more items are appended
-range_kept : {X : Type 0} (xs ys : List X) (i j : ℕ) → j ≤ length xs → slice_range (xs ++ ys) i j ≡ slice_range xs i j
+pub range_kept : {X : Type 0} (xs ys : List X) (i j : ℕ) → j ≤ length xs →
+    slice_range (xs ++ ys) i j ≡ slice_range xs i j
 range_kept xs ys i j h = grind (arith, common_steps)
 
 zip_push : (ws : List ℕ) (ls : List Line) (w : ℕ) (l : Line) → length ws ≡ length ls

@@ -53,10 +53,10 @@ rising from width (p ∷ ps) h (suc i) (suc j) less within =
 abbrev pub number_at : List PlacedCount → ℕ → ℕ
 number_at ps i = (get_or ps i (record { place = 0; count = 0 })).count
 
-same_place : (p : PlacedCount) (ps : List PlacedCount) {k : ℕ} → p.place ≡ k → count_at (p ∷ ps) k ≡ p.count
+pub same_place : (p : PlacedCount) (ps : List PlacedCount) {k : ℕ} → p.place ≡ k → count_at (p ∷ ps) k ≡ p.count
 same_place p ps {k} h = ap (λ b. cond b p.count (count_at ps k)) (eq-eqb p.place k h)
 
-other_place : (p : PlacedCount) (ps : List PlacedCount) (k : ℕ) → p.place ≢ k → count_at (p ∷ ps) k ≡ count_at ps k
+pub other_place : (p : PlacedCount) (ps : List PlacedCount) (k : ℕ) → p.place ≢ k → count_at (p ∷ ps) k ≡ count_at ps k
 other_place p ps k h = ap (λ b. cond b p.count (count_at ps k)) (ne_eqb p.place k h)
 
 -- a vertex's count at an index that no stored count has is 0

@@ -1,6 +1,6 @@
 -- Rows of nodes, by which the diagram of a list of leaves is made, from the last proposition to the first. (For private
 -- functions.)
-use Rattle.std.specs.Prelude.{◌≡◌, ℕ, ◌%◌, ◌^◌, ◌<◌, Bool, List, length, Option, None, slice_get, slice_index}
+use Rattle.std.specs.Prelude.{◌≡◌, ℕ, ◌/◌, ◌%◌, ◌^◌, ◌<◌, Bool, List, length, Option, None, slice_get, slice_index}
 use Rattle.std.specs.Prelude.{slice_index_or}
 use Rattle.ps_diagram.specs.Tree.{leaf_at, IsBlind}
 use Rattle.ps_diagram.specs.Table.{Table, IsNode, leaf_of, tree_of}
@@ -21,9 +21,20 @@ pub record IsRow (t : Table) (level none : ℕ) (nodes : List ℕ) : Type 0 wher
   pub held : (i : ℕ) → IsNode t (slice_index_or nodes i none)
   pub later : (i : ℕ) → IsBlind level (tree_of t (slice_index_or nodes i none))
 
--- the lowest `level` bits of a letter, as a number, are the index of a node in the row; at this letter, the node has
--- the leaf that the list `leaves` has for the letter
-abbrev pub LeadsOn : Table → List ℕ → ℕ → ℕ → List ℕ → Type 0
-LeadsOn t leaves level none nodes =
-    (letter : ℕ) → leaf_of t (slice_index_or nodes (letter % 2 ^ level) none) letter ≡ slice_get leaves
-    (letter % 2 ^ t.propositions)
+-- the node of a row to which a letter leads: its index is the number whose bits are the truth values of the `depth`
+-- propositions from `first` on
+abbrev pub entry : ℕ → ℕ → ℕ → List ℕ → ℕ → ℕ
+entry first none depth nodes letter = slice_index_or nodes (letter / 2 ^ first % 2 ^ depth) none
+
+-- at each letter, the node to which the letter leads in the new row has the leaf of the node to which it leads in the
+-- old row
+abbrev pub LeadsOn : Table → Table → ℕ → ℕ → ℕ → List ℕ → ℕ → List ℕ → Type 0
+LeadsOn t u first none depth nodes less made =
+    (letter : ℕ) → leaf_of u (entry first none less made letter) letter ≡ leaf_of t
+    (entry first none depth nodes letter) letter
+
+-- the node depends only on propositions from `first` on; at each letter, it has the leaf of the node to which the letter
+-- leads in the row
+pub record IsJoined (t u : Table) (first depth none : ℕ) (nodes : List ℕ) (node : ℕ) : Type 0 where
+  pub blind : IsBlind first (tree_of u node)
+  pub leaf : (letter : ℕ) → leaf_of u node letter ≡ leaf_of t (entry first none depth nodes letter) letter

@@ -1,8 +1,9 @@
 -- Diagrams of truth values, in which each leaf is 1, and their disjunctions. (For private functions.)
-use Rattle.std.specs.Prelude.{ℕ, List, [], ◌∷◌, Option, None, map}
+use Rattle.std.specs.Prelude.{◌≡◌, ℕ, Bool, List, [], ◌∷◌, Option, None, map}
 use Rattle.ps_diagram.specs.Labels.{IsOneOrNone}
 use Rattle.ps_diagram.specs.Leaves.{either_leaf}
 use Rattle.ps_diagram.specs.Table.{Table, IsNode, leaf_of}
+use Rattle.ps_diagram.specs.Tree.{Tree, leaf_at}
 
 -- the first entry of a list that is a leaf; other entries are `None`
 abbrev pub first_leaf : List (Option ℕ) → Option ℕ
@@ -17,3 +18,11 @@ leaves_of t nodes letter = map (λ node. leaf_of t node letter) nodes
 pub record IsTruth (t : Table) (node : ℕ) : Type 0 where
   pub held : IsNode t node
   pub leaf : (letter : ℕ) → IsOneOrNone (leaf_of t node letter)
+
+-- at each letter, the tree has the leaf 1 or no leaf
+abbrev pub IsTruthTree : Tree → Type 0
+IsTruthTree t = (f : ℕ → Bool) → IsOneOrNone (leaf_at t f)
+
+-- the third tree has the leaves of the first, and those of the second where the first has none
+abbrev pub IsUnion : Tree → Tree → Tree → Type 0
+IsUnion a b c = (f : ℕ → Bool) → leaf_at c f ≡ either_leaf (leaf_at a f) (leaf_at b f)

@@ -5,9 +5,8 @@
 --   operand
 -- - `row_starts`, `row_more`, `row_shrinks`: the invariant of the loop holds, and its measure falls
 -- - `row_fails`, `row_done`: the result if a later operand has an error, and the result when the loop ends
-use Rattle.std.proofs.Common.{◌≡◌, ℕ, ◌+◌, ◌<◌, Bool, true, List, [], ◌∷◌, ◌++◌, length, map, refl, sym, ap, subst, ◌∙◌}
+use Rattle.std.proofs.Common.{◌≡◌, ℕ, ◌+◌, ◌<◌, Bool, true, List, [], ◌∷◌, ◌++◌, length, refl, sym, subst}
 use Rattle.std.proofs.Common.{arith, length-append, rules}
-use Rattle.std.proofs.lemmas.List.{map-append}
 use Rattle.ps_text.specs.Answers.{Stream}
 use Rattle.ps_text.specs.Parts.{Part, many}
 use Rattle.ps_text.specs.Readers.{Reads, Carries}
@@ -30,11 +29,6 @@ use Rattle.ps_hoa.proofs.Reading.ExpectReading.{Tests, expect_read, expect_elsew
 abbrev pub binding : Connective → ℕ
 binding connectives.And = 1
 binding connectives.Or = 3
-
--- the values of the entries of a `Vec` after an entry is appended
-pub last_value : {X V : Type 0} (view : X → V) (x : X) (some : List X) {all : List X} → all ≡ some ++ x ∷ [] →
-    map view all ≡ with_last (map view some) (view x)
-last_value view x some e = ap (map view) e ∙ map-append view some (x ∷ [])
 
 pub record Row {V : Type 0} (sign : Kind → Bool) (kind : Kind) (operand : Part Sign V HoaCause)
     (First More : Sign → Type 0) : Type 0 where

@@ -71,7 +71,7 @@ same_letter e = cc
 module _ {order : Order} {a : AutomatonData} {keys : List Key} {certificate : CertificateData} {is_first : Bool}
     {kept anchors : List ℕ} (plan : IsPlan order a keys certificate is_first kept anchors) (first : is_first ≡ true)
   where
-    mover_wins : mover_of order ≡ winner_at_start certificate
+    pub mover_wins : mover_of order ≡ winner_at_start certificate
     mover_wins = eqb-true (mover_of order) (winner_at_start certificate) (sym plan.turn ∙ first)
 
     -- the certificate's move at the vertex of a memory state leads to a vertex that stands for a class of the same
@@ -182,7 +182,8 @@ module _ {order : Order} {a : AutomatonData} {keys : List Key} {certificate : Ce
 
       module _ (u : Table) (made : ℕ) (held : IsNode u made) (named : (x : ℕ) →
           leaf_of u made x ≡ option_map (λ k. slice_index places k) (leaf_of t rest x)) where
-        row_at : (x : ℕ) → IsSecondLetter (board_of order a) x → LeadsToRow true (board_of order a) keys kept certificate
+        row_at : (x : ℕ) → IsSecondLetter (board_of order a) x →
+            LeadsToRow true (board_of order a) keys kept certificate
             u rows made v q x
         row_at x second =
             let n = noted x second in

@@ -126,23 +126,11 @@ module _ {order : Order} {a : AutomatonData} {keys : List Key} {certificate : Ce
 
 -- ## The letter that is output
 
-module _ {order : Order} {a : AutomatonData} {mask : ℕ} {t : Table} {keys : List Key} {certificate : CertificateData}
-    {q x rest : ℕ} {found : List (ℕ × ℕ)} {step : Step}
-    (reply : IsReply (board_of order a) keys certificate q x step.state step.priority) (f : IsFit order a mask t)
-    (r : IsRest order a mask t q x rest) (are : AreLeaves t rest found) where
-  pub leaf_there : Any (λ leaf. pair_of a leaf.0 ≡ step) found
-  leaf_there =
-      let m = move_of f r are reply.second in
-      let leaf = sym m.is ∙ r.leaves reply.letter reply.second in
-      grind (
-        arith,
-        get_or_default found m.place (get_or found m.place (0, 0)) (0, 0) m.within,
-        same_pair reply.state reply.priority,
-      )
-
+module _ (order : Order) (a : AutomatonData) {keys : List Key} {certificate : CertificateData} {q x : ℕ} {step : Step}
+    (reply : IsReply (board_of order a) keys certificate q x step.state step.priority) where
   -- let x be the least letter of its class at the state q; the row with `letter` and `memory` is right for x if
   -- `letter` is the least letter that makes the winner's step, and `memory` is the memory state after this step
-  answer_by : {kept : List ℕ} (letter memory : ℕ) → IsClassLetter (board_of order a) q x →
+  pub answer_by : {kept : List ℕ} (letter memory : ℕ) → IsClassLetter (board_of order a) q x →
       IsMove (board_of order a) q x letter → step_of a q (x + letter) ≡ step →
       ((v : ℕ) → StandsAt keys v (First step.state step.priority) → StandsFor false keys kept memory v step.state) →
       IsReplyRow (board_of order a) keys kept certificate q x (record { memory = memory; letter = letter })
@@ -176,6 +164,20 @@ module _ {order : Order} {a : AutomatonData} {mask : ℕ} {t : Table} {keys : Li
         next = rw is (stands reply.chosen reply.entered);
       }
 
+module _ {order : Order} {a : AutomatonData} {mask : ℕ} {t : Table} {keys : List Key} {certificate : CertificateData}
+    {q x rest : ℕ} {found : List (ℕ × ℕ)} {step : Step}
+    (reply : IsReply (board_of order a) keys certificate q x step.state step.priority) (f : IsFit order a mask t)
+    (r : IsRest order a mask t q x rest) (are : AreLeaves t rest found) where
+  pub leaf_there : Any (λ leaf. pair_of a leaf.0 ≡ step) found
+  leaf_there =
+      let m = move_of f r are reply.second in
+      let leaf = sym m.is ∙ r.leaves reply.letter reply.second in
+      grind (
+        arith,
+        get_or_default found m.place (get_or found m.place (0, 0)) (0, 0) m.within,
+        same_pair reply.state reply.priority,
+      )
+
   pub answered : {kept : List ℕ} (letter memory : ℕ) → IsClassLetter (board_of order a) q x →
       Any (λ leaf. (pair_of a leaf.0 ≡ step) × (leaf.1 ≡ letter)) found →
       ((v : ℕ) → StandsAt keys v (First step.state step.priority) → StandsFor false keys kept memory v step.state) →
@@ -189,7 +191,8 @@ module _ {order : Order} {a : AutomatonData} {mask : ℕ} {t : Table} {keys : Li
       let named : pair_of a (get_or found k (0, 0)).0 ≡ step = ap (λ (l : ℕ × ℕ). pair_of a l.0) here ∙ any.4.0 in
       let move = rw played at (move_is f r are k within) in
       let leads = ap (λ y. leaf_of a.store (node_of a q) (x + y)) (sym played) ∙ move_leaf f r are k within in
-      answer_by letter memory class move (ap (λ o. pair_of a (unwrap_or o (length a.steps))) leads ∙ named) stands
+      answer_by order a reply letter memory class move
+      (ap (λ o. pair_of a (unwrap_or o (length a.steps))) leads ∙ named) stands
 
 -- ## Rows
 
@@ -232,7 +235,8 @@ module _ {board : Board} {keys : List Key} {kept : List ℕ} {certificate : Cert
 
   -- if a row of the machine's table has the right output and next memory state for the first player's letter c, it also
   -- has them for each letter x that leads to the same steps
-  alike_row : {v x c : ℕ} {row : Row} → SameSteps board q x c → IsRowAt false board keys kept certificate v q c row →
+  pub alike_row : {v x c : ℕ} {row : Row} → SameSteps board q x c →
+      IsRowAt false board keys kept certificate v q c row →
       IsRowAt false board keys kept certificate v q x row
   alike_row {v} {x} {c} {row} same r =
       let played = r.played in

@@ -1,9 +1,11 @@
 -- Conditions on a `Plan`, and on the diagrams that are made from it. Most definitions here are definitions of other
 -- files, such as `Drawing` and `Placing`, with fields of the `Plan` as arguments. (For private functions.)
 -- - `IsPlanned plan`: the machine can be made from the plan
--- - `AreDividedBy plan`: the plan has the classes of letters of each state at which the first player moves
--- - `IsReadyPlan plan`: the plan satisfies `IsPlanned` and `AreDividedBy`
--- - `CanDraw plan drawing v`: the diagram of the memory state of the vertex v can be added to the `Drawing`, which has
+-- - `AreDividedBy plan divided`: `divided` has the classes of letters of each state at which the first player moves
+-- - `AreKnownBy plan division`: the letters are few and known, or `AreDividedBy` holds
+-- - `IsReadyPlan plan divided`: the plan satisfies `IsPlanned`, and `divided` satisfies `AreDividedBy`
+-- - `CanDraw plan divided drawing v`: the diagram of the memory state of the vertex v can be added to the `Drawing`,
+-- which has
 --   the machine's diagrams and rows so far
 -- - `Draws plan old new v result`: a call changes the `Drawing` from `old` to `new`, which keeps all diagrams and rows;
 --   the call returns the diagram of the memory state of the vertex v, or fails
@@ -14,12 +16,14 @@ use Rattle.ps_diagram.specs.Table.{Keeps, Table}
 use Rattle.ps_machine.specs.Inner.Assembling.{AreDrawn}
 use Rattle.ps_machine.specs.Boards.{Board, IsClassLetter}
 use Rattle.ps_machine.specs.BuiltBoards.{board_of}
-use Rattle.ps_machine.specs.Dividing.{AreDivided}
+use Rattle.ps_machine.specs.Dividing.{AreDivided, AreKnown}
 use Rattle.ps_machine.specs.Inner.Drawing.{CanEnter, IsReplyRow, IsDrawn, IsPlan, IsRow, KeepsRows, NamesAnswer}
 use Rattle.ps_machine.specs.Dividing.{IsFit}
 use Rattle.ps_machine.specs.Inner.Moving.{IsRest}
 use Rattle.ps_machine.specs.Inner.Placing.{IsEntered, IsPlaced}
 use Rattle.ps_machine.specs.Numbering.{StandsAt}
+use Rattle.ps_machine.specs.declared.divided.Divided.{Divided}
+use Rattle.ps_machine.specs.declared.divided.Division.{Division}
 use Rattle.ps_machine.specs.declared.drawing.Drawing.{Drawing}
 use Rattle.ps_machine.specs.declared.drawing.Plan.{Plan}
 use Rattle.ps_machine.specs.declared.key.Key.TheVariants.{First}
@@ -33,9 +37,11 @@ IsPlanned p =
     IsPlan p.order p.automaton.now p.keys.now.keys p.certificate.now p.moves_first p.memories.now.kept.items
     p.memories.now.anchors.keys
 
-abbrev pub AreDividedBy : Plan → Type 0
-AreDividedBy p =
-    AreDivided p.order p.automaton.now p.keys.now.keys p.divided.now.store (get nat_eq p.divided.now.classes)
+abbrev pub AreDividedBy : Plan → Divided → Type 0
+AreDividedBy p d = AreDivided p.order p.automaton.now p.keys.now.keys d.store (get nat_eq d.classes)
+
+abbrev pub AreKnownBy : Plan → Division → Type 0
+AreKnownBy p = AreKnown p.order p.automaton.now p.keys.now.keys
 
 -- the relation that holds for a state and a priority if some reachable vertex stands for this state, entered by an edge
 -- of this priority
@@ -50,10 +56,9 @@ IsEnteredBy p =
     p.memories.now.anchors.keys
 
 -- the diagram of the steps from the state q after the letter x of the first player
-abbrev pub IsRestBy : Plan → ℕ → ℕ → ℕ → Type 0
-IsRestBy p q x rest =
-    (mask : ℕ) × IsFit p.order p.automaton.now mask p.divided.now.store
-    × IsRest p.order p.automaton.now mask p.divided.now.store q x rest
+abbrev pub IsRestBy : Plan → Divided → ℕ → ℕ → ℕ → Type 0
+IsRestBy p d q x rest =
+    (mask : ℕ) × IsFit p.order p.automaton.now mask d.store × IsRest p.order p.automaton.now mask d.store q x rest
 
 abbrev pub AreRowsBy : Plan → List Row → Type 0
 AreRowsBy p = All (IsRow p.moves_first (board_by p) p.memories.now.kept.items)
@@ -75,20 +80,20 @@ NamesAnswerBy p = NamesAnswer (board_by p) p.keys.now.keys p.memories.now.kept.i
 
 -- ## What functions that draw require, and what they give
 
-pub record IsReadyPlan (p : Plan) : Type 0 where
+pub record IsReadyPlan (p : Plan) (d : Divided) : Type 0 where
   pub plan : IsPlanned p
-  pub divided : AreDividedBy p
+  pub divided : AreDividedBy p d
 
-pub record CanDraw (p : Plan) (drawing : Drawing) (v : ℕ) : Type 0 where
+pub record CanDraw (p : Plan) (d : Divided) (drawing : Drawing) (v : ℕ) : Type 0 where
   pub plan : IsPlanned p
   pub kept : Contains p.memories.now.kept.items v
-  pub divided : AreDividedBy p
-  pub letters : p.divided.now.store.propositions ≡ drawing.store.propositions
+  pub divided : AreDividedBy p d
+  pub letters : d.store.propositions ≡ drawing.store.propositions
   pub rows : AreRowsBy p drawing.rows.keys
 
 -- `CanDraw` holds, the vertex v stands for the state q, and `is_first` states whether the machine's player moves first
-pub record CanDrawAt (is_first : Bool) (p : Plan) (drawing : Drawing) (v q : ℕ) : Type 0 where
-  pub ready : CanDraw p drawing v
+pub record CanDrawAt (is_first : Bool) (p : Plan) (d : Divided) (drawing : Drawing) (v q : ℕ) : Type 0 where
+  pub ready : CanDraw p d drawing v
   pub turn : p.moves_first ≡ is_first
   pub stands : (priority : ℕ) × StandsAt p.keys.now.keys v (First q priority)
 

@@ -25,7 +25,8 @@ loop-edge-preserved c =
     (x.is ∙ ap (λ (es : List Edge). get_or es l.edge-index x.result) c.deref-edge-items.ensures.value) in
     let label =
     c.in-Some.ensures c.args.file.now c.requires.row (fits c.requires.sound c.requires.row l.edge-index at) in
-    let product = product_of_label c.in-Some-product_of.product label c.requires.letters c.in-Some-product_of.ensures in
+    let product =
+    product_of_label c.in-Some-product_of.product label c.requires.letters c.in-Some-product_of.ensures.value in
     record {
       so_far = omega (arith, c.in_ok-push.ensures.len, l.invariant.so_far);
       each = products_more l.products.items l.invariant.so_far c.in_ok-push.ensures.items at product l.invariant.each;

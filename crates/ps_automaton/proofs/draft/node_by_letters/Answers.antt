@@ -12,14 +12,15 @@ pub returns : goal.returns
 returns c =
     let ready = c.requires.ready in
     let chain = chain_data c.args.source.now.levels.now.chain in
-    let targets = c.in_ok-targets.targets.items in
+    let made = c.in_ok-places.ensures.places in
+    let targets = made.0 in
     let places = c.in_ok-places.places.items in
-    let steps = c.places_of.new.steps in
+    let steps = c.places_of_edges.new.steps in
     let n = length c.args.source.now.file.now.names in
-    let joined = joined_by_letters ready.sound_row c.requires.by_letters c.in_ok-targets.ensures in
+    let joined = joined_by_letters ready.sound_row c.requires.by_letters made.1 in
     let all_steps : AreSteps c.args.source.now.file.now.states steps =
     c.in_ok-places.ensures.within c.args.source.now.file.now.states (λ k target e. grind arith) ready.source.steps in
-    let are_places : ArePlaces chain targets steps places = grind arith in
+    let are_places : ArePlaces chain targets steps places = made.2 in
     let within : (letter : ℕ) → letter % 2 ^ n < length places = grind (arith, pow_pos n) in
     let leaf : (letter : ℕ) → leaf_of c.of_leaves.new.self c.in_ok-node.node letter ≡ Some
     (get_or places (letter % 2 ^ n) 0) = grind (arith, slice_get-get_or) in

@@ -1,4 +1,5 @@
 use Rattle.std.proofs.Common.{rules, ◌+◌, ◌∙◌}
+use Rattle.ps_label.specs.Expression.{expression}
 use Rattle.ps_label.proofs.OperandLists.{expression-Both, expression-Either}
 use Rattle.ps_automaton.proofs.Bits.{in_not}
 use Rattle.ps_automaton.specs.Inner.LetterSets.{membership}
@@ -15,7 +16,8 @@ loop-operand-preserved t c =
     let from = from_drop items k _ c.loop-operand-test.true c.operand-item.is in
     let within = rw from at c.loop-operand.invariant.within in
     record {
-      decides = λ first letter sets small. all_with (membership letter c.args.aliases.now) letter (first + letter)
+      decides =
+          λ first letter sets small. all_with expression (membership letter c.args.aliases.now) letter (first + letter)
           c.loop-operand.set c.set_of-set.result items k from (c.set_of-set.ensures first letter sets small)
           ∙ c.loop-operand.invariant.decides first letter sets small;
       within = within.1;
@@ -31,7 +33,8 @@ loop-operand-2-preserved t c =
     let from = from_drop items k _ c.loop-operand-2-test.true c.operand-item-in-loop-operand-2.is in
     let within = rw from at c.loop-operand-2.invariant.within in
     record {
-      decides = λ first letter sets small. any_with (membership letter c.args.aliases.now) letter (first + letter)
+      decides =
+          λ first letter sets small. any_with expression (membership letter c.args.aliases.now) letter (first + letter)
           c.loop-operand-2.set c.set_of-set-in-loop-operand-2.result items k from
           (c.set_of-set-in-loop-operand-2.ensures first letter sets small)
           ∙ c.loop-operand-2.invariant.decides first letter sets small;
@@ -40,6 +43,9 @@ loop-operand-2-preserved t c =
 
 pub returns-then-value : goal.returns-then-value
 returns-then-value t c = search (rules, in_all)
+
+pub returns-in-Negated : goal.returns-in-Negated
+returns-in-Negated t c = search (rules, in_not)
 
 pub returns-in-Neg : goal.returns-in-Neg
 returns-in-Neg t c = search (rules, in_not)

@@ -1,4 +1,4 @@
-use Rattle.std.proofs.Common.{inl, inr, arith}
+use Rattle.std.proofs.Common.{◌≡◌, inl, inr, arith}
 use Rattle.std.proofs.lemmas.Bool.{cases_lt}
 use Rattle.ps_text.proofs.Simple.{same_some}
 use Rattle.ps_automaton.proofs.Fitting.{ready_to, edge_at}
@@ -29,7 +29,16 @@ returns-then-branch-clause-least c = λ a k. elim (cases_lt a c.loop-first.first
 ]
 
 pub loop-first-preserved : goal.loop-first-preserved
-loop-first-preserved c = grind (arith, keeps_both c.loop-first.invariant.keeps c.in_ok-clashes.ensures.keeps)
+loop-first-preserved c = record {
+  keeps = keeps_both c.loop-first.invariant.keeps c.in_ok-clashes.ensures.keeps;
+  none = λ a less clash. elim (cases_lt a c.loop-first.first) [
+    | inl below ↦ c.loop-first.invariant.none a below clash
+    | inr above ↦
+        let same : a ≡ c.loop-first.first = omega arith in
+        let clashing = c.in_ok-clashes.ensures.clashing.1 (rw (← same) clash) in
+        grind (arith, clashing)
+  ];
+}
 
 pub unreachable-requires : goal.unreachable-requires
 unreachable-requires c =

@@ -3,7 +3,7 @@ use Rattle.ps_certificate.proofs.PairLoops.{PairsSoFar}
 use Rattle.ps_certificate.proofs.pairs.pairs.Given as goal
 
 abbrev pub invariant-more : goal.invariant-more
-invariant-more l = PairsSoFar l.priorities.list.now l.initial.cursor l.cursor l.last l.counts.items
+invariant-more l = PairsSoFar l.priorities.list.now l.initial.cursor l.cursor l.last l.counts
 
 abbrev pub decreases-more : goal.decreases-more
 decreases-more l = length l.cursor.pieces

@@ -15,9 +15,9 @@ loop-vertex-preserved c =
       c.count-vertices.ensures.vertices,
       ap vertex_count c.game.ensures.game,
       c.game.ensures.well_formed.id_each,
-    )) c.id.ensures c.in_ok-won.ensures (rw c.number.ensures.number at (c.in_ok-push.ensures.ok
+    )) c.id.ensures c.in_ok-won.ensures (c.in_ok-push_row.ensures.ok
     ∙ ap (λ (counts : List ℕ). c.loop-vertex.entries ++ record
-    { winner = c.number.result; choice = c.in_ok-won.won.choice; counts = counts } ∷ []) c.deref.ensures.value))
+    { winner = c.in_ok-won.won.winner; choice = c.in_ok-won.won.choice; counts = counts } ∷ []) c.row.ensures)
 
 pub returns : goal.returns
 returns c = grind (arith, entries_end)

@@ -11,6 +11,7 @@ use Rattle.ps_hoa.proofs.Grammar.StateLaws.{joint_state, joint_state_label, join
 use Rattle.ps_hoa.proofs.Reading.HoaExits.{exit, first, behind, under}
 use Rattle.ps_hoa.proofs.Reading.StateReading.{edges_serve}
 use Rattle.ps_hoa.proofs.Soundness.SoundBodies.{IsRowOf, edges_within}
+use Rattle.ps_hoa.specs.Marks.{mark_list}
 use Rattle.ps_hoa.proofs.body.row.Goals as goal
 use Rattle.ps_hoa.proofs.body.row.Goals.{In_ok-edges}
 
@@ -48,7 +49,7 @@ returns-in_err-edges-clause-part c =
     let h = header_data c.args.header.now in
     let b = body_data c.args.rows.now in
     let l = option_map expression c.in_ok-label.label in
-    let empty = empty_row c.in_ok-state.state l c.in_ok-marks.marks.items in
+    let empty = empty_row c.in_ok-state.state l (mark_list c.in_ok-marks.marks) in
     let same = ap (λ (es : List EdgeData). record empty { edges = es }) (ap (map edge_data) c.no_edges.ensures) in
     exit _ _ _ _ (behind (joint_state h b) c.in_ok-begin.ensures
     (behind (joint_state_label h b) c.in_ok-label.ensures (behind (joint_number h b l) c.in_ok-state.ensures.part
@@ -61,7 +62,7 @@ returns-clause-part c =
     let h = header_data c.args.header.now in
     let b = body_data c.args.rows.now in
     let l = option_map expression c.in_ok-label.label in
-    let empty = empty_row c.in_ok-state.state l c.in_ok-marks.marks.items in
+    let empty = empty_row c.in_ok-state.state l (mark_list c.in_ok-marks.marks) in
     let same = ap (λ (es : List EdgeData). record empty { edges = es }) (ap (map edge_data) c.no_edges.ensures) in
     reads_then (joint_state h b) c.in_ok-begin.ensures (reads_then (joint_state_label h b) c.in_ok-label.ensures
     (reads_then (joint_number h b l) c.in_ok-state.ensures.part

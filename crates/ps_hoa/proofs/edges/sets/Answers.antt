@@ -4,6 +4,7 @@ use Rattle.ps_hoa.specs.Body.{is_left_brace, is_right_brace}
 use Rattle.ps_hoa.proofs.Grammar.BodyLaws.{joint_braces, joint_sets}
 use Rattle.ps_hoa.proofs.Reading.HoaExits.{exit, first, behind, under}
 use Rattle.ps_hoa.proofs.Reading.ExpectReading.{tests_left_brace, tests_right_brace}
+use Rattle.ps_hoa.specs.Marks.{mark_list}
 use Rattle.ps_hoa.proofs.edges.sets.Goals as goal
 
 pub returns-in_err-expect : goal.returns-in_err-expect
@@ -25,4 +26,4 @@ returns-in_err-expect-2 c = exit _ _ _ _ (behind (joint_braces c.args.count)
 pub returns : goal.returns
 returns c = reads_then (joint_braces c.args.count) (c.in_ok-expect.ensures is_left_brace tests_left_brace.is)
     (reads_then (joint_sets c.args.count) c.in_ok-marks.ensures
-    (reads_mapped (λ _. c.in_ok-marks.marks.items) (c.in_ok-expect-2.ensures is_right_brace tests_right_brace.is)))
+    (reads_mapped (λ _. mark_list c.in_ok-marks.marks) (c.in_ok-expect-2.ensures is_right_brace tests_right_brace.is)))

@@ -1,7 +1,7 @@
-use Rattle.std.proofs.Common.{rules, sym, ap, map, ◌∙◌, arith}
+use Rattle.std.proofs.Common.{rules, sym, ◌∙◌, arith}
 use Rattle.std.proofs.lemmas.Bool.{iff_false}
 use Rattle.ps_hoa.specs.Operands.{is_right}
-use Rattle.ps_hoa.proofs.Reading.RowReading.{last_value, first_fails, first_alone, row_starts, row_more}
+use Rattle.ps_hoa.proofs.Reading.RowReading.{first_fails, first_alone, row_starts, row_more}
 use Rattle.ps_hoa.proofs.Reading.RowReading.{row_fails, row_done, row_shrinks}
 use Rattle.ps_hoa.proofs.Reading.HoaExits.{exit, serves_meets, value_is}
 use Rattle.ps_hoa.proofs.Reading.ExpectReading.{tests_right}
@@ -25,32 +25,31 @@ pub row-more-init : goal.row-more-init
 row-more-init g t c =
     let row = operand_row (g.G.Infix.grammar c.args.grammar.now) c.requires c.args.room c.args.connective in
     row_starts row c.in_ok-first.ensures (c.is_at.ensures.0 c.if-not-is_at.false)
-    (ap (map g.G.Infix.meaning) c.in_ok-operands.ensures)
+    c.in_ok-operands.ensures
 
-pub row-returns-in_err-part : goal.row-returns-in_err-part
-row-returns-in_err-part g t c =
+pub row-returns-in_err-next : goal.row-returns-in_err-next
+row-returns-in_err-next g t c =
     let grammar = g.G.Infix.grammar c.args.grammar.now in
     exit g.G.Infix.meaning _ _ _ (row_fails (operand_row grammar c.requires c.args.room c.args.connective)
     c.more.invariant (c.is_at-in-more.ensures.0 c.more-test.true) c.skip.ensures.rest
-    (grammar.together c.args.connective)) c.in_err-part.ensures c.from_residual-in_err-part.ensures.1
+    (grammar.together c.args.connective)) c.in_err-next.ensures c.from_residual-in_err-next.ensures.1
 
 pub row-more-preserved : goal.row-more-preserved
 row-more-preserved g t c =
     let row = operand_row (g.G.Infix.grammar c.args.grammar.now) c.requires c.args.room c.args.connective in
     row_more row c.more.invariant (c.is_at-in-more.ensures.0 c.more-test.true) c.skip.ensures.rest
-    c.in_ok-part.ensures (last_value g.G.Infix.meaning _ _ c.in_ok-push.ensures.items)
+    c.in_ok-next.ensures c.in_ok-add.ensures
 
 pub row-returns : goal.row-returns
 row-returns g t c =
     let grammar = g.G.Infix.grammar c.args.grammar.now in
-    let same = ap (grammar.together c.args.connective) (ap (map g.G.Infix.meaning) (sym c.in_ok-operands-2.ensures)) in
-    value_is (same ∙ sym c.together.ensures) (row_done (operand_row grammar c.requires c.args.room c.args.connective)
+    value_is (sym c.in_ok-together.ensures) (row_done (operand_row grammar c.requires c.args.room c.args.connective)
     c.more.invariant (grammar.together c.args.connective) (iff_false c.is_at-in-more.ensures c.more-test.false))
 
 pub row-more-smaller : goal.row-more-smaller
 row-more-smaller g t c =
     let row = operand_row (g.G.Infix.grammar c.args.grammar.now) c.requires c.args.room c.args.connective in
-    row_shrinks row _ c.skip.ensures.rest c.in_ok-part.ensures
+    row_shrinks row _ c.skip.ensures.rest c.in_ok-next.ensures
 
 pub operand-returns-then-not-holds : goal.operand-returns-then-not-holds
 operand-returns-then-not-holds g t c =

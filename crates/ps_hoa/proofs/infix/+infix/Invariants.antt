@@ -1,4 +1,4 @@
-use Rattle.std.proofs.Common.{suc, ◌+◌, ◌*◌, length, map}
+use Rattle.std.proofs.Common.{suc, ◌+◌, ◌*◌, length}
 use Rattle.ps_hoa.specs.Operands.{is_sign_of, between, operand}
 use Rattle.ps_hoa.specs.Scan.{stream_of}
 use Rattle.ps_hoa.proofs.Reading.RowReading.{IsRow, binding}
@@ -17,7 +17,7 @@ abbrev pub invariant-row-more : goal.invariant-row-more
 invariant-row-more g l =
     let grammar = g.G.Infix.grammar l.grammar in
     IsRow (is_sign_of l.connective) (between grammar.together l.connective (operand grammar l.room))
-    (stream_of l.fn.tokens) (map g.G.Infix.meaning l.operands.items) (stream_of l.tokens)
+    (stream_of l.fn.tokens) (g.G.Infix.meanings l.operands) (stream_of l.tokens)
 
 abbrev pub decreases-row-more : goal.decreases-row-more
 decreases-row-more g l = length (stream_of l.tokens).pieces

@@ -2,11 +2,8 @@ use Rattle.std.proofs.Common.{arith}
 use Rattle.ps_machine.proofs.Machines.Extracted.{plan_is}
 use Rattle.ps_machine.proofs.extracting.machine_of_certificate.Goals as goal
 
-pub machine_by-requires : goal.machine_by-requires
-machine_by-requires c =
+pub machine_by-requires-clause-plan : goal.machine_by-requires-clause-plan
+machine_by-requires-clause-plan c =
     let kept = c.in_ok-memories.ensures in
-    record {
-      plan = plan_is c.requires.game c.requires.fits c.requires.valid (grind arith) c.game.ensures.game kept.1
-          c.as_slice.ensures.keys kept.2;
-      divided = c.requires.classes;
-    }
+    plan_is c.requires.game c.requires.fits c.requires.valid (grind arith) c.game.ensures.game kept.1
+    c.as_slice.ensures.keys kept.2

@@ -11,16 +11,16 @@ use Rattle.ps_machine.proofs.FileBoards.{game_of_file}
 use Rattle.ps_machine.proofs.GameKeys.KeyNames.{ids_differ}
 use Rattle.ps_machine.proofs.game.with_names.Goals as goal
 
-pub new-requires : goal.new-requires
-new-requires c =
+pub with_names-requires : goal.with_names-requires
+with_names-requires c =
     let listed = c.args.listed in
     let count = vertex_count listed.game in
     let all = c.requires.by_keys.count in
     let ids : length c.in_ok-ids.ids.items ≡ count = rw c.in_ok-ids.ensures.ids (length-range_with_len 0 count) in
-    let names : length c.in_ok-ids.names.items ≡ length listed.keys.items = search (rules, length-map) in
+    let names : length c.in_ok-ids.names ≡ length listed.keys.items = search (rules, length-map) in
     record {
       id_each = omega (arith, c.in_ok-ids.ids.ok, ids);
-      name_each = omega (arith, c.in_ok-ids.names.ok, names, all);
+      name_each = omega (arith, names, all);
       ids_differ = rw c.in_ok-ids.ensures.ids (ids_differ count);
       names_plain = c.in_ok-ids.ensures.plain;
     }
@@ -30,9 +30,9 @@ returns c =
     let board = board_of c.args.order c.args.automaton.now in
     let listed = c.args.listed in
     let all : vertex_count listed.game ≡ length listed.keys.items = sym c.requires.by_keys.count in
-    let is_game : IsGameOf board (mover_of c.args.order) listed.keys.items c.new.result.game = rw c.new.ensures.game
+    let is_game : IsGameOf board (mover_of c.args.order) listed.keys.items c.with_names.result.game = rw c.with_names.ensures.game
     c.requires in
-    let are_named : AreNamed board listed.keys.items c.new.result = search rules in
+    let are_named : AreNamed board listed.keys.items c.with_names.result = search rules in
     record {
       game = is_game;
       named = are_named;

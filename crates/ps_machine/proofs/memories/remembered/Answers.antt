@@ -14,8 +14,8 @@ pub loop-vertex-preserved : goal.loop-vertex-preserved
 loop-vertex-preserved c =
     let first = c.args.moves_first in
     let keys = c.args.keys.now in
-    let used = c.args.used.now.keys in
-    let n = c.loop-vertex.vertex-counter in
+    let used = c.args.used.now.list.items in
+    let n = c.loop-vertex.vertex in
     let stands : StandsAt keys n (First c.in-First.state c.in-First.priority) = search (rules, slice_get-get_or) in
     let told = c.contains.ensures in
     elim c.if-contains.branch [

@@ -5,5 +5,8 @@ use Rattle.ps_certificate.proofs.entries.Entries.choice.Goals as goal
 pub index-requires : goal.index-requires
 index-requires c = search (rules, has_line)
 
-pub returns : goal.returns
-returns c = search (rules, choice_at)
+pub returns-in-Some : goal.returns-in-Some
+returns-in-Some c = search (rules, choice_at)
+
+pub returns-in-None : goal.returns-in-None
+returns-in-None c = search (rules, choice_at)

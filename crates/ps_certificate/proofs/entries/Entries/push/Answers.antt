@@ -14,6 +14,13 @@ invariant_of-self-in_err-start c = search (rules, lines_same)
 pub returns-in_err-start-clause-err : goal.returns-in_err-start-clause-err
 returns-in_err-start-clause-err c = search (rules, entries_same, on_err)
 
+-- the same if one of the numbers does not fit
+pub invariant_of-self-in_err-line : goal.invariant_of-self-in_err-line
+invariant_of-self-in_err-line c = search (rules, lines_same)
+
+pub returns-in_err-line-clause-err : goal.returns-in_err-line-clause-err
+returns-in_err-line-clause-err c = search (rules, entries_same, on_err)
+
 pub invariant_of-self-2 : goal.invariant_of-self-2
 invariant_of-self-2 c = search (rules, gathered_is_row, lines_push)
 

@@ -47,3 +47,6 @@ pub returns-in_ok-put-in-Test-clause-seen : goal.returns-in_ok-put-in-Test-claus
 returns-in_ok-put-in-Test-clause-seen t c = seen_more c.args.self.now (result_for nat_eq c.gather-in-Test.new.seen.table)
     (result_for nat_eq c.put.new.self.table) c.args.node c.args.node c.gather-in-Test.new.found c.put.ensures.put
     c.in_ok-gather-in-Test-2.ensures.seen (found t c).whole
+
+pub returns-else-is_kept-2-clause-found : goal.returns-else-is_kept-2-clause-found
+returns-else-is_kept-2-clause-found t c = search (rules, gathers_test, set_bit)

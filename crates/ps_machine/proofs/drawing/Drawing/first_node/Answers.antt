@@ -43,7 +43,7 @@ relabel_from-requires-clause-within c =
     let plays = c.letter_at-letter.ensures c.args.state c.requires.stands.0 at in
     let l = left_behind c.args.vertex c.requires.ready.divided at c.of.ensures c.deref.ensures.value
     c.rest_of-rest.ensures in
-    let t = c.args.plan.now.divided.now.store in
+    let t = c.args.divided.now.store in
     let are = rw (← c.deref-2.ensures.value) at c.in_ok-leaves.ensures in
     renamed_within t c.rest_of-rest.result c.deref-3.ensures.value
     (all_noted c.requires.ready.plan c.requires.turn c.requires.ready.kept at plays l are
@@ -55,7 +55,7 @@ returns c =
     let plays = c.letter_at-letter.ensures c.args.state c.requires.stands.0 at in
     let l = left_behind c.args.vertex c.requires.ready.divided at c.of.ensures c.deref.ensures.value
     c.rest_of-rest.ensures in
-    let t = c.args.plan.now.divided.now.store in
+    let t = c.args.divided.now.store in
     let are = rw (← c.deref-2.ensures.value) at c.in_ok-leaves.ensures in
     let w = c.place_rows.new.self in
     let u = c.relabel_from.new.self in

@@ -1,0 +1,77 @@
+//! The counts of an entry that is being parsed.
+
+ghost use Rattle.std.specs.Prelude.{◌≡◌, ◌++◌, ◌∷◌, ◌-◌, ◌<◌, ◌≤◌, ◌^◌, ◌+◌, [], length, replicate, OnOk};
+
+use crate::row::{PlacedCount, Row, Stored};
+use std::alloc::{AllocError, Global};
+use std::marker::Model;
+
+/// A growing list of counts. Only the nonzero counts are stored, each with its index.
+#[derive(Drop)]
+pub(crate) struct Counts {
+    width: usize,
+    placed: Vec<PlacedCount>,
+}
+
+impl Model for Counts {
+    ghost use Rattle.std.specs.Prelude.{ℕ, List};
+    ghost use Rattle.ps_certificate.specs.Sparse.{dense_row, IsRow};
+
+    ghost Value = { List ℕ };
+
+    ghost view = { λ counts. dense_row counts.width counts.placed.items };
+
+    ghost invariant = { λ counts. IsRow counts.width counts.placed.items };
+}
+
+impl Counts {
+    /// An empty list of counts.
+    pub(crate) fn new(alloc: Global) -> Self
+        ensures { result ≡ [] }
+    {
+        Counts {
+            width: 0,
+            placed: Vec::new(alloc),
+        }
+    }
+
+    /// Removes all counts.
+    pub(crate) fn clear(&mut self)
+        ensures { self.new ≡ [] }
+    {
+        self.placed.clear();
+        self.width = 0;
+    }
+
+    /// Appends a count. Fails if out of memory.
+    pub(crate) fn push(&mut self, count: u64) -> Result<(), AllocError>
+        requires { length self.old + 1 < 2 ^ 64 }
+        ensures { OnOk result (self.new ≡ self.old ++ count ∷ []) }
+    {
+        let place = self.width;
+        if count != 0 {
+            self.placed.push(PlacedCount { place, count })?;
+        }
+        self.width = place + 1;
+        Ok(())
+    }
+
+    /// Appends zeros until there are `width` counts.
+    pub(crate) fn extend(&mut self, width: usize)
+        requires { length self.old ≤ width }
+        ensures { self.new ≡ self.old ++ replicate (width - length self.old) 0 }
+    {
+        self.width = width;
+    }
+
+    /// The counts.
+    pub(crate) fn row(&self) -> Row<'_>
+        ensures { result ≡ self.now }
+    {
+        let placed = Stored { list: &self.placed };
+        Row {
+            width: self.width,
+            placed,
+        }
+    }
+}

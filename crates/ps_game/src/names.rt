@@ -1,0 +1,62 @@
+//! The names of all vertices of a game, one behind the other in one buffer.
+
+ghost use Rattle.std.specs.Prelude.{◌≡◌, ◌++◌, ◌∷◌, [], IfOk, OnErr, OnOk, length, slice_get};
+ghost use Rattle.std.specs.Option.{option_copied};
+
+use std::alloc::{AllocError, Global};
+use std::marker::Model;
+
+/// A list of names, each a list of bytes. All names are stored in one buffer, so a name takes no memory of its own.
+#[derive(Drop)]
+pub struct Names {
+    /// The names, one behind the other.
+    bytes: Vec<u8>,
+    /// 0, and then for each name the index at which it ends in `bytes`.
+    offsets: Vec<usize>,
+}
+
+impl Model for Names {
+    ghost use Rattle.std.specs.Prelude.{ℕ, List};
+    ghost use Rattle.ps_game.specs.Names.{AreBounds, parts_of};
+
+    ghost Value = { List (List ℕ) };
+
+    ghost view = { λ n. parts_of n.offsets.items n.bytes.items };
+
+    ghost invariant = { λ n. AreBounds n.offsets.items n.bytes.items };
+}
+
+impl Names {
+    /// An empty list, with room for the given number of names. Fails if out of memory.
+    pub fn with_capacity(alloc: Global, count: usize) -> Result<Self, AllocError>
+        ensures { IfOk result (λ names. names ≡ []) }
+    {
+        let mut offsets = Vec::with_capacity(alloc, count.saturating_add(1))?;
+        offsets.push(0)?;
+        Ok(Names {
+            bytes: Vec::new(alloc),
+            offsets,
+        })
+    }
+
+    /// Appends a name. Fails if out of memory; then nothing changes.
+    pub fn push(&mut self, name: &[u8]) -> Result<(), AllocError>
+        ensures ok { OnOk result (self.new ≡ self.old ++ name.now ∷ []) }
+        ensures err { OnErr result (self.new ≡ self.old) }
+    {
+        self.offsets.reserve(1)?;
+        self.bytes.extend_from_slice(name)?;
+        self.offsets.push_reserved(self.bytes.len());
+        Ok(())
+    }
+
+    /// The name with the given index, if there is one.
+    pub fn get(&self, place: usize) -> Option<&[u8]>
+        ensures { option_copied result ≡ slice_get self.now place }
+    {
+        if place >= self.offsets.len() - 1 {
+            return None;
+        }
+        Some(&self.bytes[self.offsets[place]..self.offsets[place + 1]])
+    }
+}

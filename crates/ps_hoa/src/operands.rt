@@ -1,0 +1,118 @@
+//! Rows of labels with the same connective between them, while they are parsed.
+
+ghost use Rattle.std.specs.Prelude.{◌≡◌, ◌++◌, ◌∷◌, [], IfOk};
+ghost use Rattle.ps_label.specs.Expression.{expression, literal_expressions};
+ghost use Rattle.ps_label.specs.Truth.{expressions};
+ghost use Rattle.ps_hoa.specs.Labels as grammar;
+ghost use Rattle.ps_hoa.specs.Inner.LabelRows.{operand_expressions};
+
+use crate::infix::{self, Connective};
+use ps_label::{Label, Literals};
+use std::alloc::{AllocError, Global};
+
+/// The operands of a row that is being parsed. Many labels are conjunctions of a few literals, so these are gathered
+/// without memory.
+#[derive(Drop)]
+pub(crate) enum Operands {
+    /// Literals, which use no memory outside this value.
+    Literals(Literals),
+    /// Operands of any form.
+    Labels(Vec<Label>),
+}
+
+impl Operands {
+    /// The first operand of a row with the given connective. If memory is needed, it is for `count` operands.
+    #[inline(always)]
+    pub(crate) fn new(
+        alloc: Global,
+        connective: Connective,
+        first: Label,
+        count: usize,
+    ) -> Result<Self, AllocError>
+        ensures { IfOk result (λ row. operand_expressions row ≡ expression first ∷ []) }
+    {
+        match (connective, first.as_literal()) {
+            (Connective::And, Some(literal)) => Ok(Operands::Literals(Literals::of(literal))),
+            _ => Ok(Operands::Labels(infix::begun(alloc, first, count)?)),
+        }
+    }
+
+    /// Adds an operand at the end. If memory is needed, it is for `count` operands at least.
+    #[inline(always)]
+    pub(crate) fn push(
+        &mut self,
+        alloc: Global,
+        next: Label,
+        count: usize,
+    ) -> Result<(), AllocError>
+        ensures { IfOk result
+            (λ _. operand_expressions self.new ≡ operand_expressions self.old ++ expression next ∷ []) }
+    {
+        match self {
+            Operands::Literals(literals) => match next.as_literal() {
+                Some(literal) if !literals.is_full() => {
+                    literals.push(literal);
+                    Ok(())
+                }
+                _ => {
+                    *self = Operands::Labels(with_label(alloc, literals, next, count)?);
+                    Ok(())
+                }
+            },
+            Operands::Labels(labels) => {
+                labels.push(next)?;
+                Ok(())
+            }
+        }
+    }
+
+    /// The joint value of the operands.
+    #[inline(always)]
+    pub(crate) fn together(self, alloc: Global, connective: Connective) -> Result<Label, AllocError>
+        ensures { IfOk result (λ label. expression label ≡ grammar.together connective (operand_expressions self)) }
+    {
+        match (connective, self) {
+            (Connective::And, Operands::Literals(literals)) => Ok(Label::Literals(literals)),
+            (Connective::And, operands) => Ok(Label::Both(operands.into_labels(alloc)?)),
+            (Connective::Or, operands) => Ok(Label::Either(operands.into_labels(alloc)?)),
+        }
+    }
+
+    /// The operands as labels, in memory of just their size.
+    #[inline(always)]
+    fn into_labels(self, alloc: Global) -> Result<Vec<Label>, AllocError>
+        ensures { IfOk result (λ labels. expressions labels.items ≡ operand_expressions self) }
+    {
+        match self {
+            Operands::Literals(literals) => infix::fitted(alloc, labels_of(alloc, &literals, 0)?),
+            Operands::Labels(labels) => infix::fitted(alloc, labels),
+        }
+    }
+}
+
+/// The literals and a label behind them, in memory for `count` labels at least.
+fn with_label(
+    alloc: Global,
+    literals: &Literals,
+    last: Label,
+    count: usize,
+) -> Result<Vec<Label>, AllocError>
+    ensures { IfOk result
+        (λ labels. expressions labels.items ≡ literal_expressions literals.now ++ expression last ∷ []) }
+{
+    let mut labels = labels_of(alloc, literals, count)?;
+    labels.push(last)?;
+    Ok(labels)
+}
+
+/// The literals as labels, in memory for `count` labels at least.
+fn labels_of(alloc: Global, literals: &Literals, count: usize) -> Result<Vec<Label>, AllocError>
+    ensures { IfOk result (λ labels. expressions labels.items ≡ literal_expressions literals.now) }
+{
+    let literals = literals.as_slice();
+    let mut labels = Vec::with_capacity(alloc, count.max(2 * literals.len()))?;
+    for literal in literals {
+        labels.push(Label::of_literal(*literal))?;
+    }
+    Ok(labels)
+}

@@ -1,6 +1,0 @@
-use Rattle.ps_machine.proofs.Diagrams.StoredClasses.{all_divided}
-use Rattle.ps_machine.proofs.game.divided_game_of.Goals as goal
-
-pub returns-clause-classes : goal.returns-clause-classes
-returns-clause-classes c = (let said = c.in_ok-listed.ensures in
-    rw c.into_divided.ensures (all_divided said.fits said.divided))
