@@ -1,6 +1,6 @@
 -- Lemmas about what may be missing in a game text (lines such as `parity 7;`, and names), and about the conditions of
 -- the parser's loops.
-use Rattle.std.proofs.Common.{◌≡◌, ℕ, ◌<◌, true, false, List, length, Option, None, Some, Ok, Err, refl}
+use Rattle.std.proofs.Common.{◌≡◌, ℕ, ◌<◌, true, false, List, [], ◌∷◌, ◌++◌, length, Option, None, Some, Ok, Err, refl}
 use Rattle.std.proofs.Common.{sym, ap, subst, inl, ◌∙◌, rules}
 use Rattle.ps_text.specs.Answers.{Stream, next_of}
 use Rattle.ps_text.specs.Parts.{one, NoBad}
@@ -10,13 +10,13 @@ use Rattle.ps_text.proofs.Covered.{Enters, Avoids, enters_then, enters_one, ente
 use Rattle.ps_text.proofs.MeetsLemmas.{left_entered, right_otherwise, meets_shrinks, meets_give, meets_next}
 use Rattle.ps_pgsolver.specs.Inner.Answered.{found_of}
 use Rattle.ps_pgsolver.specs.GameTexts.{pg_causes, setting, keyword, keyword_in, value_line, name, name_in, number_in}
-use Rattle.ps_pgsolver.specs.GameTexts.{comma, comma_in, BadId, more_successor, new_id, node, entry}
+use Rattle.ps_pgsolver.specs.GameTexts.{comma, comma_in, BadId, more_successor, successor, new_id, node, entry}
 use Rattle.ps_pgsolver.specs.Heads.{is_number, is_comma, name_of}
 use Rattle.ps_pgsolver.specs.Nodes.{NodeData}
 use Rattle.ps_pgsolver.specs.Signs.{Sign, Number, Word, Name, Comma}
 use Rattle.ps_pgsolver.specs.declared.fault.PgCause.{PgCause}
 use Rattle.ps_pgsolver.specs.Causes.{PgFault}
-use Rattle.ps_pgsolver.proofs.GameExits.{Done, Halts, stops_right, done_then}
+use Rattle.ps_pgsolver.proofs.GameExits.{Done, Halts, stops_right, stops_mapped, done_then, done_mapped}
 use Rattle.ps_pgsolver.proofs.PartLaws.{IsKind, kind_of, laws_one_name, laws_no_name, joint_more, joint_id}
 use Rattle.ps_pgsolver.proofs.PartLaws.{another, laws_more}
 use Rattle.ps_pgsolver.proofs.GameLaws.{laws_line, laws_no_line, joint_line, line, takes_word, laws_entry}
@@ -92,6 +92,30 @@ unfolding more_successor comma
 comma_entered known list old e =
     subst (λ there. Enters (more_successor known list) there) (sym (comma_is (next_of old) e)) (enters_then comma
     (λ _. another known list) (joint_more known list) (Some Comma) (enters_one comma_in NoBad Comma (inl (tt, refl))))
+
+-- a comma was passed
+pub comma_done : (old : Stream Sign) {new : Stream Sign} → next_of old ≡ Some Comma → new ≡ tail old →
+    Done comma old tt new
+unfolding comma
+comma_done old {new} e n = meets_next found_of pg_causes comma_in NoBad (λ u. u) old new Comma tt e n refl (λ f b. b)
+
+-- behind a comma, one more successor was parsed
+pub more_done : (known : Option (List ℕ)) (list : List ℕ) (old : Stream Sign) {mid new : Stream Sign} {id : ℕ} →
+    next_of old ≡ Some Comma → mid ≡ tail old → Done (successor known) mid id new →
+    Done (more_successor known list) old (list ++ id ∷ []) new
+unfolding more_successor
+more_done known list old {mid} {new} {id} e n d =
+    done_then (joint_more known list) old mid new tt (list ++ id ∷ []) (comma_done old e n)
+    (done_mapped (λ (n : ℕ). list ++ n ∷ []) (successor known) mid new id d)
+
+-- behind a comma, the successor has an error
+pub more_halts : (known : Option (List ℕ)) (list : List ℕ) (old : Stream Sign) {mid : Stream Sign} (f : PgFault) →
+    next_of old ≡ Some Comma → mid ≡ tail old → Halts (successor known) mid f →
+    Halts (more_successor known list) old f
+unfolding more_successor
+more_halts known list old {mid} f e n h =
+    stops_right (joint_more known list) old mid tt f (comma_done old e n)
+    (stops_mapped (λ (n : ℕ). list ++ n ∷ []) (successor known) mid f h)
 
 pub number_is : (o : Option Sign) → is_number o ≡ true → (n : ℕ) × (o ≡ Some (Number n))
 number_is o h = search rules

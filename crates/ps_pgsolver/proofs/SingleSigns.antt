@@ -8,15 +8,15 @@ use Rattle.ps_text.specs.Parts.{NoBad}
 use Rattle.ps_text.specs.Readers.{tail}
 use Rattle.ps_pgsolver.proofs.OneSign.{Fits, taken, bad, refused, one_reads}
 use Rattle.ps_ids.proofs.Members.{any-from_Contains, Contains-any}
-use Rattle.ps_pgsolver.specs.Inner.Answered.{ReadsAs, found_of, ReadsKnown, is_known, number_answer, id_answer}
+use Rattle.ps_pgsolver.specs.Inner.Answered.{ReadsAs, ReadsKnown, is_known, number_answer, id_answer}
 use Rattle.ps_pgsolver.specs.Inner.Answered.{owner_answer}
-use Rattle.ps_pgsolver.specs.Inner.Answered.{successor_answer, first_answer, semicolon_answer, comma_answer}
+use Rattle.ps_pgsolver.specs.Inner.Answered.{successor_answer, first_answer, semicolon_answer}
 use Rattle.ps_pgsolver.specs.Causes.{cause_number, PgFault}
-use Rattle.ps_pgsolver.specs.GameTexts.{pg_causes, too_large, number_in, comma_in, semicolon_in, BadNumber, BadId}
+use Rattle.ps_pgsolver.specs.GameTexts.{too_large, number_in, semicolon_in, BadNumber, BadId}
 use Rattle.ps_pgsolver.specs.GameTexts.{BadOwner, BadSuccessor, BadFirst, IsUnknown, number, new_id, owner, successor}
-use Rattle.ps_pgsolver.specs.GameTexts.{first_successor, comma, semicolon}
+use Rattle.ps_pgsolver.specs.GameTexts.{first_successor, semicolon}
 use Rattle.ps_pgsolver.specs.Nodes.{is_member}
-use Rattle.ps_pgsolver.specs.Signs.{Sign, Number, Name, Comma, Semicolon, OpenName}
+use Rattle.ps_pgsolver.specs.Signs.{Sign, Number, Name, Semicolon, OpenName}
 use Rattle.ps_pgsolver.specs.declared.fault.PgCause.{PgCause}
 use Rattle.ps_pgsolver.specs.declared.fault.PgCause.TheVariants as causes
 use Rattle.ps_text.specs.declared.faults.Fault.TheVariants as faults
@@ -93,10 +93,6 @@ semicolon_fits : (t : Sign) (at : ℕ) → Fits cause_number causes.Syntax semic
 semicolon_fits Semicolon at = taken tt refl (λ f b. b) refl
 semicolon_fits _ at = refused refl (λ f b. b) refl
 
-comma_fits : (t : Sign) (at : ℕ) → Fits cause_number causes.Syntax comma_in NoBad t at (comma_answer (Some t) at)
-comma_fits Comma at = taken tt refl (λ f b. b) refl
-comma_fits _ at = refused refl (λ f b. b) refl
-
 -- ## What each parsing function for one token establishes
 
 pub reads_number : (old : Stream Sign) {new : Stream Sign} {r : Result ℕ PgFault} → new ≡ tail old →
@@ -134,11 +130,6 @@ pub reads_semicolon : (old : Stream Sign) {new : Stream Sign} {r : Result (Unit 
 unfolding semicolon
 reads_semicolon old =
     one_reads cause_number causes.Syntax Semicolon refl semicolon_answer semicolon_fits (λ at. refl) old
-
-pub reads_comma : (old : Stream Sign) {new : Stream Sign} {r : Result (Unit {0}) PgFault} → new ≡ tail old →
-    r ≡ comma_answer (next_of old) (offset_of old.pieces old.end) → ReadsAs (λ u. u) comma old r new
-unfolding comma
-reads_comma old = one_reads cause_number causes.Syntax Comma refl comma_answer comma_fits (λ at. refl) old
 
 -- ## The same results with other known ids
 

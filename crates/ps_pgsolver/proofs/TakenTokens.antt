@@ -3,8 +3,10 @@
 use Rattle.std.proofs.Common.{◌≡◌, ℕ, ◌+◌, ◌<◌, ◌≤◌, true, false, eqb, List, [], ◌∷◌, length, take, drop, Some, refl}
 use Rattle.std.proofs.Common.{sym, ap, ◌∙◌, ⊎_elim, arith}
 use Rattle.std.proofs.lemmas.Bool.{cases_Bool, eqb-true}
+use Rattle.std.proofs.lemmas.List.{length-drop}
+use Rattle.std.proofs.lemmas.List.Sums.{prefix_len-le-length}
 use Rattle.std.specs.List.{prefix_len, take_while}
-use Rattle.ps_text.specs.Answers.{Stream, next_of}
+use Rattle.ps_text.specs.Answers.{Stream, next_of, offset_of}
 use Rattle.ps_text.specs.Digits.{decimal_value}
 use Rattle.ps_text.specs.Readers.{tail}
 use Rattle.ps_text.specs.Bytes.{is_blank, is_digit, is_letter}
@@ -13,7 +15,7 @@ use Rattle.ps_pgsolver.specs.Heads.{sign_of}
 use Rattle.ps_pgsolver.specs.Lexer.{first_sign, first_size, stream_from}
 use Rattle.ps_pgsolver.specs.Signs.{Sign, Number, Comma, Semicolon}
 use Rattle.ps_pgsolver.specs.declared.token.Kind.{Kind}
-use Rattle.ps_pgsolver.proofs.TokenLemmas.{at_digit, at_punctuation, reads_split}
+use Rattle.ps_pgsolver.proofs.TokenLemmas.{at_digit, at_punctuation, offset_ahead, reads_split}
 
 -- `sign` is the first token of the text `rest`, which follows the bytes `before`, and `size` is the token's length in
 -- bytes
@@ -40,6 +42,21 @@ pub begins_semicolon : {before : List ℕ} (rest : List ℕ) → begins_in (λ b
     Begins before rest Semicolon 1
 begins_semicolon [] e = let x : false ≡ true = e in cc
 begins_semicolon {before} (b ∷ bs) e = grind (arith, at_punctuation before 59 bs refl refl refl refl, eqb-true b 59 e)
+
+-- a text's next token begins at the offset `start`, behind the blanks that follow the offset `at`
+pub record Starts (text : List ℕ) (at start : ℕ) : Type 0 where
+  pub begins : start ≡ at + prefix_len is_blank (drop at text)
+  pub within : start ≤ length text
+
+pub starts_at : (text : List ℕ) (at start : ℕ) {stream : Stream Sign} → at ≤ length text →
+    start ≡ offset_of stream.pieces stream.end → stream_from text at ≡ stream → Starts text at start
+starts_at text at start {stream} inside offset is =
+    let blanks = prefix_len is_blank (drop at text) in
+    let within : at + blanks ≤ length text =
+    omega (arith, prefix_len-le-length is_blank (drop at text), length-drop at text) in
+    let begins : start ≡ at + blanks = offset ∙ ap (λ (s : Stream Sign). offset_of s.pieces s.end) (sym is)
+    ∙ sym (offset_ahead text at {start = at + blanks} refl within) in
+    record { begins = begins; within = rw begins within }
 
 -- the next token is `sign`, and the later tokens are the tokens of the text from the offset `behind` on
 pub record Leaves (text : List ℕ) (behind : ℕ) (sign : Sign) (stream : Stream Sign) : Type 0 where

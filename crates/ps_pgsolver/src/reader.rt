@@ -10,7 +10,7 @@ ghost use Rattle.ps_game.specs.Names.{name_bytes};
 ghost use Rattle.ps_pgsolver.specs.Inner.Answered.{ReadsAs, ReadsKnown, AddsKnown, TextAnswers, FaultAnswers};
 ghost use Rattle.ps_pgsolver.specs.Inner.Answered.{KnownAnswers};
 ghost use Rattle.ps_pgsolver.specs.Inner.Answered.{found_of, number_answer, id_of_number, owner_of_number};
-ghost use Rattle.ps_pgsolver.specs.Inner.Answered.{successor_of_number, successor_answer, first_answer, comma_answer};
+ghost use Rattle.ps_pgsolver.specs.Inner.Answered.{successor_of_number, successor_answer, first_answer};
 ghost use Rattle.ps_pgsolver.specs.Inner.Answered.{semicolon_answer, end_answer};
 ghost use Rattle.ps_pgsolver.specs.GameTexts as parts;
 ghost use Rattle.ps_pgsolver.specs.Causes.{StandsWithin};
@@ -178,7 +178,7 @@ fn new_id(tokens: &mut Tokens, nodes: &Nodes) -> Result<u64, PgFault>
     ensures new { IfOk result (λ id. ¬ Contains (ids_of nodes.now) id) }
 {
     let start = tokens.start();
-    let id = any_number(tokens)?;
+    let id = any_number_at(tokens, start)?;
     unless_twice(id, start, nodes)
 }
 
@@ -187,16 +187,18 @@ fn new_id(tokens: &mut Tokens, nodes: &Nodes) -> Result<u64, PgFault>
 fn number(tokens: &mut Tokens) -> Result<u64, PgFault>
     ensures { ReadsAs (λ n. n) parts.number tokens.old result tokens.new }
 {
-    any_number(tokens)
+    let start = tokens.start();
+    any_number_at(tokens, start)
 }
 
-/// Parses any number that fits in 64 bits.
+/// Parses any number that fits in 64 bits. The next token begins at the offset `start`.
 #[inline(always)]
-fn any_number(tokens: &mut Tokens) -> Result<u64, PgFault>
-    ensures answer { result ≡ number_answer (next_of tokens.old) (offset_of tokens.old.pieces tokens.old.end) }
+fn any_number_at(tokens: &mut Tokens, start: usize) -> Result<u64, PgFault>
+    requires { start ≡ offset_of tokens.old.pieces tokens.old.end }
+    ensures answer { result ≡ number_answer (next_of tokens.old) start }
     ensures rest { tokens.new ≡ tail tokens.old }
 {
-    match tokens.take_number() {
+    match tokens.take_number_at(start) {
         Some(number) => Ok(number),
         None => number_of(tokens.next()),
     }
@@ -209,7 +211,7 @@ fn owner(tokens: &mut Tokens) -> Result<Player, PgFault>
     ensures player { IfOk result (λ owner. owner < 2) }
 {
     let start = tokens.start();
-    let owner = any_number(tokens)?;
+    let owner = any_number_at(tokens, start)?;
     one_of_two(owner, start)
 }
 
@@ -226,27 +228,10 @@ fn successors(
 {
     list.clear();
     list.push(first_successor(tokens, known)? as usize)?;
-    'more: while tokens.is_at_comma() {
-        more_successor(tokens, known, list)?;
+    'more: while tokens.take_comma() {
+        let id = successor(tokens, known)?;
+        list.push(id as usize)?;
     }
-    Ok(())
-}
-
-/// Parses a comma and one more successor.
-fn more_successor(
-    tokens: &mut Tokens,
-    known: Option<&Ids>,
-    list: &mut Vec<usize>,
-) -> Result<(), PgFault>
-    ensures part { ReadsAs (λ _. list.new.items) (parts.more_successor (option_copied known.entry) list.old.items)
-        tokens.old result tokens.new }
-    ensures later { AddsKnown KnowsEach list.old.items list.new.items (λ ids. parts.more_successor ids list.old.items)
-        tokens.old result tokens.new }
-    ensures longer { vec_len list.old ≤ vec_len list.new }
-{
-    comma(tokens)?;
-    let id = successor(tokens, known)?;
-    list.push(id as usize)?;
     Ok(())
 }
 
@@ -256,7 +241,7 @@ fn first_successor(tokens: &mut Tokens, known: Option<&Ids>) -> Result<u64, PgFa
     ensures later { ReadsKnown Contains (λ n. n) parts.first_successor tokens.old result tokens.new }
 {
     let start = tokens.start();
-    match tokens.take_number() {
+    match tokens.take_number_at(start) {
         Some(id) => if_known(id, start, known),
         None => first_of(tokens.next(), known),
     }
@@ -269,7 +254,7 @@ fn successor(tokens: &mut Tokens, known: Option<&Ids>) -> Result<u64, PgFault>
     ensures later { ReadsKnown Contains (λ n. n) parts.successor tokens.old result tokens.new }
 {
     let start = tokens.start();
-    let id = any_number(tokens)?;
+    let id = any_number_at(tokens, start)?;
     if_known(id, start, known)
 }
 
@@ -284,17 +269,6 @@ fn name(alloc: Global, tokens: &mut Tokens) -> Result<Option<Vec<u8>>, PgFault>
     };
     tokens.next();
     Ok(Some(bytes.to_vec(alloc)?))
-}
-
-/// Parses a comma.
-#[inline(always)]
-fn comma(tokens: &mut Tokens) -> Result<(), PgFault>
-    ensures { ReadsAs (λ u. u) parts.comma tokens.old result tokens.new }
-{
-    if tokens.take_comma() {
-        return Ok(());
-    }
-    comma_of(tokens.next())
 }
 
 /// Parses a semicolon.
@@ -386,16 +360,6 @@ fn first_of(token: Token, known: Option<&Ids>) -> Result<u64, PgFault>
         Kind::Name(_) => Err(fault(PgCause::NoSuccessor, token)),
         Kind::OpenName => Err(fault(PgCause::NoSuccessor, token)),
         _ => successor_of(token, known),
-    }
-}
-
-/// Checks that a token is a comma.
-fn comma_of(token: Token) -> Result<(), PgFault>
-    ensures { result ≡ comma_answer (sign_of token.entry.kind) token.entry.start }
-{
-    match token.kind {
-        Kind::Comma => Ok(()),
-        _ => Err(fault(PgCause::Syntax, token)),
     }
 }
 

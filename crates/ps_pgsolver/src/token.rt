@@ -121,7 +121,17 @@ impl<'a> Tokens<'a> {
         ensures some { IfSome result (λ number. IsNumberTaken number self.old self.new) }
         ensures none { IfNone result (self.new ≡ self.old) }
     {
-        let start = next_start(self.text, self.at);
+        let start = self.start();
+        self.take_number_at(start)
+    }
+
+    /// Moves past the next token, which begins at the offset `start`, and returns its value, as `take_number` does.
+    #[inline(always)]
+    pub(crate) fn take_number_at(&mut self, start: usize) -> Option<u64>
+        requires { start ≡ offset_of self.old.pieces self.old.end }
+        ensures some { IfSome result (λ number. IsNumberTaken number self.old self.new) }
+        ensures none { IfNone result (self.new ≡ self.old) }
+    {
         let (before, rest) = self.text.split_at(start);
         let number = few_digits(rest)?;
         if number.digits == 0 || ends_in_class(before, Class::Letter) {
@@ -134,7 +144,8 @@ impl<'a> Tokens<'a> {
     /// Moves past the next token if it is a comma, and returns whether it is one.
     #[inline(always)]
     pub fn take_comma(&mut self) -> bool
-        ensures { TakesIfNext Comma self.old result self.new }
+        ensures taken { TakesIfNext Comma self.old result self.new }
+        ensures exact { result ≡ is_comma (next_of self.old) }
     {
         let start = next_start(self.text, self.at);
         let (_, rest) = self.text.split_at(start);
@@ -165,14 +176,6 @@ impl<'a> Tokens<'a> {
     {
         let (before, rest) = self.text.split_at(next_start(self.text, self.at));
         begins_with(rest, Class::Digit) && !ends_in_class(before, Class::Letter)
-    }
-
-    /// Whether the next token is a comma.
-    pub fn is_at_comma(&self) -> bool
-        ensures { result ≡ is_comma (next_of self.now) }
-    {
-        let (_, rest) = self.text.split_at(next_start(self.text, self.at));
-        begins_with(rest, Class::Comma)
     }
 
     /// The name that is the next token, or `None` if the next token is not a name.

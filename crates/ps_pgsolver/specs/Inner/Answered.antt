@@ -8,7 +8,7 @@ use Rattle.ps_text.specs.Readers.{Reads as WasRead}
 pub use Rattle.ps_text.specs.Faults.{found_of}
 use Rattle.ps_pgsolver.specs.GameTexts.{pg_causes, too_large, game}
 use Rattle.ps_pgsolver.specs.Nodes.{NodeData, KnowsAll, is_member}
-use Rattle.ps_pgsolver.specs.Signs.{Sign, Number, Name, Comma, Semicolon, OpenName}
+use Rattle.ps_pgsolver.specs.Signs.{Sign, Number, Name, Semicolon, OpenName}
 use Rattle.ps_pgsolver.specs.declared.fault.PgCause.{PgCause}
 use Rattle.ps_pgsolver.specs.declared.fault.PgCause.TheVariants as causes
 use Rattle.ps_pgsolver.specs.Causes.{PgFault}
@@ -74,10 +74,6 @@ first_answer known sign at = successor_answer known sign at
 abbrev pub semicolon_answer : Option Sign → ℕ → Result (Unit {0}) PgFault
 semicolon_answer (Some Semicolon) at = Ok tt
 semicolon_answer _ at = Err (faults.Text causes.Syntax at)
-
-abbrev pub comma_answer : Option Sign → ℕ → Result (Unit {0}) PgFault
-comma_answer (Some Comma) at = Ok tt
-comma_answer _ at = Err (faults.Text causes.Syntax at)
 
 abbrev pub end_answer : Option Sign → ℕ → Result (Unit {0}) PgFault
 end_answer None at = Ok tt

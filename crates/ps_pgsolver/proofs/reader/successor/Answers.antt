@@ -16,4 +16,4 @@ returns-clause-later c =
     let old = c.args.tokens.now in
     let known = option_copied c.args.known in
     let at = offset_of old.pieces old.end in
-    later_successor known old _ c.any_number.ensures.rest (grind arith)
+    later_successor known old _ c.any_number_at.ensures.rest (grind arith)

@@ -3,7 +3,7 @@ use Rattle.ps_text.specs.Answers.{Stream}
 use Rattle.ps_text.specs.Readers.{tail}
 use Rattle.ps_pgsolver.specs.Signs.{Sign}
 use Rattle.ps_pgsolver.proofs.NumberTokens.{number_small}
-use Rattle.ps_pgsolver.proofs.reader.any_number.Goals as goal
+use Rattle.ps_pgsolver.proofs.reader.any_number_at.Goals as goal
 
 pub returns-in-Some-clause-answer : goal.returns-in-Some-clause-answer
 returns-in-Some-clause-answer c = grind (arith, number_small)
