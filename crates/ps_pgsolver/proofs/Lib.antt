@@ -1,7 +1,6 @@
 pub mod TokenLemmas
 pub mod TakenTokens
 pub mod NextSigns
-pub mod FewDigits
 pub mod GameLemmas
 pub mod NodeLemmas
 pub mod KeptLemmas

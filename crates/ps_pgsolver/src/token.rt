@@ -14,11 +14,8 @@ ghost use Rattle.ps_pgsolver.specs.Lexer.{stream_of, stream_from, first_sign, fi
 ghost use Rattle.ps_pgsolver.specs.Lexer.{name_sign, name_size, punctuation_sign};
 
 use ps_text::cursor::{Class, run_length};
-use ps_text::numbers::{LeadingNumber, leading_number};
+use ps_text::numbers::leading_number;
 use std::marker::Model;
-
-/// Numbers with at least 18 digits are parsed by slower code, which checks for overflow.
-const FEW: usize = 18;
 
 /// The kind of a token of a game text, with its value or its bytes.
 #[derive(Clone, Copy)]
@@ -114,8 +111,8 @@ impl<'a> Tokens<'a> {
         next_start(self.text, self.at)
     }
 
-    /// Moves past the next token and returns its value, if it is a number with fewer than 18 digits. Most numbers in
-    /// game texts have fewer than 18 digits, and no value of type `Token` is built for them.
+    /// Moves past the next token and returns its value, if it is a number that fits in a `u64`. No value of type `Token`
+    /// is built for it.
     #[inline(always)]
     pub fn take_number(&mut self) -> Option<u64>
         ensures some { IfSome result (λ number. IsNumberTaken number self.old self.new) }
@@ -133,7 +130,7 @@ impl<'a> Tokens<'a> {
         ensures none { IfNone result (self.new ≡ self.old) }
     {
         let (before, rest) = self.text.split_at(start);
-        let number = few_digits(rest)?;
+        let number = leading_number(rest)?;
         if number.digits == 0 || ends_in_class(before, Class::Letter) {
             return None;
         }
@@ -268,9 +265,6 @@ fn digits_at<'a>(rest: &'a [u8]) -> (Kind<'a>, usize)
     ensures { IsLexed result (Number (decimal_value (take_while is_digit rest.now))) (prefix_len is_digit rest.now)
         (length rest.now) }
 {
-    if let Some(number) = few_digits(rest) {
-        return (Kind::Number(number.value), number.digits);
-    }
     match leading_number(rest) {
         Some(number) => (Kind::Number(number.value), number.digits),
         None => {
@@ -278,27 +272,6 @@ fn digits_at<'a>(rest: &'a [u8]) -> (Kind<'a>, usize)
             (Kind::LargeNumber(&rest[..size]), size)
         }
     }
-}
-
-/// The number that the leading digits of a text denote, if there are fewer than 18 leading digits, so that no step
-/// overflows.
-#[inline(always)]
-fn few_digits(text: &[u8]) -> Option<LeadingNumber>
-    ensures value { IfSome result (λ number. number.value ≡ decimal_value (take_while is_ascii_digit text.now)) }
-    ensures digits { IfSome result (λ number. number.digits ≡ prefix_len is_ascii_digit text.now) }
-    ensures within { IfSome result (λ number. number.digits ≤ length text.now) }
-{
-    let most = text.len().min(FEW);
-    let mut value: u64 = 0;
-    let mut digits = 0;
-    while digits < most && text[digits].is_ascii_digit() {
-        value = value * 10 + u64::from(text[digits] - b'0');
-        digits += 1;
-    }
-    if digits == FEW {
-        return None;
-    }
-    Some(LeadingNumber { value, digits })
 }
 
 /// The token of the run of letters with which a text begins, and the token's length in bytes.

@@ -22,7 +22,7 @@ use Rattle.ps_text.specs.Answers.{Stream, Found, signs, next_of}
 use Rattle.ps_text.specs.Parts.{Part, Causes, IsRead, IsBroken, either, times, many}
 use Rattle.ps_text.specs.Readers.{Stops, Reads, Meets, Carries}
 use Rattle.ps_text.proofs.Laws.{Laws, Apart}
-use Rattle.ps_text.proofs.Exits.{stops_as, reads_then, reads_give, stops_first, stops_behind, suffix_refl}
+use Rattle.ps_text.proofs.Exits.{stops_as, reads_then, stops_first, stops_behind, suffix_refl}
 use Rattle.ps_text.proofs.InPlace.{Covers, read_as, fault_as}
 use Rattle.ps_text.proofs.Covered.{Enters, Avoids, enters_broken, enters_read, enters_then, covers_left, covers_right}
 use Rattle.ps_text.proofs.Repeated.{more_items, covers_item, joint_many, joint_times, read_none}

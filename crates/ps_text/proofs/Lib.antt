@@ -17,6 +17,7 @@ pub mod Outcomes
 pub mod Decisions
 pub mod OneTokenisation
 pub mod LeadingDigits
+pub mod FewDigits
 pub mod ByteRuns
 pub mod Decimals
 pub mod Bytes

@@ -1,8 +1,8 @@
 use Rattle.std.proofs.Common.{◌≡◌, ◌+◌, ◌-◌, ◌*◌, ◌<◌, true, length, get_or, arith, rules}
 use Rattle.std.specs.Char.{is_ascii_digit}
 use Rattle.ps_text.proofs.LeadingDigits.{read_one}
-use Rattle.ps_pgsolver.proofs.FewDigits.{digit_small, few_small, few_more}
-use Rattle.ps_pgsolver.proofs.token.few_digits.Goals as goal
+use Rattle.ps_text.proofs.FewDigits.{digit_small, few_small, few_more}
+use Rattle.ps_text.proofs.numbers.few_digits.Goals as goal
 
 pub overflow_mul-value : goal.overflow_mul-value
 overflow_mul-value c =

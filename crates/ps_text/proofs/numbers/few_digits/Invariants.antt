@@ -1,6 +1,6 @@
 use Rattle.std.proofs.Common.{◌^◌, ◌<◌, ◌≤◌, ◌-◌}
 use Rattle.ps_text.proofs.LeadingDigits.{IsReadTo}
-use Rattle.ps_pgsolver.proofs.token.few_digits.Given as goal
+use Rattle.ps_text.proofs.numbers.few_digits.Given as goal
 
 abbrev pub decreases-loop-digits : goal.decreases-loop-digits
 decreases-loop-digits l = l.most - l.digits

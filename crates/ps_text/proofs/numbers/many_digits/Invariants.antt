@@ -1,6 +1,6 @@
 use Rattle.std.proofs.Common.{length, ◌-◌}
 use Rattle.ps_text.proofs.LeadingDigits.{IsReadTo}
-use Rattle.ps_text.proofs.numbers.leading_number.Given as goal
+use Rattle.ps_text.proofs.numbers.many_digits.Given as goal
 
 abbrev pub decreases-loop-digits : goal.decreases-loop-digits
 decreases-loop-digits l = length l.text - l.digits
