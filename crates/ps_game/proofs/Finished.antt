@@ -1,8 +1,8 @@
 -- If each vertex of an unfinished game (draft) has a successor and each successor is a vertex, the draft without
 -- repeated successors is a game.
-use Rattle.std.proofs.Common.{◌≡◌, ◌≢◌, ℕ, suc, true, ◌<◌, List, [], ◌∷◌, not, ◌==◌, filter, length, get_or, subst, ap}
+use Rattle.std.proofs.Common.{◌≡◌, ◌≢◌, ℕ, suc, true, ◌<◌, List, [], ◌∷◌, not, ◌==◌, filter, length, get_or, ap}
 use Rattle.std.proofs.Common.{arith, rules}
-use Rattle.std.specs.List.{All, AllPairs, Contains}
+use Rattle.std.specs.List.{All, AllPairs}
 use Rattle.std.proofs.Math.ListN.{get_or-map}
 use Rattle.std.proofs.lemmas.List.{length-map}
 use Rattle.std.proofs.lemmas.List.Elements.{All-filter, All-cons, filter_passes}

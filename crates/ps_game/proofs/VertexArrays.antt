@@ -1,17 +1,18 @@
 -- Lists of vertices in four arrays: adding a vertex, replacing ids by indices, and vertices without repeated
 -- successors.
 use Rattle.std.proofs.Common.{◌≡◌, ◌≢◌, ℕ, suc, ◌+◌, ◌^◌, ◌<◌, ◌≤◌, Bool, not, List, [], ◌∷◌, ◌++◌, rules, map, filter}
-use Rattle.std.proofs.Common.{length, get_or, take, refl, ap, ap₂, ◌∙◌, arith, length-append, take-append-drop}
+use Rattle.std.proofs.Common.{length, get_or, take, refl, sym, ap, ap₂, ◌∙◌, arith, length-append, take-append-drop}
 use Rattle.std.specs.Prelude.{◌==◌}
-use Rattle.std.specs.List.{All, AllPairs, list_all}
+use Rattle.std.specs.List.{All, AllPairs, Contains, list_all}
 use Rattle.std.proofs.lemmas.Bool.{cases_lt, ne_eqb}
-use Rattle.std.proofs.lemmas.Grind.{flat_map-append}
+use Rattle.std.proofs.lemmas.Grind.{flat_map-append, get_or_default_zero}
 use Rattle.std.proofs.lemmas.List.{append-nil, get_or_append_left, get_or_push, length-map, map-append, take-append-le}
 use Rattle.std.proofs.lemmas.List.{take-map, take_all, get_or-take}
 use Rattle.std.proofs.lemmas.List.Elements.{All-cons, All-tail}
 use Rattle.std.proofs.lemmas.List.Folds.{list_all-append}
 use Rattle.std.proofs.Math.Seq.{length-take-le, take-append_seam}
-use Rattle.ps_ids.specs.Ids.{place_of}
+use Rattle.ps_ids.specs.Ids.{AreDistinct, place_of}
+use Rattle.ps_ids.proofs.IdPlaces.{position_here}
 use Rattle.ps_game.specs.Games.{VertexData, ParityGame}
 use Rattle.ps_game.specs.Drafts.{distinct, without_repeats, with_places, HaveNoRepeats}
 use Rattle.ps_game.specs.Flat.{game_in, AreVertices, TellGame, all_successors}
@@ -105,6 +106,28 @@ pub tell_placed : (ids : List ℕ) {game : ParityGame} {offsets successors owner
     TellGame (map (with_places ids) game) offsets successors' owners priorities
 tell_placed ids {game = game} {successors = successors} tell are =
     search (rules, length-map, all_successors-placed, take-map, kept-placed)
+
+-- ---- ids that are their own indices
+
+module _ (ids : List ℕ) (own : (place : ℕ) → place < length ids → get_or ids place 0 ≡ place) where
+  own_place-same : (id : ℕ) → Contains ids id → place_of ids id ≡ id
+  own_place-same id (k, within, e) =
+      let here : get_or ids k 0 ≡ id = sym (get_or_default_zero ids k id within) ∙ e in
+      let distinct : AreDistinct ids = λ i j d lt less. grind (arith, own, get_or_default_zero) in
+      rw (position_here ids id k distinct within here) (sym (own k within) ∙ here)
+
+  own_places-same : (list : List ℕ) → All (λ id. Contains ids id) list → map (place_of ids) list ≡ list
+  own_places-same [] all = refl
+  own_places-same (id ∷ list) all = ap₂ (λ n ns. n ∷ ns) (own_place-same id (all 0 id (omega arith)))
+      (own_places-same list (All-tail (λ id. Contains ids id) id list all))
+
+  -- if each id is its own index, replacing ids by indices changes nothing
+  pub with_places-same : (game : ParityGame) → All (λ v. All (λ id. Contains ids id) v.successors) game →
+      map (with_places ids) game ≡ game
+  with_places-same [] all = refl
+  with_places-same (v ∷ game) all = ap₂ (λ ws vs. record v { successors = ws } ∷ vs)
+      (own_places-same v.successors (all 0 v (omega arith)))
+      (with_places-same game (All-tail (λ v. All (λ id. Contains ids id) v.successors) v game all))
 
 -- ---- a test of all successors
 

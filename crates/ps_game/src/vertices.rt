@@ -1,7 +1,7 @@
 //! A growing list of vertices in arrays, which a parser of game texts builds.
 
 ghost use Rattle.std.specs.Prelude.{◌≡◌, ◌≢◌, ◌==◌, ◌<◌, ◌≤◌, ◌+◌, ◌++◌, ◌∷◌, [], IfOk, OnOk, OnErr, Contains, length};
-ghost use Rattle.std.specs.Prelude.{map, take, vec_len, vec_capacity};
+ghost use Rattle.std.specs.Prelude.{ℕ, map, slice_index, take, vec_len, vec_capacity};
 ghost use Rattle.std.specs.Bool.{OnTrue};
 ghost use Rattle.std.specs.List.{All, AllPairs, list_all, list_any};
 ghost use Rattle.ps_ids.specs.Ids.{place_of};
@@ -114,6 +114,10 @@ impl Vertices {
         requires { All (λ v. All (λ w. Contains ids.now w) v.successors) self.old }
         ensures { self.new ≡ map (with_places ids.now) self.old }
     {
+        // If each id is its own index, nothing changes.
+        if are_places(ids.list()) {
+            return;
+        }
         places_in(&mut self.successors, ids);
     }
 
@@ -223,9 +227,7 @@ fn put_all(numbers: &mut Vec<usize>, more: &[usize])
     requires { vec_len numbers.old + length more.now ≤ vec_capacity numbers.old }
     ensures { numbers.new.items ≡ numbers.old.items ++ more.now }
 {
-    for number in more {
-        numbers.push_reserved(*number);
-    }
+    numbers.extend_from_slice(more).unwrap();
 }
 
 /// Whether each number of a list is an id.
@@ -233,6 +235,18 @@ fn are_ids(ids: &Ids, list: &[usize]) -> bool
     ensures { result ≡ list_all (λ w. list_any (λ id. w == id) ids.now) list.now }
 {
     list.iter().all(|id| ids.has(*id as u64))
+}
+
+/// Whether each id is its own index: the ids are 0, 1, 2 and so on.
+fn are_places(ids: &[u64]) -> bool
+    ensures { OnTrue result ((place : ℕ) → place < length ids.now → slice_index ids.now place ≡ place) }
+{
+    for (place, id) in ids.iter().enumerate() {
+        if *id != place as u64 {
+            return false;
+        }
+    }
+    true
 }
 
 /// Replaces each id in `numbers` by the id's index.

@@ -1,12 +1,17 @@
-use Rattle.std.proofs.Common.{◌≡◌, ◌++◌, map, take, drop, length, arith, rules}
+use Rattle.std.proofs.Common.{◌≡◌, ◌++◌, map, take, drop, length, sym, arith, rules}
 use Rattle.std.proofs.lemmas.Grind.{common_steps}
 use Rattle.std.specs.List.{Contains}
 use Rattle.ps_ids.specs.Ids.{place_of}
 use Rattle.ps_game.specs.Drafts.{with_places}
 use Rattle.ps_game.proofs.FlatArrays.{All-successors}
-use Rattle.ps_game.proofs.VertexArrays.{StandFor, stand_for, players-placed, tell_placed}
+use Rattle.ps_game.proofs.VertexArrays.{StandFor, stand_for, players-placed, tell_placed, with_places-same}
 use Rattle.ps_game.proofs.vertices.Vertices.resolve.Goals as goal
 use Rattle.ps_game.proofs.vertices.Vertices.resolve.Goals.{After-places_in}
+
+pub returns-then-are_places : goal.returns-then-are_places
+returns-then-are_places c =
+    let own = rw c.list.ensures.list at c.if-are_places.ensures in
+    sym (with_places-same c.args.ids.now own c.args.self.now c.requires)
 
 pub places_in-requires : goal.places_in-requires
 places_in-requires c = rw (c.deref_mut.ensures.value, c.self.invariant.tell.successors_are, c.self.view_is)
