@@ -2,7 +2,10 @@
 
 ghost use Rattle.std.specs.Prelude.{◌≡◌, ◌==◌, ◌≤◌, ◌<◌, length, slice_index, IfSome, IfNone};
 ghost use Rattle.std.specs.List.{before_first, after_first, position_or_len};
+ghost use Rattle.memchr.specs.Find.{IsFirst, Passes, is_byte};
 ghost use Rattle.ps_program.specs.Cut.{is_separator, ends_line_at, Cuts, HasNoSeparator};
+
+use memchr::memchr;
 
 /// The first line of an input, without its newline, and the rest of the input after that newline.
 pub fn first_line(input: &[u8]) -> (&[u8], &[u8])
@@ -32,13 +35,24 @@ pub fn cut(texts: &[u8]) -> Option<(&[u8], &[u8])>
     ensures found { IfSome result (λ parts. Cuts texts.now parts.0.now parts.1.now) }
     ensures missing { IfNone result (HasNoSeparator texts.now) }
 {
-    for separator in 0..texts.len() {
+    let mut from = 0;
+    while let Some(separator) = next_percent(texts, from) {
         if begins_separator(texts, separator) {
             let behind = (separator + 3).min(texts.len());
             return Some((&texts[..separator], &texts[behind..]));
         }
+        from = separator + 1;
     }
     None
+}
+
+/// The offset of the first byte `%` that is not before the offset `from`.
+fn next_percent(texts: &[u8], from: usize) -> Option<usize>
+    requires { from ≤ length texts.now }
+    ensures { IsFirst (Passes (is_byte 37) texts.now) from (length texts.now) result }
+{
+    let distance = memchr(b'%', &texts[from..])?;
+    Some(from + distance)
 }
 
 /// Whether a line `%%` begins at the offset `place`.
