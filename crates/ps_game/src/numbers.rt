@@ -52,11 +52,11 @@ impl<W: Width> Numbers<W> {
         requires { All (λ number. number ≤ V.LIMIT) self.now }
         ensures { IfOk result (λ numbers. numbers ≡ self.now) }
     {
-        let mut numbers = Numbers::with_capacity(alloc, self.len())?;
-        for place in 0..self.len() {
-            numbers.push(self.at(place))?;
+        let mut items = Vec::with_capacity(alloc, self.items.len())?;
+        for item in &self.items {
+            items.push_reserved(V::of(item.number()));
         }
-        Ok(numbers)
+        Ok(Numbers { items })
     }
 
     /// The number of entries.
