@@ -7,8 +7,8 @@ on_err : {T E P : Type 0} (r : Result T E) → P → OnErr r P
 on_err r h = search rules
 
 -- if storing the counts failed, the counts that were stored before the failure change no entry
-pub invariant_of-self-in_err-start : goal.invariant_of-self-in_err-start
-invariant_of-self-in_err-start c = search (rules, lines_same)
+pub invariant_of-self : goal.invariant_of-self
+invariant_of-self c = search (rules, lines_same)
 
 pub returns-in_err-start-clause-err : goal.returns-in_err-start-clause-err
 returns-in_err-start-clause-err c = search (rules, entries_same, on_err)
@@ -19,6 +19,13 @@ invariant_of-self-in_err-line c = search (rules, lines_same)
 
 pub returns-in_err-line-clause-err : goal.returns-in_err-line-clause-err
 returns-in_err-line-clause-err c = search (rules, entries_same, on_err)
+
+-- the same if there is no memory for the winner or the line
+pub invariant_of-self-in_err-append : goal.invariant_of-self-in_err-append
+invariant_of-self-in_err-append c = search (rules, lines_same)
+
+pub returns-in_err-append-clause-err : goal.returns-in_err-append-clause-err
+returns-in_err-append-clause-err c = search (rules, entries_same, on_err)
 
 pub invariant_of-self-2 : goal.invariant_of-self-2
 invariant_of-self-2 c = search (rules, lines_push)
