@@ -3,3 +3,4 @@
 pub mod WritingSteps
 pub mod CountsOfPairs
 pub mod WrittenEntries
+pub mod StoredPairs

@@ -1,17 +1,18 @@
 //! Writing the two texts of a certificate, plain and compact.
 
 ghost use Rattle.std.specs.Prelude.{◌≡◌, ◌++◌, ◌+◌, ◌∷◌, [], ◌<◌, ◌≤◌, length, decimal, replicate, OnOk, IfOk, IfSome};
-ghost use Rattle.std.specs.Prelude.{Ok, slice_index};
+ghost use Rattle.std.specs.Prelude.{Ok, slice_index, slice_index_or};
 ghost use Rattle.std.specs.List.{All};
 ghost use Rattle.ps_game.specs.Games.{vertex_count};
-ghost use Rattle.ps_certificate.specs.Certificates.{Fits};
+ghost use Rattle.ps_certificate.specs.Certificates.{Fits, no_entry};
 ghost use Rattle.ps_certificate.specs.Texts.{ReadsCertificate, lost_by};
-ghost use Rattle.ps_certificate.specs.Written.{IsWord, IsWritable, fields, pairs, line_with, entry_lines};
+ghost use Rattle.ps_certificate.specs.Written.{IsWord, IsWritable, fields, pairs, line_with, entry_lines, counts_text};
 ghost use Rattle.ps_certificate.specs.Written.{version_digit, head_text, certificate_text, compact_text};
 ghost use Rattle.ps_certificate.specs.Inner.Writing.{IsTextOf};
 
 use crate::certificate::Certificate;
-use crate::entries::{Entries, Entry};
+use crate::entries::Entries;
+use crate::row::{PlacedCount, Row};
 use crate::zeros::leading_zeros;
 use ps_game::{Arena, NamedGame, Player};
 use ps_text::numbers::write_number;
@@ -135,14 +136,9 @@ fn write_entries(
     ensures counts { OnOk result (All (λ entry. All IsWord entry.counts) entries.now) }
 {
     for vertex in 0..entries.len() {
-        entries.counts(vertex).copy_into(row)?;
-        let entry = Entry {
-            winner: entries.winner(vertex),
-            choice: entries.choice(vertex),
-            counts: row,
-        };
-        let priorities = lost_by(odd, even, Player::of_number(entry.winner));
-        write_entry(out, game, vertex, &entry, priorities, compact)?;
+        let winner = Player::of_number(entries.winner(vertex));
+        let priorities = lost_by(odd, even, winner);
+        write_entry(out, row, game, entries, vertex, priorities, compact)?;
     }
     Ok(())
 }
@@ -154,46 +150,67 @@ fn lost_by<'a>(odd: &'a [u64], even: &'a [u64], player: Player) -> &'a [u64]
     if player == Player::EVEN { odd } else { even }
 }
 
-/// Writes the line of a vertex, given the priorities that oppose its winner.
+/// Writes the line of a vertex, given the priorities that oppose its winner. The contents of the list `row` are
+/// overwritten.
 fn write_entry(
     out: &mut Vec<u8>,
+    row: &mut Vec<u64>,
     game: &NamedGame,
+    entries: &Entries,
     vertex: usize,
-    entry: &Entry,
     priorities: &[u64],
     compact: bool,
 ) -> Result<(), AllocError>
+    requires entry { vertex < length entries.now }
     requires vertex { vertex < vertex_count game.now.game }
-    requires winner { entry.now.winner < 2 }
-    requires choice { IfSome entry.now.choice (λ w. w < vertex_count game.now.game) }
-    requires counts { length entry.now.counts ≡ length priorities.now }
-    ensures bytes { OnOk result (out.new.items ≡ out.old.items ++
-        line_with compact priorities.now game.now.ids (slice_index game.now.ids vertex) entry.now) }
+    requires winner { (slice_index_or entries.now vertex no_entry).winner < 2 }
+    requires choice { IfSome (slice_index_or entries.now vertex no_entry).choice (λ w. w < vertex_count game.now.game) }
+    requires counts { length (slice_index_or entries.now vertex no_entry).counts ≡ length priorities.now }
+    ensures bytes { OnOk result (out.new.items ≡ out.old.items ++ line_with compact priorities.now game.now.ids
+        (slice_index game.now.ids vertex) (slice_index_or entries.now vertex no_entry)) }
     ensures id { OnOk result (IsWord (slice_index game.now.ids vertex)) }
-    ensures counts { OnOk result (All IsWord entry.now.counts) }
+    ensures counts { OnOk result (All IsWord (slice_index_or entries.now vertex no_entry).counts) }
 {
     write_number(out, game.id(vertex))?;
-    out.extend_from_slice(&[b' ', b'0' + entry.winner, b' '])?;
-    match entry.choice {
+    out.extend_from_slice(&[b' ', b'0' + entries.winner(vertex), b' '])?;
+    match entries.choice(vertex) {
         Some(successor) => write_number(out, game.id(successor))?,
         None => out.push(b'-')?,
     }
-    if compact {
-        write_pairs(out, priorities, entry.counts)?;
-    } else {
-        write_fields(out, entry.counts)?;
-    }
+    write_counts(out, row, priorities, &entries.counts(vertex), compact)?;
     out.push(b'\n')?;
     Ok(())
 }
 
+/// Writes the counts of a vertex: in a compact text only the nonzero counts, each after its priority; in a plain text
+/// all counts, which are first copied into the list `row`.
+fn write_counts(
+    out: &mut Vec<u8>,
+    row: &mut Vec<u64>,
+    priorities: &[u64],
+    counts: &Row<'_>,
+    compact: bool,
+) -> Result<(), AllocError>
+    requires { length counts.now ≡ length priorities.now }
+    ensures bytes { OnOk result (out.new.items ≡ out.old.items ++ counts_text compact priorities.now counts.now) }
+    ensures words { OnOk result (All IsWord counts.now) }
+{
+    if compact {
+        write_pairs(out, priorities, counts)
+    } else {
+        counts.copy_into(row)?;
+        write_fields(out, row)
+    }
+}
+
 /// Writes the nonzero counts of the given priorities, each after its priority.
-fn write_pairs(out: &mut Vec<u8>, priorities: &[u64], counts: &[u64]) -> Result<(), AllocError>
+fn write_pairs(out: &mut Vec<u8>, priorities: &[u64], counts: &Row<'_>) -> Result<(), AllocError>
     requires { length counts.now ≡ length priorities.now }
     ensures bytes { OnOk result (out.new.items ≡ out.old.items ++ pairs priorities.now counts.now) }
     ensures words { OnOk result (All IsWord counts.now) }
 {
-    for (place, &count) in counts.iter().enumerate() {
+    for number in 0..counts.placed.list.len() {
+        let PlacedCount { place, count } = counts.placed.list[number];
         if count != 0 {
             write_pair(out, priorities[place], count)?;
         }

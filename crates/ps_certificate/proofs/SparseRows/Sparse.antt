@@ -143,7 +143,7 @@ gathered_rises k {w} (c ∷ cs) h =
 pub gathered_is_row : (cs : List ℕ) → IsRow (length cs) (gathered 0 cs)
 gathered_is_row cs = gathered_rises 0 cs (omega arith)
 
-counts_behind : (p : PlacedCount) (ps : List PlacedCount) (n k : ℕ) → p.place < k →
+pub counts_behind : (p : PlacedCount) (ps : List PlacedCount) (n k : ℕ) → p.place < k →
     counts_from (p ∷ ps) n k ≡ counts_from ps n k
 counts_behind p ps zero k h = refl
 counts_behind p ps (suc n) k h = grind (arith, counts_behind p ps n (suc k) (omega (arith, h)))

@@ -1,4 +1,4 @@
-use Rattle.std.proofs.Common.{◌≡◌, ◌∙◌, get_or, arith, subst}
+use Rattle.std.proofs.Common.{arith}
 use Rattle.std.proofs.lemmas.Grind.{common_steps}
 use Rattle.std.specs.List.{All}
 use Rattle.ps_certificate.specs.Certificates.{EntryData, no_entry}
@@ -7,22 +7,14 @@ use Rattle.ps_certificate.proofs.Rereading.WritingSteps.{all_taken, all_taken_al
 use Rattle.ps_certificate.proofs.writer.write_entries.Goals as goal
 
 pub loop-vertex-preserved : goal.loop-vertex-preserved
-loop-vertex-preserved c =
-    let is = get_or c.args.entries.now c.loop-vertex.vertex no_entry in
-    let row = c.deref.result.now in
-    let winner : c.winner.result ≡ is.winner = c.winner.ensures in
-    let choice : c.choice.result ≡ is.choice = c.choice.ensures in
-    let counts : row ≡ is.counts = c.deref.ensures.value ∙ c.in_ok-copy_into.ensures ∙ c.counts.ensures in
-    let made : EntryData = record { winner = c.winner.result; choice = c.choice.result; counts = row } in
-    let entry : made ≡ is = grind arith in
-    record {
-      bytes = grind (arith, common_steps);
-      ids = all_taken IsWord c.args.game.now.ids c.loop-vertex.vertex 0 (grind arith) c.loop-vertex.invariant.ids
-          c.in_ok-write_entry.ensures.id;
-      counts = all_taken (λ (e : EntryData). All IsWord e.counts) c.args.entries.now c.loop-vertex.vertex no_entry
-          (omega (arith, c.loop-vertex-test.true, c.len-vertex-end.ensures)) c.loop-vertex.invariant.counts
-          (subst (λ (e : EntryData). All IsWord e.counts) entry c.in_ok-write_entry.ensures.counts);
-    }
+loop-vertex-preserved c = record {
+  bytes = grind (arith, common_steps);
+  ids = all_taken IsWord c.args.game.now.ids c.loop-vertex.vertex 0 (grind arith) c.loop-vertex.invariant.ids
+      c.in_ok-write_entry.ensures.id;
+  counts = all_taken (λ (e : EntryData). All IsWord e.counts) c.args.entries.now c.loop-vertex.vertex no_entry
+      (omega (arith, c.loop-vertex-test.true, c.len-vertex-end.ensures)) c.loop-vertex.invariant.counts
+      c.in_ok-write_entry.ensures.counts;
+}
 
 pub returns-clause-ids : goal.returns-clause-ids
 returns-clause-ids c = all_taken_all IsWord c.args.game.now.ids c.loop-vertex.vertex
