@@ -1,4 +1,4 @@
-//! The counts of an entry that is being parsed.
+//! The counts of an entry that is being made.
 
 ghost use Rattle.std.specs.Prelude.{◌≡◌, ◌++◌, ◌∷◌, ◌-◌, ◌<◌, ◌≤◌, ◌^◌, ◌+◌, [], length, replicate, OnOk};
 
@@ -7,8 +7,8 @@ use std::alloc::{AllocError, Global};
 use std::marker::Model;
 
 /// A growing list of counts. Only the nonzero counts are stored, each with its index.
-#[derive(Drop)]
-pub(crate) struct Counts {
+#[derive(Debug, Drop)]
+pub struct Counts {
     width: usize,
     placed: Vec<PlacedCount>,
 }
@@ -26,7 +26,7 @@ impl Model for Counts {
 
 impl Counts {
     /// An empty list of counts.
-    pub(crate) fn new(alloc: Global) -> Self
+    pub fn new(alloc: Global) -> Self
         ensures { result ≡ [] }
     {
         Counts {
@@ -36,7 +36,7 @@ impl Counts {
     }
 
     /// Removes all counts.
-    pub(crate) fn clear(&mut self)
+    pub fn clear(&mut self)
         ensures { self.new ≡ [] }
     {
         self.placed.clear();
@@ -44,7 +44,7 @@ impl Counts {
     }
 
     /// Appends a count. Fails if out of memory.
-    pub(crate) fn push(&mut self, count: u64) -> Result<(), AllocError>
+    pub fn push(&mut self, count: u64) -> Result<(), AllocError>
         requires { length self.old + 1 < 2 ^ 64 }
         ensures { OnOk result (self.new ≡ self.old ++ count ∷ []) }
     {
@@ -57,7 +57,7 @@ impl Counts {
     }
 
     /// Appends zeros until there are `width` counts.
-    pub(crate) fn extend(&mut self, width: usize)
+    pub fn extend(&mut self, width: usize)
         requires { length self.old ≤ width }
         ensures { self.new ≡ self.old ++ replicate (width - length self.old) 0 }
     {
@@ -65,7 +65,7 @@ impl Counts {
     }
 
     /// The counts.
-    pub(crate) fn row(&self) -> Row<'_>
+    pub fn row(&self) -> Row<'_>
         ensures { result ≡ self.now }
     {
         let placed = Stored { list: &self.placed };

@@ -9,7 +9,7 @@ use Rattle.std.proofs.lemmas.Bool.{cases_eq, cases_lt, ne_eqb, eq-eqb}
 use Rattle.std.proofs.lemmas.List.{get_or_past, get_or-set_same, get_or-set_other, length-map, length-set, length_push}
 use Rattle.std.proofs.lemmas.List.{get_or-map, length-replicate}
 use Rattle.std.proofs.lemmas.List.FromFn.{fill_by_all, get_or-map-range_with_len, length-map-range_with_len}
-use Rattle.std.proofs.lemmas.Option.{slice_get-get_or, slice_get_past}
+use Rattle.std.proofs.lemmas.Option.{slice_get-get_or, slice_get_past, slice_get_within}
 use Rattle.ps_components.proofs.Places.{slice_get-append_left, slice_get-push, slice_get-push_cases}
 use Rattle.ps_measure.specs.declared.table.CountCell.{CountCell}
 use Rattle.ps_measure.specs.Ranks.{count_of, width_of, width_in}
@@ -22,11 +22,11 @@ pub from_none : (cells : List CountCell) (fuel k : ℕ) → count_from cells fue
 unfolding count_from
 from_none cells fuel k = search rules
 
-no_fuel : (cells : List CountCell) (n k : ℕ) → count_from cells zero n k ≡ 0
+pub no_fuel : (cells : List CountCell) (n k : ℕ) → count_from cells zero n k ≡ 0
 unfolding count_from
 no_fuel cells n k = refl
 
-from_cell : (cells : List CountCell) (fuel i k : ℕ) (o : Option CountCell) → slice_get cells i ≡ o →
+pub from_cell : (cells : List CountCell) (fuel i k : ℕ) (o : Option CountCell) → slice_get cells i ≡ o →
     count_from cells (suc fuel) (suc i) k ≡ max (count_here o k) (count_from cells fuel (next_cell o) k)
 unfolding count_from
 from_cell cells fuel i k o is = ap (λ p. max (count_here p k) (count_from cells fuel (next_cell p) k)) is
@@ -82,10 +82,10 @@ cell_at cells n = get_or cells (n - 1) (record { place = 0; count = 0; next = 0 
 
 module _ {width : ℕ} {cells : List CountCell} {n : ℕ} (chained : AreChained width cells) (some : 0 < n)
     (first : n ≤ length cells) where
-  abbrev cell_here : CountCell
+  abbrev pub cell_here : CountCell
   cell_here = cell_at cells n
 
-  there : slice_get cells (n - 1) ≡ Some cell_here
+  pub there : slice_get cells (n - 1) ≡ Some cell_here
   there = slice_get-get_or cells (n - 1) (record { place = 0; count = 0; next = 0 }) (omega (arith, some, first))
 
   pub next_below : cell_here.next < n
@@ -94,10 +94,10 @@ module _ {width : ℕ} {cells : List CountCell} {n : ℕ} (chained : AreChained 
   pub place_below : cell_here.place < width
   place_below = chained.places (n - 1) cell_here there
 
-  abbrev behind : ℕ → ℕ
+  abbrev pub behind : ℕ → ℕ
   behind k = count_from cells cell_here.next cell_here.next k
 
-  here_and_behind : (k : ℕ) → count_from cells n n k ≡ max (count_here (Some cell_here) k) (behind k)
+  pub here_and_behind : (k : ℕ) → count_from cells n n k ≡ max (count_here (Some cell_here) k) (behind k)
   here_and_behind k = grind (arith, from_number cells chained.falls (n - 1) k cell_here there)
 
   -- after the count of one cell of a chain was merged into a row, only the counts of the cells after this one remain to
@@ -139,8 +139,30 @@ module _ (width : ℕ) (heads : List ℕ) (cells : List CountCell) where
 
 -- ## One more count
 
+-- the number of a vertex's first cell, if it has one, stands for a cell with a smaller `place`
+abbrev pub IsLastPlace : List ℕ → List CountCell → ℕ → ℕ → Type 0
+IsLastPlace heads cells vertex place = (j : ℕ) (other : CountCell) → slice_get cells j ≡ Some other →
+    slice_index heads vertex ≡ j + 1 → other.place < place
+
+-- the counts of a vertex from an index on are 0 only if the places of the vertex's cells are less than this index
+pub last_place : (width : ℕ) (heads : List ℕ) (cells : List CountCell) (vertex place : ℕ) →
+    AreHeaded width heads cells → vertex < length heads →
+    ((k : ℕ) → place ≤ k → count_of (rows_in width heads cells) vertex k ≡ 0) → IsLastPlace heads cells vertex place
+last_place width heads cells vertex place headed below none j other at is = elim (cases_lt other.place place) [
+  | inl less ↦ less
+  | inr late ↦ absurd (grind (
+    arith,
+    none other.place late,
+    count_at width heads cells vertex other.place below (headed.chained.places j other at),
+    from_number cells headed.chained.falls j other.place other at,
+    headed.chained.some j other at,
+    add-one j,
+  ))
+]
+
 module _ {width : ℕ} {heads : List ℕ} {cells : List CountCell} {vertex place : ℕ} (headed : AreHeaded width heads cells)
-    (count : ℕ) (below : vertex < length heads) (within : place < width) where
+    (count : ℕ) (below : vertex < length heads) (within : place < width) (last : IsLastPlace heads cells vertex place)
+    (some : 0 < count) where
   abbrev cell : CountCell
   cell = record { place = place; count = count; next = slice_index heads vertex }
 
@@ -150,8 +172,29 @@ module _ {width : ℕ} {heads : List ℕ} {cells : List CountCell} {vertex place
   abbrev new_cells : List CountCell
   new_cells = cells ++ cell ∷ []
 
+  -- the new cell has a greater `place` than the cell that follows it, which was the first of the vertex's chain
+  new_lower : (i j : ℕ) (one other : CountCell) → slice_get new_cells i ≡ Some one →
+      slice_get new_cells j ≡ Some other → one.next ≡ j + 1 → other.place < one.place
+  new_lower i j one other at at_other next =
+      elim (slice_get-push_cases cells cell i one at) [
+        | inl old ↦ elim (slice_get-push_cases cells cell j other at_other) [
+          | inl old_other ↦ headed.chained.lower i j one other old old_other next
+          | inr new ↦ absurd (omega (
+            arith,
+            headed.chained.falls i one old,
+            slice_get_within cells i one old,
+            next,
+            new.0,
+          ))
+        ]
+        | inr new ↦ elim (slice_get-push_cases cells cell j other at_other) [
+          | inl old_other ↦ grind (arith, last j other old_other)
+          | inr new_other ↦ grind (arith, headed.first vertex)
+        ]
+      ]
+
   pub put_headed : AreHeaded width new_heads new_cells
-  put_headed = search (rules, slice_get-push_cases, written, length_push)
+  put_headed = search (rules, slice_get-push_cases, written, length_push, new_lower)
 
   pub put_done : HasPut (rows_in width heads cells) (rows_in width new_heads new_cells) vertex place count
   put_done = record {

@@ -43,6 +43,13 @@ module _ {order : List ℕ} {counts : ℕ → ℕ} {old now : List (List ℕ)} {
   fresh : count_of now u place ≡ 0
   fresh = so_far.rest u (λ j less there. (let e : j ≡ i = once j u there at in omega (arith, e, less)))
 
+  -- the vertex has no nonzero counts from index `place` on
+  pub none_later : ((v k : ℕ) → place ≤ k → count_of old v k ≡ 0) → (k : ℕ) → place ≤ k → count_of now u k ≡ 0
+  none_later none k late = elim (cases_eq k place) [
+    | inl same ↦ ap (count_of now u) same ∙ fresh
+    | inr other ↦ so_far.others u k other ∙ none u k late
+  ]
+
   -- a count that is 0 need not be written, since the table has zeros
   pub put_skip : counts u ≡ 0 → ArePut order counts old now place (i + 1) raised
   put_skip none = search (rules, cases_eq, fresh)

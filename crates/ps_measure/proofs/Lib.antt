@@ -5,6 +5,7 @@ pub mod CountsPlaced
 pub mod Growing
 pub mod Held
 pub mod LeastInGame
+pub mod NonzeroCells
 pub mod PassSteps
 pub mod Passing
 pub mod PriorityGraph

@@ -1,6 +1,6 @@
 -- Rows of counts; each row is stored as a chain (linked list) of cells. The number of the first cell of a vertex's
 -- chain determines the counts of the vertex. Cell i has the number i + 1, and the number 0 ends a chain.
-use Rattle.std.specs.Prelude.{◌≡◌, ℕ, zero, suc, ◌<◌, ◌≤◌, ◌==◌, List, length, map, max, Option, None, Some}
+use Rattle.std.specs.Prelude.{◌≡◌, ℕ, zero, suc, ◌+◌, ◌<◌, ◌≤◌, ◌==◌, List, length, map, max, Option, None, Some}
 use Rattle.std.specs.Prelude.{if◌then◌else◌, slice_get, slice_index}
 use Rattle.std.specs.List.{range_with_len}
 use Rattle.ps_measure.specs.declared.table.CountCell.{CountCell}
@@ -29,11 +29,14 @@ row_from width cells head = map (count_from cells head head) (range_with_len 0 w
 unfoldable pub rows_in : ℕ → List ℕ → List CountCell → List (List ℕ)
 rows_in width heads cells = map (row_from width cells) heads
 
--- the cell that follows a cell in a chain is earlier in the list of cells, and each cell's `place`, an index into a
--- row, is less than the width of the rows
+-- the cell that follows a cell in a chain is earlier in the list of cells, and has a smaller `place`. Each cell's
+-- `place`, an index into a row, is less than the width of the rows. No cell has the count 0.
 pub record AreChained (width : ℕ) (cells : List CountCell) : Type 0 where
   pub falls : (i : ℕ) (cell : CountCell) → slice_get cells i ≡ Some cell → cell.next ≤ i
   pub places : (i : ℕ) (cell : CountCell) → slice_get cells i ≡ Some cell → cell.place < width
+  pub lower : (i j : ℕ) (cell other : CountCell) → slice_get cells i ≡ Some cell → slice_get cells j ≡ Some other →
+      cell.next ≡ j + 1 → other.place < cell.place
+  pub some : (i : ℕ) (cell : CountCell) → slice_get cells i ≡ Some cell → 0 < cell.count
 
 -- each vertex's chain is empty or begins with a cell of the list
 pub record AreHeaded (width : ℕ) (heads : List ℕ) (cells : List CountCell) : Type 0 where

@@ -16,6 +16,7 @@
 //! |---|---|
 //! | `ranks` | `Ranks`: the least counts; else a lost cycle, which never occurs if the player holds the region |
 //! | `CountTable::row_into`, `len` | the counts of a vertex, written into a list; the number of rows |
+//! | `CountTable::nonzero_into`, `width` | a vertex's nonzero counts, each with its index; the number of its counts |
 //! | `MeasureFault::number`, `name` | the number and name of a fault in psyn's list of faults |
 //! | `counts_are_there` | a law: a region has least counts or a lost cycle; a region that is held has least counts |
 //!
@@ -39,4 +40,4 @@ mod table;
 pub use fault::MeasureFault;
 pub use laws::counts_are_there;
 pub use measuring::ranks;
-pub use table::{CountTable, Ranks};
+pub use table::{CountTable, NonzeroCount, Ranks};

@@ -1,7 +1,9 @@
 //! The table in which the computed counts of all vertices are stored.
 
-ghost use Rattle.std.specs.Prelude.{◌≡◌, ℕ, ◌<◌, ◌≤◌, Some, IfOk, OnOk, length, max, slice_get, slice_index};
-ghost use Rattle.ps_measure.specs.Ranks.{width_of};
+ghost use Rattle.std.specs.Prelude.{◌≡◌, ℕ, ◌<◌, ◌≤◌, [], Some, IfOk, OnOk, length, max, slice_get, slice_index};
+ghost use Rattle.std.specs.Prelude.{slice_index_or};
+ghost use Rattle.ps_measure.specs.Nonzero.{nonzero_from};
+ghost use Rattle.ps_measure.specs.Ranks.{count_of, width_of};
 ghost use Rattle.ps_measure.specs.Tables.{AreZero, AreChained, HasPut, count_from};
 
 use crate::packed::{Packable, Packed, narrow};
@@ -15,6 +17,15 @@ pub struct CountCell {
     pub(crate) place: usize,
     pub(crate) count: u64,
     pub(crate) next: usize,
+}
+
+/// A nonzero count of a vertex, and its index in the vertex's row of counts.
+#[derive(Clone, Copy, Debug)]
+pub struct NonzeroCount {
+    /// The index of the count, which is the index of its priority.
+    pub place: usize,
+    /// The count.
+    pub count: u64,
 }
 
 /// A cell whose numbers all fit in 4 bytes.
@@ -52,7 +63,7 @@ impl Packable for CountCell {
 }
 
 /// A row of counts for each vertex. Only nonzero counts take memory: the counts of a vertex are stored in a chain
-/// (linked list) of cells, given by the number of the chain's first cell.
+/// (linked list) of cells by falling index, given by the number of the chain's first cell.
 #[derive(Debug, Drop)]
 pub struct CountTable {
     width: usize,
@@ -90,10 +101,19 @@ impl CountTable {
         self.heads.len()
     }
 
-    /// Raises one count of a vertex to a given value, unless the count is at least as large.
+    /// The number of counts in each row, including those that are 0.
+    pub fn width(&self) -> usize
+        ensures { (v : ℕ) → v < length self.now → width_of self.now v ≡ result }
+    {
+        self.width
+    }
+
+    /// Raises one count of a vertex to a given value. The vertex's counts at this index and all later ones must be 0.
     pub(crate) fn put(&mut self, vertex: usize, place: usize, count: u64) -> Result<(), AllocError>
         requires vertex { vertex < length self.old }
         requires place { place < width_of self.old vertex }
+        requires later { (k : ℕ) → place ≤ k → count_of self.old vertex k ≡ 0 }
+        requires some { 0 < count }
         ensures { OnOk result (HasPut self.old self.new vertex place count) }
     {
         let next = self.heads.at(vertex);
@@ -109,6 +129,29 @@ impl CountTable {
         row.clear();
         row.resize(self.width, 0)?;
         raise_by(&self.cells, self.heads.at(vertex), row);
+        Ok(())
+    }
+
+    /// Replaces the contents of a list by the nonzero counts of a vertex, by ascending index. Fails if out of memory.
+    pub fn nonzero_into(
+        &self,
+        vertex: usize,
+        list: &mut Vec<NonzeroCount>,
+    ) -> Result<(), AllocError>
+        requires { vertex < length self.now }
+        ensures { OnOk result (list.new.items ≡ nonzero_from 0 (slice_index_or self.now vertex [])) }
+    {
+        list.clear();
+        let mut next = self.heads.at(vertex);
+        while next > 0 {
+            let cell = self.cells.at(next - 1);
+            list.push(NonzeroCount {
+                place: cell.place,
+                count: cell.count,
+            })?;
+            next = cell.next;
+        }
+        list.reverse();
         Ok(())
     }
 }

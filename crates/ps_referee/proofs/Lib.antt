@@ -1,6 +1,7 @@
 pub mod ClaimLists
 pub mod Certified
 pub mod Claims
+pub mod CopiedRows
 pub mod HeldByCounts
 pub mod Judged
 pub mod OneSolutionVerdict

@@ -2,12 +2,12 @@
 
 ghost use Rattle.std.specs.Prelude.{◌≡◌, ◌<◌, length, [], Some, IfOk, OnOk, ◌++◌, ◌∷◌};
 ghost use Rattle.ps_game.specs.Games.{vertex_count};
-ghost use Rattle.ps_referee.specs.Solutions.{AreSizedFor, claim_with, claimed};
-ghost use Rattle.ps_referee.specs.Inner.Building.{claims, winner_row};
+ghost use Rattle.ps_referee.specs.Solutions.{AreSizedFor, choice_by, claimed, winner_by};
+ghost use Rattle.ps_referee.specs.Inner.Building.{claims, row_at, winner_row};
 
-use ps_certificate::{Certificate, Entries, Entry};
-use ps_game::{Arena, Region, Strategy};
-use ps_measure::CountTable;
+use ps_certificate::{Certificate, Counts, Entries};
+use ps_game::{Arena, Player, Region, Strategy};
+use ps_measure::{CountTable, NonzeroCount};
 use std::alloc::{AllocError, Global};
 
 /// A claimed solution of a game.
@@ -33,8 +33,10 @@ pub(crate) fn claim_of<A: Arena>(
         claimed (A.game solution.now.arena.now) solution.now.won.now solution.now.first.now solution.now.second.now) }
 {
     let mut entries = Entries::with_capacity(alloc, solution.arena.count())?;
+    let none = Counts::new(alloc);
     for vertex in 0..solution.arena.count() {
-        entries.push(&claim_at(solution, vertex, &[]))?;
+        let (winner, choice) = claim_at(solution, vertex);
+        entries.push_row(winner, choice, &none.row())?;
     }
     Ok(Certificate {
         odd: Vec::new(alloc),
@@ -59,55 +61,83 @@ pub(crate) fn entries_of<A: Arena>(
         (vertex_count (A.game solution.now.arena.now))) }
 {
     let mut entries = Entries::with_capacity(alloc, solution.arena.count())?;
-    let mut row = Vec::new(alloc);
+    let mut row = Counts::new(alloc);
+    let mut list = Vec::new(alloc);
     for vertex in 0..solution.arena.count() {
-        winner_row(vertex, solution.won, first_rows, second_rows, &mut row)?;
-        entries.push(&claim_at(solution, vertex, &row))?;
+        winner_row(
+            vertex,
+            solution.won,
+            first_rows,
+            second_rows,
+            &mut row,
+            &mut list,
+        )?;
+        let (winner, choice) = claim_at(solution, vertex);
+        entries.push_row(winner, choice, &row.row())?;
     }
     Ok(entries)
 }
 
 /// Replaces the contents of `row` by the counts of a vertex, from the first table if player 0 is claimed to win the
-/// vertex, and otherwise from the second.
+/// vertex, and otherwise from the second. The contents of `list` are overwritten.
 fn winner_row(
     vertex: usize,
     won: &Region,
     first_rows: &CountTable,
     second_rows: &CountTable,
-    row: &mut Vec<u64>,
+    row: &mut Counts,
+    list: &mut Vec<NonzeroCount>,
 ) -> Result<(), AllocError>
     requires won { vertex < length won.now }
     requires first_rows { vertex < length first_rows.now }
     requires second_rows { vertex < length second_rows.now }
-    ensures { OnOk result (row.new.items ≡ winner_row won.now first_rows.now second_rows.now vertex) }
+    ensures { OnOk result (row.new ≡ winner_row won.now first_rows.now second_rows.now vertex) }
 {
     if won.contains(vertex) {
-        first_rows.row_into(vertex, row)
+        copy_row(first_rows, vertex, row, list)
     } else {
-        second_rows.row_into(vertex, row)
+        copy_row(second_rows, vertex, row, list)
     }
 }
 
-/// The certificate's entry for a vertex: its claimed winner, the winner's move, and the given counts.
-fn claim_at<'a, A: Arena>(solution: &Solution<'_, A>, vertex: usize, counts: &'a [u64]) -> Entry<'a>
+/// Replaces the contents of `row` by the counts that a table has for a vertex. The contents of `list` are overwritten.
+fn copy_row(
+    rows: &CountTable,
+    vertex: usize,
+    row: &mut Counts,
+    list: &mut Vec<NonzeroCount>,
+) -> Result<(), AllocError>
+    requires { vertex < length rows.now }
+    ensures { OnOk result (row.new ≡ row_at rows.now vertex) }
+{
+    rows.nonzero_into(vertex, list)?;
+    let width = rows.width();
+    row.clear();
+    for number in 0..list.len() {
+        let NonzeroCount { place, count } = list[number];
+        row.extend(place);
+        row.push(count)?;
+    }
+    row.extend(width);
+    Ok(())
+}
+
+/// The player who is claimed to win a vertex, and this player's move if the player owns the vertex.
+fn claim_at<A: Arena>(solution: &Solution<'_, A>, vertex: usize) -> (Player, Option<usize>)
     requires { vertex < vertex_count (A.game solution.now.arena.now) }
-    ensures { result ≡ claim_with (A.game solution.now.arena.now) solution.now.won.now solution.now.first.now
-        solution.now.second.now
-        vertex counts.now }
+    ensures winner { result.0 ≡ winner_by solution.now.won.now vertex }
+    ensures choice { result.1 ≡ choice_by (A.game solution.now.arena.now) solution.now.won.now solution.now.first.now
+        solution.now.second.now vertex }
 {
     let (winner, moves) = if solution.won.contains(vertex) {
-        (0, solution.first)
+        (Player::EVEN, solution.first)
     } else {
-        (1, solution.second)
+        (Player::ODD, solution.second)
     };
-    let choice = if solution.arena.owner(vertex) == winner {
+    let choice = if winner.owns(solution.arena, vertex) {
         moves.get(vertex)
     } else {
         None
     };
-    Entry {
-        winner,
-        choice,
-        counts,
-    }
+    (winner, choice)
 }

@@ -23,10 +23,10 @@ pub record IsFilled (g : Digraph) (weight : ℕ → ℕ) (old new : List (List �
   pub column : HasColumn old new place counts
   pub raised_is : raised ≡ count_below (λ v. nat_lt 0 (counts v)) g.count
 
--- each row has an entry at index `place`, which is 0
+-- each row has an entry at index `place`, and has zeros from this index on
 pub record IsBlank (rows : List (List ℕ)) (place : ℕ) : Type 0 where
   pub wide : (v : ℕ) → v < length rows → place < width_of rows v
-  pub none : (v : ℕ) → count_of rows v place ≡ 0
+  pub none : (v k : ℕ) → place ≤ k → count_of rows v k ≡ 0
 
 -- a cycle that consists of a link and a path from the link's target back to its source
 pub record IsLowCycle (low : LowData) (cycle : List ℕ) : Type 0 where

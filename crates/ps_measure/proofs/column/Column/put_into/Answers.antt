@@ -1,12 +1,12 @@
-use Rattle.std.proofs.Common.{arith, ◌≡◌, ◌<◌, List, ℕ, length, get_or, ap, Some, rules}
+use Rattle.std.proofs.Common.{arith, ◌≡◌, ◌<◌, List, ℕ, length, get_or, ap, Some}
 use Rattle.std.specs.Prelude.{slice_get}
 use Rattle.std.proofs.lemmas.Option.{slice_get-get_or}
-use Rattle.ps_measure.proofs.CountsPlaced.{put_none, put_skip, put_one, put_all, item_within}
+use Rattle.ps_measure.proofs.CountsPlaced.{put_none, put_skip, put_one, put_all, item_within, none_later}
 use Rattle.ps_measure.proofs.column.Column.put_into.Goals as goal
 use Rattle.ps_measure.proofs.column.Column.put_into.Goals.{then-count-gt0+in_ok-put, else-count-gt0}
 
 pub loop-vertex-init : goal.loop-vertex-init
-loop-vertex-init c = search (rules, put_none)
+loop-vertex-init c = put_none (λ v. c.requires.blank.none v c.args.place (omega arith))
 
 -- the vertex that the code reads at an index of `order` is the entry of `order` at this index
 the_vertex : (order items : List ℕ) (i : ℕ) → items ≡ order → i < length items →
@@ -31,6 +31,14 @@ put-requires-clause-place c =
       c.requires.blank.wide vertex (omega (arith, within, c.requires.each)),
       c.loop-vertex.invariant.wide vertex,
     )
+
+pub put-requires-clause-later : goal.put-requires-clause-later
+put-requires-clause-later c =
+    let i = c.loop-vertex.vertex-index in
+    let at = the_vertex c.args.self.now.components.order c.order-vertex-items.result.now i c.order-vertex-items.ensures
+    c.loop-vertex-test.true in
+    none_later c.loop-vertex.invariant at (λ j v one other. c.requires.components.1.once j i v one other)
+    c.requires.blank.none
 
 pub loop-vertex-preserved : goal.loop-vertex-preserved
 loop-vertex-preserved c =
