@@ -11,8 +11,8 @@ ghost use Rattle.ps_certificate.specs.Texts.{IsMissing};
 
 use crate::counts::Counts;
 use crate::fault::{CertCause, CertFault};
+use crate::places::Places;
 use ps_game::Player;
-use ps_ids::Ids;
 use ps_text::cursor::Cursor;
 
 /// Whether the next byte is a space, a newline or a colon.
@@ -124,7 +124,7 @@ pub(crate) fn winner(cursor: &mut Cursor) -> Result<Player, CertFault>
 }
 
 /// Parses a move, which is `-` for none, or the id of a vertex.
-pub(crate) fn choice(cursor: &mut Cursor, ids: &Ids) -> Result<Option<usize>, CertFault>
+pub(crate) fn choice(cursor: &mut Cursor, ids: &Places<'_>) -> Result<Option<usize>, CertFault>
     ensures { Tells (λ c. c) (parts.choice ids.now) cursor.old result cursor.new }
 {
     if cursor.comes(b'-') {

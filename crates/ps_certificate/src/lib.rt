@@ -50,6 +50,7 @@ mod fitted;
 mod flaw;
 mod laws;
 mod pairs;
+mod places;
 mod rising;
 mod row;
 mod text;

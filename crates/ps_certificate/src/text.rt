@@ -17,6 +17,7 @@ use crate::entries::Entries;
 use crate::fault::{CertCause, CertFault};
 use crate::fields::{choice, exactly, priorities, version, winner};
 use crate::pairs::counts_for;
+use crate::places::Places;
 use crate::rising::Rising;
 use ps_game::{Arena, NamedGame, Player, priorities_of};
 use ps_ids::Ids;
@@ -25,18 +26,18 @@ use std::alloc::{AllocError, Global};
 
 /// What the parser knows about the game before it reads the text.
 #[derive(Drop)]
-struct Known {
+struct Known<'a> {
     /// The odd priorities of the game, ascending.
     odd: Vec<u64>,
     /// The even priorities of the game, ascending.
     even: Vec<u64>,
     /// The ids of the game's vertices.
-    ids: Ids,
+    ids: Places<'a>,
     ghost odd_rises: { IsStrictlyIncreasing odd.items },
     ghost even_rises: { IsStrictlyIncreasing even.items },
 }
 
-impl Known {
+impl<'a> Known<'a> {
     /// The priorities that oppose a player: those of the opponent's parity, in ascending order.
     fn lost_by(&self, player: Player) -> Rising<'_>
         ensures { result.list.now ≡ parts.lost_by self.now.odd.items self.now.even.items player }
@@ -63,7 +64,7 @@ pub fn ids_of(alloc: Global, game: &NamedGame) -> Result<Ids, AllocError>
 
 /// Parses the lines of a certificate's text that come before the lines of the vertices. Returns whether the text is
 /// compact.
-fn head(cursor: &mut Cursor, known: &Known, count: usize) -> Result<bool, CertFault>
+fn head(cursor: &mut Cursor, known: &Known<'_>, count: usize) -> Result<bool, CertFault>
     ensures { (ids : List ℕ) → count ≡ length ids → TellsHead known.now.odd.items known.now.even.items ids cursor.old
         result cursor.new }
 {
@@ -89,7 +90,7 @@ struct Won {
 /// the contents of `counts`.
 fn entry(
     cursor: &mut Cursor,
-    known: &Known,
+    known: &Known<'_>,
     compact: bool,
     id: u64,
     counts: &mut Counts,
@@ -111,7 +112,7 @@ fn entry(
 fn entries(
     alloc: Global,
     cursor: &mut Cursor,
-    known: &Known,
+    known: &Known<'_>,
     compact: bool,
     game: &NamedGame,
 ) -> Result<Entries, CertFault>
@@ -132,7 +133,7 @@ fn entries(
 fn entries_of(
     alloc: Global,
     text: &[u8],
-    known: &Known,
+    known: &Known<'_>,
     game: &NamedGame,
 ) -> Result<Entries, CertFault>
     requires { known.now.ids ≡ game.now.ids }
@@ -162,7 +163,7 @@ pub fn read(alloc: Global, text: &[u8], game: &NamedGame) -> Result<Certificate,
     let known = Known {
         odd: priorities_of(alloc, game.game(), 1)?,
         even: priorities_of(alloc, game.game(), 0)?,
-        ids: ids_of(alloc, game)?,
+        ids: Places::of(alloc, game)?,
     };
     let entries = entries_of(alloc, text, &known, game)?;
     let Known { odd, even, ids: _ } = known;
