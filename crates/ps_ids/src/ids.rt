@@ -112,7 +112,7 @@ impl Ids {
         let place = self.list.len();
         self.list.reserve(1)?;
         keep_place(&mut self.near, &mut self.far, self.first, id, place)?;
-        self.list.push(id).unwrap();
+        self.list.push_reserved(id);
         Ok(())
     }
 }
