@@ -73,14 +73,8 @@ impl Vertices {
         } ∷ []) }
         ensures err { OnErr result (self.new ≡ self.old) }
     {
-        make_room(
-            &mut self.offsets,
-            &mut self.owners,
-            &mut self.priorities,
-            &mut self.successors,
-            successors.len(),
-        )?;
-        put_all(&mut self.successors, successors);
+        make_room(&mut self.offsets, &mut self.owners, &mut self.priorities)?;
+        self.successors.extend_from_slice(successors)?;
         let end = self.successors.len();
         self.offsets.push_reserved(end);
         self.owners.push_reserved(owner.number());
@@ -199,35 +193,22 @@ impl Vertices {
     }
 }
 
-/// Reserves memory for one more vertex with the given number of successors.
+/// Reserves memory for the offset, the owner and the priority of one more vertex.
 fn make_room(
     offsets: &mut Vec<usize>,
     owners: &mut Vec<u8>,
     priorities: &mut Vec<u64>,
-    successors: &mut Vec<usize>,
-    degree: usize,
 ) -> Result<(), AllocError>
     ensures offsets { offsets.new.items ≡ offsets.old.items }
     ensures owners { owners.new.items ≡ owners.old.items }
     ensures priorities { priorities.new.items ≡ priorities.old.items }
-    ensures successors { successors.new.items ≡ successors.old.items }
     ensures offset { OnOk result (vec_len offsets.new < vec_capacity offsets.new) }
     ensures owner { OnOk result (vec_len owners.new < vec_capacity owners.new) }
     ensures priority { OnOk result (vec_len priorities.new < vec_capacity priorities.new) }
-    ensures more { OnOk result (vec_len successors.new + degree ≤ vec_capacity successors.new) }
 {
     offsets.reserve(1)?;
     owners.reserve(1)?;
-    priorities.reserve(1)?;
-    successors.reserve(degree)
-}
-
-/// Appends numbers to a list whose capacity suffices for all of them.
-fn put_all(numbers: &mut Vec<usize>, more: &[usize])
-    requires { vec_len numbers.old + length more.now ≤ vec_capacity numbers.old }
-    ensures { numbers.new.items ≡ numbers.old.items ++ more.now }
-{
-    numbers.extend_from_slice(more).unwrap();
+    priorities.reserve(1)
 }
 
 /// Whether each number of a list is an id.

@@ -9,7 +9,7 @@ more : (c : After-push_reserved-3) →
     StandFor
     (c.args.self.now
     ++ record { owner = c.args.owner; priority = c.args.priority; successors = c.args.successors.now } ∷ [])
-    c.push_reserved.new.self.items c.put_all.new.numbers.items c.push_reserved-2.new.self.items
+    c.push_reserved.new.self.items c.extend_from_slice.new.self.items c.push_reserved-2.new.self.items
     c.push_reserved-3.new.self.items
 more c =
     let vertex : VertexData =
@@ -17,12 +17,12 @@ more c =
     let room = c.make_room.ensures in
     stand_for (tell_more (rw c.self.view_is at c.self.invariant.tell) vertex
     (c.push_reserved.ensures.items ∙ ap (λ (ns : List ℕ). ns ++ c.len-end.result ∷ []) room.offsets)
-    (c.put_all.ensures ∙ ap (λ (ns : List ℕ). ns ++ c.args.successors.now) room.successors)
+    (search rules)
     (rw c.number.ensures.number at
     (c.push_reserved-2.ensures.items ∙ ap (λ (ns : List ℕ). ns ++ c.number.result ∷ []) room.owners))
     (c.push_reserved-3.ensures.items ∙ ap (λ (ns : List ℕ). ns ++ c.args.priority ∷ []) room.priorities)
-    (omega (arith, c.len-end.ensures, c.put_all.new.numbers.ok.0))
-    (omega (arith, c.len-end.ensures, c.put_all.new.numbers.small)))
+    (omega (arith, c.len-end.ensures, c.extend_from_slice.new.self.ok.0))
+    (omega (arith, c.len-end.ensures, c.extend_from_slice.new.self.small)))
     (All-push (λ (v : VertexData). v.owner < 2) _ vertex (rw c.self.view_is at c.self.invariant.players)
     (rw c.number.ensures.number at c.number.ensures.player))
 
