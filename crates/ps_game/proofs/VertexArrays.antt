@@ -2,14 +2,15 @@
 -- successors.
 use Rattle.std.proofs.Common.{◌≡◌, ◌≢◌, ℕ, suc, ◌+◌, ◌^◌, ◌<◌, ◌≤◌, Bool, not, List, [], ◌∷◌, ◌++◌, rules, map, filter}
 use Rattle.std.proofs.Common.{length, get_or, take, refl, sym, ap, ap₂, ◌∙◌, arith, length-append, take-append-drop}
-use Rattle.std.specs.Prelude.{◌==◌}
-use Rattle.std.specs.List.{All, AllPairs, Contains, list_all}
-use Rattle.std.proofs.lemmas.Bool.{cases_lt, ne_eqb}
+use Rattle.std.proofs.Common.{inl, inr}
+use Rattle.std.specs.Prelude.{◌==◌, nat_lt}
+use Rattle.std.specs.List.{All, AllPairs, Contains, list_all, list_any}
+use Rattle.std.proofs.lemmas.Bool.{cases_lt, eq-eqb, le-ltb, lt-ltb, ne_eqb}
 use Rattle.std.proofs.lemmas.Grind.{flat_map-append, get_or_default_zero}
 use Rattle.std.proofs.lemmas.List.{append-nil, get_or_append_left, get_or_push, length-map, map-append, take-append-le}
 use Rattle.std.proofs.lemmas.List.{take-map, take_all, get_or-take}
 use Rattle.std.proofs.lemmas.List.Elements.{All-cons, All-tail}
-use Rattle.std.proofs.lemmas.List.Folds.{list_all-append}
+use Rattle.std.proofs.lemmas.List.Folds.{list_all-append, list_any_at, list_any_none}
 use Rattle.std.proofs.Math.Seq.{length-take-le, take-append_seam}
 use Rattle.ps_ids.specs.Ids.{AreDistinct, place_of}
 use Rattle.ps_ids.proofs.IdPlaces.{position_here}
@@ -107,6 +108,13 @@ pub tell_placed : (ids : List ℕ) {game : ParityGame} {offsets successors owner
 tell_placed ids {game = game} {successors = successors} tell are =
     search (rules, length-map, all_successors-placed, take-map, kept-placed)
 
+-- ---- a test of all successors
+
+pub all_tested-each : (p : ℕ → Bool) (game : ParityGame) →
+    list_all p (all_successors game) ≡ list_all (λ v. list_all p v.successors) game
+all_tested-each p [] = refl
+all_tested-each p (v ∷ game) = search (rules, list_all-append, all_tested-each p game)
+
 -- ---- ids that are their own indices
 
 module _ (ids : List ℕ) (own : (place : ℕ) → place < length ids → get_or ids place 0 ≡ place) where
@@ -121,6 +129,28 @@ module _ (ids : List ℕ) (own : (place : ℕ) → place < length ids → get_or
   own_places-same (id ∷ list) all = ap₂ (λ n ns. n ∷ ns) (own_place-same id (all 0 id (omega arith)))
       (own_places-same list (All-tail (λ id. Contains ids id) id list all))
 
+  -- a number is an id exactly if it is less than the number of ids
+  own_place-below : (w : ℕ) → nat_lt w (length ids) ≡ list_any (λ id. w == id) ids
+  own_place-below w = elim (cases_lt w (length ids)) [
+    | inl lt ↦
+        rw (list_any_at (λ id. w == id) ids w 0 lt (eq-eqb w (get_or ids w 0) (sym (own w lt))))
+        (lt-ltb w (length ids) lt)
+    | inr le ↦
+        rw (list_any_none (λ id. w == id) ids (λ k d lt. grind (arith, own, get_or_default_zero, ne_eqb)))
+        (le-ltb w (length ids) le)
+  ]
+
+  own_places-below : (list : List ℕ) →
+      list_all (λ w. nat_lt w (length ids)) list ≡ list_all (λ w. list_any (λ id. w == id) ids) list
+  own_places-below [] = refl
+  own_places-below (w ∷ list) = search (rules, own_place-below, own_places-below list)
+
+  -- each successor is an id exactly if each is less than the number of ids
+  pub successors-below : (game : ParityGame) → list_all (λ w. nat_lt w (length ids)) (all_successors game) ≡
+      list_all (λ v. list_all (λ w. list_any (λ id. w == id) ids) v.successors) game
+  successors-below game =
+      own_places-below (all_successors game) ∙ all_tested-each (λ w. list_any (λ id. w == id) ids) game
+
   -- if each id is its own index, replacing ids by indices changes nothing
   pub with_places-same : (game : ParityGame) → All (λ v. All (λ id. Contains ids id) v.successors) game →
       map (with_places ids) game ≡ game
@@ -128,13 +158,6 @@ module _ (ids : List ℕ) (own : (place : ℕ) → place < length ids → get_or
   with_places-same (v ∷ game) all = ap₂ (λ ws vs. record v { successors = ws } ∷ vs)
       (own_places-same v.successors (all 0 v (omega arith)))
       (with_places-same game (All-tail (λ v. All (λ id. Contains ids id) v.successors) v game all))
-
--- ---- a test of all successors
-
-pub all_tested-each : (p : ℕ → Bool) (game : ParityGame) →
-    list_all p (all_successors game) ≡ list_all (λ v. list_all p v.successors) game
-all_tested-each p [] = refl
-all_tested-each p (v ∷ game) = search (rules, list_all-append, all_tested-each p game)
 
 -- ---- vertices without repeated successors
 

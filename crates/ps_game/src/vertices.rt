@@ -1,7 +1,7 @@
 //! A growing list of vertices in arrays, which a parser of game texts builds.
 
 ghost use Rattle.std.specs.Prelude.{◌≡◌, ◌≢◌, ◌==◌, ◌<◌, ◌≤◌, ◌+◌, ◌++◌, ◌∷◌, [], IfOk, OnOk, OnErr, Contains, length};
-ghost use Rattle.std.specs.Prelude.{ℕ, map, slice_index, take, vec_len, vec_capacity};
+ghost use Rattle.std.specs.Prelude.{ℕ, map, nat_lt, slice_index, take, vec_len, vec_capacity};
 ghost use Rattle.std.specs.Bool.{OnTrue};
 ghost use Rattle.std.specs.List.{All, AllPairs, list_all, list_any};
 ghost use Rattle.ps_ids.specs.Ids.{place_of};
@@ -100,6 +100,10 @@ impl Vertices {
     pub fn know_successors(&self, ids: &Ids) -> bool
         ensures { result ≡ list_all (λ v. list_all (λ w. list_any (λ id. w == id) ids.now) v.successors) self.now }
     {
+        // If each id is its own index, the ids are the numbers less than the number of ids.
+        if are_places(ids.list()) {
+            return are_below(&self.successors, ids.list().len());
+        }
         are_ids(ids, &self.successors)
     }
 
@@ -216,6 +220,13 @@ fn are_ids(ids: &Ids, list: &[usize]) -> bool
     ensures { result ≡ list_all (λ w. list_any (λ id. w == id) ids.now) list.now }
 {
     list.iter().all(|id| ids.has(*id as u64))
+}
+
+/// Whether each number of a list is less than `bound`.
+fn are_below(numbers: &[usize], bound: usize) -> bool
+    ensures { result ≡ list_all (λ number. nat_lt number bound) numbers.now }
+{
+    numbers.iter().all(|number| *number < bound)
 }
 
 /// Whether each id is its own index: the ids are 0, 1, 2 and so on.
