@@ -176,6 +176,7 @@ impl<'a> Tokens<'a> {
     }
 
     /// The name that is the next token, or `None` if the next token is not a name.
+    #[inline(always)]
     pub fn next_name(&self) -> Option<&'a [u8]>
         ensures name { option_copied result ≡ name_of (next_of self.now) }
         ensures plain { IfSome result (λ inner. AllPass is_unquoted inner.now) }
@@ -184,6 +185,16 @@ impl<'a> Tokens<'a> {
         if !begins_with(rest, Class::Quote) {
             return None;
         }
+        self.name_from()
+    }
+
+    /// The name that is the next token, or `None` if the next token is not a name. `next_name` calls this function only
+    /// at a quote, which most texts do not have, so it is not inlined.
+    #[inline(never)]
+    fn name_from(&self) -> Option<&'a [u8]>
+        ensures name { option_copied result ≡ name_of (next_of self.now) }
+        ensures plain { IfSome result (λ inner. AllPass is_unquoted inner.now) }
+    {
         match self.peek().kind {
             Kind::Name(inner) => Some(inner),
             _ => None,
