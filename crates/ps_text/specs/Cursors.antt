@@ -2,8 +2,9 @@
 -- - `next_byte stream, stream_offset stream`: the next unread byte; the offset of this byte or, if no byte is unread,
 --   of the text's end
 -- - `IsAhead stream`: each symbol of the stream has, besides its byte, the list of all bytes after it
+-- - `IsOffsetIn text at`: the offset is one of the text or its end, and the text is not too long
 -- - `Passes p old new run`: the cursor moved past `run`, the longest run of bytes that pass p, which may be empty
-use Rattle.std.specs.Prelude.{◌≡◌, ℕ, ◌+◌, Bool, true, false, List, [], ◌∷◌, ◌++◌, length, Option, ◌==◌}
+use Rattle.std.specs.Prelude.{◌≡◌, ℕ, ◌+◌, ◌<◌, ◌≤◌, ◌^◌, Bool, true, false, List, [], ◌∷◌, ◌++◌, length, Option, ◌==◌}
 use Rattle.std.specs.Option.{option_map}
 use Rattle.ps_text.specs.Answers.{Stream, offset_of, next_of}
 use Rattle.ps_text.specs.Runs.{AllOf, StopsBefore}
@@ -46,3 +47,8 @@ pub record Passes (p : ℕ → Bool) (old new : Stream Seen) (run : List ℕ) : 
   pub place : at ≡ stream_offset old
   pub all : AllOf p run
   pub longest : StopsBefore p rest
+
+-- the offset is at most the text's length, which is less than 2^63
+pub record IsOffsetIn (text : List ℕ) (at : ℕ) : Type 0 where
+  pub within : at ≤ length text
+  pub small : length text < 2 ^ 63

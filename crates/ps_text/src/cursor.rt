@@ -98,29 +98,29 @@ fn is_ended(text: &[u8]) -> bool
     !text.is_empty() && text[text.len() - 1] == b'\n'
 }
 
-/// A position in a text, and the bytes that are unread.
+/// A position in a text. The bytes from the offset `at` on are unread.
 #[derive(Drop)]
 pub struct Cursor<'a> {
+    text: &'a [u8],
     at: usize,
-    rest: &'a [u8],
     /// Whether the last line lacks its newline, so that a newline is read at the end.
     unended: bool,
 }
 
 impl<'a> Model for Cursor<'a> {
-    ghost use Rattle.std.specs.Prelude.{◌+◌, ◌^◌, ◌<◌, length};
+    ghost use Rattle.std.specs.Prelude.{◌+◌, drop, length};
     ghost use Rattle.ps_text.specs.Answers.{Stream};
     ghost use Rattle.ps_text.specs.Bytes.{Seen, pieces_at};
-    ghost use Rattle.ps_text.specs.Cursors.{rest_with_newline};
+    ghost use Rattle.ps_text.specs.Cursors.{rest_with_newline, IsOffsetIn};
 
     ghost Value = { Stream Seen };
 
     ghost view = { λ c. record {
-      pieces = pieces_at c.at (rest_with_newline c.unended c.rest.now);
-      end = c.at + length c.rest.now;
+      pieces = pieces_at c.at (rest_with_newline c.unended (drop c.at c.text.now));
+      end = c.at + length (drop c.at c.text.now);
     } };
 
-    ghost invariant = { λ c. c.at + length c.rest.now < 2 ^ 63 };
+    ghost invariant = { λ c. IsOffsetIn c.text.now c.at };
 }
 
 impl<'a> Cursor<'a> {
@@ -129,8 +129,8 @@ impl<'a> Cursor<'a> {
         ensures { result ≡ stream_at 0 text.now }
     {
         Cursor {
+            text,
             at: 0,
-            rest: text,
             unended: false,
         }
     }
@@ -141,8 +141,8 @@ impl<'a> Cursor<'a> {
         ensures small { length result.pieces ≤ 2 ^ 63 }
     {
         Cursor {
+            text,
             at: 0,
-            rest: text,
             unended: !is_ended(text),
         }
     }
@@ -151,10 +151,10 @@ impl<'a> Cursor<'a> {
     pub fn peek(&self) -> Option<u8>
         ensures { result ≡ next_byte self.now }
     {
-        match self.rest {
-            [byte, ..] => Some(*byte),
-            [] => { if self.unended { Some(b'\n') } else { None } }
+        if self.at < self.text.len() {
+            return Some(self.text[self.at]);
         }
+        if self.unended { Some(b'\n') } else { None }
     }
 
     /// Whether the next byte is the given byte.
@@ -168,7 +168,7 @@ impl<'a> Cursor<'a> {
     pub fn is_at_end(&self) -> bool
         ensures { result ≡ (length self.now.pieces == 0) }
     {
-        self.rest.is_empty() && !self.unended
+        self.at == self.text.len() && !self.unended
     }
 
     /// The offset of the next byte, or of the end.
@@ -193,12 +193,10 @@ impl<'a> Cursor<'a> {
         ensures next { self.new ≡ tail self.old }
         ensures ahead { IsAhead self.old }
     {
-        match self.rest {
-            [_, rest @ ..] => {
-                self.rest = rest;
-                self.at += 1;
-            }
-            [] => self.unended = false,
+        if self.at < self.text.len() {
+            self.at += 1;
+        } else {
+            self.unended = false;
         }
     }
 
@@ -237,9 +235,9 @@ impl<'a> Cursor<'a> {
         requires { in_class class 10 ≡ false }
         ensures { Passes (in_class class) self.old self.new result.now }
     {
-        let count = run_length(self.rest, class);
-        let (run, rest) = self.rest.split_at(count);
-        self.rest = rest;
+        let (_, rest) = self.text.split_at(self.at);
+        let count = run_length(rest, class);
+        let (run, _) = rest.split_at(count);
         self.at += count;
         run
     }
@@ -251,9 +249,9 @@ impl<'a> Cursor<'a> {
         ensures small { IfSome result.value (λ value. value < 2 ^ 64) }
         ensures large { IfNone result.value (2 ^ 64 ≤ decimal_value result.bytes.now) }
     {
-        let (count, value) = digits_of(self.rest);
-        let (bytes, rest) = self.rest.split_at(count);
-        self.rest = rest;
+        let (_, rest) = self.text.split_at(self.at);
+        let (count, value) = digits_of(rest);
+        let (bytes, _) = rest.split_at(count);
         self.at += count;
         Digits { bytes, value }
     }
@@ -263,9 +261,7 @@ impl<'a> Cursor<'a> {
         ensures pieces { self.new.pieces ≡ [] }
         ensures end { self.new.end ≡ self.old.end }
     {
-        let (_, rest) = self.rest.split_at(self.rest.len());
-        self.at += self.rest.len();
-        self.rest = rest;
+        self.at = self.text.len();
         self.unended = false;
     }
 }

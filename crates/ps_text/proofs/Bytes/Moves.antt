@@ -3,8 +3,9 @@ use Rattle.std.proofs.Common.{◌≡◌, ℕ, suc, ◌+◌, ◌-◌, ◌^◌, �
 use Rattle.std.proofs.Common.{take, drop, get_or, refl, sym, ap, ap₂, ◌∙◌, append_assoc, arith, length-append, rules}
 use Rattle.std.specs.List.{prefix_len}
 use Rattle.std.proofs.lemmas.Bool.{eqb-true, ne_eqb}
-use Rattle.std.proofs.lemmas.List.{take-append-drop}
+use Rattle.std.proofs.lemmas.List.{drop-drop, drop_more, length-drop, take-append-drop}
 use Rattle.ps_text.specs.Answers.{Stream, next_of}
+use Rattle.ps_text.specs.Readers.{tail}
 use Rattle.ps_text.specs.Runs.{StopsBefore}
 use Rattle.ps_text.specs.Bytes.{Seen, pieces_at, ends_line}
 use Rattle.ps_text.specs.Cursors.{rest_with_newline, stream_offset, Passes}
@@ -81,3 +82,38 @@ same_place {p} {old} {new} x e = search rules
 pub avoids_run : {p : ℕ → Bool} {old new : Stream Seen} → Passes p old new [] →
     Avoids (λ (s : Seen). p s.byte ≡ true) (next_of old)
 avoids_run {p} x t n h = search (rules, none_is_some, same_some)
+
+-- ## A text and an offset
+
+-- the stream of a cursor at an offset of a text
+abbrev pub stream_in : List ℕ → ℕ → Bool → Stream Seen
+stream_in text at u =
+    record { pieces = pieces_at at (rest_with_newline u (drop at text)); end = at + length (drop at text) }
+
+past_first : (at b : ℕ) (bs : List ℕ) (u : Bool) →
+    record { pieces = pieces_at (at + 1) (rest_with_newline u bs); end = (at + 1) + length bs } ≡
+    tail (record { pieces = pieces_at at (rest_with_newline u (b ∷ bs)); end = at + length (b ∷ bs) })
+past_first at b bs true =
+    ap (λ end. record { pieces = pieces_at (at + 1) (rest_with_newline true bs); end = end }) (omega arith)
+past_first at b bs false =
+    ap (λ end. record { pieces = pieces_at (at + 1) (rest_with_newline false bs); end = end }) (omega arith)
+
+-- one byte further on, the first symbol is gone
+pub past_byte : (text : List ℕ) (at : ℕ) (u : Bool) → at < length text →
+    stream_in text (at + 1) u ≡ tail (stream_in text at u)
+past_byte text at u lt = past_first at (get_or text at 0) (drop (at + 1) text) u
+    ∙ ap (λ rest. tail (record { pieces = pieces_at at (rest_with_newline u rest); end = at + length rest }))
+    (sym (drop_more text at 0 lt))
+
+-- behind a longest run of bytes
+pub passes_in : {p : ℕ → Bool} → p 10 ≡ false → (text : List ℕ) (at : ℕ) (u : Bool) {n : ℕ} {rest run : List ℕ} →
+    rest ≡ drop at text → n ≡ prefix_len p rest → run ≡ take n rest → length run ≡ n →
+    Passes p (stream_in text at u) (stream_in text (at + n) u) run
+passes_in {p} line text at u {n} {rest} {run} back size taken each =
+    passes_run line at (drop at text) u (size ∙ ap (prefix_len p) back) (taken ∙ ap (take n) back)
+    (sym (drop-drop n at text)) each
+
+-- if the offset is not the end, symbols are unread
+pub left_in : (text : List ℕ) (at : ℕ) (u : Bool) → at < length text →
+    eqb (length (stream_in text at u).pieces) 0 ≡ false
+left_in text at u lt = left_some at (drop at text) u (ne_eqb (length (drop at text)) 0 (λ none. omega (arith, none, length-drop at text)))

@@ -1,8 +1,10 @@
-use Rattle.std.proofs.Common.{◌∙◌, sym, ap, length, eqb}
-use Rattle.ps_text.proofs.Bytes.Moves.{left_some}
+use Rattle.std.proofs.Common.{◌∙◌, sym, ap, length, eqb, arith}
+use Rattle.std.proofs.lemmas.Bool.{ne_eqb}
+use Rattle.ps_text.proofs.Bytes.Moves.{left_in}
 use Rattle.ps_text.proofs.cursor.Cursor.is_at_end.Goals as goal
 
-pub returns-else-is_empty : goal.returns-else-is_empty
-returns-else-is_empty c = c.if-is_empty.false ∙ sym (left_some c.self.inside.at c.self.inside.rest.now
-    c.self.inside.unended (sym c.is_empty.ensures ∙ c.if-is_empty.false))
+pub returns-else-self : goal.returns-else-self
+returns-else-self c = ne_eqb c.self.inside.at (length c.self.inside.text.now) c.if-self.false
+    ∙ sym (left_in c.self.inside.text.now c.self.inside.at c.self.inside.unended
+    (omega (arith, c.self.invariant.within, c.if-self.false)))
     ∙ ap (λ s. eqb (length s.pieces) 0) c.self.view_is
