@@ -1,10 +1,10 @@
 -- Writing the counts for one priority into the table of counts, one vertex after another.
 use Rattle.std.proofs.Common.{◌≡◌, ◌≢◌, ℕ, zero, suc, ◌+◌, ◌<◌, ◌≤◌, ◌∙◌, List, length, max, inl, inr, nat_lt}
-use Rattle.std.proofs.Common.{ap, arith, Some, rules}
+use Rattle.std.proofs.Common.{ap, arith, refl, sym, Some, rules}
 use Rattle.std.specs.Prelude.{slice_get}
 use Rattle.std.proofs.Math.Nat.{max-zero}
-use Rattle.std.proofs.lemmas.Bool.{cases_eq}
-use Rattle.std.proofs.lemmas.Option.{slice_get_within}
+use Rattle.std.proofs.lemmas.Bool.{cases_eq, cases_lt}
+use Rattle.std.proofs.lemmas.Option.{slice_get_within, slice_get_past}
 use Rattle.ps_components.specs.Graphs.{Digraph}
 use Rattle.ps_components.specs.ComponentLists.{ComponentsData, AreComponents}
 use Rattle.ps_measure.specs.Inner.Columns.{value_of}
@@ -22,24 +22,30 @@ one_more f g (suc n) u below none one others = elim (cases_eq u n) [
   | inr apart ↦ grind (arith, one_more f g n u (omega (arith, below, apart)) none one others)
 ]
 
--- the counts of the first `i` vertices in the list `order` were written into the table
-pub record ArePut (order : List ℕ) (counts : ℕ → ℕ) (old now : List (List ℕ)) (place i raised : ℕ) : Type 0 where
-  pub each : length now ≡ length old
-  pub wide : (v : ℕ) → width_of now v ≡ width_of old v
-  pub others : (v k : ℕ) → (k ≡ place → ⊥) → count_of now v k ≡ count_of old v k
-  pub done : (j v : ℕ) → j < i → slice_get order j ≡ Some v → count_of now v place ≡ counts v
-  pub rest : (v : ℕ) → ((j : ℕ) → j < i → slice_get order j ≡ Some v → ⊥) → count_of now v place ≡ 0
-  pub few : raised ≤ i
-  pub raised_is : raised ≡ raised_below (λ v. count_of now v place) (length old)
+-- the vertex v is at index j of a list
+abbrev pub IsListed : List ℕ → ℕ → ℕ → Type 0
+IsListed order j v = slice_get order j ≡ Some v
 
-pub put_none : {order : List ℕ} {counts : ℕ → ℕ} {old : List (List ℕ)} {place : ℕ} →
-    ((v : ℕ) → count_of old v place ≡ 0) → ArePut order counts old old place 0 0
+-- the counts of the first `i` vertices were written into the table; `nth` relates each index to the vertex whose counts
+-- are written there
+pub record ArePut (nth : ℕ → ℕ → Type 0) (counts : ℕ → ℕ) (old now : List (List ℕ)) (place i raised : ℕ) : Type 0
+  where
+    pub each : length now ≡ length old
+    pub wide : (v : ℕ) → width_of now v ≡ width_of old v
+    pub others : (v k : ℕ) → (k ≡ place → ⊥) → count_of now v k ≡ count_of old v k
+    pub done : (j v : ℕ) → j < i → nth j v → count_of now v place ≡ counts v
+    pub rest : (v : ℕ) → ((j : ℕ) → j < i → nth j v → ⊥) → count_of now v place ≡ 0
+    pub few : raised ≤ i
+    pub raised_is : raised ≡ raised_below (λ v. count_of now v place) (length old)
+
+pub put_none : {nth : ℕ → ℕ → Type 0} {counts : ℕ → ℕ} {old : List (List ℕ)} {place : ℕ} →
+    ((v : ℕ) → count_of old v place ≡ 0) → ArePut nth counts old old place 0 0
 put_none {old = old} {place} none = search (rules, raised_none)
 
-module _ {order : List ℕ} {counts : ℕ → ℕ} {old now : List (List ℕ)} {place i raised u : ℕ}
-    (so_far : ArePut order counts old now place i raised) (at : slice_get order i ≡ Some u)
-    (once : (j v : ℕ) → slice_get order j ≡ Some v → slice_get order i ≡ Some v → j ≡ i) where
-  -- the vertex occurs only once in the list of reached vertices, so its count was not written before
+module _ {nth : ℕ → ℕ → Type 0} {counts : ℕ → ℕ} {old now : List (List ℕ)} {place i raised u : ℕ}
+    (so_far : ArePut nth counts old now place i raised) (at : nth i u) (only : (v : ℕ) → nth i v → v ≡ u)
+    (once : (j v : ℕ) → nth j v → nth i v → j ≡ i) where
+  -- the vertex occurs at one index only, so its count was not written before
   fresh : count_of now u place ≡ 0
   fresh = so_far.rest u (λ j less there. (let e : j ≡ i = once j u there at in omega (arith, e, less)))
 
@@ -51,12 +57,12 @@ module _ {order : List ℕ} {counts : ℕ → ℕ} {old now : List (List ℕ)} {
   ]
 
   -- a count that is 0 need not be written, since the table has zeros
-  pub put_skip : counts u ≡ 0 → ArePut order counts old now place (i + 1) raised
+  pub put_skip : counts u ≡ 0 → ArePut nth counts old now place (i + 1) raised
   put_skip none = search (rules, cases_eq, fresh)
 
   -- if the count of the next vertex is not 0, writing it into the table adds one to the number of nonzero counts
   pub put_one : {new : List (List ℕ)} → u < length old → 0 < counts u → HasPut now new u place (counts u) →
-      ArePut order counts old new place (i + 1) (raised + 1)
+      ArePut nth counts old new place (i + 1) (raised + 1)
   put_one {new} below some put = record {
     each = put.each ∙ so_far.each;
     wide = λ v. put.wide v ∙ so_far.wide v;
@@ -88,9 +94,30 @@ module _ {g : Digraph} {c : ComponentsData} (components : AreComponents g c) whe
   no_value values v nowhere = search rules
 
   pub put_all : (values : List ℕ) {old new : List (List ℕ)} {place i raised : ℕ} → length c.order ≤ i →
-      ArePut c.order (value_of c values) old new place i raised →
+      ArePut (IsListed c.order) (value_of c values) old new place i raised →
       HasColumn old new place (value_of c values) × (raised ≡ raised_below (value_of c values) (length old))
   put_all values {old} {new} {place} end put = grind (arith, here)
     where
       here : (v : ℕ) → count_of new v place ≡ value_of c values v
       here v = search (rules, no_value, slice_get_within)
+
+-- ## All vertices in turn
+
+abbrev pub IsSame : ℕ → ℕ → Type 0
+IsSame j v = j ≡ v
+
+-- a number that is not a vertex has the value 0
+no_value_past : (c : ComponentsData) (values : List ℕ) (v : ℕ) → length c.numbers ≤ v → value_of c values v ≡ 0
+no_value_past c values v past = search (rules, slice_get_past)
+
+pub put_each : (c : ComponentsData) (values : List ℕ) {old new : List (List ℕ)} {place i raised : ℕ} →
+    length c.numbers ≤ i → ArePut IsSame (value_of c values) old new place i raised →
+    HasColumn old new place (value_of c values) × (raised ≡ raised_below (value_of c values) (length old))
+put_each c values {old} {new} {place} {i} end put = grind (arith, here)
+  where
+    here : (v : ℕ) → count_of new v place ≡ value_of c values v
+    here v = elim (cases_lt v i) [
+      | inl below ↦ put.done v v below refl
+      | inr above ↦ put.rest v (λ j less same. omega (arith, above, less, same))
+          ∙ sym (no_value_past c values v (omega (arith, end, above)))
+    ]

@@ -17,6 +17,9 @@ use crate::table::CountTable;
 use ps_components::{Components, Graph};
 use std::alloc::{AllocError, Global};
 
+/// Counts are written by ascending vertex unless fewer than one in `FEW` vertices were visited.
+const FEW: usize = 8;
+
 /// The counts for one priority: a value for each strongly connected component that a search found. The same `Column` is
 /// reused for one priority after another.
 #[derive(Drop)]
@@ -85,8 +88,50 @@ impl Column {
             (λ raised. let counts = value_of self.now.components self.now.values.items in
             raised ≡ count_below (λ v. nat_lt 0 (counts v)) (length table.old)) }
     {
+        if self.components.order().len() < table.len() / FEW {
+            self.put_visited(place, table)
+        } else {
+            self.put_ascending(place, table)
+        }
+    }
+
+    /// Does the same as `put_into`, in time proportional to the number of visited vertices.
+    fn put_visited(&self, place: usize, table: &mut CountTable) -> Result<u64, AllocError>
+        requires components { (g : Digraph) × AreComponents g self.now.components }
+        requires each { length table.old ≡ length self.now.components.numbers }
+        requires blank { IsBlank table.old place }
+        ensures column { OnOk result
+            (HasColumn table.old table.new place (value_of self.now.components self.now.values.items)) }
+        ensures raised { IfOk result
+            (λ raised. let counts = value_of self.now.components self.now.values.items in
+            raised ≡ count_below (λ v. nat_lt 0 (counts v)) (length table.old)) }
+    {
         let mut raised = 0;
         for &vertex in self.components.order() {
+            let count = self.count(vertex);
+            if count > 0 {
+                table.put(vertex, place, count)?;
+                raised += 1;
+            }
+        }
+        Ok(raised)
+    }
+
+    /// Does the same as `put_into`, in time proportional to the number of all vertices. The counts are written by
+    /// ascending vertex, so that a later pass over the rows, vertex by vertex, finds the counts for this priority next
+    /// to one another in memory.
+    fn put_ascending(&self, place: usize, table: &mut CountTable) -> Result<u64, AllocError>
+        requires components { (g : Digraph) × AreComponents g self.now.components }
+        requires each { length table.old ≡ length self.now.components.numbers }
+        requires blank { IsBlank table.old place }
+        ensures column { OnOk result
+            (HasColumn table.old table.new place (value_of self.now.components self.now.values.items)) }
+        ensures raised { IfOk result
+            (λ raised. let counts = value_of self.now.components self.now.values.items in
+            raised ≡ count_below (λ v. nat_lt 0 (counts v)) (length table.old)) }
+    {
+        let mut raised = 0;
+        for vertex in 0..table.len() {
             let count = self.count(vertex);
             if count > 0 {
                 table.put(vertex, place, count)?;

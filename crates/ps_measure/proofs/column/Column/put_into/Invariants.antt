@@ -1,8 +1,0 @@
-use Rattle.ps_measure.specs.Inner.Columns.{value_of}
-use Rattle.ps_measure.proofs.CountsPlaced.{ArePut}
-use Rattle.ps_measure.proofs.column.Column.put_into.Given as goal
-
-abbrev pub invariant-loop-vertex : goal.invariant-loop-vertex
-invariant-loop-vertex l =
-    ArePut l.self.components.order (value_of l.self.components l.self.values.items) l.initial.table l.table l.fn.place
-    l.vertex-index l.raised
