@@ -1,10 +1,11 @@
-pub mod Chaining
+pub mod AddedUp
 pub mod CountCells
 pub mod CountsOrCycle
 pub mod CountsPlaced
 pub mod Growing
 pub mod Held
 pub mod LeastInGame
+pub mod LinkLists
 pub mod NonzeroCells
 pub mod PassSteps
 pub mod Passing
@@ -13,7 +14,8 @@ pub mod Raising
 pub mod RemainingEdges
 pub mod Roots
 pub mod Rows
+pub mod SortedGraph
+pub mod Sorting
 pub mod Summing
-pub mod Unrolling
 pub mod WholeTable
 pub mod Writing

@@ -1,9 +1,9 @@
 -- Definitions that only private contracts use; no public clause refers to them.
 
 pub mod Cells
-pub mod Chains
 pub mod Columns
 pub mod Filling
 pub mod Groups
+pub mod Links
 pub mod Outcomes
 pub mod Remaining
