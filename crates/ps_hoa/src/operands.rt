@@ -1,10 +1,11 @@
 //! Rows of labels with the same connective between them, while they are parsed.
 
-ghost use Rattle.std.specs.Prelude.{◌≡◌, ◌++◌, ◌∷◌, [], IfOk};
-ghost use Rattle.ps_label.specs.Expression.{expression, literal_expressions};
+ghost use Rattle.std.specs.Prelude.{◌≡◌, ◌↔◌, ◌<◌, ◌++◌, ◌∷◌, [], IfOk, length};
+ghost use Rattle.ps_label.specs.Expression.{IsLiteral, expression, literal_expressions};
+ghost use Rattle.ps_label.specs.declared.literal.TheConstants.{MOST};
 ghost use Rattle.ps_label.specs.Truth.{expressions};
 ghost use Rattle.ps_hoa.specs.Labels as grammar;
-ghost use Rattle.ps_hoa.specs.Inner.LabelRows.{operand_expressions};
+ghost use Rattle.ps_hoa.specs.Inner.LabelRows.{HoldsLiterals, IsOfLiterals, operand_expressions};
 
 use crate::infix::{self, Connective};
 use ps_label::{Label, Literals};
@@ -29,7 +30,8 @@ impl Operands {
         first: Label,
         count: usize,
     ) -> Result<Self, AllocError>
-        ensures { IfOk result (λ row. operand_expressions row ≡ expression first ∷ []) }
+        ensures operands { IfOk result (λ row. operand_expressions row ≡ expression first ∷ []) }
+        ensures literals { IfOk result (λ row. HoldsLiterals row ↔ ((connective ≡ Connective.And) × IsLiteral first)) }
     {
         match (connective, first.as_literal()) {
             (Connective::And, Some(literal)) => Ok(Operands::Literals(Literals::of(literal))),
@@ -45,8 +47,10 @@ impl Operands {
         next: Label,
         count: usize,
     ) -> Result<(), AllocError>
-        ensures { IfOk result
+        ensures operands { IfOk result
             (λ _. operand_expressions self.new ≡ operand_expressions self.old ++ expression next ∷ []) }
+        ensures literals { IfOk result (λ _. HoldsLiterals self.new ↔
+            (HoldsLiterals self.old × IsLiteral next × (length (operand_expressions self.old) < MOST))) }
     {
         match self {
             Operands::Literals(literals) => match next.as_literal() {
@@ -69,7 +73,10 @@ impl Operands {
     /// The joint value of the operands.
     #[inline(always)]
     pub(crate) fn together(self, alloc: Global, connective: Connective) -> Result<Label, AllocError>
-        ensures { IfOk result (λ label. expression label ≡ grammar.together connective (operand_expressions self)) }
+        ensures value { IfOk result
+            (λ label. expression label ≡ grammar.together connective (operand_expressions self)) }
+        ensures literals { IfOk result
+            (λ label. IsOfLiterals label ↔ ((connective ≡ Connective.And) × HoldsLiterals self)) }
     {
         match (connective, self) {
             (Connective::And, Operands::Literals(literals)) => Ok(Label::Literals(literals)),

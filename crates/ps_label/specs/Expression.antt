@@ -33,6 +33,12 @@ literal_expression code = signed (nat_eq (code % 2) 1) (code / 2)
 abbrev pub literal_expressions : List ℕ → List Expression
 literal_expressions codes = map literal_expression codes
 
+-- a label is a literal if it is `Atom` or `Negated` of a proposition less than 64; a `Neg` is none, whatever it negates
+abbrev pub IsLiteral : Label → Type 0
+IsLiteral (Atom p) = p < 64
+IsLiteral (Negated p) = p < 64
+IsLiteral _ = ⊥
+
 -- the expression of a label
 abbrev mutual
   pub expression : Label → Expression

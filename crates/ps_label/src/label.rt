@@ -24,12 +24,13 @@ pub enum Label {
 }
 
 impl Label {
-    ghost use Rattle.std.specs.Prelude.{◌≡◌, IfSome};
-    ghost use Rattle.ps_label.specs.Expression.{expression, literal_expression};
+    ghost use Rattle.std.specs.Prelude.{◌≡◌, ◌↔◌, IfSome, IsSome};
+    ghost use Rattle.ps_label.specs.Expression.{IsLiteral, expression, literal_expression};
 
     /// The label that is true exactly if a literal is true.
     pub fn of_literal(literal: Literal) -> Label
-        ensures { expression result ≡ literal_expression literal }
+        ensures literal { IsLiteral result }
+        ensures same { expression result ≡ literal_expression literal }
     {
         if literal.is_negated() {
             Label::Negated(literal.proposition())
@@ -38,9 +39,10 @@ impl Label {
         }
     }
 
-    /// The literal that the label is; `None` unless the label is a literal of a proposition less than 64.
+    /// The literal that the label is; `None` unless the label is `Atom` or `Negated` of a proposition less than 64.
     pub fn as_literal(&self) -> Option<Literal>
-        ensures { IfSome result (λ literal. expression self.now ≡ literal_expression literal) }
+        ensures some { IsSome result ↔ IsLiteral self.now }
+        ensures same { IfSome result (λ literal. expression self.now ≡ literal_expression literal) }
     {
         let (proposition, negated) = match self {
             Label::Atom(proposition) => (*proposition, false),

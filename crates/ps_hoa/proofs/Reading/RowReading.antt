@@ -5,7 +5,7 @@
 --   operand
 -- - `row_starts`, `row_more`, `row_shrinks`: the invariant of the loop holds, and its measure falls
 -- - `row_fails`, `row_done`: the result if a later operand has an error, and the result when the loop ends
-use Rattle.std.proofs.Common.{◌≡◌, ℕ, ◌+◌, ◌<◌, Bool, true, List, [], ◌∷◌, ◌++◌, length, refl, sym, subst}
+use Rattle.std.proofs.Common.{◌≡◌, ℕ, ◌+◌, ◌<◌, Bool, true, List, [], ◌∷◌, length, refl, sym, subst}
 use Rattle.std.proofs.Common.{arith, length-append, rules}
 use Rattle.ps_text.specs.Answers.{Stream}
 use Rattle.ps_text.specs.Parts.{Part, many}
