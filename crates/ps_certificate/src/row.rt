@@ -1,8 +1,7 @@
 //! The counts of one vertex's entry in a certificate. Most counts of a certificate are 0; only the nonzero counts are
 //! stored, each with its index.
 
-ghost use Rattle.std.specs.Bool.{OnTrue};
-ghost use Rattle.std.specs.Prelude.{◌≡◌, ◌==◌, ◌<◌, length, slice_index, IfNone, IfSome, OnOk};
+ghost use Rattle.std.specs.Prelude.{◌≡◌, ◌==◌, ◌<◌, ◌↔◌, length, slice_index, IfNone, IfSome, IsTrue, OnOk};
 ghost use Rattle.ps_certificate.specs.Sparse.{IsFirstFrom, IsFirstAbove, AreAtMost, AreBefore, AreRising, count_at};
 ghost use Rattle.ps_certificate.specs.Sparse.{dense_row, IsRow};
 
@@ -31,9 +30,9 @@ impl<'a> Stored<'a> {
         number
     }
 
-    /// Whether the first `number` stored counts all have indices less than `place`.
+    /// Whether there are at least `number` stored counts, and the first `number` all have indices less than `place`.
     fn is_before(&self, number: usize, place: usize) -> bool
-        ensures { OnTrue result (AreBefore self.now.list.now place number) }
+        ensures { IsTrue result ↔ AreBefore self.now.list.now place number }
     {
         let placed = self.list;
         number == 0 || number <= placed.len() && placed[number - 1].place < place

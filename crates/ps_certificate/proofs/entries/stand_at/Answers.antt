@@ -9,5 +9,5 @@ use Rattle.ps_certificate.proofs.entries.stand_at.Goals as goal
 same : (a b : NonzeroCount) → Decides ((a.place == b.place) && (a.count == b.count)) (a ≡ b)
 same a b = grind (arith, Decides-like, Decides-and, Decides-eqb)
 
-pub returns-clause-stand : goal.returns-clause-stand
-returns-clause-stand c = grind (arith, slice_eq-Decides, same, common_steps)
+pub returns : goal.returns
+returns c = grind (arith, slice_eq-Decides, same, common_steps)
