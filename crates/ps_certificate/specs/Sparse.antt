@@ -1,51 +1,46 @@
--- A vertex's counts, of which only the nonzero ones are stored, each with its index. (For private fields.)
+-- A vertex's counts, of which only the nonzero ones are stored, each with its index.
 use Rattle.std.specs.Prelude.{ℕ, zero, suc, ◌<◌, ◌≤◌, ◌==◌, List, [], ◌∷◌, length, if◌then◌else◌, slice_index}
 use Rattle.std.specs.Prelude.{slice_index_or}
-use Rattle.ps_certificate.specs.declared.row.PlacedCount.{PlacedCount}
+use Rattle.ps_game.specs.declared.nonzero.NonzeroCount.{NonzeroCount}
 
 -- a vertex's count at an index: the first stored count with this index, or else 0
-abbrev pub count_at : List PlacedCount → ℕ → ℕ
+abbrev pub count_at : List NonzeroCount → ℕ → ℕ
 count_at [] place = 0
 count_at (p ∷ ps) place = if p.place == place then p.count else count_at ps place
 
 -- the list of a vertex's `n` counts from index `place` on, including the counts that are not stored because they are 0
-abbrev pub counts_from : List PlacedCount → ℕ → ℕ → List ℕ
+abbrev pub counts_from : List NonzeroCount → ℕ → ℕ → List ℕ
 counts_from placed zero place = []
 counts_from placed (suc n) place = count_at placed place ∷ counts_from placed n (suc place)
 
 -- the full list of a vertex's `width` counts, including those that are not stored because they are 0
-abbrev pub dense_row : ℕ → List PlacedCount → List ℕ
+abbrev pub dense_row : ℕ → List NonzeroCount → List ℕ
 dense_row width placed = counts_from placed width 0
 
 -- the indices of the stored counts ascend, are at least `from`, and are less than the number `width` of counts
-abbrev pub Rises : ℕ → ℕ → List PlacedCount → Type 0
+abbrev pub Rises : ℕ → ℕ → List NonzeroCount → Type 0
 Rises from width [] = Unit {0}
 Rises from width (p ∷ ps) = (from ≤ p.place) × (p.place < width) × Rises (suc p.place) width ps
 
-abbrev pub IsRow : ℕ → List PlacedCount → Type 0
+-- the indices of the stored counts ascend, and are less than the number `width` of counts
+abbrev pub IsRow : ℕ → List NonzeroCount → Type 0
 IsRow width placed = Rises 0 width placed
 
--- the nonzero counts of a list, each with its index; the first count of the list has the index `place`
-abbrev pub gathered : ℕ → List ℕ → List PlacedCount
-gathered place [] = []
-gathered place (c ∷ cs) =
-    if c == 0 then gathered (suc place) cs else record { place = place; count = c } ∷ gathered (suc place) cs
-
 -- the index of the i-th stored count
-abbrev pub place_at : List PlacedCount → ℕ → ℕ
+abbrev pub place_at : List NonzeroCount → ℕ → ℕ
 place_at placed i = (slice_index_or placed i (record { place = 0; count = 0 })).place
 
 -- the indices of the stored counts ascend
-abbrev pub AreRising : List PlacedCount → Type 0
+abbrev pub AreRising : List NonzeroCount → Type 0
 AreRising placed = (i j : ℕ) → i < j → j < length placed → place_at placed i < place_at placed j
 
 -- the first `number` stored counts have indices less than `place`
-pub record AreBefore (placed : List PlacedCount) (place number : ℕ) : Type 0 where
+pub record AreBefore (placed : List NonzeroCount) (place number : ℕ) : Type 0 where
   pub within : number ≤ length placed
   pub below : (i : ℕ) → i < number → place_at placed i < place
 
 -- the number of stored counts whose index is less than `place`
-pub record IsFirstFrom (placed : List PlacedCount) (place number : ℕ) : Type 0 where
+pub record IsFirstFrom (placed : List NonzeroCount) (place number : ℕ) : Type 0 where
   pub before : AreBefore placed place number
   pub behind : (i : ℕ) → number ≤ i → i < length placed → place ≤ place_at placed i
 

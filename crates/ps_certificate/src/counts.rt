@@ -2,15 +2,16 @@
 
 ghost use Rattle.std.specs.Prelude.{◌≡◌, ◌++◌, ◌∷◌, ◌-◌, ◌<◌, ◌≤◌, ◌^◌, ◌+◌, [], length, replicate, OnOk};
 
-use crate::row::{PlacedCount, Row, Stored};
+use crate::row::Row;
+use ps_game::NonzeroCount;
 use std::alloc::{AllocError, Global};
 use std::marker::Model;
 
 /// A growing list of counts. Only the nonzero counts are stored, each with its index.
 #[derive(Debug, Drop)]
-pub struct Counts {
+pub(crate) struct Counts {
     width: usize,
-    placed: Vec<PlacedCount>,
+    placed: Vec<NonzeroCount>,
 }
 
 impl Model for Counts {
@@ -26,7 +27,7 @@ impl Model for Counts {
 
 impl Counts {
     /// An empty list of counts.
-    pub fn new(alloc: Global) -> Self
+    pub(crate) fn new(alloc: Global) -> Self
         ensures { result ≡ [] }
     {
         Counts {
@@ -36,7 +37,7 @@ impl Counts {
     }
 
     /// Removes all counts.
-    pub fn clear(&mut self)
+    pub(crate) fn clear(&mut self)
         ensures { self.new ≡ [] }
     {
         self.placed.clear();
@@ -44,20 +45,20 @@ impl Counts {
     }
 
     /// Appends a count. Fails if out of memory.
-    pub fn push(&mut self, count: u64) -> Result<(), AllocError>
+    pub(crate) fn push(&mut self, count: u64) -> Result<(), AllocError>
         requires { length self.old + 1 < 2 ^ 64 }
         ensures { OnOk result (self.new ≡ self.old ++ count ∷ []) }
     {
         let place = self.width;
         if count != 0 {
-            self.placed.push(PlacedCount { place, count })?;
+            self.placed.push(NonzeroCount { place, count })?;
         }
         self.width = place + 1;
         Ok(())
     }
 
     /// Appends zeros until there are `width` counts.
-    pub fn extend(&mut self, width: usize)
+    pub(crate) fn extend(&mut self, width: usize)
         requires { length self.old ≤ width }
         ensures { self.new ≡ self.old ++ replicate (width - length self.old) 0 }
     {
@@ -65,13 +66,9 @@ impl Counts {
     }
 
     /// The counts.
-    pub fn row(&self) -> Row<'_>
+    pub(crate) fn row(&self) -> Row<'_>
         ensures { result ≡ self.now }
     {
-        let placed = Stored { list: &self.placed };
-        Row {
-            width: self.width,
-            placed,
-        }
+        Row::of(self.width, &self.placed)
     }
 }

@@ -18,8 +18,8 @@
 //! | `write`, `write_compact` | the text with all counts; the text with the nonzero counts, each after its priority |
 //! | `Certificate::winner`, `choice`, `counts`, `opposing` | the parts of an entry; a player's opposing priorities |
 //! | `Entries::push`, `len`, `winner`, `choice`, `counts` | entries as a list; if out of memory, nothing changes |
-//! | `Entries::push_row` | the same for an entry given by its parts, with counts from `Counts` |
-//! | `Counts::new`, `clear`, `push`, `extend`, `row` | a list of counts, made count by count; `extend` appends zeros |
+//! | `Entries::push_row` | the same for an entry given by its parts, with counts from `Row::of` |
+//! | `Row::of` | the counts of a vertex, given its nonzero counts by ascending index |
 //! | `Row::at`, `len`, `copy_into` | the counts of a vertex as a list, of which only the nonzero counts are stored |
 //! | `Flaw::number`, `name` | the number and name of a flaw in psyn's list of faults |
 //!
@@ -60,7 +60,6 @@ mod zeros;
 pub use certificate::Certificate;
 pub use checking::check;
 pub use closing::closed;
-pub use counts::Counts;
 pub use entries::{Entries, Entry};
 pub use fault::{CertCause, CertFault};
 pub use fitted::fits;

@@ -1,10 +1,9 @@
 //! The indices of a game's vertices by their ids.
 
 ghost use Rattle.std.specs.Prelude.{◌≡◌, ◌==◌, ◌<◌, ◌↔◌, IsTrue, IfOk, is_some, length, position, slice_index};
-ghost use Rattle.std.specs.Bool.{OnTrue};
 ghost use Rattle.std.specs.List.{list_any};
 ghost use Rattle.ps_ids.specs.Ids.{AreDistinct};
-ghost use Rattle.ps_certificate.specs.Inner.Places.{AreOwn};
+ghost use Rattle.ps_game.specs.Drafts.{AreOwn};
 
 use crate::text::ids_of;
 use ps_game::{Arena, NamedGame};
@@ -74,7 +73,7 @@ impl<'a> Places<'a> {
 
 /// Whether the id of each vertex is the vertex's own index.
 fn are_own(game: &NamedGame) -> bool
-    ensures { OnTrue result (AreOwn game.now.ids) }
+    ensures { IsTrue result ↔ AreOwn game.now.ids }
 {
     for vertex in 0..game.game().count() {
         if game.id(vertex) != vertex as u64 {

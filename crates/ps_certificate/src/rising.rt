@@ -1,7 +1,6 @@
 //! Ascending lists of numbers.
 
 ghost use Rattle.std.specs.Prelude.{◌≡◌, ℕ, ◌+◌, ◌<◌, ◌≤◌, ◌↔◌, IsTrue, IfNone, IfSome, length, slice_index};
-ghost use Rattle.std.specs.Bool.{OnTrue};
 ghost use Rattle.std.specs.List.{Contains};
 ghost use Rattle.std.specs.List.Sorted.{IsStrictlyIncreasing};
 ghost use Rattle.ps_certificate.specs.Inner.Prefixes.{IsAt};
@@ -76,7 +75,7 @@ impl<'a> Rising<'a> {
     /// Whether the numbers before the index `place` are less than `number`.
     fn are_less_before(self, number: u64, place: usize) -> bool
         requires { place ≤ length self.list.now }
-        ensures { OnTrue result ((k : ℕ) → k < place → slice_index self.entry.list.now k < number) }
+        ensures { IsTrue result ↔ ((k : ℕ) → k < place → slice_index self.entry.list.now k < number) }
     {
         if place == 0 {
             return true;
@@ -87,7 +86,7 @@ impl<'a> Rising<'a> {
     /// Whether the numbers from the index `place` on are at least `number`.
     fn are_not_less_from(self, number: u64, place: usize) -> bool
         requires { place ≤ length self.list.now }
-        ensures { OnTrue result ((k : ℕ) → place ≤ k → k < length self.entry.list.now →
+        ensures { IsTrue result ↔ ((k : ℕ) → place ≤ k → k < length self.entry.list.now →
             number ≤ slice_index self.entry.list.now k) }
     {
         if place == self.list.len() {

@@ -1,24 +1,18 @@
 //! The counts of one vertex's entry in a certificate. Most counts of a certificate are 0; only the nonzero counts are
 //! stored, each with its index.
 
-ghost use Rattle.std.specs.Bool.{OnTrue};
-ghost use Rattle.std.specs.Prelude.{◌≡◌, ◌==◌, ◌<◌, length, slice_index, IfNone, IfSome, OnOk};
+ghost use Rattle.std.specs.Prelude.{◌≡◌, ◌==◌, ◌<◌, ◌↔◌, length, slice_index, IfNone, IfSome, IsTrue, OnOk};
 ghost use Rattle.ps_certificate.specs.Sparse.{IsFirstFrom, IsFirstAbove, AreAtMost, AreBefore, AreRising, count_at};
+ghost use Rattle.ps_certificate.specs.Sparse.{dense_row, IsRow};
 
+use ps_game::NonzeroCount;
 use std::alloc::AllocError;
 use std::marker::Model;
-
-/// A nonzero count, and its index among the counts of an entry.
-#[derive(Clone, Copy, Debug, PartialEq)]
-pub(crate) struct PlacedCount {
-    pub(crate) place: usize,
-    pub(crate) count: u64,
-}
 
 /// Stored counts, by ascending index.
 #[derive(Clone, Copy, Debug)]
 pub(crate) struct Stored<'a> {
-    pub(crate) list: &'a [PlacedCount],
+    pub(crate) list: &'a [NonzeroCount],
     ghost rising: { AreRising list.now },
 }
 
@@ -36,9 +30,9 @@ impl<'a> Stored<'a> {
         number
     }
 
-    /// Whether the first `number` stored counts all have indices less than `place`.
+    /// Whether there are at least `number` stored counts, and the first `number` all have indices less than `place`.
     fn is_before(&self, number: usize, place: usize) -> bool
-        ensures { OnTrue result (AreBefore self.now.list.now place number) }
+        ensures { IsTrue result ↔ AreBefore self.now.list.now place number }
     {
         let placed = self.list;
         number == 0 || number <= placed.len() && placed[number - 1].place < place
@@ -77,6 +71,16 @@ impl<'a> Model for Row<'a> {
 }
 
 impl<'a> Row<'a> {
+    /// A row of `width` counts, given its nonzero counts by ascending index.
+    #[inline(always)]
+    pub fn of(width: usize, nonzero: &'a [NonzeroCount]) -> Row<'a>
+        requires { IsRow width nonzero.now }
+        ensures { result ≡ dense_row width nonzero.now }
+    {
+        let placed = Stored { list: nonzero };
+        Row { width, placed }
+    }
+
     /// The number of the entry's counts, including those that are 0.
     pub fn len(&self) -> usize
         ensures { result ≡ length self.now }
@@ -106,7 +110,7 @@ impl<'a> Row<'a> {
     {
         list.clear();
         for number in 0..self.placed.list.len() {
-            let PlacedCount { place, count } = self.placed.list[number];
+            let NonzeroCount { place, count } = self.placed.list[number];
             list.resize(place, 0)?;
             list.push(count)?;
         }
@@ -123,7 +127,7 @@ impl<'a> Row<'a> {
         let mut number = self.placed.first_from(0, from);
         let mut others = 0;
         while number < self.placed.list.len() {
-            let PlacedCount { place, count } = self.placed.list[number];
+            let NonzeroCount { place, count } = self.placed.list[number];
             others = other.placed.first_from(others, place);
             if count > other.placed.count_in(place, others) {
                 return Some(place);

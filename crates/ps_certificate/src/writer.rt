@@ -12,9 +12,9 @@ ghost use Rattle.ps_certificate.specs.Inner.Writing.{IsTextOf};
 
 use crate::certificate::Certificate;
 use crate::entries::Entries;
-use crate::row::{PlacedCount, Row};
+use crate::row::Row;
 use crate::zeros::leading_zeros;
-use ps_game::{Arena, NamedGame, Player};
+use ps_game::{Arena, NamedGame, NonzeroCount, Player};
 use ps_text::numbers::write_number;
 use std::alloc::{AllocError, Global};
 
@@ -210,7 +210,7 @@ fn write_pairs(out: &mut Vec<u8>, priorities: &[u64], counts: &Row<'_>) -> Resul
     ensures words { OnOk result (All IsWord counts.now) }
 {
     for number in 0..counts.placed.list.len() {
-        let PlacedCount { place, count } = counts.placed.list[number];
+        let NonzeroCount { place, count } = counts.placed.list[number];
         if count != 0 {
             write_pair(out, priorities[place], count)?;
         }

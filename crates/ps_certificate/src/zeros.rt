@@ -1,7 +1,6 @@
 //! Lists of numbers, most of which are 0.
 
-ghost use Rattle.std.specs.Prelude.{◌≡◌, ℕ, ◌+◌, ◌<◌, ◌≤◌, length, take, replicate, slice_index};
-ghost use Rattle.std.specs.Bool.{OnTrue};
+ghost use Rattle.std.specs.Prelude.{◌≡◌, ℕ, ◌+◌, ◌<◌, ◌≤◌, ◌↔◌, IsTrue, length, take, replicate, slice_index};
 
 /// The number of leading zeros of a list, capped at `most`.
 pub(crate) fn leading_zeros(numbers: &[u64], most: usize) -> usize
@@ -33,7 +32,7 @@ fn zero_blocks(numbers: &[u64], end: usize) -> usize
 /// Whether the eight numbers from index `place` on are 0.
 fn are_zero(numbers: &[u64], place: usize) -> bool
     requires { place + 8 ≤ length numbers.now }
-    ensures { OnTrue result ((k : ℕ) → k < 8 → slice_index numbers.now (place + k) ≡ 0) }
+    ensures { IsTrue result ↔ ((k : ℕ) → k < 8 → slice_index numbers.now (place + k) ≡ 0) }
 {
     (numbers[place] == 0)
         & (numbers[place + 1] == 0)

@@ -15,7 +15,7 @@ use Rattle.std.proofs.Math.Seq.{length-take-le, take-append_seam}
 use Rattle.ps_ids.specs.Ids.{AreDistinct, place_of}
 use Rattle.ps_ids.proofs.IdPlaces.{position_here}
 use Rattle.ps_game.specs.Games.{VertexData, ParityGame}
-use Rattle.ps_game.specs.Drafts.{distinct, without_repeats, with_places, HaveNoRepeats}
+use Rattle.ps_game.specs.Drafts.{distinct, without_repeats, with_places, AreOwn, HaveNoRepeats}
 use Rattle.ps_game.specs.Flat.{game_in, AreVertices, TellGame, all_successors}
 use Rattle.ps_game.proofs.FlatArrays.{front_within, game_is}
 
@@ -117,7 +117,7 @@ all_tested-each p (v ∷ game) = search (rules, list_all-append, all_tested-each
 
 -- ---- ids that are their own indices
 
-module _ (ids : List ℕ) (own : (place : ℕ) → place < length ids → get_or ids place 0 ≡ place) where
+module _ (ids : List ℕ) (own : AreOwn ids) where
   own_place-same : (id : ℕ) → Contains ids id → place_of ids id ≡ id
   own_place-same id (k, within, e) =
       let here : get_or ids k 0 ≡ id = sym (get_or_default_zero ids k id within) ∙ e in

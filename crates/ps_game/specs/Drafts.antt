@@ -1,7 +1,7 @@
 -- A draft of a game is an unfinished game, whose vertices may have no successors, repeated successors, or successors
 -- that are not vertices.
 use Rattle.std.specs.Prelude.{◌≡◌, ◌≢◌, ℕ, ◌<◌, ◌++◌, ◌∷◌, List, [], length, map, find, filter, not, ◌==◌, nat_le, Some}
-use Rattle.std.specs.Prelude.{slice_set}
+use Rattle.std.specs.Prelude.{slice_index, slice_set}
 use Rattle.ps_game.specs.Games.{VertexData, ParityGame, vertex_count, owner_of, priority_of, successors_of}
 use Rattle.std.specs.List.{All, AllPairs}
 use Rattle.ps_ids.specs.Ids.{place_of}
@@ -60,3 +60,7 @@ HaveNoRepeats draft = All (λ v. AllPairs (λ x y. x ≢ y) v.successors) draft
 -- the vertex in which each successor, given as an id, is replaced by the index of the id in the list `ids`
 abbrev pub with_places : List ℕ → VertexData → VertexData
 with_places ids v = record v { successors = map (place_of ids) v.successors }
+
+-- each id is its own index: the ids are 0, 1, 2 and so on
+abbrev pub AreOwn : List ℕ → Type 0
+AreOwn ids = (place : ℕ) → place < length ids → slice_index ids place ≡ place

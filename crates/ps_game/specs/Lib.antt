@@ -5,6 +5,7 @@ pub mod Games
 pub mod Flat
 pub mod Moves
 pub mod Names
+pub mod Nonzero
 pub mod GivenNames
 pub mod Players
 pub mod Plays

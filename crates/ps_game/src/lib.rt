@@ -28,8 +28,8 @@
 //! | `priorities_of` | the priorities of one parity that a game has, in ascending order |
 //! | `GameFault::number`, `name` | the number and name of a fault in psyn's list of faults |
 //!
-//! `Counts` records how much work a solver did. Each law is a theorem, stated as the contract of a function with an
-//! empty body:
+//! `Counts` records how much work a solver did. `NonzeroCount` is a nonzero count of a list of counts, with its index
+//! in that list. Each law is a theorem, stated as the contract of a function with an empty body:
 //!
 //! | Law | What it states |
 //! |---|---|
@@ -50,6 +50,7 @@ mod games;
 mod laws;
 mod named;
 mod names;
+mod nonzero;
 mod numbers;
 mod player;
 mod ranking;
@@ -72,6 +73,7 @@ pub use laws::{
 };
 pub use named::NamedGame;
 pub use names::Names;
+pub use nonzero::NonzeroCount;
 pub use numbers::Numbers;
 pub use player::Player;
 pub use ranking::priorities_of;

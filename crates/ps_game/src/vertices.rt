@@ -1,12 +1,12 @@
 //! A growing list of vertices in arrays, which a parser of game texts builds.
 
 ghost use Rattle.std.specs.Prelude.{◌≡◌, ◌≢◌, ◌==◌, ◌<◌, ◌≤◌, ◌+◌, ◌++◌, ◌∷◌, [], IfOk, OnOk, OnErr, Contains, length};
-ghost use Rattle.std.specs.Prelude.{ℕ, map, nat_lt, slice_index, take, vec_len, vec_capacity};
+ghost use Rattle.std.specs.Prelude.{◌↔◌, IsTrue, map, nat_lt, take, vec_len, vec_capacity};
 ghost use Rattle.std.specs.Bool.{OnTrue};
 ghost use Rattle.std.specs.List.{All, AllPairs, list_all, list_any};
 ghost use Rattle.ps_ids.specs.Ids.{place_of};
 ghost use Rattle.ps_game.specs.Games.{ParityGame, IsGame, vertex_count, successors_of};
-ghost use Rattle.ps_game.specs.Drafts.{without_repeats, with_places, NoneBare, NoneUnknown, HaveNoRepeats};
+ghost use Rattle.ps_game.specs.Drafts.{without_repeats, with_places, AreOwn, NoneBare, NoneUnknown, HaveNoRepeats};
 ghost use Rattle.ps_game.specs.Flat.{game_in, AreVertices};
 
 use crate::builder::{Vertex, distinct_game, listed_vertex};
@@ -231,7 +231,7 @@ fn are_below(numbers: &[usize], bound: usize) -> bool
 
 /// Whether each id is its own index: the ids are 0, 1, 2 and so on.
 fn are_places(ids: &[u64]) -> bool
-    ensures { OnTrue result ((place : ℕ) → place < length ids.now → slice_index ids.now place ≡ place) }
+    ensures { IsTrue result ↔ AreOwn ids.now }
 {
     for (place, id) in ids.iter().enumerate() {
         if *id != place as u64 {

@@ -7,8 +7,8 @@ use Rattle.std.proofs.lemmas.Bool.{ne_eqb, eq-eqb}
 use Rattle.std.proofs.lemmas.List.{append-nil}
 use Rattle.std.proofs.lemmas.Option.{slice_get_cases}
 use Rattle.ps_measure.specs.declared.table.CountCell.{CountCell}
-use Rattle.ps_measure.specs.declared.table.NonzeroCount.{NonzeroCount}
-use Rattle.ps_measure.specs.Nonzero.{nonzero_from}
+use Rattle.ps_game.specs.declared.nonzero.NonzeroCount.{NonzeroCount}
+use Rattle.ps_game.specs.Nonzero.{nonzero_from}
 use Rattle.ps_measure.specs.Tables.{count_here, count_from, row_from, AreChained}
 use Rattle.ps_measure.proofs.CountCells.{from_none, no_fuel, from_cell, cell_at, there}
 use Rattle.ps_measure.proofs.CountCells.{place_below, here_and_behind}

@@ -1,6 +1,5 @@
 pub mod FaultNames
 pub mod Inner
-pub mod Nonzero
 pub mod Ranks
 pub mod Sums
 pub mod Tables

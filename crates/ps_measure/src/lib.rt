@@ -40,4 +40,4 @@ mod table;
 pub use fault::MeasureFault;
 pub use laws::counts_are_there;
 pub use measuring::ranks;
-pub use table::{CountTable, NonzeroCount, Ranks};
+pub use table::{CountTable, Ranks};

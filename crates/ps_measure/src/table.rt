@@ -2,11 +2,12 @@
 
 ghost use Rattle.std.specs.Prelude.{◌≡◌, ℕ, ◌<◌, ◌≤◌, [], Some, IfOk, OnOk, length, max, slice_get, slice_index};
 ghost use Rattle.std.specs.Prelude.{slice_index_or};
-ghost use Rattle.ps_measure.specs.Nonzero.{nonzero_from};
+ghost use Rattle.ps_game.specs.Nonzero.{nonzero_from};
 ghost use Rattle.ps_measure.specs.Ranks.{count_of, width_of};
 ghost use Rattle.ps_measure.specs.Tables.{AreZero, AreChained, HasPut, count_from};
 
 use crate::packed::{Packable, Packed, narrow};
+use ps_game::NonzeroCount;
 use std::alloc::{AllocError, Global};
 use std::marker::Model;
 
@@ -17,15 +18,6 @@ pub struct CountCell {
     pub(crate) place: usize,
     pub(crate) count: u64,
     pub(crate) next: usize,
-}
-
-/// A nonzero count of a vertex, and its index in the vertex's row of counts.
-#[derive(Clone, Copy, Debug)]
-pub struct NonzeroCount {
-    /// The index of the count, which is the index of its priority.
-    pub place: usize,
-    /// The count.
-    pub count: u64,
 }
 
 /// A cell whose numbers all fit in 4 bytes.

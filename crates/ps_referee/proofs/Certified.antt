@@ -12,11 +12,12 @@ use Rattle.ps_game.specs.Ranking.{RemainsFor, KeepRuleWithin}
 use Rattle.ps_game.specs.Regions.{has, move_at}
 use Rattle.ps_certificate.specs.Certificates.{CertificateData, EntryData, no_entry, winner_of, choice_of, counts_of}
 use Rattle.ps_certificate.specs.Certificates.{opposing, opposing_at, Fits, Remains, HasRightMove, KeepsCount, IsValid}
-use Rattle.ps_measure.specs.Ranks.{AreRanks, count_of, count_in, width_in}
+use Rattle.ps_measure.specs.Ranks.{AreRanks, count_of, count_in}
 use Rattle.ps_certificate.specs.Least.{DiffersInCounts, HasLeastCounts, SaysTheSame}
 use Rattle.ps_referee.specs.Solutions.{claim_with, claimed}
 use Rattle.ps_referee.specs.Inner.Building.{row_in, winner_row, claims}
 use Rattle.ps_referee.proofs.Claims.{winner_is, choice_is}
+use Rattle.ps_referee.proofs.NonzeroRows.{row_long}
 use Rattle.ps_referee.proofs.PlayersPart.{two_path, two_follows}
 
 -- a certificate states that the player wins v: v is in the player's set, and the certificate has the player's counts at
@@ -29,10 +30,6 @@ record IsSide (game : ParityGame) (player : ℕ) (set : ℕ → Bool) (table : �
   other : owner_of game v ≢ player → choice_of c v ≡ None
   long : length (counts_of c v) ≡ length priorities
   count : (k : ℕ) → get_or (counts_of c v) k 0 ≡ count_of rows v k
-
-row_long : (o : Option (List ℕ)) → length (row_in o) ≡ width_in o
-row_long None = refl
-row_long (Some row) = refl
 
 row_count : (o : Option (List ℕ)) (k : ℕ) → get_or (row_in o) k 0 ≡ count_in o k
 row_count None k = search rules

@@ -1,9 +1,9 @@
 pub mod ClaimLists
 pub mod Certified
 pub mod Claims
-pub mod CopiedRows
 pub mod HeldByCounts
 pub mod Judged
+pub mod NonzeroRows
 pub mod OneSolutionVerdict
 pub mod PlayersPart
 pub mod SomeJudgement

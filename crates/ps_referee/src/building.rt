@@ -3,11 +3,11 @@
 ghost use Rattle.std.specs.Prelude.{◌≡◌, ◌<◌, length, [], Some, IfOk, OnOk, ◌++◌, ◌∷◌};
 ghost use Rattle.ps_game.specs.Games.{vertex_count};
 ghost use Rattle.ps_referee.specs.Solutions.{AreSizedFor, choice_by, claimed, winner_by};
-ghost use Rattle.ps_referee.specs.Inner.Building.{claims, row_at, winner_row};
+ghost use Rattle.ps_referee.specs.Inner.Building.{claims, winner_row, winner_rows};
 
-use ps_certificate::{Certificate, Counts, Entries};
+use ps_certificate::{Certificate, Entries, Row};
 use ps_game::{Arena, Player, Region, Strategy};
-use ps_measure::{CountTable, NonzeroCount};
+use ps_measure::CountTable;
 use std::alloc::{AllocError, Global};
 
 /// A claimed solution of a game.
@@ -33,10 +33,9 @@ pub(crate) fn claim_of<A: Arena>(
         claimed (A.game solution.now.arena.now) solution.now.won.now solution.now.first.now solution.now.second.now) }
 {
     let mut entries = Entries::with_capacity(alloc, solution.arena.count())?;
-    let none = Counts::new(alloc);
     for vertex in 0..solution.arena.count() {
         let (winner, choice) = claim_at(solution, vertex);
-        entries.push_row(winner, choice, &none.row())?;
+        entries.push_row(winner, choice, &Row::of(0, &[]))?;
     }
     Ok(Certificate {
         odd: Vec::new(alloc),
@@ -61,65 +60,31 @@ pub(crate) fn entries_of<A: Arena>(
         (vertex_count (A.game solution.now.arena.now))) }
 {
     let mut entries = Entries::with_capacity(alloc, solution.arena.count())?;
-    let mut row = Counts::new(alloc);
-    let mut list = Vec::new(alloc);
+    let mut nonzero = Vec::new(alloc);
     for vertex in 0..solution.arena.count() {
-        winner_row(
-            vertex,
-            solution.won,
-            first_rows,
-            second_rows,
-            &mut row,
-            &mut list,
-        )?;
+        let rows = winner_rows(vertex, solution.won, first_rows, second_rows);
+        rows.nonzero_into(vertex, &mut nonzero)?;
         let (winner, choice) = claim_at(solution, vertex);
-        entries.push_row(winner, choice, &row.row())?;
+        entries.push_row(winner, choice, &Row::of(rows.width(), &nonzero))?;
     }
     Ok(entries)
 }
 
-/// Replaces the contents of `row` by the counts of a vertex, from the first table if player 0 is claimed to win the
-/// vertex, and otherwise from the second. The contents of `list` are overwritten.
-fn winner_row(
+/// The table of the player who is claimed to win a vertex.
+fn winner_rows<'a>(
     vertex: usize,
     won: &Region,
-    first_rows: &CountTable,
-    second_rows: &CountTable,
-    row: &mut Counts,
-    list: &mut Vec<NonzeroCount>,
-) -> Result<(), AllocError>
-    requires won { vertex < length won.now }
-    requires first_rows { vertex < length first_rows.now }
-    requires second_rows { vertex < length second_rows.now }
-    ensures { OnOk result (row.new ≡ winner_row won.now first_rows.now second_rows.now vertex) }
+    first_rows: &'a CountTable,
+    second_rows: &'a CountTable,
+) -> &'a CountTable
+    requires { vertex < length won.now }
+    ensures { result.now ≡ winner_rows won.now first_rows.now second_rows.now vertex }
 {
     if won.contains(vertex) {
-        copy_row(first_rows, vertex, row, list)
+        first_rows
     } else {
-        copy_row(second_rows, vertex, row, list)
+        second_rows
     }
-}
-
-/// Replaces the contents of `row` by the counts that a table has for a vertex. The contents of `list` are overwritten.
-fn copy_row(
-    rows: &CountTable,
-    vertex: usize,
-    row: &mut Counts,
-    list: &mut Vec<NonzeroCount>,
-) -> Result<(), AllocError>
-    requires { vertex < length rows.now }
-    ensures { OnOk result (row.new ≡ row_at rows.now vertex) }
-{
-    rows.nonzero_into(vertex, list)?;
-    let width = rows.width();
-    row.clear();
-    for number in 0..list.len() {
-        let NonzeroCount { place, count } = list[number];
-        row.extend(place);
-        row.push(count)?;
-    }
-    row.extend(width);
-    Ok(())
 }
 
 /// The player who is claimed to win a vertex, and this player's move if the player owns the vertex.

@@ -11,11 +11,11 @@ use Rattle.std.proofs.lemmas.Bool.{cases_eq}
 use Rattle.std.proofs.lemmas.List.{drop_more, get_or_default}
 use Rattle.ps_certificate.specs.Sparse.{count_at, counts_from, dense_row, Rises, IsRow}
 use Rattle.ps_certificate.specs.Written.{pairs, IsWord}
-use Rattle.ps_certificate.specs.declared.row.PlacedCount.{PlacedCount}
+use Rattle.ps_game.specs.declared.nonzero.NonzeroCount.{NonzeroCount}
 use Rattle.ps_certificate.proofs.SparseRows.Sparse.{count_missing, counts_behind, place_within, same_place, other_place}
 use Rattle.ps_certificate.proofs.SparseRows.Sparse.{number_at, row_at, length-counts_from}
 
-abbrev pub stored_pairs : List ℕ → List PlacedCount → List ℕ
+abbrev pub stored_pairs : List ℕ → List NonzeroCount → List ℕ
 stored_pairs ps [] = []
 stored_pairs ps (one ∷ placed) = if one.count == 0 then stored_pairs ps placed
     else 32 ∷ decimal (slice_index ps one.place) ++ 58 ∷ decimal one.count ++ stored_pairs ps placed
@@ -25,19 +25,19 @@ no_pairs [] = refl
 no_pairs (p ∷ ps) = refl
 
 -- the text of the counts from index `k` on begins with the pair at this index, unless its count is 0
-pairs_at : (ps : List ℕ) (placed : List PlacedCount) (n k : ℕ) → k < length ps →
+pairs_at : (ps : List ℕ) (placed : List NonzeroCount) (n k : ℕ) → k < length ps →
     pairs (drop k ps) (counts_from placed (suc n) k) ≡
     (if count_at placed k == 0 then pairs (drop (k + 1) ps) (counts_from placed n (suc k))
     else 32 ∷ decimal (slice_index ps k) ++ 58 ∷ decimal (count_at placed k)
     ++ pairs (drop (k + 1) ps) (counts_from placed n (suc k)))
 pairs_at ps placed n k within = ap (λ qs. pairs qs (counts_from placed (suc n) k)) (drop_more ps k 0 within)
 
-none_before : (from width : ℕ) (placed : List PlacedCount) (k : ℕ) → Rises from width placed → k < from →
+none_before : (from width : ℕ) (placed : List NonzeroCount) (k : ℕ) → Rises from width placed → k < from →
     count_at placed k ≡ 0
 none_before from width placed k rises before = count_missing placed k (λ i within same. omega
     (arith, same, before, (place_within from width placed i rises within).0))
 
-pairs_from : (ps : List ℕ) (placed : List PlacedCount) (n k : ℕ) → length ps ≡ k + n → Rises k (k + n) placed →
+pairs_from : (ps : List ℕ) (placed : List NonzeroCount) (n k : ℕ) → length ps ≡ k + n → Rises k (k + n) placed →
     pairs (drop k ps) (counts_from placed n k) ≡ stored_pairs ps placed
 pairs_from ps [] zero k long rises = no_pairs (drop k ps)
 pairs_from ps (one ∷ placed) zero k long rises = absurd (omega (arith, rises.0, rises.1))
@@ -70,17 +70,17 @@ pairs_from ps (one ∷ placed) (suc n) k long rises = elim (cases_eq one.place k
     behind : one.place ≡ k → Rises (suc k) (suc k + n) placed
     behind here = subst (λ j. Rises (suc j) (suc k + n) placed) here behind_width
 
-pub pairs_stored : (ps : List ℕ) (placed : List PlacedCount) (width : ℕ) → width ≡ length ps → IsRow width placed →
+pub pairs_stored : (ps : List ℕ) (placed : List NonzeroCount) (width : ℕ) → width ≡ length ps → IsRow width placed →
     pairs ps (dense_row width placed) ≡ stored_pairs ps placed
 pairs_stored ps placed width long rises =
     let none : 0 + width ≡ width = omega arith in
     pairs_from ps placed width 0 (omega (arith, long)) (subst (λ w. Rises 0 w placed) (sym none) rises)
 
 -- each of the first `i` stored counts fits in 64 bits
-abbrev pub AreWords : List PlacedCount → ℕ → Type 0
+abbrev pub AreWords : List NonzeroCount → ℕ → Type 0
 AreWords placed i = (j : ℕ) → j < i → IsWord (number_at placed j)
 
-count_word : (placed : List PlacedCount) (k : ℕ) → AreWords placed (length placed) → IsWord (count_at placed k)
+count_word : (placed : List NonzeroCount) (k : ℕ) → AreWords placed (length placed) → IsWord (count_at placed k)
 count_word [] k words = omega arith
 count_word (one ∷ placed) k words = elim (cases_eq one.place k) [
   | inl here ↦ omega (arith, same_place one placed here, words 0 (omega arith))
@@ -91,7 +91,7 @@ count_word (one ∷ placed) k words = elim (cases_eq one.place k) [
   )
 ]
 
-pub row_words : (placed : List PlacedCount) (width i : ℕ) → AreWords placed i → length placed ≤ i →
+pub row_words : (placed : List NonzeroCount) (width i : ℕ) → AreWords placed i → length placed ≤ i →
     All IsWord (dense_row width placed)
 row_words placed width i words all k d within =
     let inside : k < width = omega (arith, within, length-counts_from placed width 0) in

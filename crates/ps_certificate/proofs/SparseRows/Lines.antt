@@ -11,7 +11,7 @@ use Rattle.ps_certificate.specs.Certificates.{EntryData, no_entry}
 use Rattle.ps_certificate.specs.Lines.{entry_in, entries_in, part_of, IsRowWithin, AreLines}
 use Rattle.ps_certificate.specs.Sparse.{dense_row}
 use Rattle.ps_certificate.specs.declared.entries.Line.{Line}
-use Rattle.ps_certificate.specs.declared.row.PlacedCount.{PlacedCount}
+use Rattle.ps_game.specs.declared.nonzero.NonzeroCount.{NonzeroCount}
 
 -- the items between two indices of a list do not change when more items are appended
 pub range_kept : {X : Type 0} (xs ys : List X) (i j : ℕ) → j ≤ length xs →
@@ -26,7 +26,7 @@ zip_push (a ∷ ws) [] w l h = absurd (omega arith)
 zip_push (a ∷ ws) (b ∷ ls) w l h = ap (λ rest. (a, b) ∷ rest) (zip_push ws ls w l (omega arith))
 
 -- a certificate's stored entries do not change when more counts are appended to the shared list
-entries_kept : (ws : List ℕ) (ls : List Line) {cs : List PlacedCount} (more : List PlacedCount) →
+entries_kept : (ws : List ℕ) (ls : List Line) {cs : List NonzeroCount} (more : List NonzeroCount) →
     All (IsRowWithin cs) ls
     → entries_in ws ls (cs ++ more) ≡ entries_in ws ls cs
 entries_kept [] ls more h = refl
@@ -34,11 +34,11 @@ entries_kept (a ∷ ws) [] more h = refl
 entries_kept (a ∷ ws) (b ∷ ls) {cs} more h =
     search (rules, range_kept, All-head, All-tail, entries_kept ws ls more (All-tail (IsRowWithin cs) b ls h))
 
-within_kept : {cs : List PlacedCount} (more : List PlacedCount) {l : Line} → IsRowWithin cs l →
+within_kept : {cs : List NonzeroCount} (more : List NonzeroCount) {l : Line} → IsRowWithin cs l →
     IsRowWithin (cs ++ more) l
 within_kept {cs} more {l} h = grind (arith, common_steps, range_kept)
 
-all_kept : (ls : List Line) {cs : List PlacedCount} (more : List PlacedCount) → All (IsRowWithin cs) ls →
+all_kept : (ls : List Line) {cs : List NonzeroCount} (more : List NonzeroCount) → All (IsRowWithin cs) ls →
     All (IsRowWithin (cs ++ more)) ls
 all_kept [] {cs} more h = All-nil (IsRowWithin (cs ++ more))
 all_kept (a ∷ ls) {cs} more h = All-cons (IsRowWithin (cs ++ more)) a ls
@@ -48,7 +48,7 @@ all_kept (a ∷ ls) {cs} more h = All-cons (IsRowWithin (cs ++ more)) a ls
 begins : {X : Type 0} (xs ys : List X) → take (length xs) ys ≡ xs → (more : List X) × (ys ≡ xs ++ more)
 begins xs ys h = (drop (length xs) ys, grind (arith, common_steps))
 
-module _ (ws : List ℕ) (ls : List Line) (cs new : List PlacedCount) (are : AreLines ws ls cs)
+module _ (ws : List ℕ) (ls : List Line) (cs new : List NonzeroCount) (are : AreLines ws ls cs)
     (kept : take (length cs) new ≡ cs) where
   -- appending counts to the shared list of nonzero counts changes no entry
   pub entries_same : entries_in ws ls new ≡ entries_in ws ls cs
@@ -74,11 +74,11 @@ module _ (ws : List ℕ) (ls : List Line) (cs new : List PlacedCount) (are : Are
           (All-cons (IsRowWithin new) line [] is (All-nil (IsRowWithin new))),
     )
 
-pub length-entries : {ws : List ℕ} {ls : List Line} {cs : List PlacedCount} → AreLines ws ls cs
+pub length-entries : {ws : List ℕ} {ls : List Line} {cs : List NonzeroCount} → AreLines ws ls cs
     → length (entries_in ws ls cs) ≡ length ls
 length-entries {ws} {ls} {cs} are = search (rules, length-map, length-zip)
 
-module _ (ws : List ℕ) (ls : List Line) (cs : List PlacedCount) (v : ℕ) (are : AreLines ws ls cs)
+module _ (ws : List ℕ) (ls : List Line) (cs : List NonzeroCount) (v : ℕ) (are : AreLines ws ls cs)
     (within : v < length (entries_in ws ls cs)) where
   pub has_line : v < length ls
   has_line = omega (arith, length-entries are)

@@ -2,38 +2,38 @@
 use Rattle.std.proofs.Common.{◌≡◌, ℕ, zero, suc, ◌+◌, ◌-◌, ◌<◌, ◌≤◌, ◌∙◌, List, [], ◌∷◌, ◌++◌, length, eqb, cond, refl}
 use Rattle.std.proofs.Common.{ap, replicate, arith}
 use Rattle.ps_certificate.specs.Sparse.{count_at, dense_row, Rises, IsRow, place_at}
-use Rattle.ps_certificate.specs.declared.row.PlacedCount.{PlacedCount}
+use Rattle.ps_game.specs.declared.nonzero.NonzeroCount.{NonzeroCount}
 use Rattle.ps_certificate.proofs.SparseRows.Sparse.{count_missing, other_place, place_within, row_next, row_to}
 use Rattle.ps_certificate.proofs.SparseRows.Sparse.{same_place}
 
-pub rises_wider : (from to wider : ℕ) (ps : List PlacedCount) → to ≤ wider → Rises from to ps → Rises from wider ps
+pub rises_wider : (from to wider : ℕ) (ps : List NonzeroCount) → to ≤ wider → Rises from to ps → Rises from wider ps
 rises_wider from to wider [] h r = tt
 rises_wider from to wider (p ∷ ps) h r = (r.0, omega (arith, r.1, h), rises_wider (suc p.place) to wider ps h r.2)
 
 -- the stored counts, and then one for an index behind theirs
-abbrev pub and_one : List PlacedCount → ℕ → ℕ → List PlacedCount
+abbrev pub and_one : List NonzeroCount → ℕ → ℕ → List NonzeroCount
 and_one ps place count = ps ++ record { place = place; count = count } ∷ []
 
-pub rises_one : (from width count : ℕ) (ps : List PlacedCount) → from ≤ width → Rises from width ps →
+pub rises_one : (from width count : ℕ) (ps : List NonzeroCount) → from ≤ width → Rises from width ps →
     Rises from (width + 1) (and_one ps width count)
 rises_one from width count [] h r = (h, omega arith, tt)
 rises_one from width count (p ∷ ps) h r =
     (r.0, omega (arith, r.1), rises_one (suc p.place) width count ps (omega (arith, r.1)) r.2)
 
-count_before : (ps : List PlacedCount) (width count k : ℕ) → k < width →
+count_before : (ps : List NonzeroCount) (width count k : ℕ) → k < width →
     count_at (and_one ps width count) k ≡ count_at ps k
 count_before [] width count k h =
     other_place (record { place = width; count = count }) [] k (λ same. omega (arith, h, same))
 count_before (p ∷ ps) width count k h = ap (λ c. cond (eqb p.place k) p.count c) (count_before ps width count k h)
 
-count_last : (from width count : ℕ) (ps : List PlacedCount) → Rises from width ps →
+count_last : (from width count : ℕ) (ps : List NonzeroCount) → Rises from width ps →
     count_at (and_one ps width count) width ≡ count
 count_last from width count [] r = same_place (record { place = width; count = count }) [] refl
 count_last from width count (p ∷ ps) r =
     other_place p (and_one ps width count) width (λ same. omega (arith, r.1, same))
     ∙ count_last (suc p.place) width count ps r.2
 
-rows_like : (ps qs : List PlacedCount) (n : ℕ) → ((k : ℕ) → k < n → count_at ps k ≡ count_at qs k) →
+rows_like : (ps qs : List NonzeroCount) (n : ℕ) → ((k : ℕ) → k < n → count_at ps k ≡ count_at qs k) →
     dense_row n ps ≡ dense_row n qs
 rows_like ps qs zero h = refl
 rows_like ps qs (suc n) h = grind (
@@ -44,7 +44,7 @@ rows_like ps qs (suc n) h = grind (
   h n (omega arith),
 )
 
-module _ (ps : List PlacedCount) (width : ℕ) (row : IsRow width ps) where
+module _ (ps : List NonzeroCount) (width : ℕ) (row : IsRow width ps) where
   -- appending a count to the stored counts appends it to all counts
   pub row_one : (count : ℕ) → dense_row (width + 1) (and_one ps width count) ≡ dense_row width ps ++ count ∷ []
   row_one count = row_next (and_one ps width count) width

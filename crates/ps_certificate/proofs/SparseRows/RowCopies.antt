@@ -6,7 +6,7 @@ use Rattle.std.proofs.lemmas.Bool.{cases_order, cases_lt}
 use Rattle.std.proofs.lemmas.List.{length-append, length-replicate, take_all}
 use Rattle.ps_certificate.specs.Sparse.{count_at, dense_row, IsRow, place_at, AreRising, IsFirstFrom, AreAtMost}
 use Rattle.ps_certificate.specs.Sparse.{IsFirstAbove}
-use Rattle.ps_certificate.specs.declared.row.PlacedCount.{PlacedCount}
+use Rattle.ps_game.specs.declared.nonzero.NonzeroCount.{NonzeroCount}
 use Rattle.ps_certificate.proofs.SparseRows.Sparse.{number_at, count_missing, count_here, row_at, row_to, row_next}
 use Rattle.ps_certificate.proofs.SparseRows.Sparse.{place_within, rising, length-counts_from}
 
@@ -15,13 +15,13 @@ use Rattle.ps_certificate.proofs.SparseRows.Sparse.{place_within, rising, length
 -- what the comparison has shown so far: each of the first `number` stored counts whose index is at least `from` is at
 -- most the count that the other vertex has at this index. The stored counts after the first `number` have indices of at
 -- least `from`.
-pub record AreNotAbove (own other : List PlacedCount) (from number : ℕ) : Type 0 where
+pub record AreNotAbove (own other : List NonzeroCount) (from number : ℕ) : Type 0 where
   pub within : number ≤ length own
   pub late : (j : ℕ) → number ≤ j → j < length own → from ≤ place_at own j
   pub below : (k : ℕ) → from ≤ k → ((j : ℕ) → number ≤ j → j < length own → k < place_at own j) →
       count_at own k ≤ count_at other k
 
-module _ (own other : List PlacedCount) (from number : ℕ) where
+module _ (own other : List NonzeroCount) (from number : ℕ) where
   pub not_above_start : IsFirstFrom own from number → AreNotAbove own other from number
   not_above_start first = search (rules, count_missing, cases_lt)
 
@@ -43,7 +43,7 @@ module _ (own other : List PlacedCount) (from number : ℕ) where
 
 -- the list is the beginning of a vertex's full list of counts, and has the first `number` stored counts, but no later
 -- ones
-pub record IsFilled (width : ℕ) (placed : List PlacedCount) (list : List ℕ) (number : ℕ) : Type 0 where
+pub record IsFilled (width : ℕ) (placed : List NonzeroCount) (list : List ℕ) (number : ℕ) : Type 0 where
   pub list_is : list ≡ dense_row (length list) placed
   pub long : length list ≤ width
   pub before : (i : ℕ) → i < number → place_at placed i < length list
@@ -54,7 +54,7 @@ pub resized : (list : List ℕ) (n long : ℕ) → long ≡ length list → leng
     take n list ++ replicate (n - long) 0 ≡ list ++ replicate (n - length list) 0
 resized list n long is more = search (rules, take_all)
 
-module _ (width : ℕ) (placed : List PlacedCount) (list : List ℕ) (number : ℕ)
+module _ (width : ℕ) (placed : List NonzeroCount) (list : List ℕ) (number : ℕ)
     (so_far : IsFilled width placed list number) where
   up_to : (to : ℕ) → length list ≤ to → ((i : ℕ) → number ≤ i → i < length placed → to ≤ place_at placed i) →
       list ++ replicate (to - length list) 0 ≡ dense_row to placed

@@ -1,10 +1,7 @@
 -- The ids of a game's vertices, and the table that gives the index of each id.
-use Rattle.std.specs.Prelude.{◌≡◌, ℕ, ◌<◌, List, Option, length, slice_index}
+use Rattle.std.specs.Prelude.{◌≡◌, ℕ, List, Option}
 use Rattle.std.specs.Option.{ForNone, ForSome}
-
--- each id is its own index: the ids are 0, 1, 2 and so on
-abbrev pub AreOwn : List ℕ → Type 0
-AreOwn ids = (place : ℕ) → place < length ids → slice_index ids place ≡ place
+use Rattle.ps_game.specs.Drafts.{AreOwn}
 
 -- the table has the ids, or there is no table and each id is its own index
 pub record AreFound (ids : List ℕ) (table : Option (List ℕ)) : Type 0 where

@@ -14,9 +14,13 @@ row_in (Some row) = row
 abbrev pub row_at : List (List ℕ) → ℕ → List ℕ
 row_at rows v = row_in (slice_get rows v)
 
+-- the table of the player who is claimed to win a vertex
+abbrev pub winner_rows : List Bool → List (List ℕ) → List (List ℕ) → ℕ → List (List ℕ)
+winner_rows won first_rows second_rows v = if has won v then first_rows else second_rows
+
 -- the row of counts of a vertex, from the table of the player who is claimed to win the vertex
 abbrev pub winner_row : List Bool → List (List ℕ) → List (List ℕ) → ℕ → List ℕ
-winner_row won first_rows second_rows v = if has won v then row_at first_rows v else row_at second_rows v
+winner_row won first_rows second_rows v = row_at (winner_rows won first_rows second_rows v) v
 
 -- the certificate's entries for the first n vertices: each has the vertex's claimed winner, move and counts
 unfoldable pub claims : ParityGame → List Bool → List (Option ℕ) → List (Option ℕ) → (ℕ → List ℕ) → ℕ → List EntryData

@@ -1,6 +1,6 @@
 use Rattle.std.proofs.Common.{◌≡◌, ℕ, ◌<◌, List, length, arith, rules}
 use Rattle.ps_certificate.specs.Sparse.{dense_row, IsRow, place_at}
-use Rattle.ps_certificate.specs.declared.row.PlacedCount.{PlacedCount}
+use Rattle.ps_game.specs.declared.nonzero.NonzeroCount.{NonzeroCount}
 use Rattle.ps_certificate.proofs.Rereading.StoredPairs.{pairs_stored, row_words}
 use Rattle.ps_certificate.proofs.SparseRows.Sparse.{length-counts_from, place_within}
 use Rattle.ps_certificate.proofs.writer.write_pairs.Goals as goal
@@ -14,7 +14,7 @@ loop-number-init c =
     )
 
 -- there is a priority for the index of each stored count
-place_fits : (placed : List PlacedCount) (width i : ℕ) {row : List ℕ} (ps : List ℕ) → dense_row width placed ≡ row →
+place_fits : (placed : List NonzeroCount) (width i : ℕ) {row : List ℕ} (ps : List ℕ) → dense_row width placed ≡ row →
     length row ≡ length ps → IsRow width placed → i < length placed → place_at placed i < length ps
 place_fits placed width i ps is each is_row within =
     grind (arith, length-counts_from placed width 0, place_within 0 width placed i is_row within)

@@ -1,7 +1,6 @@
 use Rattle.std.proofs.Common.{◌≡◌, ◌<◌, length, ap, subst, sym, arith, rules}
 use Rattle.ps_certificate.specs.Lines.{entries_in, IsRowWithin}
 use Rattle.ps_certificate.proofs.SparseRows.Lines.{has_line, counts_at, line_within}
-use Rattle.ps_certificate.proofs.SparseRows.Sparse.{rising}
 use Rattle.ps_certificate.proofs.entries.Entries.counts.Goals as goal
 use Rattle.ps_certificate.proofs.entries.Entries.counts.Goals.{After-index-line}
 
@@ -23,21 +22,16 @@ overflow_add-line c =
     let at = inside (goal.at.overflow_add-line c).After-index-line in
     omega (arith, at.ends, c.self.inside.placed.ok, c.self.inside.placed.small)
 
-pub part-requires-clause-rises : goal.part-requires-clause-rises
-part-requires-clause-rises c = (inside (goal.at.part-requires-clause-rises c).After-index-line).rises
+pub part-nonzero-requires-clause-rises : goal.part-nonzero-requires-clause-rises
+part-nonzero-requires-clause-rises c = (inside (goal.at.part-nonzero-requires-clause-rises c).After-index-line).rises
 
-pub part-requires-clause-ends : goal.part-requires-clause-ends
-part-requires-clause-ends c =
-    let at = inside (goal.at.part-requires-clause-ends c).After-index-line in
+pub part-nonzero-requires-clause-ends : goal.part-nonzero-requires-clause-ends
+part-nonzero-requires-clause-ends c =
+    let at = inside (goal.at.part-nonzero-requires-clause-ends c).After-index-line in
     omega (arith, at.ends, ap length c.deref.ensures.value)
 
-pub invariant_of-placed : goal.invariant_of-placed
-invariant_of-placed c = record {
-  rising = rising 0 c.index-line.result.now.width c.part.result.now (search (rules, line_within));
-}
-
-pub invariant_of-result : goal.invariant_of-result
-invariant_of-result c = search (rules, line_within)
+pub of-requires : goal.of-requires
+of-requires c = search (rules, line_within)
 
 pub returns : goal.returns
 returns c = grind (arith, counts_at)

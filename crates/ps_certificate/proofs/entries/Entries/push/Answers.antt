@@ -1,7 +1,7 @@
 use Rattle.std.proofs.Common.{rules}
 use Rattle.std.specs.Prelude.{Result, OnErr}
 use Rattle.ps_certificate.proofs.SparseRows.Lines.{entries_same, lines_same, entries_push, lines_push}
-use Rattle.ps_certificate.proofs.SparseRows.Sparse.{gathered_is_row, row_gathered}
+use Rattle.ps_certificate.proofs.SparseRows.Sparse.{nonzero_is_row, row_nonzero}
 use Rattle.ps_certificate.proofs.entries.Entries.push.Goals as goal
 
 on_err : {T E P : Type 0} (r : Result T E) → P → OnErr r P
@@ -29,7 +29,7 @@ pub returns-in_err-append-clause-err : goal.returns-in_err-append-clause-err
 returns-in_err-append-clause-err c = search (rules, entries_same, on_err)
 
 pub invariant_of-self-2 : goal.invariant_of-self-2
-invariant_of-self-2 c = search (rules, gathered_is_row, lines_push)
+invariant_of-self-2 c = search (rules, nonzero_is_row, lines_push)
 
 pub returns-clause-ok : goal.returns-clause-ok
-returns-clause-ok c = search (rules, entries_push, row_gathered)
+returns-clause-ok c = search (rules, entries_push, row_nonzero)

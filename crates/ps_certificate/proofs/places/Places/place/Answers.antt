@@ -2,7 +2,7 @@ use Rattle.std.proofs.Common.{◌≡◌, ◌∙◌, ◌<◌, ℕ, List, true, fa
 use Rattle.std.specs.List.{position, slice_index}
 use Rattle.std.specs.Option.{is_some}
 use Rattle.ps_ids.proofs.IdPlaces.{position_here, position_nowhere, some_position}
-use Rattle.ps_certificate.specs.Inner.Places.{AreOwn}
+use Rattle.ps_game.specs.Drafts.{AreOwn}
 use Rattle.ps_certificate.proofs.places.Places.place.Goals as goal
 
 -- if each id is its own index, a number that is not the id with this index is no id

@@ -1,4 +1,4 @@
-use Rattle.std.proofs.Common.{Ok, Err, arith, rules}
+use Rattle.std.proofs.Common.{Ok, Err, arith}
 use Rattle.ps_certificate.proofs.Lists.{search_result, rising_far, rising_near}
 use Rattle.ps_certificate.proofs.rising.Rising.first_at_least.Goals as goal
 
@@ -9,7 +9,10 @@ returns-in-Ok-clause-before c k below =
     grind (arith, rising_far)
 
 pub returns-in-Ok-clause-behind : goal.returns-in-Ok-clause-behind
-returns-in-Ok-clause-behind c k above within = search (rules, search_result, rising_near)
+returns-in-Ok-clause-behind c k above within =
+    let found = search_result c.args.self.list.now c.args.number (Ok c.in-Ok.place) c.args.self.rises
+    c.in-Ok.ensures.position in
+    grind (arith, rising_near)
 
 pub returns-in-Err-clause-before : goal.returns-in-Err-clause-before
 returns-in-Err-clause-before c k below = let found = search_result c.args.self.list.now c.args.number

@@ -4,7 +4,7 @@ use Rattle.ps_game.proofs.vertices.Vertices.know_successors.Goals as goal
 
 pub returns-then-are_places : goal.returns-then-are_places
 returns-then-are_places c =
-    let own = rw c.list.ensures.list at c.if-are_places.ensures in
+    let own = rw c.list.ensures.list at (c.are_places.ensures.0 c.if-are_places.true) in
     rw (
       c.are_below.ensures,
       c.deref.ensures.value,

@@ -10,7 +10,7 @@ use Rattle.ps_game.proofs.vertices.Vertices.resolve.Goals.{After-places_in}
 
 pub returns-then-are_places : goal.returns-then-are_places
 returns-then-are_places c =
-    let own = rw c.list.ensures.list at c.if-are_places.ensures in
+    let own = rw c.list.ensures.list at (c.are_places.ensures.0 c.if-are_places.true) in
     sym (with_places-same c.args.ids.now own c.args.self.now c.requires)
 
 pub places_in-requires : goal.places_in-requires

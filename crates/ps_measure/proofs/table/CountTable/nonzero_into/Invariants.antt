@@ -1,6 +1,6 @@
 use Rattle.std.proofs.Common.{◌≡◌, ◌≤◌, ◌++◌, length}
 use Rattle.std.specs.Prelude.{reverse, slice_index}
-use Rattle.ps_measure.specs.Nonzero.{nonzero_from}
+use Rattle.ps_game.specs.Nonzero.{nonzero_from}
 use Rattle.ps_measure.specs.Tables.{row_from}
 use Rattle.ps_measure.proofs.table.CountTable.nonzero_into.Given as goal
 

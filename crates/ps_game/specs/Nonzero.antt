@@ -1,6 +1,6 @@
--- The nonzero counts of a row of counts.
+-- The nonzero counts of a list of counts.
 use Rattle.std.specs.Prelude.{ℕ, ◌+◌, ◌==◌, if◌then◌else◌, List, [], ◌∷◌}
-use Rattle.ps_measure.specs.declared.table.NonzeroCount.{NonzeroCount}
+use Rattle.ps_game.specs.declared.nonzero.NonzeroCount.{NonzeroCount}
 
 -- the nonzero counts of a list, each with its index, by ascending index; the first count of the list has the index
 -- `place`
