@@ -60,6 +60,7 @@ impl Vertices {
     }
 
     /// Appends a vertex. Fails if out of memory; then nothing changes.
+    #[inline(always)]
     pub fn push(
         &mut self,
         owner: Player,
@@ -74,7 +75,7 @@ impl Vertices {
         ensures err { OnErr result (self.new ≡ self.old) }
     {
         make_room(&mut self.offsets, &mut self.owners, &mut self.priorities)?;
-        self.successors.extend_from_slice(successors)?;
+        append(&mut self.successors, successors)?;
         let end = self.successors.len();
         self.offsets.push_reserved(end);
         self.owners.push_reserved(owner.number());
@@ -198,6 +199,7 @@ impl Vertices {
 }
 
 /// Reserves memory for the offset, the owner and the priority of one more vertex.
+#[inline(always)]
 fn make_room(
     offsets: &mut Vec<usize>,
     owners: &mut Vec<u8>,
@@ -213,6 +215,23 @@ fn make_room(
     offsets.reserve(1)?;
     owners.reserve(1)?;
     priorities.reserve(1)
+}
+
+/// Appends numbers to a list. The numbers of a short list are copied one by one, since a call that copies memory takes
+/// longer. Fails if out of memory; then nothing changes.
+#[inline(always)]
+fn append(list: &mut Vec<usize>, numbers: &[usize]) -> Result<(), AllocError>
+    ensures ok { OnOk result (list.new.items ≡ list.old.items ++ numbers.now) }
+    ensures err { OnErr result (list.new.items ≡ list.old.items) }
+{
+    if numbers.len() > FEW {
+        return list.extend_from_slice(numbers);
+    }
+    list.reserve(numbers.len())?;
+    for number in numbers {
+        list.push_reserved(*number);
+    }
+    Ok(())
 }
 
 /// Whether each number of a list is an id.

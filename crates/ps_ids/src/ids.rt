@@ -77,6 +77,7 @@ impl Ids {
     }
 
     /// The index of an id, or `None` if the number is not an id of the list.
+    #[inline(always)]
     pub fn place(&self, id: u64) -> Option<usize>
         ensures place { result ≡ position (λ other. id == other) self.now }
         ensures member { is_some result ≡ list_any (λ other. id == other) self.now }
@@ -86,6 +87,17 @@ impl Ids {
         if id > self.first && self.near.is_empty() && self.far.is_empty() {
             return place_below(own_place(self.first, id), self.list.len());
         }
+        self.recorded_place(id)
+    }
+
+    /// The index of an id, as `place` returns it. `place` calls this function only if an index is recorded or the id is
+    /// at most `first`, so it is not inlined.
+    #[inline(never)]
+    fn recorded_place(&self, id: u64) -> Option<usize>
+        ensures place { result ≡ position (λ other. id == other) self.now }
+        ensures member { is_some result ≡ list_any (λ other. id == other) self.now }
+        ensures within { IfSome result (λ place. place < length self.now) }
+    {
         if let Some(near) = near_place(&self.near, self.first, id) {
             return Some(near);
         }
@@ -97,6 +109,7 @@ impl Ids {
     }
 
     /// Whether a number is an id of the list.
+    #[inline(always)]
     pub fn has(&self, id: u64) -> bool
         ensures { result ≡ list_any (λ other. id == other) self.now }
     {
@@ -104,6 +117,7 @@ impl Ids {
     }
 
     /// Adds a new id at the end. Fails if out of memory; then nothing changes.
+    #[inline(always)]
     pub fn push(&mut self, id: u64) -> Result<(), AllocError>
         requires { Contains self.old id → ⊥ }
         ensures ok { OnOk result (self.new ≡ self.old ++ id ∷ []) }
@@ -154,9 +168,8 @@ fn own_place(first: u64, id: u64) -> usize
     id.saturating_sub(first) as usize
 }
 
-/// Records the index of a new id, unless `own_place` gives this index. The table takes the index of an id near `first`
-/// if the index plus 1 fits into 4 bytes; the tree takes any other index. An id is near `first` if it is not less than
-/// `first`, but less than `first` plus `MOST_PER_ID` times the number of ids, including the new id.
+/// Records the index of a new id, unless `own_place` gives this index.
+#[inline(always)]
 fn keep_place(
     near: &mut Vec<u32>,
     far: &mut BTreeMap<u64, usize>,
@@ -173,6 +186,26 @@ fn keep_place(
     if own == place {
         return Ok(());
     }
+    record_place(near, far, first, id, place)
+}
+
+/// Records the index of a new id. The table takes the index of an id near `first` if the index plus 1 fits into 4
+/// bytes; the tree takes any other index. An id is near `first` if it is not less than `first`, but less than `first`
+/// plus `MOST_PER_ID` times the number of ids, including the new id.
+#[inline(never)]
+fn record_place(
+    near: &mut Vec<u32>,
+    far: &mut BTreeMap<u64, usize>,
+    first: u64,
+    id: u64,
+    place: usize,
+) -> Result<(), AllocError>
+    ensures ok { OnOk result (KeepsPlace first near.old.items near.new.items (λ q. get nat_cmp far.old q)
+        (λ q. get nat_cmp far.new q) id place) }
+    ensures err { OnErr result (near.new.items ≡ near.old.items) }
+    ensures err_far { OnErr result ((q : ℕ) → get nat_cmp far.new q ≡ get nat_cmp far.old q) }
+{
+    let own = own_place(first, id);
     if id >= first && own / MOST_PER_ID <= place && place < u32::MAX as usize {
         put_near(near, own, place as u32 + 1)
     } else {

@@ -14,7 +14,7 @@ ghost use Rattle.ps_pgsolver.specs.Lexer.{stream_of, stream_from, first_sign, fi
 ghost use Rattle.ps_pgsolver.specs.Lexer.{name_sign, name_size, punctuation_sign};
 
 use ps_text::cursor::{Class, run_length};
-use ps_text::numbers::leading_number;
+use ps_text::numbers::{few_digits, leading_number};
 use std::marker::Model;
 
 /// The kind of a token of a game text, with its value or its bytes.
@@ -111,8 +111,8 @@ impl<'a> Tokens<'a> {
         next_start(self.text, self.at)
     }
 
-    /// Moves past the next token and returns its value, if it is a number that fits in a `u64`. No value of type `Token`
-    /// is built for it.
+    /// Moves past the next token and returns its value, if it is a number with fewer than 18 digits. No value of type
+    /// `Token` is built for it. `next` reads a number with more digits.
     #[inline(always)]
     pub fn take_number(&mut self) -> Option<u64>
         ensures some { IfSome result (λ number. IsNumberTaken number self.old self.new) }
@@ -130,7 +130,7 @@ impl<'a> Tokens<'a> {
         ensures none { IfNone result (self.new ≡ self.old) }
     {
         let (before, rest) = self.text.split_at(start);
-        let number = leading_number(rest)?;
+        let number = few_digits(rest)?;
         if number.digits == 0 || ends_in_class(before, Class::Letter) {
             return None;
         }
@@ -232,7 +232,11 @@ fn next_start(text: &[u8], at: usize) -> usize
     ensures start { result ≡ at + prefix_len is_blank (drop at text.now) }
     ensures within { result ≤ length text.now }
 {
-    at + run_length(&text[at..], Class::Blank)
+    let mut start = at;
+    while start < text.len() && Class::Blank.has(text[start]) {
+        start += 1;
+    }
+    start
 }
 
 /// The token with which a text begins, and the token's length in bytes.

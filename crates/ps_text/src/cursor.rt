@@ -48,7 +48,8 @@ impl Class {
         match self {
             Class::Digit => byte.is_ascii_digit(),
             Class::Letter => byte.is_ascii_alphabetic(),
-            Class::Blank => matches!(byte, 9..=13 | b' '),
+            // Most bytes of a text are greater than a space, so one comparison is enough for them.
+            Class::Blank => byte <= b' ' && matches!(byte, 9..=13 | b' '),
             Class::Space => byte == b' ' || byte == b'\t',
             Class::Inner => byte != b'\n',
             Class::Unquoted => byte != b'"',

@@ -5,6 +5,7 @@
 //! |---|---|
 //! | `numbers::write_number(out, number)` | appends a number in decimal |
 //! | `numbers::leading_number(text)` | the number at the start of a text, if it fits 64 bits |
+//! | `numbers::few_digits(text)` | the number at the start of a text, if it has fewer than 18 digits |
 //! | `cursor::Cursor::new(text)`, `of_lines(text)` | a cursor over the bytes of a text, or of a text of lines |
 //! | `Cursor::peek`, `comes`, `offset`, `is_at_end`, `refusal` | the next byte, its offset, and a fault there |
 //! | `Cursor::step`, `byte`, `word`, `run`, `digits`, `finish` | moves past a byte, a word, a run, digits, or all |

@@ -29,7 +29,7 @@ pub struct LeadingNumber {
     pub digits: usize,
 }
 
-/// A run of fewer digits than this denotes a number less than 10^17, so that no step of its computation overflows.
+/// A run of fewer digits than this denotes a number less than 10^17, so that no step of its computation wraps.
 const FEW: usize = 18;
 
 /// The number that the leading digits of a text denote, including leading zeros. `None` if the number does not fit a
@@ -47,21 +47,23 @@ pub fn leading_number(text: &[u8]) -> Option<LeadingNumber>
     many_digits(text)
 }
 
-/// The number that the leading digits of a text denote, if there are fewer than 18 leading digits.
+/// The number that the leading digits of a text denote, if there are fewer than 18 leading digits. With more digits the
+/// computation may wrap, and its value is not used.
 #[inline(always)]
-fn few_digits(text: &[u8]) -> Option<LeadingNumber>
+pub fn few_digits(text: &[u8]) -> Option<LeadingNumber>
     ensures value { IfSome result (λ number. number.value ≡ decimal_value (take_while is_ascii_digit text.now)) }
     ensures digits { IfSome result (λ number. number.digits ≡ prefix_len is_ascii_digit text.now) }
     ensures within { IfSome result (λ number. number.digits ≤ length text.now) }
 {
-    let most = text.len().min(FEW);
     let mut value: u64 = 0;
     let mut digits = 0;
-    while digits < most && text[digits].is_ascii_digit() {
-        value = value * 10 + u64::from(text[digits] - b'0');
+    while digits < text.len() && text[digits].is_ascii_digit() {
+        value = value
+            .wrapping_mul(10)
+            .wrapping_add(u64::from(text[digits] - b'0'));
         digits += 1;
     }
-    if digits == FEW {
+    if digits >= FEW {
         return None;
     }
     Some(LeadingNumber { value, digits })

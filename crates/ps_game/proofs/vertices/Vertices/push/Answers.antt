@@ -9,7 +9,7 @@ more : (c : After-push_reserved-3) →
     StandFor
     (c.args.self.now
     ++ record { owner = c.args.owner; priority = c.args.priority; successors = c.args.successors.now } ∷ [])
-    c.push_reserved.new.self.items c.extend_from_slice.new.self.items c.push_reserved-2.new.self.items
+    c.push_reserved.new.self.items c.append.new.list.items c.push_reserved-2.new.self.items
     c.push_reserved-3.new.self.items
 more c =
     let vertex : VertexData =
@@ -21,8 +21,8 @@ more c =
     (rw c.number.ensures.number at
     (c.push_reserved-2.ensures.items ∙ ap (λ (ns : List ℕ). ns ++ c.number.result ∷ []) room.owners))
     (c.push_reserved-3.ensures.items ∙ ap (λ (ns : List ℕ). ns ++ c.args.priority ∷ []) room.priorities)
-    (omega (arith, c.len-end.ensures, c.extend_from_slice.new.self.ok.0))
-    (omega (arith, c.len-end.ensures, c.extend_from_slice.new.self.small)))
+    (omega (arith, c.len-end.ensures, c.append.new.list.ok.0))
+    (omega (arith, c.len-end.ensures, c.append.new.list.small)))
     (All-push (λ (v : VertexData). v.owner < 2) _ vertex (rw c.self.view_is at c.self.invariant.players)
     (rw c.number.ensures.number at c.number.ensures.player))
 

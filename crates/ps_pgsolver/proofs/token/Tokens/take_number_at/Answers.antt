@@ -18,4 +18,4 @@ returns-clause-some c =
     (Number value) _ starts.begins starts.within c.split_at.ensures.front
     c.split_at.ensures.back refl (begins_number _ c.in_ok-number.ensures.value c.in_ok-number.ensures.digits
     (omega (arith, c.if-number-eq0.false)) (sym c.ends_in_class.ensures ∙ c.if-ends_in_class.false)) c.self.view_is in
-    record { sign = left.sign_is; small = omega (arith, c.leading_number.type_inv); rest = left.rest }
+    record { sign = left.sign_is; small = omega arith; rest = left.rest }
