@@ -14,10 +14,18 @@ use Rattle.ps_text.specs.Digits.{decimal_value}
 abbrev pub value_after : ℕ → List ℕ → ℕ
 value_after n digits = number_from_digits_after 10 n (map (λ b. b - 48) digits)
 
+-- the first `digits` bytes are digits; with the leading digits of the rest, they are the leading digits of the text
+abbrev pub IsCountedTo : List ℕ → ℕ → Type 0
+IsCountedTo text digits = digits + prefix_len is_ascii_digit (drop digits text) ≡ prefix_len is_ascii_digit text
+
+pub count_one : (text : List ℕ) (digits : ℕ) → digits < length text → is_ascii_digit (get_or text digits 0) ≡ true →
+    IsCountedTo text digits → IsCountedTo text (digits + 1)
+count_one text digits lt digit is = search (rules, drop_more)
+
 -- `value` is the number that the first `digits` digits denote: if the unread digits are appended to it, it becomes the
 -- number that all digits denote
 pub record IsReadTo (text : List ℕ) (value digits : ℕ) : Type 0 where
-  pub counted : digits + prefix_len is_ascii_digit (drop digits text) ≡ prefix_len is_ascii_digit text
+  pub counted : IsCountedTo text digits
   pub made : value_after value (take_while is_ascii_digit (drop digits text)) ≡ decimal_value
       (take_while is_ascii_digit text)
 

@@ -1,6 +1,7 @@
 //! Numbers in decimal.
 
-ghost use Rattle.std.specs.Prelude.{◌≡◌, ◌++◌, ◌^◌, ◌≤◌, decimal, length, take_while, IfNone, IfSome, OnOk};
+ghost use Rattle.std.specs.Prelude.{◌≡◌, ◌++◌, ◌^◌, ◌≤◌, ◌<◌, ◌↔◌, decimal, length, take_while, IfNone, IfSome};
+ghost use Rattle.std.specs.Prelude.{IsSome, OnOk};
 ghost use Rattle.std.specs.Char.{is_ascii_digit};
 ghost use Rattle.std.specs.List.{prefix_len};
 ghost use Rattle.ps_text.specs.Digits.{decimal_value};
@@ -51,6 +52,7 @@ pub fn leading_number(text: &[u8]) -> Option<LeadingNumber>
 /// computation may wrap, and its value is not used.
 #[inline(always)]
 pub fn few_digits(text: &[u8]) -> Option<LeadingNumber>
+    ensures few { IsSome result ↔ (prefix_len is_ascii_digit text.now < 18) }
     ensures value { IfSome result (λ number. number.value ≡ decimal_value (take_while is_ascii_digit text.now)) }
     ensures digits { IfSome result (λ number. number.digits ≡ prefix_len is_ascii_digit text.now) }
     ensures within { IfSome result (λ number. number.digits ≤ length text.now) }

@@ -1,6 +1,6 @@
 use Rattle.std.proofs.Common.{◌≡◌, ℕ, ◌+◌, ◌-◌, ◌*◌, ◌%◌, ◌<◌, ◌≤◌, true, length, get_or, arith, rules}
 use Rattle.std.specs.Char.{is_ascii_digit}
-use Rattle.ps_text.proofs.LeadingDigits.{read_one}
+use Rattle.ps_text.proofs.LeadingDigits.{count_one, read_one}
 use Rattle.ps_text.proofs.FewDigits.{digit_small, few_small, few_more}
 use Rattle.ps_text.proofs.numbers.few_digits.Goals as goal
 
@@ -19,8 +19,9 @@ loop-digits-preserved c =
     let digit : is_ascii_digit byte ≡ true = grind arith in
     let read : c.from.result ≡ byte - 48 = search rules in (
       omega arith,
+      count_one text digits within digit c.loop-digits.invariant.1,
       λ (few : digits + 1 < 18).
-          let before = c.loop-digits.invariant.1 (omega arith) in
+          let before = c.loop-digits.invariant.2 (omega arith) in
           let small = digit_small byte digit in
           let e = wraps_not value (byte - 48) (few_small value digits before.1 (omega arith)) small in
           rw (read, e) (read_one text value digits within digit before.0, few_more value digits (byte - 48) before.1 small),

@@ -1,5 +1,5 @@
 use Rattle.std.proofs.Common.{◌^◌, ◌<◌, ◌≤◌, ◌-◌, length}
-use Rattle.ps_text.proofs.LeadingDigits.{IsReadTo}
+use Rattle.ps_text.proofs.LeadingDigits.{IsCountedTo, IsReadTo}
 use Rattle.ps_text.proofs.numbers.few_digits.Given as goal
 
 abbrev pub decreases-loop-digits : goal.decreases-loop-digits
@@ -7,4 +7,4 @@ decreases-loop-digits l = length l.text - l.digits
 
 abbrev pub invariant-loop-digits : goal.invariant-loop-digits
 invariant-loop-digits l =
-    (l.digits ≤ length l.text) × (l.digits < 18 → IsReadTo l.text l.value l.digits × (l.value < 10 ^ l.digits))
+    (l.digits ≤ length l.text) × IsCountedTo l.text l.digits × (l.digits < 18 → IsReadTo l.text l.value l.digits × (l.value < 10 ^ l.digits))
