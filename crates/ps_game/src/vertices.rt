@@ -217,6 +217,9 @@ fn make_room(
     priorities.reserve(1)
 }
 
+/// The largest length of a list whose numbers are copied one by one.
+const SHORT: usize = 8;
+
 /// Appends numbers to a list. The numbers of a short list are copied one by one, since a call that copies memory takes
 /// longer. Fails if out of memory; then nothing changes.
 #[inline(always)]
@@ -224,7 +227,7 @@ fn append(list: &mut Vec<usize>, numbers: &[usize]) -> Result<(), AllocError>
     ensures ok { OnOk result (list.new.items ≡ list.old.items ++ numbers.now) }
     ensures err { OnErr result (list.new.items ≡ list.old.items) }
 {
-    if numbers.len() > FEW {
+    if numbers.len() > SHORT {
         return list.extend_from_slice(numbers);
     }
     list.reserve(numbers.len())?;

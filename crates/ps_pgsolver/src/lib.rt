@@ -6,7 +6,8 @@
 //! | `read(text)` | the game with its ids and names, or the first `PgFault` in the text; at most 16,777,216 bytes |
 //! | `write(game)` | a text, which `read` parses as the same game if the text is at most that long |
 //! | `Tokens::new(text)`, `peek`, `next`, `start` | the tokens of a text; solutions (`ps_solution`) use them too |
-//! | `Tokens::take_number`, `take_comma`, `take_semicolon` | the next token, if it is of that kind |
+//! | `Tokens::take_number` | the next token, if it is a number with fewer than 18 digits |
+//! | `Tokens::take_comma`, `take_semicolon` | the next token, if it is of that kind |
 //! | `Tokens::is_at_number`, `is_at_word`, `next_name` | whether the next token is of that kind |
 //! | `PgCause::number`, `name` | the number and name of an error in psyn's list of faults |
 //! | `one_list_of_tokens` | a law: a text has exactly one list of tokens |

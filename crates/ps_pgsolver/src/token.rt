@@ -112,7 +112,8 @@ impl<'a> Tokens<'a> {
     }
 
     /// Moves past the next token and returns its value, if it is a number with fewer than 18 digits. No value of type
-    /// `Token` is built for it. `next` reads a number with more digits.
+    /// `Token` is built for it. `next` reads a number with more digits. No clause says when the result is `None`, since
+    /// a caller then reads the token by `next`.
     #[inline(always)]
     pub fn take_number(&mut self) -> Option<u64>
         ensures some { IfSome result (λ number. IsNumberTaken number self.old self.new) }
