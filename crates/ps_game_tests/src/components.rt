@@ -1,9 +1,10 @@
-//! Tests of the strongly connected components, topological orders and paths of small graphs. The expected results were
-//! computed by hand.
+//! Tests of the strongly connected components, topological orders, paths and fair cycles of small graphs. The expected
+//! results were computed by hand.
 
-ghost use Rattle.std.specs.Prelude.{◌≡◌, ℕ, ◌+◌, ◌*◌, ◌/◌, ◌<◌, nat_lt, length, slice_index, Some, None, if◌then◌else◌};
+ghost use Rattle.std.specs.Prelude.{◌≡◌, ℕ, ◌+◌, ◌*◌, ◌/◌, ◌<◌, ◌==◌, nat_lt, length, slice_index, Some, None, if◌then◌else◌};
 
 use ps_components::{Arrangement, Graph, arrange, components_from, components_of, way_back};
+use ps_fairness::{Edge, Marked, fair_cycle};
 use std::alloc::Global;
 
 /// A graph as a list that has two entries for each vertex v, at the indices 2 v and 2 v + 1. An entry that is a vertex
@@ -37,6 +38,19 @@ impl Graph for Table<'_> {
         } else {
             None
         }
+    }
+}
+
+/// An edge bears one of two marks: the one whose number is that of the edge's slot.
+impl Marked for Table<'_> {
+    ghost marks = { λ t. record { count = 2; has = λ v p m. p == m } };
+
+    fn mark_count(&self) -> usize {
+        2
+    }
+
+    fn has_mark(&self, _vertex: usize, slot: usize, mark: usize) -> bool {
+        slot == mark
     }
 }
 
@@ -106,4 +120,31 @@ fn orders_and_trails(rt: HostRuntime) {
     assert!(rt; is_way_back(rt.alloc(), 4, 2, Some(&[2, 0, 4])));
     assert!(rt; is_way_back(rt.alloc(), 3, 3, Some(&[3])));
     assert!(rt; is_way_back(rt.alloc(), 2, 0, None));
+}
+
+/// Whether `fair_cycle` gives the wanted walk, or `None` if no walk is wanted.
+fn is_fair_cycle(alloc: Global, targets: &[usize], wanted: Option<&[Edge]>) -> bool {
+    match fair_cycle(alloc, &Table { targets }) {
+        Ok(Some(walk)) => wanted == Some(walk.as_slice()),
+        Ok(None) => wanted.is_none(),
+        Err(_) => false,
+    }
+}
+
+/// The edges of a walk from 0 to 1 and back.
+const THERE_AND_BACK: [Edge; 2] = [Edge { vertex: 0, slot: 0 }, Edge { vertex: 1, slot: 1 }];
+
+/// The edges of a walk that goes from 0 to 1 and back twice, by each edge of the vertex 0.
+const TWICE: [Edge; 4] = [
+    Edge { vertex: 0, slot: 0 },
+    Edge { vertex: 1, slot: 0 },
+    Edge { vertex: 0, slot: 1 },
+    Edge { vertex: 1, slot: 0 },
+];
+
+#[test]
+fn fair_cycles(rt: HostRuntime) {
+    assert!(rt; is_fair_cycle(rt.alloc(), &TARGETS, None));
+    assert!(rt; is_fair_cycle(rt.alloc(), &[1, 9, 9, 0], Some(&THERE_AND_BACK)));
+    assert!(rt; is_fair_cycle(rt.alloc(), &[1, 1, 0, 9], Some(&TWICE)));
 }

@@ -1,0 +1,13 @@
+pub mod Tables
+pub mod AnyTrees
+pub mod Trees
+pub mod Along
+pub mod Suffixes
+pub mod LassoTruths
+pub mod Bits
+pub mod Here
+pub mod Laps
+pub mod Filling
+pub mod NormalTrees
+pub mod Dualities
+pub mod FormLemmas

@@ -1,0 +1,69 @@
+//! Tables of formulas in negation normal form.
+
+ghost use Rattle.std.specs.Prelude.{◌≡◌, ◌^◌, ◌<◌, [], IfOk, OnErr, length};
+ghost use Rattle.ps_formula.specs.Formulas.{IsAdded};
+ghost use Rattle.ps_formula.specs.NormalForms.{IsNormalOver, IsNormalTable};
+
+use crate::normal_node::NormalNode;
+use ps_keys::KeyList;
+use std::alloc::{AllocError, Global};
+use std::marker::Model;
+
+/// A table of formulas in negation normal form, which are numbered from 0. Each is given by a node, whose operands are
+/// earlier formulas of the table. No node occurs twice.
+#[derive(Debug, Drop)]
+pub struct NormalFormulas {
+    nodes: KeyList<NormalNode>,
+}
+
+impl Model for NormalFormulas {
+    ghost use Rattle.std.specs.Prelude.{List};
+    ghost use Rattle.ps_formula.specs.declared.normal_node.NormalNode.{NormalNode};
+    ghost use Rattle.ps_formula.specs.NormalForms.{IsNormalTable};
+
+    ghost Value = { List NormalNode };
+
+    ghost view = { λ f. f.nodes };
+
+    ghost invariant = { λ f. IsNormalTable f.nodes };
+}
+
+impl NormalFormulas {
+    /// A table without formulas.
+    pub fn new(alloc: Global) -> Self
+        ensures { result ≡ [] }
+    {
+        NormalFormulas {
+            nodes: KeyList::new(alloc),
+        }
+    }
+
+    /// The nodes.
+    pub fn as_slice(&self) -> &[NormalNode]
+        ensures value { result.now ≡ self.now }
+        ensures table { IsNormalTable self.now }
+    {
+        self.nodes.as_slice()
+    }
+
+    /// The number of nodes.
+    pub fn len(&self) -> usize
+        ensures value { result ≡ length self.now }
+        ensures few { result < 2 ^ 32 }
+    {
+        self.nodes.len()
+    }
+
+    /// Adds a formula, unless the table has it already, and returns its index. Fails if out of memory, or if the table
+    /// has 5 * 2^29 nodes already.
+    pub fn add(&mut self, node: NormalNode) -> Result<u32, AllocError>
+        requires { IsNormalOver (length self.old) node }
+        ensures ok { IfOk result (IsAdded self.old node self.new) }
+        ensures err { OnErr result (self.new ≡ self.old) }
+        ensures table { IsNormalTable self.new }
+    {
+        let index = self.nodes.place_of(node)?;
+        let _ = self.nodes.len();
+        Ok(index as u32)
+    }
+}

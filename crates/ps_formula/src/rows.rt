@@ -1,0 +1,81 @@
+//! Truths of formulas along a lasso, one bit for each formula and letter.
+
+ghost use Rattle.std.specs.Prelude.{◌≡◌, ◌+◌, ◌*◌, ◌^◌, ◌<◌, ◌≤◌, IfOk, length};
+
+use std::alloc::{AllocError, Global};
+
+/// The number of bits of a word.
+const WORD: usize = 64;
+
+/// A row of bits for each formula: bit `at` of a row is the truth of its formula at the index `at` of a lasso. Bit
+/// `at` of row r is the bit with the number `r * width + at`; bit b of word w has the number `64 * w + b`.
+#[derive(Drop)]
+pub(crate) struct Rows {
+    /// The number of rows.
+    pub count: usize,
+    /// The length of the lasso's stem.
+    pub stem: usize,
+    /// The length of the lasso's stem and lap.
+    pub width: usize,
+    words: Vec<u64>,
+    ghost some: { stem < width },
+    ghost fits: { count * width < 2 ^ 64 },
+    ghost room: { count * width ≤ 64 * length words.items },
+}
+
+impl Rows {
+    ghost use Rattle.ps_formula.specs.Inner.Rows.{SetsTruth, truth_in};
+
+    /// A row for each of `count` formulas, for a lasso with a stem of the given length.
+    pub fn new(alloc: Global, count: usize, stem: usize, width: usize) -> Result<Self, AllocError>
+        requires { stem < width }
+        ensures count { IfOk result (λ rows. rows.count ≡ count) }
+        ensures stem { IfOk result (λ rows. rows.stem ≡ stem) }
+        ensures width { IfOk result (λ rows. rows.width ≡ width) }
+    {
+        let bits = count.checked_mul(width).ok_or(AllocError)?;
+        let words = vec![in alloc; 0; bits.div_ceil(WORD)]?;
+        Ok(Rows {
+            count,
+            stem,
+            width,
+            words,
+        })
+    }
+
+    /// The truth of a formula at an index.
+    pub fn get(&self, row: u32, at: usize) -> bool
+        requires row { row < self.now.count }
+        requires at { at < self.now.width }
+        ensures { result ≡ truth_in self.now row at }
+    {
+        let place = row as usize * self.width + at;
+        self.words[place / WORD] >> (place % WORD) & 1 == 1
+    }
+
+    /// The index whose letter comes next: behind the end of the lap comes its start.
+    pub fn index_after(&self, at: usize) -> usize
+        requires { at < self.now.width }
+        ensures within { result < self.now.width }
+        ensures next { at + 1 < self.now.width → result ≡ at + 1 }
+        ensures wraps { at + 1 ≡ self.now.width → result ≡ self.now.stem }
+    {
+        let width = self.width;
+        if at + 1 < width { at + 1 } else { self.stem }
+    }
+
+    /// Sets the truth of a formula at an index.
+    pub fn set(&mut self, row: usize, at: usize, truth: bool)
+        requires row { row < self.old.count }
+        requires at { at < self.old.width }
+        ensures { SetsTruth self.old row at truth self.new }
+    {
+        let place = row * self.width + at;
+        let bit = 1 << (place % WORD);
+        if truth {
+            self.words[place / WORD] |= bit;
+        } else {
+            self.words[place / WORD] &= !bit;
+        }
+    }
+}

@@ -1,0 +1,6 @@
+pub mod Members
+pub mod Sound
+pub mod Complete
+pub mod Rounds
+pub mod WrongCovers
+pub mod Ways

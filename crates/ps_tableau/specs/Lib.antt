@@ -1,0 +1,4 @@
+pub mod Covers
+pub mod Operators
+pub mod Runs
+pub mod Examples

@@ -1,0 +1,12 @@
+mod Building
+mod Conjoining
+mod Forms
+mod GoodSteps
+mod Joining
+mod NameLemmas
+mod Placing
+mod Running
+mod Scanning
+mod Unwinding
+mod WholeAnswers
+mod WholeFormulas

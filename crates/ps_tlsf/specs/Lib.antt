@@ -1,0 +1,17 @@
+pub mod Causes
+pub mod Words
+pub mod Bytes
+pub mod Lexicon
+pub mod Phases
+pub mod Headings
+pub mod Names
+pub mod NameViews
+pub mod Machines
+pub mod Steps
+pub mod Trees
+pub mod Wholes
+pub mod Specifications
+pub mod SpecificationViews
+pub mod Meanings
+pub mod Reading
+pub mod Inner

@@ -1,0 +1,35 @@
+-- The declared names, which are the propositions of a specification, numbered in the order of their declarations.
+use Rattle.std.specs.Prelude.{ℕ, Bool, true, false, List, length, Option, None, Some, if◌then◌else◌, position, nat_le}
+use Rattle.std.specs.Prelude.{is_some, ◌||◌}
+use Rattle.std.specs.Str.{bytes_eq}
+use Rattle.ps_tlsf.specs.declared.fault.TlsfCause.{TlsfCause}
+use Rattle.ps_tlsf.specs.declared.fault.TlsfCause.TheVariants as causes
+use Rattle.ps_tlsf.specs.declared.words.Side.{Side}
+use Rattle.ps_tlsf.specs.declared.words.Sign.{Sign}
+use Rattle.ps_tlsf.specs.declared.words.Sign.TheVariants as signs
+
+-- a declared name, and who sets the proposition
+pub record Name : Type 0 where
+  pub name : List ℕ
+  pub side : Side
+
+-- the number of the proposition with a name
+abbrev pub number_of : List Name → List ℕ → Option ℕ
+number_of names text = position (λ n. bytes_eq n.name text) names
+
+-- the words `X F G U R W true false` are no names
+abbrev pub is_reserved : Sign → Bool
+is_reserved (signs.Prefix prefix) = true
+is_reserved (signs.Infix operator) = true
+is_reserved (signs.Constant value) = true
+is_reserved sign = false
+
+-- the greatest number of declared names
+abbrev pub name_limit : ℕ
+name_limit = 64
+
+-- why the word cannot be declared, if it cannot
+abbrev pub name_cause : List Name → Sign → List ℕ → Option TlsfCause
+name_cause names sign text =
+    if is_reserved sign || is_some (number_of names text) then Some causes.Name
+    else (if nat_le name_limit (length names) then Some causes.Limit else None)

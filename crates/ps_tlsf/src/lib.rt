@@ -1,0 +1,37 @@
+//! Specifications in TLSF's basic form. The part `INFO` states the order of moves; the part `MAIN` lists the inputs and
+//! outputs, and has sections of formulas of linear temporal logic.
+//!
+//! | Call | What it gives |
+//! |---|---|
+//! | `read(text)` | the specification, or the first `TlsfFault` in the text; at most 16,777,216 bytes |
+//! | `Specification` | propositions, order of moves, the formulas of the sections with their spans, the whole formula |
+//! | `TlsfCause::number`, `name` | the number and name of an error in psyn's list of faults |
+//! | `one_answer`, `some_answer` | laws: a text has exactly one answer, its meaning or its first error |
+//! | `whole_is_of_sections` | law: the whole formula is made from the sections' formulas as TLSF defines it |
+//!
+//! Parsing takes time proportional to the length of the text. No function calls itself: the operators of a formula are
+//! kept on a stack until their operands are complete.
+#![tactic(auto)]
+
+mod fault;
+mod heading;
+mod laws;
+mod names;
+mod phases;
+mod reader;
+mod specification;
+mod stack;
+mod steps;
+mod tokens;
+mod trees;
+mod whole;
+mod words;
+mod work;
+
+pub use fault::{TlsfCause, TlsfFault};
+pub use heading::Span;
+pub use laws::{one_answer, some_answer, whole_is_of_sections};
+pub use names::Proposition;
+pub use reader::read;
+pub use specification::{SectionFormula, Specification};
+pub use words::{Infix, Item, Order, Prefix, Section, Side, Sign};

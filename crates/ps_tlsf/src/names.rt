@@ -1,0 +1,110 @@
+//! The declared names.
+
+ghost use Rattle.std.specs.Prelude.{◌≡◌, ◌<◌, length, position, IfSome};
+ghost use Rattle.std.specs.Str.{bytes_eq};
+ghost use Rattle.ps_tlsf.specs.Names.{is_reserved};
+
+use crate::fault::TlsfCause;
+use crate::words::{Side, Sign, is_same};
+use std::alloc::{AllocError, Global};
+use std::marker::Model;
+
+/// The greatest number of declared names.
+pub(crate) const NAME_LIMIT: usize = 64;
+
+/// A declared name.
+#[derive(Debug, Drop)]
+pub struct Proposition {
+    /// The bytes of the name.
+    pub name: Vec<u8>,
+    /// Who sets the proposition.
+    pub side: Side,
+}
+
+/// The declared names, in the order of their declarations.
+#[derive(Debug, Drop)]
+pub(crate) struct Names {
+    list: Vec<Proposition>,
+}
+
+impl Model for Names {
+    ghost use Rattle.std.specs.Prelude.{List, map, length, ◌≤◌};
+    ghost use Rattle.ps_tlsf.specs.Names.{Name};
+    ghost use Rattle.ps_tlsf.specs.NameViews.{name_data};
+
+    ghost Value = { List Name };
+
+    ghost view = { λ n. map name_data n.list.items };
+
+    ghost invariant = { λ n. length n.list.items ≤ 64 };
+}
+
+impl Names {
+    ghost use Rattle.std.specs.Prelude.{◌≡◌, ◌<◌, ◌≤◌, ◌++◌, ◌∷◌, [], length, map, IfSome, OnOk};
+    ghost use Rattle.ps_tlsf.specs.Names.{name_cause, number_of};
+    ghost use Rattle.ps_tlsf.specs.NameViews.{name_data};
+
+    /// No names.
+    pub(crate) fn new(alloc: Global) -> Self
+        ensures { result ≡ [] }
+    {
+        Names {
+            list: Vec::new(alloc),
+        }
+    }
+
+    /// The number of a declared name.
+    pub(crate) fn number(&self, text: &[u8]) -> Option<usize>
+        ensures value { result ≡ number_of self.now text.now }
+        ensures within { IfSome result (λ number. number < 64) }
+    {
+        number_among(self.list.as_slice(), text)
+    }
+
+    /// Why the word cannot be declared, if it cannot.
+    pub(crate) fn cause(&self, sign: Sign, text: &[u8]) -> Option<TlsfCause>
+        ensures { result ≡ name_cause self.now sign text.now }
+    {
+        if is_reserved(sign) || self.number(text).is_some() {
+            return Some(TlsfCause::Name);
+        }
+        if self.list.len() >= NAME_LIMIT {
+            return Some(TlsfCause::Limit);
+        }
+        None
+    }
+
+    /// Declares a name.
+    pub(crate) fn declare(&mut self, proposition: Proposition) -> Result<(), AllocError>
+        requires { length self.old < 64 }
+        ensures { OnOk result (self.new ≡ self.old ++ name_data proposition ∷ []) }
+    {
+        self.list.push(proposition)?;
+        Ok(())
+    }
+
+    /// The names as a list.
+    pub(crate) fn into_list(self) -> Vec<Proposition>
+        ensures names { map name_data result.items ≡ self }
+        ensures few { length result.items ≤ 64 }
+    {
+        let Names { list } = self;
+        list
+    }
+}
+
+/// Whether the token is one of the words that have a meaning in formulas, and so are no names.
+fn is_reserved(sign: Sign) -> bool
+    ensures { result ≡ is_reserved sign }
+{
+    matches!(sign, Sign::Prefix(_) | Sign::Infix(_) | Sign::Constant(_))
+}
+
+/// The index of the first proposition with the name.
+fn number_among(list: &[Proposition], text: &[u8]) -> Option<usize>
+    ensures value { result ≡ position (λ p. bytes_eq p.name.items text.now) list.now }
+    ensures within { IfSome result (λ number. number < length list.now) }
+{
+    list.iter()
+        .position(|proposition| is_same(proposition.name.as_slice(), text))
+}
